@@ -1,0 +1,24 @@
+-- Cuts of a range at line starts.
+use Rattle.std.specs.Prelude.{ℕ, zero, suc, ◌+◌, ◌-◌, ◌*◌, ◌/◌, ◌==◌, Bool, ◌||◌, if◌then◌else◌, List, slice_index}
+use Rattle.buffer_parts.specs.Lines.{Range}
+
+-- a place at which a line starts: the buffer's first, and each behind a newline
+abbrev pub starts_line : List ℕ → ℕ → Bool
+starts_line buffer place = (place == 0) || (slice_index buffer (place - 1) == 10)
+
+-- the first line start among so many places from this one on, or the place behind them
+abbrev pub next_start : List ℕ → ℕ → ℕ → ℕ
+next_start buffer place zero = place
+next_start buffer place (suc left) = if starts_line buffer place then place else next_start buffer (place + 1) left
+
+-- Cut point i of k: the range's start for 0, its end for k, and between them the least line start of the range from
+-- the i-th of k equal steps on, or the range's end where there is none.
+abbrev pub cut_point : List ℕ → Range → ℕ → ℕ → ℕ
+cut_point buffer r k i =
+    if i == 0 then r.from
+    else (if i == k then r.to
+    else (let target = r.from + i * (r.to - r.from) / k in next_start buffer target (r.to - target)))
+
+-- cut i of k: from cut point i to the next
+abbrev pub cut_of : List ℕ → Range → ℕ → ℕ → Range
+cut_of buffer r k i = record { from = cut_point buffer r k i; to = cut_point buffer r k (i + 1) }

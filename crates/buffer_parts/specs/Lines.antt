@@ -1,0 +1,38 @@
+-- Ranges of a buffer, and their lines.
+use Rattle.std.specs.Prelude.{ℕ, ◌+◌, ◌==◌, if◌then◌else◌, List, [], ◌∷◌, slice_range}
+
+-- the places of a buffer from one on, up to another that is left out
+pub record Range : Type 0 where
+  pub from : ℕ
+  pub to : ℕ
+
+-- a line: its first place, and how many bytes it has
+pub record Span : Type 0 where
+  pub at : ℕ
+  pub len : ℕ
+
+-- the bytes of a range
+abbrev pub bytes_of : List ℕ → Range → List ℕ
+bytes_of buffer r = slice_range buffer r.from r.to
+
+-- the bytes of a line
+abbrev pub text_of : List ℕ → Span → List ℕ
+text_of buffer l = slice_range buffer l.at (l.at + l.len)
+
+-- a byte that is no newline begins the first line of what follows it, or is the last line
+abbrev pub begun_at : ℕ → List Span → List Span
+begun_at at [] = record { at = at; len = 1 } ∷ []
+begun_at at (l ∷ ls) = record { at = at; len = l.len + 1 } ∷ ls
+
+-- The lines of these bytes, of which the first stands at this place. A newline (10) ends a line, which may be empty.
+-- Bytes behind the last newline are a line, if there are any.
+abbrev pub lines_from : ℕ → List ℕ → List Span
+lines_from at [] = []
+lines_from at (b ∷ bs) =
+    if b == 10
+    then record { at = at; len = 0 } ∷ lines_from (at + 1) bs
+    else begun_at at (lines_from (at + 1) bs)
+
+-- the lines of a range, in order
+abbrev pub lines_of : List ℕ → Range → List Span
+lines_of buffer r = lines_from r.from (bytes_of buffer r)

@@ -1,0 +1,2 @@
+//! Line-aligned parts of a borrowed buffer: ranges, their lines and their cuts. Nothing is copied.
+#![tactic(auto)]

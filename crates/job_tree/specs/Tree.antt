@@ -1,0 +1,41 @@
+-- The tree of a job: what its text says, step by step. Names and strings are their bytes.
+use Rattle.std.specs.Prelude.{ℕ, Bool, Option, List}
+use Rattle.job_tree.specs.declared.deadline.Deadline.{Deadline}
+
+mutual
+  -- one step of a block
+  pub data Step : Type 0 where
+    sleep : (ticks : ℕ) → Step
+    checkpoint : Step
+    forever : Step
+    pace : (per_tick : ℕ) → Step
+    find : (text : List ℕ) → Step
+    head : (count : ℕ) → Step
+    longest : Step
+    need : (text name : List ℕ) → Step
+    raise : (name : List ℕ) → Step
+    cancel : (name : List ℕ) → Step
+    scope : (name : List ℕ) → (deadline : Deadline) → (shield fail : Bool) → (body : Steps) → Step
+    nursery : (name : List ℕ) → (deadline : Deadline) → (shield : Bool) → (body : Steps) → Step
+    start : (name : List ℕ) → (over : Option ℕ) → (body : Steps) → Step
+    attempt : (body : Steps) → (handler : Handled) → (cleanup : Cleaned) → Step
+
+  -- the steps of a block, in order
+  pub data Steps : Type 0 where
+    stop : Steps
+    step : (first : Step) → (rest : Steps) → Steps
+
+  -- a `try` without a handler, or with one for exceptions of a name
+  pub data Handled : Type 0 where
+    unhandled : Handled
+    except : (name : List ℕ) → (body : Steps) → Handled
+
+  -- a `try` without a cleanup, or with one
+  pub data Cleaned : Type 0 where
+    uncleaned : Cleaned
+    finally : (body : Steps) → Cleaned
+
+-- a job: its name, which is also its root task's, and its steps
+pub record Tree : Type 0 where
+  pub name : List ℕ
+  pub steps : Steps

@@ -1,0 +1,9 @@
+//! The tree of a job, as `job_grammar` reads it from a text: names, strings, deadlines and steps.
+//!
+//! The layer promises that contracts of the layers above see these types as plain values: a name or a string as
+//! its bytes, a block as the list of its steps (`specs/Tree.antt`). It stands on no other crate of the product.
+#![tactic(auto)]
+
+pub mod deadline;
+
+pub use deadline::Deadline;
