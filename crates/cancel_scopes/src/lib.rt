@@ -1,0 +1,2 @@
+//! Cancel scopes: shields, deadlines, and from which tick a task sees a cancellation.
+#![tactic(auto)]

@@ -1,0 +1,5 @@
+pub mod Log
+pub mod Walk
+pub mod Meaning
+pub mod Follow
+pub mod Examples

@@ -1,0 +1,92 @@
+-- What a walk comes to: its end, its exception, and the log of what was done on the way.
+use Rattle.std.specs.Prelude.{ℕ, Bool, true, false, ◌&&◌, Option, Some, None, List}
+use Rattle.std.specs.Str.{bytes_eq}
+use Rattle.buffer_parts.specs.Lines.{Span}
+use Rattle.exc_groups.specs.Exceptions.{Label, Exc}
+use Rattle.cancel_scopes.specs.Sight.{Tick, earlier, next}
+
+-- what a task notes: a line that it borrowed, and the scopes and nurseries that it left, with whether they caught
+pub data Entry : Type 0 where
+  line : (at : Span) → Entry
+  scope_left : (label : Label) → (caught : Bool) → Entry
+  nursery_left : (label : Label) → (caught : Bool) → Entry
+
+-- What a task did, in order; the log of a started task stands inside its starter's, where it was started.
+-- An entry has its tick. A sign says that a scope or nursery was cancelled in a tick. A label is entered with its
+-- deadline. A task has its start, its end and how it ended, and its own log.
+pub data Log : Type 0 where
+  nil : Log
+  entry : (tick : ℕ) → (noted : Entry) → (rest : Log) → Log
+  sign : (label : Label) → (tick : ℕ) → (rest : Log) → Log
+  entered : (label : Label) → (deadline : Tick) → (rest : Log) → Log
+  task : (label : Label) → (start end : ℕ) → (exc : Option Exc) → (own : Log) → (rest : Log) → Log
+
+-- one log after another
+abbrev pub followed_by : Log → Log → Log
+followed_by nil others = others
+followed_by (entry t e rest) others = entry t e (followed_by rest others)
+followed_by (sign l t rest) others = sign l t (followed_by rest others)
+followed_by (entered l d rest) others = entered l d (followed_by rest others)
+followed_by (task l s u e own rest) others = task l s u e own (followed_by rest others)
+
+-- how a child ended whose nursery is still open
+pub record Member : Type 0 where
+  pub end : ℕ
+  pub exc : Option Exc
+
+-- what a walk comes to
+pub record Result : Type 0 where
+  pub end : ℕ
+  pub exc : Option Exc
+  pub members : List Member
+  pub log : Log
+
+abbrev pub same_label : Label → Label → Bool
+same_label l m = bytes_eq l.name m.name && bytes_eq l.indices m.indices
+
+-- a tick where a test holds
+abbrev pub tick_if : Bool → ℕ → Tick
+tick_if true t = Some t
+tick_if false t = None
+
+-- the first tick in which a label was cancelled: never, where there is no sign for it
+abbrev pub least_sign : Label → Log → Tick
+least_sign l nil = None
+least_sign l (entry t e rest) = least_sign l rest
+least_sign l (sign m t rest) = earlier (tick_if (same_label l m) t) (least_sign l rest)
+least_sign l (entered m d rest) = least_sign l rest
+least_sign l (task m s u e own rest) = earlier (least_sign l own) (least_sign l rest)
+
+-- the first of two that is there
+abbrev pub either : Option Tick → Option Tick → Option Tick
+either None o = o
+either (Some d) o = Some d
+
+abbrev pub deadline_if : Bool → Tick → Option Tick
+deadline_if true d = Some d
+deadline_if false d = None
+
+-- the deadline with which a label was entered, where it was
+abbrev pub deadline_of : Label → Log → Option Tick
+deadline_of l nil = None
+deadline_of l (entry t e rest) = deadline_of l rest
+deadline_of l (sign m t rest) = deadline_of l rest
+deadline_of l (entered m d rest) = either (deadline_if (same_label l m) d) (deadline_of l rest)
+deadline_of l (task m s u e own rest) = either (deadline_of l own) (deadline_of l rest)
+
+-- the tick from which a block is cancelled: its deadline, or the tick after its first sign, whichever comes first
+abbrev pub from_by : Tick → Tick → Tick
+from_by deadline signed = earlier deadline (next signed)
+
+-- a table says from which tick each label is cancelled
+abbrev pub Table : Type 0
+Table = Label → Tick
+
+abbrev pub entered_from : Option Tick → Tick → Tick
+entered_from None signed = None
+entered_from (Some deadline) signed = from_by deadline signed
+
+-- the table of a log: each label entered there with the lesser of its deadline and the tick after its first sign,
+-- and never for every other
+abbrev pub table_of : Log → Table
+table_of log l = entered_from (deadline_of l log) (least_sign l log)

@@ -1,0 +1,99 @@
+-- The meaning of a job over an input: one thread's walk of its tree, and the records that it comes to.
+use Rattle.std.specs.Prelude.{ℕ, Option, List, [], ◌∷◌, ◌++◌, length}
+use Rattle.job_tree.specs.Tree.{Tree}
+use Rattle.exc_groups.specs.Exceptions.{Label, Exc}
+use Rattle.cancel_scopes.specs.Sight.{Tick}
+use Rattle.job_meaning.specs.Log.{Entry, Log, nil, entry, sign, entered, task, Result, Table, table_of}
+use Rattle.job_meaning.specs.Walk.{Mode, twice, Here, walk}
+
+-- an entry with its tick
+pub record Noted : Type 0 where
+  pub tick : ℕ
+  pub entry : Entry
+
+-- what a report says of a task: its label, its start and end, its exception, and its entries in order
+pub record Record : Type 0 where
+  pub label : Label
+  pub start : ℕ
+  pub end : ℕ
+  pub exc : Option Exc
+  pub entries : List Noted
+
+-- what a task itself noted
+abbrev pub entries_of : Log → List Noted
+entries_of nil = []
+entries_of (entry t e rest) = record { tick = t; entry = e } ∷ entries_of rest
+entries_of (sign l t rest) = entries_of rest
+entries_of (entered l d rest) = entries_of rest
+entries_of (task l s u e own rest) = entries_of rest
+
+-- the records of the tasks that a log tells of: each with its descendants behind it
+abbrev pub records_of : Log → List Record
+records_of nil = []
+records_of (entry t e rest) = records_of rest
+records_of (sign l t rest) = records_of rest
+records_of (entered l d rest) = records_of rest
+records_of (task l s u e own rest) =
+    record { label = l; start = s; end = u; exc = e; entries = entries_of own } ∷ (records_of own ++ records_of rest)
+
+-- the labels that a task itself entered, in order
+abbrev pub entered_by : Log → List Label
+entered_by nil = []
+entered_by (entry t e rest) = entered_by rest
+entered_by (sign l t rest) = entered_by rest
+entered_by (entered l d rest) = l ∷ entered_by rest
+entered_by (task l s u e own rest) = entered_by rest
+
+-- the labels entered by the tasks of a log, in the order of the records
+abbrev pub all_entered : Log → List Label
+all_entered nil = []
+all_entered (entry t e rest) = all_entered rest
+all_entered (sign l t rest) = all_entered rest
+all_entered (entered l d rest) = all_entered rest
+all_entered (task l s u e own rest) = entered_by own ++ (all_entered own ++ all_entered rest)
+
+-- a job's root task: its label is the job's name
+abbrev pub root_label : List ℕ → Label
+root_label name = record { name = name; indices = [] }
+
+-- the whole input is the root's part
+abbrev pub root_here : Tree → List ℕ → Here
+root_here job input =
+    record { input = input; part = record { from = 0; to = length input }; task = root_label job.name; path = [] }
+
+-- the walk of a job from tick 0 with no scope round it
+abbrev pub root_walk : Mode → Tree → List ℕ → Result
+root_walk mode job input = walk mode job.steps (root_here job input) [] 0
+
+-- a root's result as a log: the root task alone
+abbrev pub root_log : Tree → Result → Log
+root_log job r = task (root_label job.name) 0 r.end r.exc r.log nil
+
+-- the meaning of a job over an input
+unfoldable pub meaning : Tree → List ℕ → Result
+meaning job input = root_walk twice job input
+
+-- the records of the meaning
+abbrev pub meaning_records : Tree → List ℕ → List Record
+meaning_records job input = records_of (root_log job (meaning job input))
+
+-- the tick at which a job's root ends
+abbrev pub meaning_end : Tree → List ℕ → ℕ
+meaning_end job input = (meaning job input).end
+
+-- the table of the meaning: from which tick each label is cancelled
+abbrev pub meaning_table : Tree → List ℕ → Table
+meaning_table job input = table_of (meaning job input).log
+
+-- a label with the tick from which it is cancelled
+pub record From : Type 0 where
+  pub label : Label
+  pub seen : Tick
+
+abbrev pub froms_by : Table → List Label → List From
+froms_by table [] = []
+froms_by table (l ∷ ls) = record { label = l; seen = table l } ∷ froms_by table ls
+
+-- from which tick each scope and nursery of a run was cancelled, in the order of records and of entering
+abbrev pub meaning_froms : Tree → List ℕ → List From
+meaning_froms job input = froms_by (meaning_table job input) (all_entered (root_log job (meaning job input)))
