@@ -5,5 +5,10 @@
 #![tactic(auto)]
 
 pub mod deadline;
+mod name;
+mod room;
+mod text;
 
 pub use deadline::Deadline;
+pub use name::Name;
+pub use text::Text;

@@ -1,0 +1,86 @@
+ghost use Rattle.std.specs.Prelude.{◌≡◌, ◌↔◌, IsTrue, IsSome, IfSome};
+ghost use Rattle.std.specs.List.{list_all};
+ghost use Rattle.job_tree.specs.Words.{is_word, starts_word, is_letter, is_word_byte};
+
+use crate::room::padded;
+use std::marker::Model;
+
+/// A word of a job text, as the name of a job, task, scope, nursery or exception: a letter, then letters, digits and
+/// `_`, 1 to 32 bytes in all. A contract sees it as its bytes.
+#[derive(Clone, Copy)]
+pub struct Name {
+    room: [u8; 32],
+    len: u8,
+}
+
+impl Model for Name {
+    ghost use Rattle.std.specs.Prelude.{List, ℕ, take, length};
+    ghost use Rattle.job_tree.specs.Words.{is_word, in_room, IsKept, kept_again};
+
+    ghost Value = { List ℕ };
+
+    ghost view = { λ n. take n.len n.room };
+
+    ghost invariant = { λ n. IsKept 32 is_word n.room n.len };
+
+    ghost inverse = { λ bytes. record { room = in_room 32 bytes; len = length bytes } };
+
+    ghost inverse_ok = { λ a kept. kept_again (λ room len. record { room = room; len = len }) 32 is_word a.room a.len kept };
+}
+
+impl Name {
+    /// The name of these bytes: none where they are no word.
+    pub fn new(text: &[u8]) -> Option<Name>
+        ensures word { IsSome result ↔ IsTrue (is_word text.now) }
+        ensures value { IfSome result (λ name. name ≡ text.now) }
+    {
+        if !is_word_text(text) {
+            return None;
+        }
+        Some(Name {
+            room: padded(text),
+            len: text.len() as u8,
+        })
+    }
+
+    /// The name's bytes.
+    pub fn bytes(&self) -> &[u8]
+        ensures { result.now ≡ self.now }
+    {
+        &self.room[..self.len as usize]
+    }
+}
+
+// Whether these bytes are a word.
+fn is_word_text(text: &[u8]) -> bool
+    ensures { result ≡ is_word text.now }
+{
+    starts_word_text(text) && are_word_bytes(text) && text.len() <= 32
+}
+
+fn starts_word_text(text: &[u8]) -> bool
+    ensures { result ≡ starts_word text.now }
+{
+    match text.split_first() {
+        Some((first, _)) => is_letter_byte(*first),
+        None => false,
+    }
+}
+
+fn are_word_bytes(text: &[u8]) -> bool
+    ensures { result ≡ list_all is_word_byte text.now }
+{
+    text.iter().all(|b| is_part_of_word(*b))
+}
+
+fn is_letter_byte(b: u8) -> bool
+    ensures { result ≡ is_letter b }
+{
+    (b'A' <= b && b <= b'Z') || (b'a' <= b && b <= b'z')
+}
+
+fn is_part_of_word(b: u8) -> bool
+    ensures { result ≡ is_word_byte b }
+{
+    is_letter_byte(b) || (b'0' <= b && b <= b'9') || b == b'_'
+}

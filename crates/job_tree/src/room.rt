@@ -1,0 +1,12 @@
+ghost use Rattle.std.specs.Prelude.{◌≡◌, ◌≤◌, length};
+ghost use Rattle.job_tree.specs.Words.{in_room};
+
+// The text with zeros behind it.
+pub fn padded<const N: usize>(text: &[u8]) -> [u8; N]
+    requires { length text.now ≤ N }
+    ensures { result ≡ in_room N text.now }
+{
+    let mut bytes = [0u8; N];
+    bytes[..text.len()].copy_from_slice(text);
+    bytes
+}
