@@ -7,8 +7,10 @@
 pub mod deadline;
 mod name;
 mod room;
+mod step;
 mod text;
 
 pub use deadline::Deadline;
 pub use name::Name;
+pub use step::{Body, Step};
 pub use text::Text;

@@ -1,0 +1,188 @@
+-- A code of blocks of steps as lists of marks, by which a contract tells two blocks apart.
+use Rattle.std.specs.Prelude.{◌≡◌, ℕ, zero, suc, Bool, true, false, Option, None, List, [], ◌∷◌, refl}
+use Rattle.std.specs.Coded.{Coded, code_by, coded×, coded_ℕ, coded_bool, coded_list, coded_option}
+use Rattle.std.proofs.Common.{ap, ◌∙◌}
+use Rattle.job_tree.specs.declared.deadline.Deadline.{Deadline}
+use Rattle.job_tree.specs.declared.deadline.Deadline.TheVariants.{Never, After, At}
+use Rattle.job_tree.specs.Tree.{Step, sleep, checkpoint, forever, pace, find, head, longest, need, raise, cancel, scope, nursery, start, attempt, Steps, stop, step, Handled, unhandled, except, Cleaned, uncleaned, finally}
+
+abbrev to_pair : Deadline → ℕ × ℕ
+to_pair Never = (0, 0)
+to_pair (After n) = (1, n)
+to_pair (At n) = (2, n)
+
+abbrev from_pair : ℕ × ℕ → Deadline
+from_pair (zero, n) = Never
+from_pair (suc zero, n) = After n
+from_pair (suc (suc k), n) = At n
+
+pub from_to_pair : (d : Deadline) → from_pair (to_pair d) ≡ d
+from_to_pair Never = refl
+from_to_pair (After n) = refl
+from_to_pair (At n) = refl
+
+abbrev pub deadline_code : Coded Deadline
+deadline_code = code_by (ℕ × ℕ) (coded× coded_ℕ coded_ℕ) to_pair from_pair from_to_pair
+
+-- A mark: which kind of step, a number, two strings, a deadline, two flags and a count.
+pub record Mark : Type 0 where
+  pub kind : ℕ
+  pub number : ℕ
+  pub first : List ℕ
+  pub second : List ℕ
+  pub deadline : Deadline
+  pub flag : Bool
+  pub other : Bool
+  pub over : Option ℕ
+
+abbrev Parts : Type 0
+Parts = ((ℕ × ℕ) × (List ℕ × List ℕ)) × ((Deadline × Bool) × (Bool × Option ℕ))
+
+abbrev pub mark_code : Coded Mark
+mark_code =
+    code_by Parts
+    (coded× (coded× (coded× coded_ℕ coded_ℕ) (coded× (coded_list coded_ℕ) (coded_list coded_ℕ))) (coded× (coded× deadline_code coded_bool) (coded× coded_bool (coded_option coded_ℕ))))
+    (λ m. (((m.kind, m.number), (m.first, m.second)), ((m.deadline, m.flag), (m.other, m.over))))
+    (λ p. record { kind = p.0.0.0; number = p.0.0.1; first = p.0.1.0; second = p.0.1.1; deadline = p.1.0.0; flag = p.1.0.1; other = p.1.1.0; over = p.1.1.1 })
+    (λ _. refl)
+
+abbrev plain : ℕ → ℕ → List ℕ → List ℕ → Mark
+plain kind n a b = record { kind = kind; number = n; first = a; second = b; deadline = Never; flag = false; other = false; over = None }
+
+abbrev handler_name : Handled → List ℕ
+handler_name unhandled = []
+handler_name (except name body) = name
+
+abbrev has_handler : Handled → Bool
+has_handler unhandled = false
+has_handler (except name body) = true
+
+abbrev has_cleanup : Cleaned → Bool
+has_cleanup uncleaned = false
+has_cleanup (finally body) = true
+
+-- a block as marks, each in front of what it takes
+abbrev mutual
+  marks_of : Steps → List Mark → List Mark
+  marks_of stop rest = plain 0 0 [] [] ∷ rest
+  marks_of (step s ss) rest = marks_in s (marks_of ss rest)
+
+  marks_in : Step → List Mark → List Mark
+  marks_in (sleep n) rest = plain 1 n [] [] ∷ rest
+  marks_in checkpoint rest = plain 2 0 [] [] ∷ rest
+  marks_in forever rest = plain 3 0 [] [] ∷ rest
+  marks_in (pace k) rest = plain 4 k [] [] ∷ rest
+  marks_in (find text) rest = plain 5 0 text [] ∷ rest
+  marks_in (head n) rest = plain 6 n [] [] ∷ rest
+  marks_in longest rest = plain 7 0 [] [] ∷ rest
+  marks_in (need text name) rest = plain 8 0 text name ∷ rest
+  marks_in (raise name) rest = plain 9 0 name [] ∷ rest
+  marks_in (cancel name) rest = plain 10 0 name [] ∷ rest
+  marks_in (scope name deadline shield fail body) rest =
+      record { kind = 11; number = 0; first = name; second = []; deadline = deadline; flag = shield; other = fail; over = None } ∷ marks_of body rest
+  marks_in (nursery name deadline shield body) rest =
+      record { kind = 12; number = 0; first = name; second = []; deadline = deadline; flag = shield; other = false; over = None } ∷ marks_of body rest
+  marks_in (start name over body) rest =
+      record { kind = 13; number = 0; first = name; second = []; deadline = Never; flag = false; other = false; over = over } ∷ marks_of body rest
+  marks_in (attempt body handler cleanup) rest =
+      record { kind = 14; number = 0; first = handler_name handler; second = []; deadline = Never; flag = has_handler handler; other = has_cleanup cleanup; over = None }
+      ∷ marks_of body (handler_marks handler (cleanup_marks cleanup rest))
+
+  handler_marks : Handled → List Mark → List Mark
+  handler_marks unhandled rest = rest
+  handler_marks (except name body) rest = marks_of body rest
+
+  cleanup_marks : Cleaned → List Mark → List Mark
+  cleanup_marks uncleaned rest = rest
+  cleanup_marks (finally body) rest = marks_of body rest
+
+-- blocks that were read back, the innermost in front
+abbrev Blocks : Type 0
+Blocks = List Steps
+
+-- a step in front of the first block
+abbrev put : Step → Blocks → Blocks
+put s [] = []
+put s (ss ∷ others) = step s ss ∷ others
+
+-- the first block becomes part of a step
+abbrev put_block : (Steps → Step) → Blocks → Blocks
+put_block make [] = []
+put_block make (body ∷ others) = put (make body) others
+
+abbrev put_cleaned : (Cleaned → Step) → Bool → Blocks → Blocks
+put_cleaned make false others = put (make uncleaned) others
+put_cleaned make true [] = []
+put_cleaned make true (last ∷ others) = put (make (finally last)) others
+
+abbrev put_handled : (Handled → Cleaned → Step) → List ℕ → Bool → Bool → Blocks → Blocks
+put_handled make name false with_cleanup others = put_cleaned (make unhandled) with_cleanup others
+put_handled make name true with_cleanup [] = []
+put_handled make name true with_cleanup (body ∷ others) = put_cleaned (make (except name body)) with_cleanup others
+
+abbrev put_attempt : List ℕ → Bool → Bool → Blocks → Blocks
+put_attempt name with_handler with_cleanup [] = []
+put_attempt name with_handler with_cleanup (body ∷ others) = put_handled (attempt body) name with_handler with_cleanup others
+
+abbrev read_kind : ℕ → Mark → Blocks → Blocks
+read_kind zero m b = stop ∷ b
+read_kind (suc zero) m b = put (sleep m.number) b
+read_kind (suc (suc zero)) m b = put checkpoint b
+read_kind (suc (suc (suc zero))) m b = put forever b
+read_kind (suc (suc (suc (suc zero)))) m b = put (pace m.number) b
+read_kind (suc (suc (suc (suc (suc zero))))) m b = put (find m.first) b
+read_kind (suc (suc (suc (suc (suc (suc zero)))))) m b = put (head m.number) b
+read_kind (suc (suc (suc (suc (suc (suc (suc zero))))))) m b = put longest b
+read_kind (suc (suc (suc (suc (suc (suc (suc (suc zero)))))))) m b = put (need m.first m.second) b
+read_kind (suc (suc (suc (suc (suc (suc (suc (suc (suc zero))))))))) m b = put (raise m.first) b
+read_kind (suc (suc (suc (suc (suc (suc (suc (suc (suc (suc zero)))))))))) m b = put (cancel m.first) b
+read_kind (suc (suc (suc (suc (suc (suc (suc (suc (suc (suc (suc zero))))))))))) m b = put_block (scope m.first m.deadline m.flag m.other) b
+read_kind (suc (suc (suc (suc (suc (suc (suc (suc (suc (suc (suc (suc zero)))))))))))) m b = put_block (nursery m.first m.deadline m.flag) b
+read_kind (suc (suc (suc (suc (suc (suc (suc (suc (suc (suc (suc (suc (suc zero))))))))))))) m b = put_block (start m.first m.over) b
+read_kind (suc (suc (suc (suc (suc (suc (suc (suc (suc (suc (suc (suc (suc (suc k)))))))))))))) m b = put_attempt m.first m.flag m.other b
+
+abbrev read_marks : List Mark → Blocks
+read_marks [] = []
+read_marks (m ∷ ms) = read_kind m.kind m (read_marks ms)
+
+-- what was written as marks is read back
+mutual
+  pub read_block : (ss : Steps) (rest : List Mark) → read_marks (marks_of ss rest) ≡ ss ∷ read_marks rest
+  read_block stop rest = refl
+  read_block (step s ss) rest = read_step s (marks_of ss rest) ∙ ap (put s) (read_block ss rest)
+
+  pub read_step : (s : Step) (rest : List Mark) → read_marks (marks_in s rest) ≡ put s (read_marks rest)
+  read_step (sleep n) rest = refl
+  read_step checkpoint rest = refl
+  read_step forever rest = refl
+  read_step (pace k) rest = refl
+  read_step (find text) rest = refl
+  read_step (head n) rest = refl
+  read_step longest rest = refl
+  read_step (need text name) rest = refl
+  read_step (raise name) rest = refl
+  read_step (cancel name) rest = refl
+  read_step (scope name deadline shield fail body) rest = ap (put_block (scope name deadline shield fail)) (read_block body rest)
+  read_step (nursery name deadline shield body) rest = ap (put_block (nursery name deadline shield)) (read_block body rest)
+  read_step (start name over body) rest = ap (put_block (start name over)) (read_block body rest)
+  read_step (attempt body handler cleanup) rest =
+      ap (put_attempt (handler_name handler) (has_handler handler) (has_cleanup cleanup)) (read_block body (handler_marks handler (cleanup_marks cleanup rest)))
+      ∙ read_handler handler (cleanup_marks cleanup rest) (attempt body) (has_cleanup cleanup)
+      ∙ read_cleanup cleanup rest (attempt body handler)
+
+  pub read_handler : (h : Handled) (rest : List Mark) (make : Handled → Cleaned → Step) (with_cleanup : Bool) → put_handled make (handler_name h) (has_handler h) with_cleanup (read_marks (handler_marks h rest)) ≡ put_cleaned (make h) with_cleanup (read_marks rest)
+  read_handler unhandled rest make with_cleanup = refl
+  read_handler (except name body) rest make with_cleanup = ap (put_handled make name true with_cleanup) (read_block body rest)
+
+  pub read_cleanup : (c : Cleaned) (rest : List Mark) (make : Cleaned → Step) → put_cleaned make (has_cleanup c) (read_marks (cleanup_marks c rest)) ≡ put (make c) (read_marks rest)
+  read_cleanup uncleaned rest make = refl
+  read_cleanup (finally body) rest make = ap (put_cleaned make true) (read_block body rest)
+
+abbrev first_block : Blocks → Steps
+first_block [] = stop
+first_block (ss ∷ others) = ss
+
+-- the code of a block
+abbrev pub steps_code : Coded Steps
+steps_code =
+    code_by (List Mark) (coded_list mark_code) (λ ss. marks_of ss []) (λ ms. first_block (read_marks ms)) (λ ss. ap first_block (read_block ss []))
