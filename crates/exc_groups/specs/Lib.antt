@@ -1,2 +1,6 @@
 pub mod Exceptions
 pub mod Split
+pub mod ExcCode
+pub mod Weigh
+pub mod Held
+pub mod PartsFall

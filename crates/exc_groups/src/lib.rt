@@ -1,2 +1,11 @@
 //! Exceptions and exception groups (PEP 654): labels, leaves, groups, and the split by a name or by `Cancelled`.
+//!
+//! The layer promises that contracts of the layers above see an exception as a tree (`specs/Exceptions.antt`). It
+//! stands on `job_tree` for names.
 #![tactic(auto)]
+
+mod exc;
+mod label;
+
+pub use exc::{Exc, Parts, Whose};
+pub use label::Label;

@@ -1,0 +1,91 @@
+-- A code of the parts of a group as lists of marks, by which a contract tells two groups apart.
+use Rattle.std.specs.Prelude.{◌≡◌, ℕ, zero, suc, List, [], ◌∷◌, refl}
+use Rattle.std.specs.Coded.{Coded, code_by, coded×, coded_ℕ, coded_list}
+use Rattle.std.proofs.Common.{ap, ◌∙◌}
+use Rattle.exc_groups.specs.Exceptions.{Label, Maker, by_nursery, by_handler, Exc, cancelled, raised, too_slow, group, Excs, no_parts, part}
+
+-- a label is stored as the pair of its fields
+abbrev pub label_code : Coded Label
+label_code =
+    code_by (List ℕ × List ℕ) (coded× (coded_list coded_ℕ) (coded_list coded_ℕ))
+    (λ l. (l.name, l.indices)) (λ p. record { name = p.0; indices = p.1 }) (λ _. refl)
+
+-- A mark: which kind of exception, a name, a label and a tick.
+pub record Mark : Type 0 where
+  pub kind : ℕ
+  pub name : List ℕ
+  pub label : Label
+  pub tick : ℕ
+
+abbrev pub mark_code : Coded Mark
+mark_code =
+    code_by ((ℕ × List ℕ) × (Label × ℕ)) (coded× (coded× coded_ℕ (coded_list coded_ℕ)) (coded× label_code coded_ℕ))
+    (λ m. ((m.kind, m.name), (m.label, m.tick))) (λ p. record { kind = p.0.0; name = p.0.1; label = p.1.0; tick = p.1.1 }) (λ _. refl)
+
+abbrev no_label : Label
+no_label = record { name = []; indices = [] }
+
+abbrev marked : ℕ → List ℕ → Label → ℕ → Mark
+marked kind name label tick = record { kind = kind; name = name; label = label; tick = tick }
+
+abbrev maker_mark : Maker → Mark
+maker_mark (by_nursery label) = marked 4 [] label 0
+maker_mark by_handler = marked 5 [] no_label 0
+
+-- the parts of a group as marks, each in front of what it takes
+abbrev mutual
+  marks_of : Excs → List Mark → List Mark
+  marks_of no_parts rest = marked 0 [] no_label 0 ∷ rest
+  marks_of (part e es) rest = marks_in e (marks_of es rest)
+
+  marks_in : Exc → List Mark → List Mark
+  marks_in cancelled rest = marked 1 [] no_label 0 ∷ rest
+  marks_in (raised name task tick) rest = marked 2 name task tick ∷ rest
+  marks_in (too_slow scope tick) rest = marked 3 [] scope tick ∷ rest
+  marks_in (group made_by parts) rest = maker_mark made_by ∷ marks_of parts rest
+
+-- an exception in front of the first parts that were read back
+abbrev put : Exc → List Excs → List Excs
+put e [] = []
+put e (es ∷ others) = part e es ∷ others
+
+abbrev put_group : Maker → List Excs → List Excs
+put_group made_by [] = []
+put_group made_by (es ∷ others) = put (group made_by es) others
+
+abbrev read_kind : ℕ → Mark → List Excs → List Excs
+read_kind zero m b = no_parts ∷ b
+read_kind (suc zero) m b = put cancelled b
+read_kind (suc (suc zero)) m b = put (raised m.name m.label m.tick) b
+read_kind (suc (suc (suc zero))) m b = put (too_slow m.label m.tick) b
+read_kind (suc (suc (suc (suc zero)))) m b = put_group (by_nursery m.label) b
+read_kind (suc (suc (suc (suc (suc k))))) m b = put_group by_handler b
+
+abbrev read_marks : List Mark → List Excs
+read_marks [] = []
+read_marks (m ∷ ms) = read_kind m.kind m (read_marks ms)
+
+read_maker : (w : Maker) (ms : List Mark) → read_marks (maker_mark w ∷ ms) ≡ put_group w (read_marks ms)
+read_maker (by_nursery label) ms = refl
+read_maker by_handler ms = refl
+
+-- what was written as marks is read back
+mutual
+  pub read_parts : (es : Excs) (rest : List Mark) → read_marks (marks_of es rest) ≡ es ∷ read_marks rest
+  read_parts no_parts rest = refl
+  read_parts (part e es) rest = read_exc e (marks_of es rest) ∙ ap (put e) (read_parts es rest)
+
+  pub read_exc : (e : Exc) (rest : List Mark) → read_marks (marks_in e rest) ≡ put e (read_marks rest)
+  read_exc cancelled rest = refl
+  read_exc (raised name task tick) rest = refl
+  read_exc (too_slow scope tick) rest = refl
+  read_exc (group made_by parts) rest = read_maker made_by (marks_of parts rest) ∙ ap (put_group made_by) (read_parts parts rest)
+
+abbrev first_parts : List Excs → Excs
+first_parts [] = no_parts
+first_parts (es ∷ others) = es
+
+-- the code of the parts of a group
+abbrev pub excs_code : Coded Excs
+excs_code =
+    code_by (List Mark) (coded_list mark_code) (λ es. marks_of es []) (λ ms. first_parts (read_marks ms)) (λ es. ap first_parts (read_parts es []))
