@@ -1,0 +1,2 @@
+pub mod RangeLemmas
+pub mod LineLemmas
