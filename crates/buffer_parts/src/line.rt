@@ -38,6 +38,22 @@ pub struct Lines<'a> {
     ghost within: { end ≤ length buffer.now },
 }
 
+impl<'a> Lines<'a> {
+    ghost use Rattle.buffer_parts.specs.Lines.{lines_of};
+    ghost use Rattle.buffer_parts.specs.Part.{source_of, lines_left};
+
+    /// The lines of a range of a buffer.
+    pub(crate) fn over(buffer: &'a [u8], start: usize, end: usize) -> Lines<'a>
+        requires ordered { start ≤ end }
+        requires within { end ≤ length buffer.now }
+        ensures source { source_of result ≡ buffer.now }
+        ensures lines { lines_left result ≡ lines_of buffer.now (record { from = start; to = end }) }
+        ensures count { length (lines_left result) + start ≤ end }
+    {
+        Lines { buffer, next: start, end }
+    }
+}
+
 impl<'a> Iterator for Lines<'a> {
     ghost use Rattle.buffer_parts.specs.Part.{GivesLine, lines_left};
 
