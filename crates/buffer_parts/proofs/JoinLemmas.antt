@@ -15,9 +15,9 @@ append-nil (x ∷ xs) = ap (λ ys. x ∷ ys) (append-nil xs)
 lines_from-some : (at b : ℕ) (bs : List ℕ) → 0 < length (lines_from at (b ∷ bs))
 lines_from-some at b bs =
     ⊎_elim
-      (λ (yes_is : eqb b 10 ≡ true). rw yes_is (omega arith))
-      (λ (no_is : eqb b 10 ≡ false). rw no_is (begun_at-some (lines_from (at + 1) bs)))
-      (cases_Bool (eqb b 10))
+    (λ (yes_is : eqb b 10 ≡ true). rw yes_is (omega arith))
+    (λ (no_is : eqb b 10 ≡ false). rw no_is (begun_at-some (lines_from (at + 1) bs)))
+    (cases_Bool (eqb b 10))
   where
     begun_at-some : (ls : List Span) → 0 < length (begun_at at ls)
     begun_at-some [] = omega arith
@@ -41,27 +41,27 @@ lines_from-append at (b ∷ c ∷ bs) ys ends =
     let place : at + 1 + length (c ∷ bs) ≡ at + length (b ∷ c ∷ bs) = omega arith in
     let rest_at : lines_from (at + 1) (c ∷ (bs ++ ys)) ≡ lines_from (at + 1) (c ∷ bs) ++ lines_from (at + length (b ∷ c ∷ bs)) ys = rest ∙ ap (λ n. lines_from (at + 1) (c ∷ bs) ++ lines_from n ys) place in
     ⊎_elim
-      (λ (yes_is : eqb b 10 ≡ true). rw yes_is (ap (λ ls. span at 0 ∷ ls) rest_at))
-      (λ (no_is : eqb b 10 ≡ false). rw no_is (ap (begun_at at) rest_at ∙ begun_at-append at (lines_from (at + 1) (c ∷ bs)) _ (lines_from-some (at + 1) c bs)))
-      (cases_Bool (eqb b 10))
+    (λ (yes_is : eqb b 10 ≡ true). rw yes_is (ap (λ ls. span at 0 ∷ ls) rest_at))
+    (λ (no_is : eqb b 10 ≡ false). rw no_is (ap (begun_at at) rest_at ∙ begun_at-append at (lines_from (at + 1) (c ∷ bs)) _ (lines_from-some (at + 1) c bs)))
+    (cases_Bool (eqb b 10))
 
 -- a range cut where a line starts, or at its end, has the lines of both
 pub lines_of-split : (buffer : List ℕ) (a b c : ℕ) → a ≤ b → b ≤ c → c ≤ length buffer → (b ≡ c) ⊎ (starts_line buffer b ≡ true) → lines_of buffer (range a c) ≡ lines_of buffer (range a b) ++ lines_of buffer (range b c)
 lines_of-split buffer a b c ab bc within stops =
     ⊎_elim
-      (λ (at_end : b ≡ c).
-        sym (ap (λ n. lines_of buffer (range a n) ++ lines_of buffer (range n c)) at_end
-          ∙ ap (λ ls. lines_of buffer (range a c) ++ ls) (lines_of-none buffer c) ∙ append-nil (lines_of buffer (range a c))))
-      (λ (starts : starts_line buffer b ≡ true).
-        let long : length (slice_range buffer a b) ≡ b - a = length-slice_range buffer a b (omega arith) in
-        let ends : 0 < length (slice_range buffer a b) → get_or (slice_range buffer a b) (length (slice_range buffer a b) - 1) 0 ≡ 10 = λ some.
-            let place : a + (length (slice_range buffer a b) - 1) ≡ b - 1 = omega arith in
-            get_or-slice_range buffer a b (length (slice_range buffer a b) - 1) (omega arith) ∙ ap (λ n. get_or buffer n 0) place
-            ∙ ⊎_elim (λ is. is) (λ other. absurd (both_ways _ (starts_line-other buffer b (omega arith) other) starts)) (cases_eq (get_or buffer (b - 1) 0) 10) in
-        let place : a + length (slice_range buffer a b) ≡ b = omega arith in
-        ap (lines_from a) (slice_range-split buffer a b c ab bc) ∙ lines_from-append a (slice_range buffer a b) (slice_range buffer b c) ends
-        ∙ ap (λ n. lines_from a (slice_range buffer a b) ++ lines_from n (slice_range buffer b c)) place)
-      stops
+    (λ (at_end : b ≡ c).
+    sym (ap (λ n. lines_of buffer (range a n) ++ lines_of buffer (range n c)) at_end
+    ∙ ap (λ ls. lines_of buffer (range a c) ++ ls) (lines_of-none buffer c) ∙ append-nil (lines_of buffer (range a c))))
+    (λ (starts : starts_line buffer b ≡ true).
+    let long : length (slice_range buffer a b) ≡ b - a = length-slice_range buffer a b (omega arith) in
+    let ends : 0 < length (slice_range buffer a b) → get_or (slice_range buffer a b) (length (slice_range buffer a b) - 1) 0 ≡ 10 = λ some.
+    let place : a + (length (slice_range buffer a b) - 1) ≡ b - 1 = omega arith in
+    get_or-slice_range buffer a b (length (slice_range buffer a b) - 1) (omega arith) ∙ ap (λ n. get_or buffer n 0) place
+    ∙ ⊎_elim (λ is. is) (λ other. absurd (both_ways _ (starts_line-other buffer b (omega arith) other) starts)) (cases_eq (get_or buffer (b - 1) 0) 10) in
+    let place : a + length (slice_range buffer a b) ≡ b = omega arith in
+    ap (lines_from a) (slice_range-split buffer a b c ab bc) ∙ lines_from-append a (slice_range buffer a b) (slice_range buffer b c) ends
+    ∙ ap (λ n. lines_from a (slice_range buffer a b) ++ lines_from n (slice_range buffer b c)) place)
+    stops
 
 -- the lines of the first n cuts are those up to the n-th cut point
 lines_of_cuts-front : (buffer : List ℕ) (r : Range) (k n : ℕ) → r.from ≤ r.to → r.to ≤ length buffer → 0 < k → n ≤ k → lines_of_cuts buffer r k n ≡ lines_of buffer (range r.from (cut_point buffer r k n))
@@ -75,15 +75,15 @@ lines_of_cuts-front buffer r k (suc n) ordered within some le =
     let high = next.high in
     let same : n + 1 ≡ suc n = omega arith in
     let meets : lines_of buffer (range r.from (cut_point buffer r k (n + 1))) ≡ lines_of buffer (range r.from (cut_point buffer r k n)) ++ lines_of buffer (range (cut_point buffer r k n) (cut_point buffer r k (n + 1))) =
-        ⊎_elim
-          (λ (first : n ≡ 0).
-            let at : cut_point buffer r k n ≡ r.from = ap (cut_point buffer r k) first in
-            sym (ap (λ p. lines_of buffer (range r.from p) ++ lines_of buffer (range p (cut_point buffer r k (n + 1)))) at
-              ∙ ap (λ ls. ls ++ lines_of buffer (range r.from (cut_point buffer r k (n + 1)))) (lines_of-none buffer r.from)))
-          (λ (later : n ≢ 0).
-            lines_of-split buffer r.from (cut_point buffer r k n) (cut_point buffer r k (n + 1)) low step (omega arith)
-              (⊎_elim (λ (ends : cut_point buffer r k n ≡ r.to). inl (omega arith)) (λ starts. inr starts) (here.stops (omega arith))))
-          (cases_eq n 0) in
+    ⊎_elim
+    (λ (first : n ≡ 0).
+    let at : cut_point buffer r k n ≡ r.from = ap (cut_point buffer r k) first in
+    sym (ap (λ p. lines_of buffer (range r.from p) ++ lines_of buffer (range p (cut_point buffer r k (n + 1)))) at
+    ∙ ap (λ ls. ls ++ lines_of buffer (range r.from (cut_point buffer r k (n + 1)))) (lines_of-none buffer r.from)))
+    (λ (later : n ≢ 0).
+    lines_of-split buffer r.from (cut_point buffer r k n) (cut_point buffer r k (n + 1)) low step (omega arith)
+    (⊎_elim (λ (ends : cut_point buffer r k n ≡ r.to). inl (omega arith)) (λ starts. inr starts) (here.stops (omega arith))))
+    (cases_eq n 0) in
     ap (λ ls. ls ++ lines_of buffer (cut_of buffer r k n)) before ∙ sym meets ∙ ap (λ m. lines_of buffer (range r.from (cut_point buffer r k m))) same
 
 pub lines_of_cuts-all : (buffer : List ℕ) (r : Range) (k : ℕ) → r.from ≤ r.to → r.to ≤ length buffer → 0 < k → lines_of_cuts buffer r k k ≡ lines_of buffer r
@@ -114,13 +114,14 @@ length-lines_from at [] = omega arith
 length-lines_from at (b ∷ bs) =
     let rest = length-lines_from (at + 1) bs in
     ⊎_elim
-      (λ (yes_is : eqb b 10 ≡ true). rw yes_is (omega arith))
-      (λ (no_is : eqb b 10 ≡ false). rw no_is (length-begun_at bs (lines_from (at + 1) bs) (lines_of_nothing bs) rest))
-      (cases_Bool (eqb b 10))
+    (λ (yes_is : eqb b 10 ≡ true). rw yes_is (omega arith))
+    (λ (no_is : eqb b 10 ≡ false). rw no_is (length-begun_at bs (lines_from (at + 1) bs) (lines_of_nothing bs) rest))
+    (cases_Bool (eqb b 10))
   where
     length-begun_at : (bs : List ℕ) (ls : List Span) → (length bs ≡ 0 → length ls ≡ 0) → length ls ≤ length bs → length (begun_at at ls) ≤ suc (length bs)
     length-begun_at bs [] none le = omega arith
     length-begun_at bs (l ∷ ls) none le = omega arith
+
     lines_of_nothing : (bs : List ℕ) → length bs ≡ 0 → length (lines_from (at + 1) bs) ≡ 0
     lines_of_nothing [] is = refl
     lines_of_nothing (b ∷ bs) is = absurd (omega arith)

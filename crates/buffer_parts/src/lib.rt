@@ -6,8 +6,11 @@
 //! alone, and no call takes memory.
 #![tactic(auto)]
 
+pub mod laws;
 pub mod line;
 pub mod part;
+#[cfg(test)]
+mod tests;
 
 pub use line::{Line, Lines};
 pub use part::Part;

@@ -50,7 +50,11 @@ impl<'a> Lines<'a> {
         ensures lines { lines_left result ≡ lines_of buffer.now (record { from = start; to = end }) }
         ensures count { length (lines_left result) + start ≤ end }
     {
-        Lines { buffer, next: start, end }
+        Lines {
+            buffer,
+            next: start,
+            end,
+        }
     }
 }
 

@@ -1,9 +1,8 @@
 ghost use Rattle.std.specs.Prelude.{◌≡◌, ℕ, ◌+◌, ◌-◌, ◌*◌, ◌/◌, ◌<◌, ◌≤◌, ◌==◌, ◌||◌, ◌↔◌, IsTrue, IsSome, IfSome, List, length, slice_range};
 ghost use Rattle.buffer_parts.specs.Cuts.{starts_line};
 
-use memchr::memchr;
-
 use crate::line::Lines;
+use memchr::memchr;
 
 /// A range of a borrowed buffer that starts where a line starts, or is empty.
 #[derive(Clone, Copy)]
@@ -38,13 +37,6 @@ impl<'a> Part<'a> {
         ensures { result ≡ (range_of self.entry).from }
     {
         self.start
-    }
-
-    /// How many bytes the part has.
-    pub fn len(self) -> usize
-        ensures { (range_of self.entry).from + result ≡ (range_of self.entry).to }
-    {
-        self.end - self.start
     }
 
     /// The part's bytes.
@@ -88,7 +80,14 @@ impl<'a> Part<'a> {
             ≡ record { from = (range_of result.0).to; to = (range_of self.entry).to } }
     {
         let first = self.cut(k, 0);
-        (first, Part { buffer: self.buffer, start: first.end, end: self.end })
+        (
+            first,
+            Part {
+                buffer: self.buffer,
+                start: first.end,
+                end: self.end,
+            },
+        )
     }
 
     /// This part and the next one as one, where the next begins at this one's end.
@@ -102,7 +101,11 @@ impl<'a> Part<'a> {
         if self.end != next.start {
             return None;
         }
-        Some(Part { buffer: self.buffer, start: self.start, end: next.end })
+        Some(Part {
+            buffer: self.buffer,
+            start: self.start,
+            end: next.end,
+        })
     }
 
     /// The part's lines, in order.
