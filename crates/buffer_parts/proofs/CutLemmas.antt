@@ -1,12 +1,10 @@
 -- Where the cuts of a range lie.
-use Rattle.std.proofs.Common.{◌≡◌, ◌≢◌, ◌⊎◌, ℕ, zero, suc, ◌+◌, ◌-◌, ◌*◌, ◌/◌, ◌<◌, ◌≤◌, Bool, true, false, ◌||◌, eqb, List, length, get_or, slice_range, Option, Some, None, IsTrue, refl, sym, ap, subst, ◌∙◌, inl, inr, ⊎_elim, arith, cond}
+use Rattle.std.proofs.Common.{◌≡◌, ◌≢◌, ◌⊎◌, ℕ, zero, suc, ◌+◌, ◌-◌, ◌*◌, ◌/◌, ◌<◌, ◌≤◌, Bool, true, false, ◌||◌, eqb, List, IsTrue, refl, sym, ap, subst, ◌∙◌, inl, inr, ⊎_elim, arith}
 use Rattle.std.proofs.lemmas.Bool.{ne_eqb, eq-eqb, eqb-true, cases_eq, cases_lt, cases_Bool, both_ways}
 use Rattle.std.proofs.lemmas.Nat.{le-div}
-use Rattle.std.proofs.Math.Nat.{mul-le-mul_right, mul-div-le, div-mul-le_self, div-le_of_le-mul}
-use Rattle.memchr.specs.Find.{IsFirstByte, is_byte}
+use Rattle.std.proofs.Math.Nat.{mul-le-mul_right, div-mul-le_self, div-le_of_le-mul}
 use Rattle.buffer_parts.specs.Lines.{Range}
-use Rattle.buffer_parts.specs.Cuts.{starts_line, next_start, cut_point, cut_of}
-use Rattle.buffer_parts.proofs.RangeLemmas.{length-slice_range, get_or-slice_range}
+use Rattle.buffer_parts.specs.Cuts.{starts_line, next_start, cut_point}
 
 -- no line starts from one place up to another
 abbrev pub NoStart : List ℕ → ℕ → ℕ → Type 0

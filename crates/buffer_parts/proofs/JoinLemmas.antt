@@ -1,6 +1,6 @@
 -- The lines of two ranges that meet where a line starts.
-use Rattle.std.proofs.Common.{◌≡◌, ◌≢◌, ◌⊎◌, ℕ, zero, suc, ◌+◌, ◌-◌, ◌<◌, ◌≤◌, Bool, true, false, eqb, List, [], ◌∷◌, ◌++◌, length, get_or, slice_range, refl, sym, ap, ◌∙◌, inl, inr, ⊎_elim, arith}
-use Rattle.std.proofs.lemmas.Bool.{ne_eqb, eq-eqb, eqb-true, cases_eq, cases_Bool, both_ways}
+use Rattle.std.proofs.Common.{◌≡◌, ◌≢◌, ◌⊎◌, ℕ, zero, suc, ◌+◌, ◌-◌, ◌<◌, ◌≤◌, true, false, eqb, List, [], ◌∷◌, ◌++◌, length, get_or, slice_range, refl, sym, ap, ◌∙◌, inl, inr, ⊎_elim, arith}
+use Rattle.std.proofs.lemmas.Bool.{eq-eqb, cases_eq, cases_Bool, both_ways}
 use Rattle.buffer_parts.specs.Lines.{Range, Span, lines_from, begun_at, lines_of, bytes_of}
 use Rattle.buffer_parts.specs.Cuts.{starts_line, cut_point, cut_of, lines_of_cuts, bytes_of_cuts}
 use Rattle.buffer_parts.proofs.RangeLemmas.{length-slice_range, get_or-slice_range, slice_range-split}

@@ -1,9 +1,9 @@
 -- The lines of a list of bytes, from their front.
-use Rattle.std.proofs.Common.{◌≡◌, ◌≢◌, ℕ, zero, suc, ◌+◌, ◌-◌, ◌<◌, ◌≤◌, List, [], ◌∷◌, ◌++◌, length, get_or, take, drop, slice_range, Option, Some, None, refl, sym, ap, ◌∙◌, arith, add-one, true, false, eqb, Bool}
-use Rattle.std.proofs.lemmas.Bool.{ne_eqb, eq-eqb, eqb-true, both_ways}
+use Rattle.std.proofs.Common.{◌≡◌, ◌≢◌, ℕ, zero, suc, ◌+◌, ◌-◌, ◌<◌, ◌≤◌, List, [], ◌∷◌, length, get_or, take, drop, slice_range, Some, None, refl, sym, ap, ◌∙◌, arith, add-one, true, false, eqb}
+use Rattle.std.proofs.lemmas.Bool.{ne_eqb, eq-eqb, eqb-true}
 use Rattle.memchr.specs.Find.{IsFirstByte, is_byte}
-use Rattle.buffer_parts.specs.Lines.{Range, Span, lines_from, begun_at, lines_of, text_of}
-use Rattle.buffer_parts.proofs.RangeLemmas.{length-slice_range, drop-slice_range, take-slice_range, get_or-slice_range}
+use Rattle.buffer_parts.specs.Lines.{Range, Span, lines_from, begun_at, lines_of}
+use Rattle.buffer_parts.proofs.RangeLemmas.{length-slice_range, drop-slice_range}
 
 abbrev pub span : ℕ → ℕ → Span
 span at len = record { at = at; len = len }

@@ -1,10 +1,10 @@
 -- What a search for a newline says of the next start of a line.
-use Rattle.std.proofs.Common.{◌≡◌, ◌≢◌, ◌⊎◌, ℕ, ◌+◌, ◌-◌, ◌<◌, ◌≤◌, true, false, eqb, List, length, get_or, slice_range, Option, Some, None, sym, ap, ◌∙◌, inl, inr, arith}
+use Rattle.std.proofs.Common.{◌≡◌, ◌≢◌, ℕ, ◌+◌, ◌-◌, ◌<◌, ◌≤◌, true, false, eqb, List, length, get_or, slice_range, Some, None, sym, ap, ◌∙◌, inl, inr, arith}
 use Rattle.std.proofs.lemmas.Bool.{ne_eqb, eq-eqb, eqb-true}
 use Rattle.memchr.specs.Find.{IsFirstByte, is_byte}
 use Rattle.buffer_parts.specs.Cuts.{starts_line, next_start}
 use Rattle.buffer_parts.proofs.RangeLemmas.{length-slice_range, get_or-slice_range}
-use Rattle.buffer_parts.proofs.CutLemmas.{IsNextStart, NoStart, next_start-is, next_start-stopped, or_right}
+use Rattle.buffer_parts.proofs.CutLemmas.{NoStart, next_start-is, or_right}
 
 pub starts_line-newline : (buffer : List ℕ) (p : ℕ) → get_or buffer (p - 1) 0 ≡ 10 → starts_line buffer p ≡ true
 starts_line-newline buffer p is = or_right (eqb p 0) _ (eq-eqb _ _ is)

@@ -1,5 +1,5 @@
 -- What clauses read of a part, of a line and of the lines that are left.
-use Rattle.std.specs.Prelude.{◌≡◌, ◌≤◌, ◌+◌, ℕ, List, [], ◌∷◌, Option, None, Some, length, IfSome, MatchOption}
+use Rattle.std.specs.Prelude.{◌≡◌, ◌≤◌, ◌+◌, ℕ, List, [], ◌∷◌, Option, length, IfSome, MatchOption}
 use Rattle.buffer_parts.specs.Lines.{Range, Span, text_of, lines_of}
 use Rattle.buffer_parts.specs.declared.part.Part.{Part}
 use Rattle.buffer_parts.specs.declared.line.Line.{Line}
@@ -17,10 +17,14 @@ range_of part = record { from = part.start; to = part.end }
 abbrev pub span_of : Line → Span
 span_of line = record { at = line.start; len = length line.bytes.now }
 
+-- a line's bytes
+abbrev pub line_text : Line → List ℕ
+line_text line = line.bytes.now
+
 -- the line's bytes are those of the buffer at its place, which lies in the buffer
 pub record IsLineOf (buffer : List ℕ) (line : Line) : Type 0 where
-  pub within : line.start + length line.bytes.now ≤ length buffer
-  pub text : line.bytes.now ≡ text_of buffer (span_of line)
+  pub within : (span_of line).at + (span_of line).len ≤ length buffer
+  pub text : line_text line ≡ text_of buffer (span_of line)
 
 -- the bytes that the lines come from
 abbrev pub source_of : Lines → List ℕ

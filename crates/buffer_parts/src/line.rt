@@ -11,7 +11,7 @@ pub struct Line<'a> {
 }
 
 impl<'a> Line<'a> {
-    ghost use Rattle.buffer_parts.specs.Part.{span_of};
+    ghost use Rattle.buffer_parts.specs.Part.{span_of, line_text};
 
     /// The place in the buffer of the line's first byte, or of its newline where the line is empty.
     pub fn at(self) -> usize
@@ -22,14 +22,14 @@ impl<'a> Line<'a> {
 
     /// The line's bytes.
     pub fn text(self) -> &'a [u8]
-        ensures { result.now ≡ self.entry.bytes.now }
+        ensures { result.now ≡ line_text self.entry }
     {
         self.bytes
     }
 }
 
 /// The lines of a part that are still to come, in order.
-#[derive(Clone, Copy)]
+#[derive(Drop)]
 pub struct Lines<'a> {
     buffer: &'a [u8],
     next: usize,

@@ -53,8 +53,8 @@ impl<'a> Part<'a> {
         self.buffer
     }
 
-    /// Cut `i` of `k`: the bytes from the first line start behind `i` of `k` equal steps through the part to the first
-    /// behind the next step.
+    /// Cut `i` of `k`: from the first line start of the part at or behind `i` of `k` equal steps to the first at or
+    /// behind the next step. The cuts of a part may be empty, and joined in order they are the part.
     pub fn cut(self, k: usize, i: usize) -> Part<'a>
         requires some { 1 ≤ k }
         requires few { k ≤ 64 }

@@ -1,5 +1,5 @@
 use Rattle.std.proofs.Common.{◌≡◌, ◌+◌, ◌-◌, ◌≤◌, ◌∷◌, length, take, slice_range, arith, ap, ◌∙◌, sym, refl}
-use Rattle.buffer_parts.proofs.LineLemmas.{span, range, lines_of-newline, lines_of-last, lines_of-none}
+use Rattle.buffer_parts.proofs.LineLemmas.{span, range, lines_of-newline, lines_of-last}
 use Rattle.buffer_parts.specs.Lines.{lines_of}
 use Rattle.buffer_parts.proofs.RangeLemmas.{length-slice_range, take-slice_range}
 use Rattle.buffer_parts.proofs.line.LinesIterator.next.Goals as goal
