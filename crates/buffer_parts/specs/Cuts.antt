@@ -1,6 +1,6 @@
 -- Cuts of a range at line starts.
-use Rattle.std.specs.Prelude.{ℕ, zero, suc, ◌+◌, ◌-◌, ◌*◌, ◌/◌, ◌==◌, Bool, ◌||◌, if◌then◌else◌, List, slice_index}
-use Rattle.buffer_parts.specs.Lines.{Range}
+use Rattle.std.specs.Prelude.{ℕ, zero, suc, ◌+◌, ◌-◌, ◌*◌, ◌/◌, ◌==◌, Bool, ◌||◌, if◌then◌else◌, List, [], ◌++◌, slice_index}
+use Rattle.buffer_parts.specs.Lines.{Range, Span, bytes_of, lines_of}
 
 -- a place at which a line starts: the buffer's first, and each behind a newline
 abbrev pub starts_line : List ℕ → ℕ → Bool
@@ -22,3 +22,13 @@ cut_point buffer r k i =
 -- cut i of k: from cut point i to the next
 abbrev pub cut_of : List ℕ → Range → ℕ → ℕ → Range
 cut_of buffer r k i = record { from = cut_point buffer r k i; to = cut_point buffer r k (i + 1) }
+
+-- the bytes of the first n of k cuts, in order
+abbrev pub bytes_of_cuts : List ℕ → Range → ℕ → ℕ → List ℕ
+bytes_of_cuts buffer r k zero = []
+bytes_of_cuts buffer r k (suc n) = bytes_of_cuts buffer r k n ++ bytes_of buffer (cut_of buffer r k n)
+
+-- the lines of the first n of k cuts, in order
+abbrev pub lines_of_cuts : List ℕ → Range → ℕ → ℕ → List Span
+lines_of_cuts buffer r k zero = []
+lines_of_cuts buffer r k (suc n) = lines_of_cuts buffer r k n ++ lines_of buffer (cut_of buffer r k n)

@@ -1,2 +1,16 @@
 //! Line-aligned parts of a borrowed buffer: ranges, their lines and their cuts. Nothing is copied.
+//!
+//! The layer promises that a part is a range of its buffer that starts where a line starts, that the cuts of a part
+//! joined in order are the part, and that `lines` gives the lines of the range in order, each with its place in the
+//! buffer. `specs/Lines.antt` says what a line is, and `specs/Cuts.antt` where a cut lies. It stands on `memchr`
+//! alone, and no call takes memory.
 #![tactic(auto)]
+
+pub mod laws;
+pub mod line;
+pub mod part;
+#[cfg(test)]
+mod tests;
+
+pub use line::{Line, Lines};
+pub use part::Part;

@@ -1,0 +1,5 @@
+pub mod RangeLemmas
+pub mod LineLemmas
+pub mod CutLemmas
+pub mod SearchLemmas
+pub mod JoinLemmas

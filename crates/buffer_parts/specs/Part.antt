@@ -1,0 +1,41 @@
+-- What clauses read of a part, of a line and of the lines that are left.
+use Rattle.std.specs.Prelude.{◌≡◌, ◌≤◌, ◌+◌, ℕ, List, [], ◌∷◌, Option, length, IfSome, MatchOption}
+use Rattle.buffer_parts.specs.Lines.{Range, Span, text_of, lines_of}
+use Rattle.buffer_parts.specs.declared.part.Part.{Part}
+use Rattle.buffer_parts.specs.declared.line.Line.{Line}
+use Rattle.buffer_parts.specs.declared.line.Lines.{Lines}
+
+-- the bytes that a part lies in
+abbrev pub buffer_of : Part → List ℕ
+buffer_of part = part.buffer.now
+
+-- the places of a part
+abbrev pub range_of : Part → Range
+range_of part = record { from = part.start; to = part.end }
+
+-- a line's place and length
+abbrev pub span_of : Line → Span
+span_of line = record { at = line.start; len = length line.bytes.now }
+
+-- a line's bytes
+abbrev pub line_text : Line → List ℕ
+line_text line = line.bytes.now
+
+-- the line's bytes are those of the buffer at its place, which lies in the buffer
+pub record IsLineOf (buffer : List ℕ) (line : Line) : Type 0 where
+  pub within : (span_of line).at + (span_of line).len ≤ length buffer
+  pub text : line_text line ≡ text_of buffer (span_of line)
+
+-- the bytes that the lines come from
+abbrev pub source_of : Lines → List ℕ
+source_of lines = lines.buffer.now
+
+-- the lines that are still to come
+abbrev pub lines_left : Lines → List Span
+lines_left lines = lines_of lines.buffer.now (record { from = lines.next; to = lines.end })
+
+-- one call gave the first of the lines that were left, as it stands in the buffer, or none where none was left
+pub record GivesLine (before : Lines) (given : Option Line) (after : Lines) : Type 0 where
+  pub first : MatchOption given ((lines_left before ≡ []) × (lines_left after ≡ [])) (λ line. lines_left before ≡ span_of line ∷ lines_left after)
+  pub placed : IfSome given (IsLineOf (source_of before))
+  pub same_source : source_of after ≡ source_of before

@@ -1,0 +1,90 @@
+ghost use Rattle.std.specs.Prelude.{◌≡◌, ℕ, ◌+◌, ◌-◌, ◌<◌, ◌≤◌, List, length, slice_range};
+ghost use Rattle.std.specs.Iterator.{item_count};
+
+use memchr::memchr;
+
+/// A line of a buffer: where it starts, and its bytes without the newline.
+#[derive(Clone, Copy)]
+pub struct Line<'a> {
+    start: usize,
+    bytes: &'a [u8],
+}
+
+impl<'a> Line<'a> {
+    ghost use Rattle.buffer_parts.specs.Part.{span_of, line_text};
+
+    /// The place in the buffer of the line's first byte, or of its newline where the line is empty.
+    pub fn at(self) -> usize
+        ensures { result ≡ (span_of self.entry).at }
+    {
+        self.start
+    }
+
+    /// The line's bytes.
+    pub fn text(self) -> &'a [u8]
+        ensures { result.now ≡ line_text self.entry }
+    {
+        self.bytes
+    }
+}
+
+/// The lines of a part that are still to come, in order.
+#[derive(Drop)]
+pub struct Lines<'a> {
+    buffer: &'a [u8],
+    next: usize,
+    end: usize,
+    ghost ordered: { next ≤ end },
+    ghost within: { end ≤ length buffer.now },
+}
+
+impl<'a> Lines<'a> {
+    ghost use Rattle.buffer_parts.specs.Lines.{lines_of};
+    ghost use Rattle.buffer_parts.specs.Part.{source_of, lines_left};
+
+    /// The lines of a range of a buffer.
+    pub(crate) fn over(buffer: &'a [u8], start: usize, end: usize) -> Lines<'a>
+        requires ordered { start ≤ end }
+        requires within { end ≤ length buffer.now }
+        ensures source { source_of result ≡ buffer.now }
+        ensures lines { lines_left result ≡ lines_of buffer.now (record { from = start; to = end }) }
+        ensures count { length (lines_left result) + start ≤ end }
+    {
+        Lines {
+            buffer,
+            next: start,
+            end,
+        }
+    }
+}
+
+impl<'a> Iterator for Lines<'a> {
+    ghost use Rattle.buffer_parts.specs.Part.{GivesLine, lines_left};
+
+    type Item = Line<'a>;
+
+    ghost next_gives = { GivesLine };
+
+    ghost remaining = { item_count lines_left };
+
+    fn next(&mut self) -> Option<Line<'a>> {
+        if self.next == self.end {
+            return None;
+        }
+        let start = self.next;
+        let rest = &self.buffer[start..self.end];
+        match memchr(b'\n', rest) {
+            Some(length) => {
+                self.next = start + length + 1;
+                Some(Line {
+                    start,
+                    bytes: &rest[..length],
+                })
+            }
+            None => {
+                self.next = self.end;
+                Some(Line { start, bytes: rest })
+            }
+        }
+    }
+}

@@ -1,0 +1,159 @@
+ghost use Rattle.std.specs.Prelude.{◌≡◌, ℕ, ◌+◌, ◌-◌, ◌*◌, ◌/◌, ◌<◌, ◌≤◌, ◌==◌, ◌||◌, ◌↔◌, IsTrue, IsSome, IfSome, List, length, slice_range};
+ghost use Rattle.buffer_parts.specs.Cuts.{starts_line};
+
+use crate::line::Lines;
+use memchr::memchr;
+
+/// A range of a borrowed buffer that starts where a line starts, or is empty.
+#[derive(Clone, Copy)]
+pub struct Part<'a> {
+    buffer: &'a [u8],
+    start: usize,
+    end: usize,
+    ghost ordered: { start ≤ end },
+    ghost within: { end ≤ length buffer.now },
+    ghost aligned: { IsTrue (starts_line buffer.now start || start == end) },
+}
+
+impl<'a> Part<'a> {
+    ghost use Rattle.buffer_parts.specs.Lines.{Range, bytes_of, lines_of};
+    ghost use Rattle.buffer_parts.specs.Cuts.{next_start, cut_point, cut_of};
+    ghost use Rattle.buffer_parts.specs.Part.{buffer_of, range_of, source_of, lines_left};
+
+    /// The whole of a buffer.
+    pub fn whole(buffer: &'a [u8]) -> Part<'a>
+        ensures buffer { buffer_of result ≡ buffer.now }
+        ensures range { range_of result ≡ record { from = 0; to = length buffer.now } }
+    {
+        Part {
+            buffer,
+            start: 0,
+            end: buffer.len(),
+        }
+    }
+
+    /// The place in the buffer at which the part starts.
+    pub fn at(self) -> usize
+        ensures { result ≡ (range_of self.entry).from }
+    {
+        self.start
+    }
+
+    /// The part's bytes.
+    pub fn text(self) -> &'a [u8]
+        ensures { result.now ≡ bytes_of (buffer_of self.entry) (range_of self.entry) }
+    {
+        &self.buffer[self.start..self.end]
+    }
+
+    /// The whole buffer that the part lies in.
+    pub fn buffer(self) -> &'a [u8]
+        ensures { result.now ≡ buffer_of self.entry }
+    {
+        self.buffer
+    }
+
+    /// Cut `i` of `k`: from the first line start of the part at or behind `i` of `k` equal steps to the first at or
+    /// behind the next step. The cuts of a part may be empty, and joined in order they are the part.
+    pub fn cut(self, k: usize, i: usize) -> Part<'a>
+        requires some { 1 ≤ k }
+        requires few { k ≤ 64 }
+        requires below { i < k }
+        ensures buffer { buffer_of result ≡ buffer_of self.entry }
+        ensures range { range_of result ≡ cut_of (buffer_of self.entry) (range_of self.entry) k i }
+    {
+        Part {
+            buffer: self.buffer,
+            start: self.cut_point(k, i),
+            end: self.cut_point(k, i + 1),
+        }
+    }
+
+    /// The first of `k` cuts, and what is left of the part behind it.
+    pub fn first_of(self, k: usize) -> (Part<'a>, Part<'a>)
+        requires some { 1 ≤ k }
+        requires few { k ≤ 64 }
+        ensures first_buffer { buffer_of result.0 ≡ buffer_of self.entry }
+        ensures first_range { range_of result.0 ≡ cut_of (buffer_of self.entry) (range_of self.entry) k 0 }
+        ensures rest_buffer { buffer_of result.1 ≡ buffer_of self.entry }
+        ensures rest_range { range_of result.1
+            ≡ record { from = (range_of result.0).to; to = (range_of self.entry).to } }
+    {
+        let first = self.cut(k, 0);
+        (
+            first,
+            Part {
+                buffer: self.buffer,
+                start: first.end,
+                end: self.end,
+            },
+        )
+    }
+
+    /// This part and the next one as one, where the next begins at this one's end.
+    pub fn join(self, next: Part<'a>) -> Option<Part<'a>>
+        requires { buffer_of self ≡ buffer_of next }
+        ensures meet { IsSome result ↔ ((range_of self.entry).to ≡ (range_of next.entry).from) }
+        ensures buffer { IfSome result (λ both. buffer_of both ≡ buffer_of self.entry) }
+        ensures range { IfSome result (λ both. range_of both
+            ≡ record { from = (range_of self.entry).from; to = (range_of next.entry).to }) }
+    {
+        if self.end != next.start {
+            return None;
+        }
+        Some(Part {
+            buffer: self.buffer,
+            start: self.start,
+            end: next.end,
+        })
+    }
+
+    /// The part's lines, in order.
+    pub fn lines(self) -> Lines<'a>
+        ensures source { source_of result ≡ buffer_of self.entry }
+        ensures lines { lines_left result ≡ lines_of (buffer_of self.entry) (range_of self.entry) }
+        ensures count { length (lines_left result) + (range_of self.entry).from ≤ (range_of self.entry).to }
+    {
+        Lines::over(self.buffer, self.start, self.end)
+    }
+
+    /// Where cut `i` of `k` starts, and the cut before it ends.
+    fn cut_point(self, k: usize, i: usize) -> usize
+        requires some { 1 ≤ k }
+        requires few { k ≤ 64 }
+        requires within { i ≤ k }
+        ensures { result ≡ cut_point (buffer_of self.entry) (range_of self.entry) k i }
+    {
+        if i == 0 {
+            return self.start;
+        }
+        if i == k {
+            return self.end;
+        }
+        self.next_start(self.start + steps(self.end - self.start, k, i))
+    }
+
+    /// The first line start of the part from a place on, or the part's end where there is none.
+    fn next_start(self, place: usize) -> usize
+        requires { place ≤ self.end }
+        ensures { result ≡ next_start (buffer_of self.entry) place ((range_of self.entry).to - place) }
+    {
+        if place == 0 {
+            return 0;
+        }
+        match memchr(b'\n', &self.buffer[place - 1..self.end]) {
+            Some(length) => place + length,
+            None => self.end,
+        }
+    }
+}
+
+/// How far `i` of `k` equal steps lead through a length, rounded down.
+fn steps(length: usize, k: usize, i: usize) -> usize
+    requires some { 1 ≤ k }
+    requires few { k ≤ 64 }
+    requires within { i ≤ k }
+    ensures { result ≡ i * length / k }
+{
+    (i as u128 * length as u128 / k as u128) as usize
+}

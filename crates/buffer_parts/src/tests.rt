@@ -1,0 +1,57 @@
+use crate::Part;
+use std::test::Fail;
+
+/// Three lines of two, one and four bytes.
+const BUFFER: &[u8] = b"aa\nb\ncccc\n";
+
+/// Where a part starts, and how many bytes it has.
+fn place(part: Part<'_>) -> (usize, usize) {
+    (part.at(), part.text().len())
+}
+
+#[test]
+fn cuts_start_where_lines_start(rt: HostRuntime) {
+    let whole = Part::whole(BUFFER);
+    let rows = [
+        (whole.cut(3, 0), 0, 3),
+        (whole.cut(3, 1), 3, 7),
+        (whole.cut(3, 2), 10, 0),
+        (whole.cut(2, 0), 0, 5),
+        (whole.cut(2, 1), 5, 5),
+        (whole.first_of(3).0, 0, 3),
+        (whole.first_of(3).1, 3, 7),
+        (whole.first_of(1).0, 0, 10),
+        (whole.first_of(1).1, 10, 0),
+    ];
+    for (part, at, length) in rows {
+        assert_eq!(rt; place(part), (at, length));
+        assert_eq!(rt; part.buffer().len(), 10);
+    }
+}
+
+#[test]
+fn parts_join_where_they_meet(rt: HostRuntime) {
+    let whole = Part::whole(BUFFER);
+    let (first, middle, last) = (whole.cut(3, 0), whole.cut(3, 1), whole.cut(3, 2));
+    assert_eq!(rt; first.join(middle).map(place), Some((0, 10)));
+    assert_eq!(rt; middle.join(first).map(place), None);
+    assert_eq!(rt; first.join(last).map(place), None);
+}
+
+#[test]
+fn lines_come_in_order(rt: HostRuntime) -> Result<(), Fail> {
+    let rows = [
+        (BUFFER, [(0, 2), (3, 1), (5, 4)].as_slice()),
+        (b"", &[]),
+        (b"\n", &[(0, 0)]),
+        (b"a\n\n\r\nlast", &[(0, 1), (2, 0), (3, 1), (5, 4)]),
+    ];
+    for (buffer, expected) in rows {
+        let mut lines = Vec::new(rt.alloc());
+        for line in Part::whole(buffer).lines() {
+            lines.push((line.at(), line.text().len()))?;
+        }
+        assert_eq!(rt; lines.as_slice(), expected);
+    }
+    Ok(())
+}
