@@ -1,5 +1,6 @@
 pub mod Log
 pub mod Walk
 pub mod Meaning
+pub mod Shown
 pub mod Follow
 pub mod Examples

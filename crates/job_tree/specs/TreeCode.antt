@@ -4,7 +4,7 @@ use Rattle.std.specs.Coded.{Coded, code_by, coded×, coded_ℕ, coded_bool, code
 use Rattle.std.proofs.Common.{ap, ◌∙◌}
 use Rattle.job_tree.specs.declared.deadline.Deadline.{Deadline}
 use Rattle.job_tree.specs.declared.deadline.Deadline.TheVariants.{Never, After, At}
-use Rattle.job_tree.specs.Tree.{Step, sleep, checkpoint, forever, pace, find, head, longest, need, raise, cancel, scope, nursery, start, attempt, Steps, stop, step, Handled, unhandled, except, Cleaned, uncleaned, finally}
+use Rattle.job_tree.specs.Tree.{Step, sleep, checkpoint, forever, pace, find, head, longest, need, raise, cancel, scope, nursery, start, attempt, Steps, stop, step, Handled, unhandled, except, Cleaned, uncleaned, finally, Tree}
 
 abbrev to_pair : Deadline → ℕ × ℕ
 to_pair Never = (0, 0)
@@ -186,3 +186,9 @@ first_block (ss ∷ others) = ss
 abbrev pub steps_code : Coded Steps
 steps_code =
     code_by (List Mark) (coded_list mark_code) (λ ss. marks_of ss []) (λ ms. first_block (read_marks ms)) (λ ss. ap first_block (read_block ss []))
+
+-- the code of a job
+abbrev pub tree_code : Coded Tree
+tree_code =
+    code_by (List ℕ × Steps) (coded× (coded_list coded_ℕ) steps_code)
+    (λ j. (j.name, j.steps)) (λ p. record { name = p.0; steps = p.1 }) (λ _. refl)

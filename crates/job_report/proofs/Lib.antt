@@ -1,0 +1,3 @@
+pub mod PartsText
+pub mod Escaped
+pub mod Sent

@@ -1,0 +1,17 @@
+use Rattle.std.proofs.Common.{◌≡◌, ◌++◌, ◌+◌, ◌*◌, take}
+use Rattle.exc_groups.specs.Held.{exc_of, excs_of}
+use Rattle.exc_groups.specs.Weigh.{weight_of, weight_in}
+use Rattle.job_report.specs.Text.{more_text}
+use Rattle.job_report.proofs.exc.+exc.Given as goal
+
+abbrev pub invariant-push_more-parts : goal.invariant-push_more-parts
+invariant-push_more-parts l = l.out.items ≡ l.fn.out.items ++ more_text (excs_of (take l.part-index l.parts))
+
+abbrev pub decreases-push_exc : goal.decreases-push_exc
+decreases-push_exc l = 3 * weight_in (exc_of l.exc.now)
+
+abbrev pub decreases-push_parts : goal.decreases-push_parts
+decreases-push_parts l = 3 * weight_of (excs_of l.parts.now) + 2
+
+abbrev pub decreases-push_more : goal.decreases-push_more
+decreases-push_more l = 3 * weight_of (excs_of l.parts.now) + 1

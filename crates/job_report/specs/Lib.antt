@@ -1,0 +1,4 @@
+pub mod Text
+pub mod Sending
+pub mod MemOuts
+pub mod WriteOuts

@@ -1,0 +1,78 @@
+-- The text of a report.
+use Rattle.std.specs.Prelude.{ℕ, ◌+◌, ◌/◌, ◌%◌, Bool, true, false, ◌&&◌, not, ◌==◌, nat_le, nat_lt, if◌then◌else◌, List, [], ◌∷◌, ◌++◌, length, codes, decimal}
+use Rattle.std.specs.List.{flat_map}
+use Rattle.exc_groups.specs.Exceptions.{Label, Maker, by_nursery, by_handler, Exc, cancelled, raised, too_slow, group, Excs, no_parts, part}
+use Rattle.job_meaning.specs.Shown.{Shown, line_shown, scope_shown, nursery_shown, Ending, well, by_cancellation, with_exception, Row}
+
+abbrev pub index_text : ℕ → List ℕ
+index_text i = codes "." ++ decimal i
+
+-- a label: its name, and a dot and the index for each index
+abbrev pub label_text : Label → List ℕ
+label_text l = l.name ++ flat_map index_text l.indices
+
+-- where and when: the label, `@`, and the tick, in brackets
+abbrev pub place_text : Label → ℕ → List ℕ
+place_text label tick = codes "(" ++ label_text label ++ codes "@" ++ decimal tick ++ codes ")"
+
+abbrev pub maker_text : Maker → List ℕ
+maker_text (by_nursery label) = label_text label
+maker_text by_handler = codes "*"
+
+-- an exception; the parts of a group stand between a comma and a space
+abbrev mutual
+  pub exc_text : Exc → List ℕ
+  exc_text cancelled = codes "Cancelled"
+  exc_text (raised name task tick) = name ++ place_text task tick
+  exc_text (too_slow scope tick) = codes "TooSlow" ++ place_text scope tick
+  exc_text (group made_by parts) = maker_text made_by ++ codes "[" ++ parts_text parts ++ codes "]"
+
+  pub parts_text : Excs → List ℕ
+  parts_text no_parts = []
+  parts_text (part e es) = exc_text e ++ more_text es
+
+  pub more_text : Excs → List ℕ
+  more_text no_parts = []
+  more_text (part e es) = codes ", " ++ exc_text e ++ more_text es
+
+abbrev pub ending_text : Ending → List ℕ
+ending_text well = codes "done"
+ending_text by_cancellation = codes "cancelled"
+ending_text (with_exception e) = codes "raised " ++ exc_text e
+
+-- `0` to `9` and `a` to `f`
+abbrev pub hex_digit : ℕ → ℕ
+hex_digit n = if nat_lt n 10 then n + 48 else n + 87
+
+-- a byte that stands for itself: 32 to 126, but no backslash
+abbrev pub is_plain : ℕ → Bool
+is_plain b = (nat_le 32 b && nat_le b 126) && not (b == 92)
+
+-- a byte as a report shows it: a backslash is doubled, and what is not plain is `\x` and two digits
+abbrev pub escaped : ℕ → List ℕ
+escaped b =
+    if is_plain b then b ∷ []
+    else (if b == 92 then 92 ∷ 92 ∷ [] else 92 ∷ 120 ∷ hex_digit (b / 16) ∷ hex_digit (b % 16) ∷ [])
+
+abbrev pub caught_text : Bool → List ℕ
+caught_text true = codes " caught\n"
+caught_text false = codes " passed\n"
+
+-- the line of a report for an entry
+abbrev pub shown_text : Shown → List ℕ
+shown_text (line_shown at text) = codes "  line " ++ decimal at ++ codes "+" ++ decimal (length text) ++ codes " " ++ flat_map escaped text ++ codes "\n"
+shown_text (scope_shown label tick caught) = codes "  scope " ++ label_text label ++ codes " " ++ decimal tick ++ caught_text caught
+shown_text (nursery_shown label tick caught) = codes "  nursery " ++ label_text label ++ codes " " ++ decimal tick ++ caught_text caught
+
+-- the lines of a report for a task
+abbrev pub row_text : Row → List ℕ
+row_text r = codes "task " ++ label_text r.label ++ codes " " ++ decimal r.start ++ codes " " ++ decimal r.end ++ codes " " ++ ending_text r.ending ++ codes "\n" ++ flat_map shown_text r.entries
+
+-- the tick at which the root ended
+abbrev pub last_tick : List Row → ℕ
+last_tick [] = 0
+last_tick (r ∷ rs) = r.end
+
+-- a report: one line for the job, and the lines of each task
+abbrev pub report_text : List ℕ → List Row → List ℕ
+report_text name rows = codes "job " ++ name ++ codes " " ++ decimal (last_tick rows) ++ codes "\n" ++ flat_map row_text rows

@@ -1,0 +1,75 @@
+ghost use Rattle.std.specs.Prelude.{◌≡◌, ◌++◌, [], ◌∷◌, OnOk, IfSome, IfNone, ◌<◌, ◌≤◌, ℕ, false, true, length, slice_index};
+ghost use Rattle.std.specs.List.{flat_map};
+ghost use Rattle.job_report.specs.Text.{escaped, hex_digit, is_plain};
+
+use std::alloc::AllocError;
+
+// Appends the bytes of a line as the report shows them: runs of plain bytes at once.
+pub fn push_escaped(out: &mut Vec<u8>, text: &[u8]) -> Result<(), AllocError>
+    ensures { OnOk result (out.new.items ≡ out.old.items ++ flat_map escaped text.now) }
+{
+    let mut rest = text;
+    'runs: while let Some((plain, special, others)) = split_special(rest) {
+        out.extend_from_slice(plain)?;
+        push_special(out, special)?;
+        rest = others;
+    }
+    out.extend_from_slice(rest)
+}
+
+// The bytes before the first that does not stand for itself, that byte, and the bytes behind it.
+fn split_special(text: &[u8]) -> Option<(&[u8], u8, &[u8])>
+    ensures none { IfNone result (flat_map escaped text.now ≡ text.now) }
+    ensures special { IfSome result (λ r. is_plain r.1 ≡ false) }
+    ensures shorter { IfSome result (λ r. length r.2.now < length text.now) }
+    ensures parts { IfSome result (λ r. flat_map escaped text.now ≡ r.0.now ++ (escaped r.1 ++ flat_map escaped r.2.now)) }
+{
+    let (plain, rest) = text.split_at(plain_len(text));
+    let Some((special, others)) = rest.split_first() else {
+        return None;
+    };
+    Some((plain, *special, others))
+}
+
+// How many bytes from the front on stand for themselves.
+fn plain_len(text: &[u8]) -> usize
+    ensures within { result ≤ length text.now }
+    ensures plain { (k : ℕ) → k < result → is_plain (slice_index text.now k) ≡ true }
+    ensures special { result < length text.now → is_plain (slice_index text.now result) ≡ false }
+{
+    for (i, b) in text.iter().enumerate() {
+        if !is_plain_byte(*b) {
+            return i;
+        }
+    }
+    text.len()
+}
+
+fn is_plain_byte(b: u8) -> bool
+    ensures { result ≡ is_plain b }
+{
+    32 <= b && b <= 126 && b != 92
+}
+
+// Appends a byte that does not stand for itself.
+fn push_special(out: &mut Vec<u8>, b: u8) -> Result<(), AllocError>
+    requires { is_plain b ≡ false }
+    ensures { OnOk result (out.new.items ≡ out.old.items ++ escaped b) }
+{
+    if b == b'\\' {
+        out.extend_from_slice(b"\\\\")
+    } else {
+        out.extend_from_slice(b"\\x")?;
+        out.push(hex_byte(b / 16))?;
+        out.push(hex_byte(b % 16))?;
+        Ok(())
+    }
+}
+
+// A hexadecimal digit.
+fn hex_byte(n: u8) -> u8
+    requires { n < 16 }
+    ensures { result ≡ hex_digit n }
+{
+    if n < 10 { b'0' + n } else { b'a' - 10 + n }
+}

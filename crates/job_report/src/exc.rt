@@ -1,0 +1,65 @@
+ghost use Rattle.std.specs.Prelude.{◌≡◌, ◌++◌, [], ◌∷◌, OnOk, decimal, codes, take};
+ghost use Rattle.exc_groups.specs.Held.{exc_of, excs_of, maker_of};
+ghost use Rattle.job_report.specs.Text.{exc_text, parts_text, more_text, maker_text};
+
+use crate::label::{push_label, push_place};
+use exc_groups::{Exc, Whose};
+use std::alloc::AllocError;
+
+// Appends who made a group.
+fn push_whose(out: &mut Vec<u8>, whose: &Whose) -> Result<(), AllocError>
+    ensures { OnOk result (out.new.items ≡ out.old.items ++ maker_text (maker_of whose.now)) }
+{
+    match whose {
+        Whose::Nursery(label) => push_label(out, label),
+        Whose::Handler => out.extend_from_slice(b"*"),
+    }
+}
+
+// Appends an exception, a group with its parts in brackets.
+#[cycle(exc)]
+pub fn push_exc(out: &mut Vec<u8>, exc: &Exc) -> Result<(), AllocError>
+    ensures { OnOk result (out.new.items ≡ out.old.items ++ exc_text (exc_of exc.now)) }
+{
+    match exc {
+        Exc::Cancelled => out.extend_from_slice(b"Cancelled"),
+        Exc::Raised { name, task, tick } => {
+            out.extend_from_slice(name.bytes())?;
+            push_place(out, task, *tick)
+        }
+        Exc::TooSlow { scope, tick } => {
+            out.extend_from_slice(b"TooSlow")?;
+            push_place(out, scope, *tick)
+        }
+        Exc::Group { whose, parts } => {
+            push_whose(out, whose)?;
+            out.extend_from_slice(b"[")?;
+            push_parts(out, parts.as_slice())?;
+            out.extend_from_slice(b"]")
+        }
+    }
+}
+
+// Appends the parts of a group, with a comma and a space between them.
+#[cycle(exc)]
+fn push_parts(out: &mut Vec<u8>, parts: &[Exc]) -> Result<(), AllocError>
+    ensures { OnOk result (out.new.items ≡ out.old.items ++ parts_text (excs_of parts.now)) }
+{
+    let Some((first, others)) = parts.split_first() else {
+        return Ok(());
+    };
+    push_exc(out, first)?;
+    push_more(out, others)
+}
+
+// Appends each part behind a comma and a space.
+#[cycle(exc)]
+fn push_more(out: &mut Vec<u8>, parts: &[Exc]) -> Result<(), AllocError>
+    ensures { OnOk result (out.new.items ≡ out.old.items ++ more_text (excs_of parts.now)) }
+{
+    'parts: for part in parts {
+        out.extend_from_slice(b", ")?;
+        push_exc(out, part)?;
+    }
+    Ok(())
+}

@@ -1,0 +1,19 @@
+//! The text of a report, and sending bytes to a writer.
+//!
+//! The layer promises that `report` is the text of a run's records, and that `send` stops only where the writer
+//! failed. It stands on `job_runner`.
+#![tactic(auto)]
+
+mod escape;
+mod exc;
+mod label;
+mod mem_out;
+mod out;
+mod rows;
+mod text;
+mod write_out;
+
+pub use mem_out::MemOut;
+pub use out::{Out, PutFault, SendFault, send};
+pub use text::report;
+pub use write_out::WriteOut;

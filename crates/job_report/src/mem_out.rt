@@ -1,0 +1,109 @@
+ghost use Rattle.std.specs.Prelude.{◌≡◌, ◌≢◌, ℕ, ◌+◌, ◌-◌, ◌<◌, ◌≤◌, Option, Some, None, List, [], ◌++◌, length, take, min, IfOk, IfSome, IsOk, OnOk, OnErr, IfErr, IsErr, vec_capacity, vec_len, ◌↔◌, IsTrue, ◌||◌, nat_le};
+
+use crate::out::{Out, PutFault};
+use std::alloc::{AllocError, Global};
+
+/// A writer into a room of its own in memory, for tests and for callers that keep the bytes. It can be told to fail.
+#[derive(Drop)]
+pub struct MemOut {
+    bytes: Vec<u8>,
+    room: usize,
+    piece: usize,
+    puts_left: Option<u64>,
+    failed: u64,
+    ghost takes_some: { 0 < piece },
+    ghost fits: { vec_len bytes ≤ room },
+    ghost reserved: { room ≤ vec_capacity bytes },
+}
+
+impl MemOut {
+    ghost use Rattle.job_report.specs.MemOuts.{held_by, room_of, piece_of, puts_before_fault, puts_after, is_due, faults_of};
+
+    /// A writer with room for that many bytes, which takes at most `piece` bytes a put. It fails at the put of number
+    /// `fail_at`, counted from 0, and wherever no room is left.
+    pub fn new(
+        alloc: Global,
+        room: usize,
+        piece: usize,
+        fail_at: Option<u64>,
+    ) -> Result<MemOut, AllocError>
+        requires { 0 < piece }
+        ensures empty { IfOk result (λ out. held_by out ≡ []) }
+        ensures room { IfOk result (λ out. room_of out ≡ room) }
+        ensures piece { IfOk result (λ out. piece_of out ≡ piece) }
+        ensures fault { IfOk result (λ out. puts_before_fault out ≡ fail_at) }
+        ensures well { IfOk result (λ out. faults_of out ≡ 0) }
+    {
+        let bytes = Vec::with_capacity(alloc, room)?;
+        Ok(MemOut {
+            bytes,
+            room,
+            piece,
+            puts_left: fail_at,
+            failed: 0,
+        })
+    }
+
+    /// The bytes that were taken.
+    pub fn taken(&self) -> &[u8]
+        ensures { result.now ≡ held_by self.now }
+    {
+        self.bytes.as_slice()
+    }
+
+    // Counts a put, and says whether it is the one that is to fail.
+    fn is_told_to_fail(&mut self) -> bool
+        ensures told { result ≡ is_due (puts_before_fault self.old) }
+        ensures left { self.new ≡ record self.old { puts_left = puts_after (puts_before_fault self.old) } }
+    {
+        match self.puts_left {
+            None => false,
+            Some(0) => {
+                self.puts_left = None;
+                true
+            }
+            Some(left) => {
+                self.puts_left = Some(left - 1);
+                false
+            }
+        }
+    }
+}
+
+impl Out for MemOut {
+    ghost use Rattle.job_report.specs.Sending.{with_bytes};
+    ghost use Rattle.job_report.specs.MemOuts.{held_by, room_of, piece_of, puts_before_fault, puts_after, is_due, faults_of};
+
+    ghost failed = { faults_of };
+
+    ghost contents = { λ out. Some (held_by out) };
+
+    fn put(&mut self, bytes: &[u8]) -> Result<usize, PutFault>
+        requires some { 0 < length bytes.now }
+        requires countable { faults_of self.old < 18446744073709551615 }
+        ensures part { IfOk result (λ n. (0 < n) × (n ≤ length bytes.now)) }
+        ensures taken { IfOk result (λ n. Some (held_by self.new) ≡ with_bytes (Some (held_by self.old)) (take n bytes.now)) }
+        ensures well { OnOk result (faults_of self.new ≡ faults_of self.old) }
+        ensures fault { OnErr result (faults_of self.new ≡ faults_of self.old + 1) }
+        ensures none_taken { OnErr result (Some (held_by self.new) ≡ Some (held_by self.old)) }
+        ensures most { IfOk result (λ n. n ≡ min (min (length bytes.now) (piece_of self.old)) (room_of self.old - length (held_by self.old))) }
+        ensures fails { IsErr result ↔ IsTrue (is_due (puts_before_fault self.old) || nat_le (room_of self.old) (length (held_by self.old))) }
+        ensures same_room { room_of self.new ≡ room_of self.old }
+        ensures same_piece { piece_of self.new ≡ piece_of self.old }
+        ensures counted { puts_before_fault self.new ≡ puts_after (puts_before_fault self.old) }
+    {
+        let room = self.room - self.bytes.len();
+        if self.is_told_to_fail() || room == 0 {
+            self.failed += 1;
+            return Err(PutFault);
+        }
+        let n = bytes.len().min(self.piece).min(room);
+        let (front, _) = bytes.split_at(n);
+        self.bytes.extend_from_slice(front).unwrap();
+        Ok(n)
+    }
+
+    fn failures(&self) -> u64 {
+        self.failed
+    }
+}

@@ -1,0 +1,76 @@
+ghost use Rattle.std.specs.Prelude.{◌≡◌, ℕ, ◌+◌, ◌-◌, ◌<◌, ◌≤◌, Option, List, length, take, IfOk, OnOk, OnErr, IfErr};
+ghost use Rattle.job_report.specs.Sending.{with_bytes};
+
+use std::error::Error;
+use std::fmt;
+
+/// A writer failed, and took none of the bytes that it was given.
+#[derive(Clone, Copy, Debug, PartialEq, Eq)]
+pub struct PutFault;
+
+impl fmt::Display for PutFault {
+    fn fmt<W: fmt::Write>(&self, f: &mut fmt::Formatter<W>) -> fmt::Result {
+        write!(f, "the writer failed")
+    }
+}
+
+impl Error for PutFault {}
+
+/// A writer of bytes that counts its failures.
+pub trait Out {
+    /// The failures so far.
+    ghost failed: { Self → ℕ };
+
+    /// The bytes taken so far, where the type tells.
+    ghost contents: { Self → Option (List ℕ) };
+
+    /// Takes some bytes from the front, at least one, and says how many; or fails, takes none, and counts the failure.
+    fn put(&mut self, bytes: &[u8]) -> Result<usize, PutFault>
+        requires some { 0 < length bytes.now }
+        requires countable { failed self.old < 18446744073709551615 }
+        ensures part { IfOk result (λ n. (0 < n) × (n ≤ length bytes.now)) }
+        ensures taken { IfOk result (λ n. contents self.new ≡ with_bytes (contents self.old) (take n bytes.now)) }
+        ensures well { OnOk result (failed self.new ≡ failed self.old) }
+        ensures fault { OnErr result (failed self.new ≡ failed self.old + 1) }
+        ensures none_taken { OnErr result (contents self.new ≡ contents self.old) };
+
+    /// How many times the writer failed.
+    fn failures(&self) -> u64
+        ensures { result ≡ failed self.now };
+}
+
+/// A writer stopped a sending: `sent` bytes were taken before it failed.
+#[derive(Clone, Copy, Debug, PartialEq, Eq)]
+pub struct SendFault {
+    /// How many bytes from the front were taken.
+    pub sent: usize,
+}
+
+impl fmt::Display for SendFault {
+    fn fmt<W: fmt::Write>(&self, f: &mut fmt::Formatter<W>) -> fmt::Result {
+        let sent = self.sent;
+        write!(f, "the writer failed after {sent} bytes")
+    }
+}
+
+impl Error for SendFault {}
+
+/// Sends all bytes to a writer. It stops only where the writer fails, and takes no memory.
+pub fn send<W: Out>(bytes: &[u8], out: &mut W) -> Result<(), SendFault>
+    requires { W.failed out.old < 18446744073709551615 }
+    ensures all { OnOk result (W.contents out.new ≡ with_bytes (W.contents out.old) bytes.now) }
+    ensures well { OnOk result (W.failed out.new ≡ W.failed out.old) }
+    ensures within { IfErr result (λ fault. fault.sent < length bytes.now) }
+    ensures front { IfErr result (λ fault. W.contents out.new ≡ with_bytes (W.contents out.old) (take fault.sent bytes.now)) }
+    ensures fault { OnErr result (W.failed out.new ≡ W.failed out.old + 1) }
+{
+    let mut sent = 0;
+    'puts: while sent < bytes.len() {
+        let (_, rest) = bytes.split_at(sent);
+        match out.put(rest) {
+            Ok(n) => sent += n,
+            Err(PutFault) => return Err(SendFault { sent }),
+        }
+    }
+    Ok(())
+}

@@ -1,0 +1,116 @@
+ghost use Rattle.std.specs.Prelude.{◌≡◌, ◌++◌, [], ◌∷◌, OnOk, take, map, length, decimal, codes};
+ghost use Rattle.buffer_parts.specs.Part.{span_of, line_text};
+ghost use Rattle.job_meaning.specs.Shown.{line_shown};
+ghost use Rattle.std.specs.List.{flat_map};
+ghost use Rattle.job_runner.specs.Records.{entry_of, ending_in, row_in};
+ghost use Rattle.job_report.specs.Text.{shown_text, ending_text, row_text, caught_text};
+
+use crate::escape::push_escaped;
+use crate::exc::push_exc;
+use crate::label::{push_label, push_number};
+use buffer_parts::Line;
+use job_runner::{Entry, Outcome, Record};
+use std::alloc::AllocError;
+
+// Appends the line for an entry.
+fn push_entry(out: &mut Vec<u8>, entry: &Entry<'_>) -> Result<(), AllocError>
+    ensures { OnOk result (out.new.items ≡ out.old.items ++ shown_text (entry_of entry.now)) }
+{
+    match entry {
+        Entry::Line(line) => push_line(out, *line),
+        Entry::Scope {
+            label,
+            tick,
+            caught,
+        } => {
+            out.extend_from_slice(b"  scope ")?;
+            push_label(out, label)?;
+            push_left(out, *tick, *caught)
+        }
+        Entry::Nursery {
+            label,
+            tick,
+            caught,
+        } => {
+            out.extend_from_slice(b"  nursery ")?;
+            push_label(out, label)?;
+            push_left(out, *tick, *caught)
+        }
+    }
+}
+
+// Appends the line for a line of the input.
+fn push_line(out: &mut Vec<u8>, line: Line<'_>) -> Result<(), AllocError>
+    ensures { OnOk result (out.new.items ≡ out.old.items ++ shown_text (line_shown (span_of line.entry).at (line_text line.entry))) }
+{
+    out.extend_from_slice(b"  line ")?;
+    push_number(out, line.at() as u64)?;
+    out.extend_from_slice(b"+")?;
+    push_number(out, line.text().len() as u64)?;
+    out.extend_from_slice(b" ")?;
+    push_escaped(out, line.text())?;
+    out.extend_from_slice(b"\n")
+}
+
+// Appends the tick at which a scope or nursery was left, and whether it caught.
+fn push_left(out: &mut Vec<u8>, tick: u64, caught: bool) -> Result<(), AllocError>
+    ensures { OnOk result (out.new.items ≡ out.old.items ++ (codes " " ++ (decimal tick ++ caught_text caught))) }
+{
+    out.extend_from_slice(b" ")?;
+    push_number(out, tick)?;
+    if caught {
+        out.extend_from_slice(b" caught\n")
+    } else {
+        out.extend_from_slice(b" passed\n")
+    }
+}
+
+// Appends the lines for a task's entries.
+fn push_entries(out: &mut Vec<u8>, entries: &[Entry<'_>]) -> Result<(), AllocError>
+    ensures { OnOk result (out.new.items ≡ out.old.items ++ flat_map shown_text (map entry_of entries.now)) }
+{
+    'entries: for entry in entries {
+        push_entry(out, entry)?;
+    }
+    Ok(())
+}
+
+// Appends how a task ended.
+fn push_outcome(out: &mut Vec<u8>, outcome: &Outcome) -> Result<(), AllocError>
+    ensures { OnOk result (out.new.items ≡ out.old.items ++ ending_text (ending_in outcome.now)) }
+{
+    match outcome {
+        Outcome::Done => out.extend_from_slice(b"done"),
+        Outcome::Cancelled => out.extend_from_slice(b"cancelled"),
+        Outcome::Raised(exc) => {
+            out.extend_from_slice(b"raised ")?;
+            push_exc(out, exc)
+        }
+    }
+}
+
+// Appends the lines for a task.
+fn push_row(out: &mut Vec<u8>, row: &Record<'_>) -> Result<(), AllocError>
+    ensures { OnOk result (out.new.items ≡ out.old.items ++ row_text (row_in row.now)) }
+{
+    out.extend_from_slice(b"task ")?;
+    push_label(out, &row.label)?;
+    out.extend_from_slice(b" ")?;
+    push_number(out, row.from_tick)?;
+    out.extend_from_slice(b" ")?;
+    push_number(out, row.to_tick)?;
+    out.extend_from_slice(b" ")?;
+    push_outcome(out, &row.outcome)?;
+    out.extend_from_slice(b"\n")?;
+    push_entries(out, row.entries.as_slice())
+}
+
+// Appends the lines for all tasks.
+pub fn push_rows(out: &mut Vec<u8>, rows: &[Record<'_>]) -> Result<(), AllocError>
+    ensures { OnOk result (out.new.items ≡ out.old.items ++ flat_map row_text (map row_in rows.now)) }
+{
+    'rows: for row in rows {
+        push_row(out, row)?;
+    }
+    Ok(())
+}

@@ -1,0 +1,65 @@
+use crate::entry::{Record, ScopeFrom};
+use job_tree::Name;
+
+/// A finished run: the records of the job's meaning, the root's first.
+#[derive(Drop)]
+pub struct Run<'a> {
+    name: Name,
+    records: Vec<Record<'a>>,
+    froms: Vec<ScopeFrom>,
+    turns: u64,
+}
+
+impl<'a> Run<'a> {
+    ghost use Rattle.std.specs.Prelude.{◌≡◌, map};
+    ghost use Rattle.job_runner.specs.Records.{row_in};
+    ghost use Rattle.job_runner.specs.Runs.{name_of, rows_of, records_in, froms_in, turns_of};
+
+    /// A run of these parts.
+    pub(crate) fn new(
+        name: Name,
+        records: Vec<Record<'a>>,
+        froms: Vec<ScopeFrom>,
+        turns: u64,
+    ) -> Run<'a>
+        ensures name { name_of result ≡ name }
+        ensures records { records_in result ≡ records.entry.items }
+        ensures froms { froms_in result ≡ froms.items }
+        ensures turns { turns_of result ≡ turns }
+    {
+        Run {
+            name,
+            records,
+            froms,
+            turns,
+        }
+    }
+
+    /// The job's name.
+    pub fn name(&self) -> Name
+        ensures { result ≡ name_of self.now }
+    {
+        self.name
+    }
+
+    /// The records: the root's, and behind each its descendants' in the order of their starts.
+    pub fn records(&self) -> &[Record<'a>]
+        ensures { result.now ≡ records_in self.now }
+    {
+        self.records.as_slice()
+    }
+
+    /// From which tick each scope and nursery was cancelled, in the order of the records and of entering.
+    pub fn froms(&self) -> &[ScopeFrom]
+        ensures { result.now ≡ froms_in self.now }
+    {
+        self.froms.as_slice()
+    }
+
+    /// How many turns the run's tasks had.
+    pub fn turns(&self) -> u64
+        ensures { result ≡ turns_of self.now }
+    {
+        self.turns
+    }
+}
