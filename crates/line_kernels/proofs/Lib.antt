@@ -1,0 +1,2 @@
+pub mod ContainsLemmas
+pub mod FindLemmas
