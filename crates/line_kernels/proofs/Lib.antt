@@ -1,2 +1,3 @@
 pub mod ContainsLemmas
 pub mod FindLemmas
+pub mod LongestLemmas

@@ -6,9 +6,13 @@
 
 pub mod answers;
 mod contains;
+mod count;
 mod find;
+mod head;
 pub mod kernel;
 pub mod lines;
+mod longest;
+mod need;
 
 pub use answers::Answer;
 pub use kernel::{Kernel, answer};

@@ -1,7 +1,8 @@
-ghost use Rattle.std.specs.Prelude.{◌≡◌, List};
+ghost use Rattle.std.specs.Prelude.{◌≡◌, List, IfOk, option_to_list};
 ghost use Rattle.buffer_parts.specs.declared.line.Line.{Line};
 
 use buffer_parts::Line;
+use std::alloc::{AllocError, Global};
 use std::marker::Model;
 
 /// Lines of one buffer, in order.
@@ -36,5 +37,19 @@ impl<'a> FoundLines<'a> {
         ensures { result.now ≡ self.now }
     {
         self.lines.as_slice()
+    }
+
+    /// A line, or no line.
+    pub(crate) fn from_option(
+        alloc: Global,
+        line: Option<Line<'a>>,
+    ) -> Result<FoundLines<'a>, AllocError>
+        ensures { IfOk result (λ lines. lines ≡ option_to_list line.entry) }
+    {
+        let mut lines = Vec::new(alloc);
+        if let Some(line) = line {
+            lines.push(line)?;
+        }
+        Ok(FoundLines { lines })
     }
 }
