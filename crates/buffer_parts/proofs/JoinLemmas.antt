@@ -12,7 +12,7 @@ append-nil : {X : Type 0} (xs : List X) → xs ++ [] ≡ xs
 append-nil [] = refl
 append-nil (x ∷ xs) = ap (λ ys. x ∷ ys) (append-nil xs)
 
-lines_from-some : (at b : ℕ) (bs : List ℕ) → 0 < length (lines_from at (b ∷ bs))
+pub lines_from-some : (at b : ℕ) (bs : List ℕ) → 0 < length (lines_from at (b ∷ bs))
 lines_from-some at b bs =
     ⊎_elim
     (λ (yes_is : eqb b 10 ≡ true). rw yes_is (omega arith))

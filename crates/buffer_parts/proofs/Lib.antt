@@ -3,3 +3,4 @@ pub mod LineLemmas
 pub mod CutLemmas
 pub mod SearchLemmas
 pub mod JoinLemmas
+pub mod SkipLemmas

@@ -1,7 +1,7 @@
 ghost use Rattle.std.specs.Prelude.{◌≡◌, ℕ, ◌+◌, ◌-◌, ◌<◌, ◌≤◌, List, length, slice_range};
 ghost use Rattle.std.specs.Iterator.{item_count};
 
-use memchr::memchr;
+use memchr::{memchr, memrchr};
 
 /// A line of a buffer: where it starts, and its bytes without the newline.
 #[derive(Clone, Copy)]
@@ -39,8 +39,8 @@ pub struct Lines<'a> {
 }
 
 impl<'a> Lines<'a> {
-    ghost use Rattle.buffer_parts.specs.Lines.{lines_of};
-    ghost use Rattle.buffer_parts.specs.Part.{source_of, lines_left};
+    ghost use Rattle.buffer_parts.specs.Lines.{lines_of, bytes_of};
+    ghost use Rattle.buffer_parts.specs.Part.{source_of, lines_left, range_left, SkipsTo, GoesToLine};
 
     /// The lines of a range of a buffer.
     pub(crate) fn over(buffer: &'a [u8], start: usize, end: usize) -> Lines<'a>
@@ -54,6 +54,32 @@ impl<'a> Lines<'a> {
             buffer,
             next: start,
             end,
+        }
+    }
+
+    /// The bytes of the lines that are still to come.
+    pub fn text(&self) -> &'a [u8]
+        ensures { result.now ≡ bytes_of (source_of self.now) (range_left self.now) }
+    {
+        &self.buffer[self.next..self.end]
+    }
+
+    /// Passes over the lines before a place of `text`, and takes the line that holds it, or that ends there.
+    pub fn line_at(&mut self, place: usize) -> Line<'a>
+        requires { (range_left self.old).from + place < (range_left self.old).to }
+        ensures { GoesToLine self.old place result self.new }
+    {
+        self.skip_to(place);
+        self.next().unwrap()
+    }
+
+    /// Passes over the lines before the one that holds a place of `text`, or that ends there.
+    fn skip_to(&mut self, place: usize)
+        requires { (range_left self.old).from + place < (range_left self.old).to }
+        ensures { SkipsTo self.old place self.new }
+    {
+        if let Some(length) = memrchr(b'\n', &self.buffer[self.next..self.next + place]) {
+            self.next += length + 1;
         }
     }
 }

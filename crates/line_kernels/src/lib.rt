@@ -1,2 +1,19 @@
 //! Kernels: what a task asks of the lines of its part. Each is computed from the part alone.
+//!
+//! The layer promises that an answer's lines are those of the part's buffer that `specs/Kernels.antt` says, in order,
+//! each with its place and its bytes. It stands on `buffer_parts` and on `memchr`.
 #![tactic(auto)]
+
+pub mod answers;
+mod contains;
+mod count;
+mod find;
+mod head;
+pub mod kernel;
+pub mod lines;
+mod longest;
+mod need;
+
+pub use answers::Answer;
+pub use kernel::{Kernel, answer};
+pub use lines::FoundLines;

@@ -1,0 +1,27 @@
+-- What an answer says of a kernel and a part.
+use Rattle.std.specs.Prelude.{◌≡◌, ℕ, List, [], ◌∷◌, All, map, None, MatchOption}
+use Rattle.buffer_parts.specs.Lines.{Span}
+use Rattle.buffer_parts.specs.Part.{span_of, buffer_of, range_of, IsLineOf}
+use Rattle.buffer_parts.specs.declared.line.Line.{Line}
+use Rattle.buffer_parts.specs.declared.part.Part.{Part}
+use Rattle.line_kernels.specs.Kernels.{found_in, head_of, longest_in, needed_in, count_in}
+use Rattle.line_kernels.specs.declared.kernel.Kernel.{Kernel}
+use Rattle.line_kernels.specs.declared.kernel.Kernel.TheVariants.{Find, Head, Longest, Need, Count}
+use Rattle.line_kernels.specs.declared.answers.Answer.{Answer}
+use Rattle.line_kernels.specs.declared.answers.Answer.TheVariants.{Lines, Missing}
+use Rattle.line_kernels.specs.declared.answers.Answer.TheVariants as answers
+
+-- the lines at these places, each with the bytes that stand there
+pub record AreLinesAt (buffer : List ℕ) (spans : List Span) (lines : List Line) : Type 0 where
+  pub places : map span_of lines ≡ spans
+  pub texts : All (IsLineOf buffer) lines
+
+-- the answer to a kernel on a part
+abbrev pub IsAnswer : Kernel → Part → Answer → Type 0
+IsAnswer (Find needle) part (Lines lines) = AreLinesAt (buffer_of part) (found_in (buffer_of part) needle.now (range_of part)) lines
+IsAnswer (Head count) part (Lines lines) = AreLinesAt (buffer_of part) (head_of (buffer_of part) count (range_of part)) lines
+IsAnswer Longest part (Lines lines) = AreLinesAt (buffer_of part) (longest_in (buffer_of part) (range_of part)) lines
+IsAnswer (Need needle) part (Lines lines) = MatchOption (needed_in (buffer_of part) needle.now (range_of part)) ⊥ (λ l. AreLinesAt (buffer_of part) (l ∷ []) lines)
+IsAnswer (Need needle) part Missing = needed_in (buffer_of part) needle.now (range_of part) ≡ None
+IsAnswer Count part (answers.Count lines) = lines ≡ count_in (buffer_of part) (range_of part)
+IsAnswer _ part _ = ⊥

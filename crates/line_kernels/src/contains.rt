@@ -1,0 +1,11 @@
+ghost use Rattle.std.specs.Prelude.{◌≡◌};
+ghost use Rattle.line_kernels.specs.Kernels.{contains};
+
+use memchr::memmem;
+
+/// Whether a string stands somewhere in the bytes.
+pub(crate) fn contains(bytes: &[u8], needle: &[u8]) -> bool
+    ensures { result ≡ contains needle.now bytes.now }
+{
+    memmem::find(bytes, needle).is_some()
+}

@@ -1,0 +1,27 @@
+ghost use Rattle.std.specs.Prelude.{IfOk};
+ghost use Rattle.buffer_parts.specs.Part.{buffer_of, range_of};
+ghost use Rattle.line_kernels.specs.Kernels.{head_of};
+ghost use Rattle.line_kernels.specs.Answers.{AreLinesAt};
+
+use crate::lines::FoundLines;
+use buffer_parts::Part;
+use std::alloc::{AllocError, Global};
+
+/// The first so many lines, or all where there are fewer.
+pub(crate) fn first_lines<'a>(
+    alloc: Global,
+    part: Part<'a>,
+    count: u64,
+) -> Result<FoundLines<'a>, AllocError>
+    ensures { IfOk result (AreLinesAt (buffer_of part.entry)
+        (head_of (buffer_of part.entry) count (range_of part.entry))) }
+{
+    let mut lines = Vec::new(alloc);
+    for line in part.lines() {
+        if lines.len() as u64 >= count {
+            return Ok(FoundLines::from_vec(lines));
+        }
+        lines.push(line)?;
+    }
+    Ok(FoundLines::from_vec(lines))
+}

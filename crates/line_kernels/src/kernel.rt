@@ -1,0 +1,48 @@
+ghost use Rattle.std.specs.Prelude.{◌≡◌, IfOk, IsOk};
+ghost use Rattle.line_kernels.specs.Answers.{IsAnswer};
+
+use crate::answers::Answer;
+use crate::count::line_count;
+use crate::find::found;
+use crate::head::first_lines;
+use crate::lines::FoundLines;
+use crate::longest::longest_line;
+use crate::need::needed_line;
+use buffer_parts::Part;
+use std::alloc::{AllocError, Global};
+
+/// What a task asks of the lines of a part.
+#[derive(Clone, Copy)]
+pub enum Kernel<'a> {
+    /// All lines that contain the string. The empty string stands in every line.
+    Find(&'a [u8]),
+    /// The first so many lines, or all where there are fewer.
+    Head(u64),
+    /// The first of the longest lines, none where there is no line.
+    Longest,
+    /// The first line that contains the string, or `Missing`.
+    Need(&'a [u8]),
+    /// How many lines there are.
+    Count,
+}
+
+/// The kernel's answer on a part, or an error where memory is refused. `Count` takes no memory.
+pub fn answer<'a>(
+    alloc: Global,
+    kernel: &Kernel<'a>,
+    part: Part<'a>,
+) -> Result<Answer<'a>, AllocError>
+    ensures answer { IfOk result (IsAnswer kernel.now part.entry) }
+    ensures count_takes_no_memory { kernel.now ≡ Kernel.Count → IsOk result }
+{
+    match *kernel {
+        Kernel::Find(needle) => Ok(Answer::Lines(found(alloc, part, needle)?)),
+        Kernel::Head(count) => Ok(Answer::Lines(first_lines(alloc, part, count)?)),
+        Kernel::Longest => Ok(Answer::Lines(FoundLines::from_option(alloc, longest_line(part))?)),
+        Kernel::Need(needle) => match needed_line(part, needle) {
+            Some(line) => Ok(Answer::Lines(FoundLines::from_option(alloc, Some(line))?)),
+            None => Ok(Answer::Missing),
+        },
+        Kernel::Count => Ok(Answer::Count(line_count(part))),
+    }
+}

@@ -1,0 +1,24 @@
+ghost use Rattle.std.specs.Prelude.{◌≡◌, [], ◌∷◌, IfSome, MatchOption};
+ghost use Rattle.buffer_parts.specs.Part.{buffer_of, range_of, span_of, IsLineOf};
+ghost use Rattle.line_kernels.specs.Kernels.{longest_in};
+
+use buffer_parts::{Line, Part};
+
+/// The first of the longest lines.
+pub(crate) fn longest_line<'a>(part: Part<'a>) -> Option<Line<'a>>
+    ensures place { MatchOption result (longest_in (buffer_of part.entry) (range_of part.entry) ≡ [])
+        (λ line. longest_in (buffer_of part.entry) (range_of part.entry) ≡ span_of line ∷ []) }
+    ensures text { IfSome result (IsLineOf (buffer_of part.entry)) }
+{
+    let mut longest: Option<Line<'a>> = None;
+    for line in part.lines() {
+        let Some(before) = longest else {
+            longest = Some(line);
+            continue;
+        };
+        if before.text().len() < line.text().len() {
+            longest = Some(line);
+        }
+    }
+    longest
+}
