@@ -3,3 +3,4 @@ pub mod Walk
 pub mod Meaning
 pub mod Follow
 pub mod Examples
+pub mod Laws

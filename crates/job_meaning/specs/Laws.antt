@@ -1,0 +1,25 @@
+-- The laws of the definitions. Each is the contract of a function that does nothing.
+use Rattle.std.specs.Prelude.{◌≡◌, ℕ, ◌≤◌, IsTrue, Some, None, [], ◌∷◌}
+use Rattle.cancel_scopes.specs.Sight.{Tick, seen}
+use Rattle.job_meaning.specs.Walk.{Stack}
+
+-- one tick is at most another, where each may be never
+abbrev pub AtMost : Tick → Tick → Type 0
+AtMost t None = Unit {0}
+AtMost None (Some u) = ⊥
+AtMost (Some t) (Some u) = t ≤ u
+
+-- two stacks have the same labels and shields, and each from of the second is at most that of the first
+abbrev pub Lowered : Stack → Stack → Type 0
+Lowered [] [] = Unit {0}
+Lowered (l ∷ ls) (k ∷ ks) = (l.label ≡ k.label) × (l.shield ≡ k.shield) × AtMost k.from l.from × Lowered ls ks
+Lowered [] (k ∷ ks) = ⊥
+Lowered (l ∷ ls) [] = ⊥
+
+-- what is seen at a tick is seen at every later one
+abbrev pub StaysSeen : Type 0
+StaysSeen = (stack : Stack) (t u : ℕ) → t ≤ u → IsTrue (seen stack t) → IsTrue (seen stack u)
+
+-- lowering a from hides nothing
+abbrev pub LoweringShows : Type 0
+LoweringShows = (stack lowered : Stack) (t : ℕ) → Lowered stack lowered → IsTrue (seen stack t) → IsTrue (seen lowered t)
