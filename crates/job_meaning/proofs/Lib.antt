@@ -1,2 +1,4 @@
 pub mod Ticks
 pub mod Late
+pub mod Leaves
+pub mod Root

@@ -1,7 +1,10 @@
 -- The laws of the definitions. Each is the contract of a function that does nothing.
-use Rattle.std.specs.Prelude.{◌≡◌, ℕ, ◌≤◌, IsTrue, Some, None, [], ◌∷◌}
+use Rattle.std.specs.Prelude.{◌≡◌, ℕ, ◌≤◌, Bool, false, IsTrue, Option, Some, None, List, [], ◌∷◌}
+use Rattle.job_tree.specs.Tree.{Steps, Tree}
+use Rattle.exc_groups.specs.Exceptions.{Exc, holds_cancelled}
 use Rattle.cancel_scopes.specs.Sight.{Tick, seen}
-use Rattle.job_meaning.specs.Walk.{Stack}
+use Rattle.job_meaning.specs.Walk.{Stack, Mode, Here, walk}
+use Rattle.job_meaning.specs.Meaning.{root_walk}
 
 -- one tick is at most another, where each may be never
 abbrev pub AtMost : Tick → Tick → Type 0
@@ -23,3 +26,19 @@ StaysSeen = (stack : Stack) (t u : ℕ) → t ≤ u → IsTrue (seen stack t) �
 -- lowering a from hides nothing
 abbrev pub LoweringShows : Type 0
 LoweringShows = (stack lowered : Stack) (t : ℕ) → Lowered stack lowered → IsTrue (seen stack t) → IsTrue (seen lowered t)
+
+-- whether an outcome holds a `Cancelled`
+abbrev pub some_cancelled : Option Exc → Bool
+some_cancelled None = false
+some_cancelled (Some e) = holds_cancelled e
+
+-- a walk whose exception holds a `Cancelled` ends in a tick at which its stack is seen
+abbrev pub CancelledIsSeen : Type 0
+CancelledIsSeen =
+    (mode : Mode) (steps : Steps) (here : Here) (stack : Stack) (t : ℕ) →
+    let r = walk mode steps here stack t in
+    IsTrue (some_cancelled r.exc) → IsTrue (seen stack r.end)
+
+-- so no `Cancelled` comes out of a job
+abbrev pub NoneReachesTheRoot : Type 0
+NoneReachesTheRoot = (mode : Mode) (job : Tree) (input : List ℕ) → some_cancelled (root_walk mode job input).exc ≡ false

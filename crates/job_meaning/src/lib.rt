@@ -5,3 +5,4 @@
 mod laws;
 
 pub use laws::law_monotone_sight;
+pub use laws::law_root;
