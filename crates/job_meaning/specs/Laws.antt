@@ -5,6 +5,7 @@ use Rattle.exc_groups.specs.Exceptions.{Exc, holds_cancelled}
 use Rattle.cancel_scopes.specs.Sight.{Tick, seen}
 use Rattle.job_meaning.specs.Walk.{Stack, Mode, Here, walk}
 use Rattle.job_meaning.specs.Meaning.{root_walk}
+use Rattle.job_meaning.specs.Before.{Near, Agree}
 
 -- one tick is at most another, where each may be never
 abbrev pub AtMost : Tick → Tick → Type 0
@@ -42,3 +43,10 @@ CancelledIsSeen =
 -- so no `Cancelled` comes out of a job
 abbrev pub NoneReachesTheRoot : Type 0
 NoneReachesTheRoot = (mode : Mode) (job : Tree) (input : List ℕ) → some_cancelled (root_walk mode job input).exc ≡ false
+
+-- A tick from which a scope is cancelled tells nothing of earlier ticks: on two stacks that agree except where both
+-- froms are at least c, a walk does the same in all ticks before c.
+abbrev pub NothingBeforeItsCause : Type 0
+NothingBeforeItsCause =
+    (c : ℕ) (mode : Mode) (steps : Steps) (here : Here) (stack other : Stack) (t : ℕ) →
+    Near c stack other → Agree c (walk mode steps here stack t) (walk mode steps here other t)

@@ -3,4 +3,5 @@ pub mod Walk
 pub mod Meaning
 pub mod Follow
 pub mod Examples
+pub mod Before
 pub mod Laws

@@ -4,5 +4,6 @@
 
 mod laws;
 
+pub use laws::law_causality;
 pub use laws::law_monotone_sight;
 pub use laws::law_root;
