@@ -4,3 +4,6 @@ pub mod Leaves
 pub mod Root
 pub mod Clips
 pub mod Causality
+pub mod Distinct
+pub mod Touched
+pub mod Tidy
