@@ -53,7 +53,7 @@ agree_from : (c : ℕ) (go go' : ℕ → Result) → ((u : ℕ) → Agree c (go 
 agree_from c go go' h u v e = subst (λ (w : ℕ). Agree c (go u) (go' w)) e (h u)
 
 pub agree_and_then : (c : ℕ) (r r' : Result) (go go' : ℕ → Result) → Agree c r r' → ((u : ℕ) → Agree c (go u) (go' u)) →
-  ((u : ℕ) → Late u (go u)) → ((u : ℕ) → Late u (go' u)) → Agree c (and_then r go) (and_then r' go')
+    ((u : ℕ) → Late u (go u)) → ((u : ℕ) → Late u (go' u)) → Agree c (and_then r go) (and_then r' go')
 unfolding and_then
 agree_and_then c r r' go go' (soon b e x m l) h k k' = subst (λ (o : Option Exc). Agree c (then_if r.exc r go) (then_if o r' go')) x (by_exc r.exc)
   where
@@ -88,6 +88,7 @@ agree_slept c None (Some y) n t e = by_order (cases_lt (t + n) c)
   where
     le : c ≤ y
     le = omega arith
+
     by_order : (t + n < c) ⊎ (c ≤ t + n) → Agree c (slept None n t) (slept (Some y) n t)
     by_order (inl lt) = subst (λ (r : Result). Agree c (done_at (t + n)) r) (sym (slept_whole y n t c le lt)) (agree_same c (done_at (t + n)))
     by_order (inr far) = agree_past c (done_at c) (done_at c) _ _ refl (never_past n t c far) (slept_past y n t c le far)
@@ -95,6 +96,7 @@ agree_slept c (Some x) None n t e = by_order (cases_lt (t + n) c)
   where
     le : c ≤ x
     le = omega arith
+
     by_order : (t + n < c) ⊎ (c ≤ t + n) → Agree c (slept (Some x) n t) (slept None n t)
     by_order (inl lt) = subst (λ (r : Result). Agree c r (done_at (t + n))) (sym (slept_whole x n t c le lt)) (agree_same c (done_at (t + n)))
     by_order (inr far) = agree_past c (done_at c) (done_at c) _ _ refl (slept_past x n t c le far) (never_past n t c far)
@@ -103,8 +105,9 @@ agree_slept c (Some x) (Some y) n t e = by_before (cases_lt x c)
     by_order : c ≤ x → c ≤ y → (t + n < c) ⊎ (c ≤ t + n) → Agree c (slept (Some x) n t) (slept (Some y) n t)
     by_order p q (inl lt) =
         subst (λ (r : Result). Agree c r (slept (Some y) n t)) (sym (slept_whole x n t c p lt))
-          (subst (λ (r : Result). Agree c (done_at (t + n)) r) (sym (slept_whole y n t c q lt)) (agree_same c (done_at (t + n))))
+        (subst (λ (r : Result). Agree c (done_at (t + n)) r) (sym (slept_whole y n t c q lt)) (agree_same c (done_at (t + n))))
     by_order p q (inr far) = agree_past c (done_at c) (done_at c) _ _ refl (slept_past x n t c p far) (slept_past y n t c q far)
+
     by_before : (x < c) ⊎ (c ≤ x) → Agree c (slept (Some x) n t) (slept (Some y) n t)
     by_before (inl lt) = subst (λ (u : ℕ). Agree c (slept (Some x) n t) (slept (Some u) n t)) (omega arith) (agree_same c (slept (Some x) n t))
     by_before (inr p) = by_order p (omega arith) (cases_lt (t + n) c)
@@ -146,32 +149,32 @@ left_result kind label t d log u o caught =
 
 module _ (c : ℕ) (kind : Kind) (label : Label) (t : ℕ) (d : Tick) where
   same_left : (a b : Log) (u v : ℕ) (o p : Option Exc) (x y : Bool) → u < c → clipped c a ≡ clipped c b → u ≡ v → o ≡ p → x ≡ y →
-    Agree c (left_result kind label t d a u o x) (left_result kind label t d b v p y)
+      Agree c (left_result kind label t d a u o x) (left_result kind label t d b v p y)
   same_left a b u v o p x y lt l i j k =
       subst (λ (z : Bool). Agree c (left_result kind label t d a u o x) (left_result kind label t d b v p z)) k
-        (subst (λ (z : Option Exc). Agree c (left_result kind label t d a u o x) (left_result kind label t d b v z x)) j
-          (subst (λ (z : ℕ). Agree c (left_result kind label t d a u o x) (left_result kind label t d b z o x)) i
-            (soon lt refl refl refl (ap (λ (z : Log). entered_if (nat_lt t c) label t d z) (both_clipped c a _ b _ l refl)))))
+      (subst (λ (z : Option Exc). Agree c (left_result kind label t d a u o x) (left_result kind label t d b v z x)) j
+      (subst (λ (z : ℕ). Agree c (left_result kind label t d a u o x) (left_result kind label t d b z o x)) i
+      (soon lt refl refl refl (ap (λ (z : Log). entered_if (nat_lt t c) label t d z) (both_clipped c a _ b _ l refl)))))
 
   module _ (shield : Bool) (st su : Stack) (near : Near c st su) where
     -- how a block is left agrees, where its insides agree
     agree_left : (f g : Tick) (r q : Result) → upto c f ≡ upto c g → Agree c r q →
-      Agree c (left_from kind label t d shield st f r) (left_from kind label t d shield su g q)
+        Agree c (left_from kind label t d shield st f r) (left_from kind label t d shield su g q)
     agree_left f g r q e (soon b en x m l) =
         same_left r.log q.log r.end q.end r.exc q.exc _ _ b l en x (catches_near c f g shield st su r.end q.end e near b en)
     agree_left f g r q e (later p s l) =
         later p s (ap (λ (z : Log). entered_if (nat_lt t c) label t d z)
-          (clipped_tail c r.end r.log _ p (omega arith, tt) ∙ (l ∙ sym (clipped_tail c q.end q.log _ s (omega arith, tt)))))
+        (clipped_tail c r.end r.log _ p (omega arith, tt) ∙ (l ∙ sym (clipped_tail c q.end q.log _ s (omega arith, tt)))))
 
     -- the froms of a block are near, where its insides agree
     block_near : (m : Mode) (inside inside' : Tick → Result) → ((f : Tick) → Late t (inside f)) → ((f : Tick) → Late t (inside' f)) →
-      ((f g : Tick) → upto c f ≡ upto c g → Agree c (inside f) (inside' g)) → upto c (from_of m label d inside) ≡ upto c (from_of m label d inside')
+        ((f g : Tick) → upto c f ≡ upto c g → Agree c (inside f) (inside' g)) → upto c (from_of m label d inside) ≡ upto c (from_of m label d inside')
     block_near twice inside inside' h h' k =
         from_near c d _ _ (least_near c t label _ _ (h d).timed (h' d).timed (agree_logs (k d d refl)))
     block_near (by_table table) inside inside' h h' k = refl
 
     pub agree_block : (m : Mode) (inside inside' : Tick → Result) → ((f : Tick) → Late t (inside f)) → ((f : Tick) → Late t (inside' f)) →
-      ((f g : Tick) → upto c f ≡ upto c g → Agree c (inside f) (inside' g)) → Agree c (block m kind label t d shield st inside) (block m kind label t d shield su inside')
+        ((f g : Tick) → upto c f ≡ upto c g → Agree c (inside f) (inside' g)) → Agree c (block m kind label t d shield st inside) (block m kind label t d shield su inside')
     unfolding block
     agree_block m inside inside' h h' k =
         let e = block_near m inside inside' h h' k in
@@ -208,18 +211,21 @@ agree_gathered c label r q (soon b e x m l) = by_order (cases_lt (latest r.end r
       where
         ends_known : (u v : ℕ) (ms ns : List Member) → u ≡ v → ms ≡ ns → latest u ms ≡ latest v ns
         ends_known u v ms ns i j = cc
+
     same_group : (o p : Option Exc) (ms ns : List Member) → o ≡ p → ms ≡ ns → group_of (by_nursery label) (parts_of (with_exc o (excs_of ms))) ≡ group_of (by_nursery label) (parts_of (with_exc p (excs_of ns)))
     same_group o p ms ns i j = cc
+
     by_order : (latest r.end r.members < c) ⊎ (c ≤ latest r.end r.members) → Agree c (gathered label r) (gathered label q)
     by_order (inl lt) = at_end same_end
       where
         same_end : latest r.end r.members ≡ latest q.end q.members
         same_end = let k = known in omega arith
+
         at_end : latest r.end r.members ≡ latest q.end q.members → Agree c (gathered label r) (gathered label q)
         at_end i =
             soon lt i
-              (same_group r.exc q.exc r.members q.members x (sym (all_known c r.end r.members lt) ∙ (m ∙ all_known c q.end q.members (below i))))
-              refl l
+            (same_group r.exc q.exc r.members q.members x (sym (all_known c r.end r.members lt) ∙ (m ∙ all_known c q.end q.members (below i))))
+            refl l
           where
             below : latest r.end r.members ≡ latest q.end q.members → latest q.end q.members < c
             below j = omega arith
@@ -251,8 +257,10 @@ agree_child c label t r q h = by_order (cases_lt t c) (known_end c r q h) (known
   where
     same_member : (u v : ℕ) (o p : Option Exc) → u ≡ v → o ≡ p → ◌≡◌ {A = List Member} (record { end = u; exc = o } ∷ []) (record { end = v; exc = p } ∷ [])
     same_member u v o p i j = cc
+
     same_task : (b : Bool) (u v : ℕ) (o p : Option Exc) (x y : Log) → u ≡ v → o ≡ p → x ≡ y → task_if b label t u o x nil ≡ task_if b label t v p y nil
     same_task b u v o p x y i j k = cc
+
     by_order : (t < c) ⊎ (c ≤ t) → min c r.end ≡ min c q.end → exc_if (nat_lt r.end c) r.exc ≡ exc_if (nat_lt q.end c) q.exc → clipped c r.log ≡ clipped c q.log → Agree c (child label t r) (child label t q)
     by_order (inl lt) i j k = soon lt refl refl (same_member _ _ _ _ i j) (same_task (nat_lt t c) _ _ _ _ _ _ i j k)
     by_order (inr le) i j k = later le le (same_task (nat_lt t c) _ _ _ _ _ _ i j k)
@@ -277,32 +285,35 @@ past_handled c wanted r go h le (Some e) = by_match (keep wanted e) (drop wanted
   where
     both : Past c r (joined r (go r.end))
     both = past_joined c r (go r.end) le (h r.end)
+
     by_match : (o rest : Option Exc) → Past c r (handled_if o rest r go)
     by_match None rest = past_same c r le
     by_match (Some y) rest = record { ends = both.ends; logs = both.logs }
 
 pub agree_handled : (c : ℕ) (wanted : Wanted) (r r' : Result) (go go' : ℕ → Result) → Agree c r r' → ((u : ℕ) → Agree c (go u) (go' u)) →
-  ((u : ℕ) → Late u (go u)) → ((u : ℕ) → Late u (go' u)) → Agree c (handled wanted r go) (handled wanted r' go')
+    ((u : ℕ) → Late u (go u)) → ((u : ℕ) → Late u (go' u)) → Agree c (handled wanted r go) (handled wanted r' go')
 unfolding handled
 agree_handled c wanted r r' go go' (soon b e x m l) h k k' = subst (λ (o : Option Exc). Agree c (handled_exc r.exc wanted r go) (handled_exc o wanted r' go')) x (by_exc r.exc)
   where
     both : Agree c (joined r (go r.end)) (joined r' (go' r'.end))
     both = agree_joined c r r' (go r.end) (go' r'.end) (soon b e x m l) (agree_from c go go' h r.end r'.end e) (k r.end).ends (k' r'.end).ends
+
     by_match : (o rest : Option Exc) → Agree c (handled_if o rest r go) (handled_if o rest r' go')
     by_match None rest = soon b e x m l
     by_match (Some y) rest = agree_outcome c (joined r (go r.end)) (joined r' (go' r'.end)) (λ o. handler_exc o rest) both
+
     by_exc : (o : Option Exc) → Agree c (handled_exc o wanted r go) (handled_exc o wanted r' go')
     by_exc None = soon b e x m l
     by_exc (Some y) = by_match (keep wanted y) (drop wanted y)
 agree_handled c wanted r r' go go' (later f s l) h k k' = agree_past c r r' _ _ l (past_handled c wanted r go k f r.exc) (past_handled c wanted r' go' k' s r'.exc)
 
 pub agree_cleaned : (c : ℕ) (r r' : Result) (go go' : ℕ → Result) → Agree c r r' → ((u : ℕ) → Agree c (go u) (go' u)) →
-  ((u : ℕ) → Late u (go u)) → ((u : ℕ) → Late u (go' u)) → Agree c (cleaned r go) (cleaned r' go')
+    ((u : ℕ) → Late u (go u)) → ((u : ℕ) → Late u (go' u)) → Agree c (cleaned r go) (cleaned r' go')
 unfolding cleaned
 agree_cleaned c r r' go go' (soon b e x m l) h k k' =
     subst (λ (o : Option Exc). Agree c (with_outcome (outcome_after r.exc (go r.end).exc) (joined r (go r.end))) (with_outcome (outcome_after o (go' r'.end).exc) (joined r' (go' r'.end)))) x
-      (agree_outcome c (joined r (go r.end)) (joined r' (go' r'.end)) (λ o. outcome_after r.exc o)
-        (agree_joined c r r' (go r.end) (go' r'.end) (soon b e x m l) (agree_from c go go' h r.end r'.end e) (k r.end).ends (k' r'.end).ends))
+    (agree_outcome c (joined r (go r.end)) (joined r' (go' r'.end)) (λ o. outcome_after r.exc o)
+    (agree_joined c r r' (go r.end) (go' r'.end) (soon b e x m l) (agree_from c go go' h r.end r'.end e) (k r.end).ends (k' r'.end).ends))
 agree_cleaned c r r' go go' (later f s l) h k k' =
     let a = past_joined c r (go r.end) f (k r.end) in
     let b = past_joined c r' (go' r'.end) s (k' r'.end) in
@@ -310,6 +321,7 @@ agree_cleaned c r r' go go' (later f s l) h k k' =
 
 mutual
   unfolding walk
+
   -- on near stacks every walk agrees
   pub agree : (c : ℕ) (m : Mode) (b : Steps) (here : Here) (st su : Stack) (t : ℕ) → Near c st su → Agree c (walk m b here st t) (walk m b here su t)
   agree c m stop here st su t near = agree_same c (done_at t)
@@ -329,19 +341,19 @@ mutual
   agree_step c m (cancel name) here st su t near = agree_cancelling c name st su t near
   agree_step c m (scope name d shield fail body) here st su t near =
       agree_block c _ _ t _ shield st su near m _ _
-        (λ f. late m body here _ t)
-        (λ f. late m body here _ t)
-        (λ f g e. agree c m body here _ _ t (near_within c _ shield f g st su e near))
+      (λ f. late m body here _ t)
+      (λ f. late m body here _ t)
+      (λ f g e. agree c m body here _ _ t (near_within c _ shield f g st su e near))
   agree_step c m (nursery name d shield body) here st su t near =
       agree_block c _ _ t _ shield st su near m _ _
-        (λ f. late_gathered t _ _ (late_signed t _ _ (late m body here _ t)))
-        (λ f. late_gathered t _ _ (late_signed t _ _ (late m body here _ t)))
-        (λ f g e. agree_gathered c _ _ _ (agree_signed c _ _ _ _ (near_within c _ shield f g st su e near) (agree c m body here _ _ t (near_within c _ shield f g st su e near))))
+      (λ f. late_gathered t _ _ (late_signed t _ _ (late m body here _ t)))
+      (λ f. late_gathered t _ _ (late_signed t _ _ (late m body here _ t)))
+      (λ f g e. agree_gathered c _ _ _ (agree_signed c _ _ _ _ (near_within c _ shield f g st su e near) (agree c m body here _ _ t (near_within c _ shield f g st su e near))))
   agree_step c m (start name None body) here st su t near =
       agree_child c _ t _ _ (agree_signed c st su _ _ near (agree c m body _ st su t near))
   agree_step c m (start name (Some k) body) here st su t near =
       agree_each c k _ _ t (λ i. child_ends _ t _) (λ i. child_ends _ t _)
-        (λ i. agree_child c _ t _ _ (agree_signed c st su _ _ near (agree c m body _ st su t near)))
+      (λ i. agree_child c _ t _ _ (agree_signed c st su _ _ near (agree c m body _ st su t near)))
   agree_step c m (attempt body handler cleanup) here st su t near =
       agree_cleanup c m cleanup here st su _ _ near (agree_handler c m handler here st su _ _ near (agree c m body here st su t near))
 

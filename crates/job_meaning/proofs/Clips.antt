@@ -194,10 +194,12 @@ least_clipped c t l (sign m u rest) h = by_kept (nat_lt u c) refl (least_clipped
   where
     most : upto c (least_sign l rest) ≤ c
     most = upto_most c (least_sign l rest)
+
     at_c : (x y z : ℕ) → x ≡ c → y ≤ c → y ≡ z → min x y ≡ z
     at_c x y z e f g = omega arith
+
     by_kept : (b : Bool) → nat_lt u c ≡ b → upto c (least_sign l rest) ≡ upto c (least_sign l (clipped c rest)) →
-      upto c (earlier (tick_if (same_label l m) u) (least_sign l rest)) ≡ upto c (least_sign l (mark_if b m u (clipped c rest)))
+        upto c (earlier (tick_if (same_label l m) u) (least_sign l rest)) ≡ upto c (least_sign l (mark_if b m u (clipped c rest)))
     by_kept true e k = upto_earlier_same c (tick_if (same_label l m) u) (least_sign l rest) (tick_if (same_label l m) u) (least_sign l (clipped c rest)) refl k
     by_kept false e k =
         upto_earlier c (tick_if (same_label l m) u) (least_sign l rest)
@@ -211,10 +213,12 @@ least_clipped c t l (task m u v e own rest) h = by_kept (nat_lt u c) refl (least
   where
     most : upto c (least_sign l rest) ≤ c
     most = upto_most c (least_sign l rest)
+
     at_c : (x y z : ℕ) → x ≡ c → y ≤ c → y ≡ z → min x y ≡ z
     at_c x y z e f g = omega arith
+
     by_kept : (b : Bool) → nat_lt u c ≡ b → upto c (least_sign l own) ≡ upto c (least_sign l (clipped c own)) → upto c (least_sign l rest) ≡ upto c (least_sign l (clipped c rest)) →
-      upto c (earlier (least_sign l own) (least_sign l rest)) ≡ upto c (least_sign l (task_if b m u (min c v) (exc_if (nat_lt v c) e) (clipped c own) (clipped c rest)))
+        upto c (earlier (least_sign l own) (least_sign l rest)) ≡ upto c (least_sign l (task_if b m u (min c v) (exc_if (nat_lt v c) e) (clipped c own) (clipped c rest)))
     by_kept true e j k = upto_earlier_same c (least_sign l own) (least_sign l rest) (least_sign l (clipped c own)) (least_sign l (clipped c rest)) j k
     by_kept false e j k =
         upto_earlier c (least_sign l own) (least_sign l rest)
@@ -254,14 +258,19 @@ all_known c t (m ∷ ms) lt = both (all_known c (max t m.end) ms lt)
   where
     last : max t m.end ≤ latest (max t m.end) ms
     last = Rattle.job_meaning.proofs.Late.latest_ends (max t m.end) ms
+
     before : m.end < c
     before = let h = last in omega arith
+
     end_known : min c m.end ≡ m.end
     end_known = let h = before in omega arith
+
     exc_known : (b : Bool) → b ≡ true → exc_if b m.exc ≡ m.exc
     exc_known true e = refl
     exc_known false e = absurd (false≢true e)
+
     first : known_member c m ≡ m
     first = same_members _ _ _ _ end_known (exc_known (nat_lt m.end c) (lt-ltb m.end c before))
+
     both : known_members c ms ≡ ms → known_member c m ∷ known_members c ms ≡ m ∷ ms
     both e = let f = first in cc

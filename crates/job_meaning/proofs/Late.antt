@@ -107,7 +107,7 @@ late_cancelling None t = record { ends = omega arith; timed = tt }
 late_cancelling (Some l) t = record { ends = omega arith; timed = (omega arith, tt) }
 
 pub late_block : (m : Mode) (kind : Kind) (label : Label) (t : ℕ) (d : Tick) (shield : Bool) (st : Stack) (inside : Tick → Result) →
-  ((from : Tick) → Late t (inside from)) → Late t (block m kind label t d shield st inside)
+    ((from : Tick) → Late t (inside from)) → Late t (block m kind label t d shield st inside)
 unfolding block
 late_block m kind label t d shield st inside h =
     let inner : Late t (inside (from_of m label d inside)) = h (from_of m label d inside) in
@@ -123,6 +123,7 @@ late_signed t st r h =
   where
     le : t ≤ r.end
     le = h.ends
+
     timed_sign : (o : Option Exc) (home : Option Label) → Timed t (sign_if o home r.end)
     timed_sign None home = tt
     timed_sign (Some e) None = tt
@@ -159,7 +160,7 @@ pub late_each : (k : ℕ) (go : ℕ → Result) (t : ℕ) → ((i : ℕ) → (go
 late_each zero go t ends h = late_done t t (omega arith)
 late_each (suc k) go t ends h =
     late_joined t (each k go t) (go k) (late_each k go t ends h)
-      (subst (λ (u : ℕ). Late u (go k)) (sym (each_ends k go t ends)) (h k))
+    (subst (λ (u : ℕ). Late u (go k)) (sym (each_ends k go t ends)) (h k))
 
 pub late_handled : (t : ℕ) (wanted : Wanted) (r : Result) (go : ℕ → Result) → Late t r → ((u : ℕ) → Late u (go u)) → Late t (handled wanted r go)
 unfolding handled
@@ -170,6 +171,7 @@ late_handled t wanted r go h k = by_exc r.exc
     by_match (Some e) rest =
         let both : Late t (joined r (go r.end)) = late_joined t r (go r.end) h (k r.end) in
         record { ends = both.ends; timed = both.timed }
+
     by_exc : (o : Option Exc) → Late t (handled_exc o wanted r go)
     by_exc None = h
     by_exc (Some e) = by_match (keep wanted e) (drop wanted e)
@@ -182,6 +184,7 @@ late_cleaned t r go h k =
 
 mutual
   unfolding walk
+
   -- every walk is late
   pub late : (m : Mode) (b : Steps) (here : Here) (st : Stack) (t : ℕ) → Late t (walk m b here st t)
   late m stop here st t = late_done t t (omega arith)

@@ -57,7 +57,7 @@ mutual
 
   pub drop_parts_hold_none : (es : Excs) → hold_cancelled (pruned_parts (λ leaf. not (matches is_cancelled leaf)) es) ≡ false
   drop_parts_hold_none no_parts = refl
-  drop_parts_hold_none (part e es) = 
+  drop_parts_hold_none (part e es) =
       with_part_holds (drop is_cancelled e) (pruned_parts (λ leaf. not (matches is_cancelled leaf)) es)
       ∙ or_neither _ _ (drop_holds_none e) (drop_parts_hold_none es)
 

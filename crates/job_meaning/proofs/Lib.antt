@@ -7,3 +7,5 @@ pub mod Causality
 pub mod Distinct
 pub mod Touched
 pub mod Tidy
+pub mod Fits
+pub mod Settled

@@ -54,6 +54,7 @@ root_sleeping st n t = by_sight (sight st) (λ u h. h)
       where
         at_from : IsTrue (seen st from)
         at_from = sees from (grind (arith, nat_tests))
+
         by_now : (now due : Bool) → (IsTrue now → IsTrue (seen st t)) → Rooted st (if now then raised_at cancelled t else (if due then raised_at cancelled from else done_at (t + n)))
         by_now true due h = record { exc = h; members = tt }
         by_now false true h = record { exc = λ k. at_from; members = tt }
@@ -74,14 +75,14 @@ root_cancelling st label t = record { exc = λ h. absurd (false≢true h); membe
 
 -- where a block sees a cancellation and does not catch, its outside sees it
 pub seen_outside : (label : Label) (shield : Bool) (from : Tick) (st : Stack) (t : ℕ) →
-  catches from shield st t ≡ false → IsTrue (seen (within label shield from st) t) → IsTrue (seen st t)
+    catches from shield st t ≡ false → IsTrue (seen (within label shield from st) t) → IsTrue (seen st t)
 seen_outside label shield from st t c h = outside (reached from t) shield (seen st t) c (sym (seen_cons (record { label = label; shield = shield; from = from }) st t) ∙ h)
   where
     outside : (a s x : Bool) → (a && (s || not x)) ≡ false → IsTrue (a || (not s && x)) → IsTrue x
     outside a s x e k = grind arith
 
 pub root_block : (m : Mode) (kind : Kind) (label : Label) (t : ℕ) (d : Tick) (shield : Bool) (st : Stack) (inside : Tick → Result) →
-  ((from : Tick) → Rooted (within label shield from st) (inside from)) → Rooted st (block m kind label t d shield st inside)
+    ((from : Tick) → Rooted (within label shield from st) (inside from)) → Rooted st (block m kind label t d shield st inside)
 unfolding block
 root_block m kind label t d shield st inside h =
     record { exc = leaves (from_of m label d inside); members = tt }
@@ -103,10 +104,12 @@ members_hold st t (m ∷ ms) h k =
   where
     last : max t m.end ≤ latest (max t m.end) ms
     last = latest_ends (max t m.end) ms
+
     by_then : m.end ≤ latest (max t m.end) ms
     by_then = let h = last in omega arith
+
     either_one : (IsTrue (hold_cancelled (parts_of (excs_of ms))) → IsTrue (seen st (latest (max t m.end) ms))) →
-      IsTrue (some_cancelled m.exc) ⊎ IsTrue (hold_cancelled (parts_of (excs_of ms))) → IsTrue (seen st (latest (max t m.end) ms))
+        IsTrue (some_cancelled m.exc) ⊎ IsTrue (hold_cancelled (parts_of (excs_of ms))) → IsTrue (seen st (latest (max t m.end) ms))
     either_one others (inl first) = stays_seen st m.end (latest (max t m.end) ms) by_then (h.0 first)
     either_one others (inr rest) = others rest
 
@@ -134,6 +137,7 @@ root_handled st wanted r go h k later = by_exc r.exc h.exc
   where
     still : IsTrue (seen st r.end) → IsTrue (seen st (go r.end).end)
     still s = stays_seen st r.end (go r.end).end (later r.end).ends s
+
     outcome : (o rest : Option Exc) → (IsTrue (some_cancelled o) → IsTrue (seen st (go r.end).end)) → (IsTrue (some_cancelled rest) → IsTrue (seen st r.end)) → IsTrue (some_cancelled (handler_exc o rest)) → IsTrue (seen st (go r.end).end)
     outcome None rest own old e = still (old e)
     outcome (Some x) None own old e = own e
@@ -142,13 +146,16 @@ root_handled st wanted r go h k later = by_exc r.exc h.exc
         or_nothing : (b : Bool) → IsTrue (b || false) → IsTrue b
         or_nothing true i = i
         or_nothing false i = i
+
         by_part : IsTrue (holds_cancelled x) ⊎ IsTrue (holds_cancelled y || false) → IsTrue (seen st (go r.end).end)
         by_part (inl a) = own a
         by_part (inr b) = still (old (or_nothing (holds_cancelled y) b))
+
     by_match : (o rest : Option Exc) → (IsTrue (some_cancelled rest) → IsTrue (seen st r.end)) → Rooted st (handled_if o rest r go)
     by_match None rest old = h
     by_match (Some e) rest old =
         record { exc = outcome (go r.end).exc rest (k r.end).exc old; members = members_append st r.members (go r.end).members h.members (k r.end).members }
+
     by_exc : (o : Option Exc) → (IsTrue (some_cancelled o) → IsTrue (seen st r.end)) → Rooted st (handled_exc o wanted r go)
     by_exc None old = h
     by_exc (Some e) old = by_match (keep wanted e) (drop wanted e) (λ i. old (pruned_holds e _ i))
@@ -164,6 +171,7 @@ root_cleaned st r go h k later =
 
 mutual
   unfolding walk
+
   -- every walk is rooted
   pub root : (m : Mode) (b : Steps) (here : Here) (st : Stack) (t : ℕ) → Rooted st (walk m b here st t)
   root m stop here st t = root_done st t

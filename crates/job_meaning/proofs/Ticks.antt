@@ -34,6 +34,7 @@ seen_cons l ls t = by_shield l.shield
     or_false : (b : Bool) → b ≡ (b || false)
     or_false true = refl
     or_false false = refl
+
     by_shield : (s : Bool) → reached (if s then l.from else earlier l.from (sight ls)) t ≡ (reached l.from t || (not s && seen ls t))
     by_shield true = or_false (reached l.from t)
     by_shield false = reached_earlier l.from (sight ls) t
@@ -47,7 +48,7 @@ lowering_shows [] (k ∷ ks) t low h = absurd low
 lowering_shows (l ∷ ls) [] t low h = absurd low
 lowering_shows (l ∷ ls) (k ∷ ks) t low h =
     rw (seen_cons k ks t) (lowered_or (reached l.from t) (reached k.from t) l.shield k.shield (seen ls t) (seen ks t)
-      low.1 (reached_at_most l.from k.from t low.2) (lowering_shows ls ks t low.3) (rw (seen_cons l ls t) at h))
+    low.1 (reached_at_most l.from k.from t low.2) (lowering_shows ls ks t low.3) (rw (seen_cons l ls t) at h))
   where
     lowered_or : (a b s r x y : Bool) → s ≡ r → (IsTrue a → IsTrue b) → (IsTrue x → IsTrue y) → IsTrue (a || (not s && x)) → IsTrue (b || (not r && y))
     lowered_or a b s r x y e f g h = grind arith

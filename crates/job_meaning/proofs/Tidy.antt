@@ -43,12 +43,15 @@ tidy_joined st P r q h k =
     own : (l : Label) → Enters l r.log ⊎ Enters l q.log → P l
     own l (inl e) = h.enters l e
     own l (inr e) = k.enters l e
+
     first : (l : Label) → OnStack l st ⊎ Enters l r.log → OnStack l st ⊎ Enters l (followed_by r.log q.log)
     first l (inl o) = inl o
     first l (inr e) = inr (enters_first l r.log q.log e)
+
     second : (l : Label) → OnStack l st ⊎ Enters l q.log → OnStack l st ⊎ Enters l (followed_by r.log q.log)
     second l (inl o) = inl o
     second l (inr e) = inr (enters_second l r.log q.log e)
+
     seen_to : (l : Label) → Signs l r.log ⊎ Signs l q.log → OnStack l st ⊎ Enters l (followed_by r.log q.log)
     seen_to l (inl e) = first l (h.signs l e)
     seen_to l (inr e) = second l (k.signs l e)
@@ -134,7 +137,7 @@ tidy_cancelling st P name t =
     }
 
 pub tidy_block : (m : Mode) (kind : Kind) (label : Label) (t : ℕ) (d : Tick) (shield : Bool) (st : Stack) (P : Label → Type 0) (inside : Tick → Result) →
-  P label → ((f : Tick) → Tidy (within label shield f st) P (inside f)) → Tidy st P (block m kind label t d shield st inside)
+    P label → ((f : Tick) → Tidy (within label shield f st) P (inside f)) → Tidy st P (block m kind label t d shield st inside)
 unfolding block
 tidy_block m kind label t d shield st P inside p h = at_from (from_of m label d inside)
   where
@@ -143,16 +146,20 @@ tidy_block m kind label t d shield st P inside p h = at_from (from_of m label d 
       where
         end_log : Log
         end_log = entry (inside f).end (left_as kind label (left_with (catches f shield st (inside f).end) (inside f).exc).caught) nil
+
         behind : (l : Label) → Enters l (inside f).log ⊎ ⊥ → P l
         behind l (inl e) = (h f).enters l e
         behind l (inr e) = absurd e
+
         own : (l : Label) → (l ≡ label) ⊎ Enters l (followed_by (inside f).log end_log) → P l
         own l (inl e) = subst P (sym e) p
         own l (inr e) = behind l (enters_followed l (inside f).log end_log e)
+
         by_place : (l : Label) → ((l ≡ label) ⊎ OnStack l st) ⊎ Enters l (inside f).log → OnStack l st ⊎ ((l ≡ label) ⊎ Enters l (followed_by (inside f).log end_log))
         by_place l (inl (inl e)) = inr (inl e)
         by_place l (inl (inr o)) = inl o
         by_place l (inr e) = inr (inr (enters_first l (inside f).log end_log e))
+
         seen_to : (l : Label) → Signs l (inside f).log ⊎ ⊥ → OnStack l st ⊎ ((l ≡ label) ⊎ Enters l (followed_by (inside f).log end_log))
         seen_to l (inl e) = by_place l ((h f).signs l e)
         seen_to l (inr e) = absurd e
@@ -177,9 +184,11 @@ tidy_signed st P r h =
     own : (l : Label) → Enters l r.log ⊎ Enters l (sign_if r.exc (home_of st) r.end) → P l
     own l (inl e) = h.enters l e
     own l (inr e) = absurd (enters_home st r.exc r.end l e)
+
     first : (l : Label) → OnStack l st ⊎ Enters l r.log → OnStack l st ⊎ Enters l (followed_by r.log (sign_if r.exc (home_of st) r.end))
     first l (inl o) = inl o
     first l (inr e) = inr (enters_first l r.log _ e)
+
     seen_to : (l : Label) → Signs l r.log ⊎ Signs l (sign_if r.exc (home_of st) r.end) → OnStack l st ⊎ Enters l (followed_by r.log (sign_if r.exc (home_of st) r.end))
     seen_to l (inl e) = first l (h.signs l e)
     seen_to l (inr e) = inl (signs_home st r.exc r.end l e)
@@ -195,9 +204,11 @@ tidy_child st P label t r h = record { enters = own; signs = seen_to }
     own : (l : Label) → Enters l r.log ⊎ ⊥ → P l
     own l (inl e) = h.enters l e
     own l (inr e) = absurd e
+
     first : (l : Label) → OnStack l st ⊎ Enters l r.log → OnStack l st ⊎ (Enters l r.log ⊎ ⊥)
     first l (inl o) = inl o
     first l (inr e) = inr (inl e)
+
     seen_to : (l : Label) → Signs l r.log ⊎ ⊥ → OnStack l st ⊎ (Enters l r.log ⊎ ⊥)
     seen_to l (inl e) = first l (h.signs l e)
     seen_to l (inr e) = absurd e
@@ -215,9 +226,11 @@ tidy_handled st P wanted r go h k = by_exc r.exc
   where
     both : Tidy st P (joined r (go r.end))
     both = tidy_joined st P r (go r.end) h (k r.end)
+
     by_match : (o rest : Option Exc) → Tidy st P (handled_if o rest r go)
     by_match None rest = h
     by_match (Some e) rest = record { enters = both.enters; signs = both.signs }
+
     by_exc : (o : Option Exc) → Tidy st P (handled_exc o wanted r go)
     by_exc None = h
     by_exc (Some e) = by_match (keep wanted e) (drop wanted e)
@@ -244,13 +257,14 @@ in_body name names path l h = belongs_in names (name ∷ names) path (λ n i. in
 
 mutual
   unfolding walk
+
   -- every walk is tidy
   pub tidy : (m : Mode) (b : Steps) (here : Here) (st : Stack) (t : ℕ) → Tidy st (Belongs (names_of b) here.path) (walk m b here st t)
   tidy m stop here st t = tidy_done st _ t
   tidy m (step s ss) here st t =
       tidy_and_then st _ _ _
-        (tidy_in st _ _ _ (in_left (names_in s) (names_of ss) here.path) (tidy_step m s here st t))
-        (λ u. tidy_in st _ _ _ (in_right (names_in s) (names_of ss) here.path) (tidy m ss here st u))
+      (tidy_in st _ _ _ (in_left (names_in s) (names_of ss) here.path) (tidy_step m s here st t))
+      (λ u. tidy_in st _ _ _ (in_right (names_in s) (names_of ss) here.path) (tidy m ss here st u))
 
   pub tidy_step : (m : Mode) (s : Step) (here : Here) (st : Stack) (t : ℕ) → Tidy st (Belongs (names_in s) here.path) (walk_step m s here st t)
   tidy_step m (sleep n) here st t = tidy_sleeping st _ _ t
@@ -265,30 +279,30 @@ mutual
   tidy_step m (cancel name) here st t = tidy_cancelling st _ name t
   tidy_step m (scope name d shield fail body) here st t =
       tidy_block m _ _ t _ shield st _ _ (belongs_here name (names_of body) here)
-        (λ f. tidy_in _ _ _ _ (in_body name (names_of body) here.path) (tidy m body here _ t))
+      (λ f. tidy_in _ _ _ _ (in_body name (names_of body) here.path) (tidy m body here _ t))
   tidy_step m (nursery name d shield body) here st t =
       tidy_block m _ _ t _ shield st _ _ (belongs_here name (names_of body) here)
-        (λ f. tidy_in _ _ _ _ (in_body name (names_of body) here.path) (tidy_gathered _ _ _ _ (tidy_signed _ _ _ (tidy m body here _ t))))
+      (λ f. tidy_in _ _ _ _ (in_body name (names_of body) here.path) (tidy_gathered _ _ _ _ (tidy_signed _ _ _ (tidy m body here _ t))))
   tidy_step m (start name None body) here st t =
       tidy_in st _ _ _ (in_body name (names_of body) here.path) (tidy_child st _ _ t _ (tidy_signed st _ _ (tidy m body _ st t)))
   tidy_step m (start name (Some k) body) here st t =
       tidy_each st _ k _ t (λ i lt. tidy_in st _ _ _
-        (λ l h. in_body name (names_of body) here.path l (belongs_behind (names_of body) here.path i l h))
-        (tidy_child st _ _ t _ (tidy_signed st _ _ (tidy m body _ st t))))
+      (λ l h. in_body name (names_of body) here.path l (belongs_behind (names_of body) here.path i l h))
+      (tidy_child st _ _ t _ (tidy_signed st _ _ (tidy m body _ st t))))
   tidy_step m (attempt body handler cleanup) here st t =
       tidy_cleanup m cleanup here st _ (names_of body ++ handled_names handler)
-        (tidy_handler m handler here st _ (names_of body) (tidy m body here st t))
+      (tidy_handler m handler here st _ (names_of body) (tidy m body here st t))
 
   pub tidy_handler : (m : Mode) (x : Handled) (here : Here) (st : Stack) (r : Result) (names : List (List ℕ)) →
-    Tidy st (Belongs names here.path) r → Tidy st (Belongs (names ++ handled_names x) here.path) (walk_handler m x here st r)
+      Tidy st (Belongs names here.path) r → Tidy st (Belongs (names ++ handled_names x) here.path) (walk_handler m x here st r)
   tidy_handler m unhandled here st r names h = tidy_in st _ _ _ (in_left names [] here.path) h
   tidy_handler m (except name body) here st r names h =
       tidy_handled st _ _ r _ (tidy_in st _ _ _ (in_left names (names_of body) here.path) h)
-        (λ u. tidy_in st _ _ _ (in_right names (names_of body) here.path) (tidy m body here st u))
+      (λ u. tidy_in st _ _ _ (in_right names (names_of body) here.path) (tidy m body here st u))
 
   pub tidy_cleanup : (m : Mode) (x : Cleaned) (here : Here) (st : Stack) (r : Result) (names : List (List ℕ)) →
-    Tidy st (Belongs names here.path) r → Tidy st (Belongs (names ++ cleaned_names x) here.path) (walk_cleanup m x here st r)
+      Tidy st (Belongs names here.path) r → Tidy st (Belongs (names ++ cleaned_names x) here.path) (walk_cleanup m x here st r)
   tidy_cleanup m uncleaned here st r names h = tidy_in st _ _ _ (in_left names [] here.path) h
   tidy_cleanup m (finally body) here st r names h =
       tidy_cleaned st _ r _ (tidy_in st _ _ _ (in_left names (names_of body) here.path) h)
-        (λ u. tidy_in st _ _ _ (in_right names (names_of body) here.path) (tidy m body here st u))
+      (λ u. tidy_in st _ _ _ (in_right names (names_of body) here.path) (tidy m body here st u))

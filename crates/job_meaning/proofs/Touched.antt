@@ -85,8 +85,8 @@ either_assoc None b c = refl
 either_assoc (Some d) b c = refl
 
 least_of_three : (t u v : ℕ) →
-  (if nat_lt (if nat_lt v u then v else u) t then (if nat_lt v u then v else u) else t)
-  ≡ (if nat_lt v (if nat_lt u t then u else t) then v else (if nat_lt u t then u else t))
+    (if nat_lt (if nat_lt v u then v else u) t then (if nat_lt v u then v else u) else t)
+    ≡ (if nat_lt v (if nat_lt u t then u else t) then v else (if nat_lt u t then u else t))
 least_of_three t u v = grind (arith, nat_tests)
 
 earlier_assoc : (a b c : Tick) → earlier a (earlier b c) ≡ earlier (earlier a b) c

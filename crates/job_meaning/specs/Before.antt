@@ -60,6 +60,6 @@ clipped c (task l s u e own rest) =
 -- alike, or both end at c or later.
 pub data Agree (c : ℕ) (r q : Result) : Type 0 where
   soon :
-    (before : r.end < c) → (ends : r.end ≡ q.end) → (excs : r.exc ≡ q.exc) →
-    (members : known_members c r.members ≡ known_members c q.members) → (logs : clipped c r.log ≡ clipped c q.log) → Agree c r q
+      (before : r.end < c) → (ends : r.end ≡ q.end) → (excs : r.exc ≡ q.exc) →
+      (members : known_members c r.members ≡ known_members c q.members) → (logs : clipped c r.log ≡ clipped c q.log) → Agree c r q
   later : (first : c ≤ r.end) → (second : c ≤ q.end) → (logs : clipped c r.log ≡ clipped c q.log) → Agree c r q

@@ -1,10 +1,12 @@
 -- The laws of the definitions. Each is the contract of a function that does nothing.
 use Rattle.std.specs.Prelude.{◌≡◌, ℕ, ◌≤◌, Bool, false, IsTrue, Option, Some, None, List, [], ◌∷◌}
 use Rattle.job_tree.specs.Tree.{Steps, Tree}
+use Rattle.job_tree.specs.Names.{GivesNamesOnce}
 use Rattle.exc_groups.specs.Exceptions.{Exc, holds_cancelled}
 use Rattle.cancel_scopes.specs.Sight.{Tick, seen}
 use Rattle.job_meaning.specs.Walk.{Stack, Mode, Here, walk}
-use Rattle.job_meaning.specs.Meaning.{root_walk}
+use Rattle.job_meaning.specs.Meaning.{root_walk, meaning, meaning_table}
+use Rattle.job_meaning.specs.Follow.{follow, IsSettled}
 use Rattle.job_meaning.specs.Before.{Near, Agree}
 
 -- one tick is at most another, where each may be never
@@ -50,3 +52,12 @@ abbrev pub NothingBeforeItsCause : Type 0
 NothingBeforeItsCause =
     (c : ℕ) (mode : Mode) (steps : Steps) (here : Here) (stack other : Stack) (t : ℕ) →
     Near c stack other → Agree c (walk mode steps here stack t) (walk mode steps here other t)
+
+-- where names are given once, following the table of the meaning is the meaning
+abbrev pub FollowingIsMeaning : Type 0
+FollowingIsMeaning =
+    (job : Tree) (input : List ℕ) → GivesNamesOnce job → follow (meaning_table job input) job input ≡ meaning job input
+
+-- so that table is settled
+abbrev pub TableIsSettled : Type 0
+TableIsSettled = (job : Tree) (input : List ℕ) → GivesNamesOnce job → IsSettled (meaning_table job input) job input

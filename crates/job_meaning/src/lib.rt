@@ -4,6 +4,4 @@
 
 mod laws;
 
-pub use laws::law_causality;
-pub use laws::law_monotone_sight;
-pub use laws::law_root;
+pub use laws::{law_causality, law_monotone_sight, law_root, law_settled_table};
