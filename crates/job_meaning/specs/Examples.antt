@@ -20,7 +20,7 @@ named_label name = record { name = name; indices = [] }
 
 -- a scope's deadline cancels a sleeper that is due in the same tick
 pub sleeper_due_at_deadline :
-  meaning_records (job_of (scope (codes "s") (After 5) false false (block_of (sleep 5 ∷ [])) ∷ [])) []
-  ≡ record { label = named_label (codes "main"); start = 0; end = 5; exc = None; entries = record { tick = 5; entry = scope_left (named_label (codes "s")) true } ∷ [] } ∷ []
+    meaning_records (job_of (scope (codes "s") (After 5) false false (block_of (sleep 5 ∷ [])) ∷ [])) []
+    ≡ record { label = named_label (codes "main"); start = 0; end = 5; exc = None; entries = record { tick = 5; entry = scope_left (named_label (codes "s")) true } ∷ [] } ∷ []
 unfolding meaning walk and_then sleeping block
 sleeper_due_at_deadline = refl

@@ -4,3 +4,5 @@ pub mod Meaning
 pub mod Shown
 pub mod Follow
 pub mod Examples
+pub mod Before
+pub mod Laws

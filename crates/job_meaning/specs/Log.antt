@@ -12,13 +12,13 @@ pub data Entry : Type 0 where
   nursery_left : (label : Label) → (caught : Bool) → Entry
 
 -- What a task did, in order; the log of a started task stands inside its starter's, where it was started.
--- An entry has its tick. A sign says that a scope or nursery was cancelled in a tick. A label is entered with its
--- deadline. A task has its start, its end and how it ended, and its own log.
+-- An entry has its tick. A sign says that a scope or nursery was cancelled in a tick. A label is entered in a tick, with
+-- its deadline. A task has its start, its end and how it ended, and its own log.
 pub data Log : Type 0 where
   nil : Log
   entry : (tick : ℕ) → (noted : Entry) → (rest : Log) → Log
   sign : (label : Label) → (tick : ℕ) → (rest : Log) → Log
-  entered : (label : Label) → (deadline : Tick) → (rest : Log) → Log
+  entered : (label : Label) → (tick : ℕ) → (deadline : Tick) → (rest : Log) → Log
   task : (label : Label) → (start end : ℕ) → (exc : Option Exc) → (own : Log) → (rest : Log) → Log
 
 -- one log after another
@@ -26,7 +26,7 @@ abbrev pub followed_by : Log → Log → Log
 followed_by nil others = others
 followed_by (entry t e rest) others = entry t e (followed_by rest others)
 followed_by (sign l t rest) others = sign l t (followed_by rest others)
-followed_by (entered l d rest) others = entered l d (followed_by rest others)
+followed_by (entered l t d rest) others = entered l t d (followed_by rest others)
 followed_by (task l s u e own rest) others = task l s u e own (followed_by rest others)
 
 -- how a child ended whose nursery is still open
@@ -54,7 +54,7 @@ abbrev pub least_sign : Label → Log → Tick
 least_sign l nil = None
 least_sign l (entry t e rest) = least_sign l rest
 least_sign l (sign m t rest) = earlier (tick_if (same_label l m) t) (least_sign l rest)
-least_sign l (entered m d rest) = least_sign l rest
+least_sign l (entered m t d rest) = least_sign l rest
 least_sign l (task m s u e own rest) = earlier (least_sign l own) (least_sign l rest)
 
 -- the first of two that is there
@@ -71,7 +71,7 @@ abbrev pub deadline_of : Label → Log → Option Tick
 deadline_of l nil = None
 deadline_of l (entry t e rest) = deadline_of l rest
 deadline_of l (sign m t rest) = deadline_of l rest
-deadline_of l (entered m d rest) = either (deadline_if (same_label l m) d) (deadline_of l rest)
+deadline_of l (entered m t d rest) = either (deadline_if (same_label l m) d) (deadline_of l rest)
 deadline_of l (task m s u e own rest) = either (deadline_of l own) (deadline_of l rest)
 
 -- the tick from which a block is cancelled: its deadline, or the tick after its first sign, whichever comes first

@@ -24,7 +24,7 @@ abbrev pub entries_of : Log → List Noted
 entries_of nil = []
 entries_of (entry t e rest) = record { tick = t; entry = e } ∷ entries_of rest
 entries_of (sign l t rest) = entries_of rest
-entries_of (entered l d rest) = entries_of rest
+entries_of (entered l t d rest) = entries_of rest
 entries_of (task l s u e own rest) = entries_of rest
 
 -- the records of the tasks that a log tells of: each with its descendants behind it
@@ -32,7 +32,7 @@ abbrev pub records_of : Log → List Record
 records_of nil = []
 records_of (entry t e rest) = records_of rest
 records_of (sign l t rest) = records_of rest
-records_of (entered l d rest) = records_of rest
+records_of (entered l t d rest) = records_of rest
 records_of (task l s u e own rest) =
     record { label = l; start = s; end = u; exc = e; entries = entries_of own } ∷ (records_of own ++ records_of rest)
 
@@ -41,7 +41,7 @@ abbrev pub entered_by : Log → List Label
 entered_by nil = []
 entered_by (entry t e rest) = entered_by rest
 entered_by (sign l t rest) = entered_by rest
-entered_by (entered l d rest) = l ∷ entered_by rest
+entered_by (entered l t d rest) = l ∷ entered_by rest
 entered_by (task l s u e own rest) = entered_by rest
 
 -- the labels entered by the tasks of a log, in the order of the records
@@ -49,7 +49,7 @@ abbrev pub all_entered : Log → List Label
 all_entered nil = []
 all_entered (entry t e rest) = all_entered rest
 all_entered (sign l t rest) = all_entered rest
-all_entered (entered l d rest) = all_entered rest
+all_entered (entered l t d rest) = all_entered rest
 all_entered (task l s u e own rest) = entered_by own ++ (all_entered own ++ all_entered rest)
 
 -- a job's root task: its label is the job's name

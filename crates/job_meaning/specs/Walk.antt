@@ -149,13 +149,15 @@ abbrev pub exc_after : Kind → Label → ℕ → Left → Option Exc
 exc_after (a_scope fail) label t left = slow_if (fail && left.caught) label t left.exc
 exc_after a_nursery label t left = left.exc
 
-abbrev pub leaving : Kind → Label → Tick → Left → Result → Result
-leaving kind label deadline left r =
+-- A block that was entered in tick t is left. No child is left open: a nursery waited for its own, and a child is
+-- started directly in a nursery.
+abbrev pub leaving : Kind → Label → ℕ → Tick → Left → Result → Result
+leaving kind label t deadline left r =
     record {
       end = r.end;
       exc = exc_after kind label r.end left;
-      members = r.members;
-      log = entered label deadline (followed_by r.log (entry r.end (left_as kind label left.caught) nil));
+      members = [];
+      log = entered label t deadline (followed_by r.log (entry r.end (left_as kind label left.caught) nil));
     }
 
 -- the from of a block, whose inside is walked at each from
@@ -163,15 +165,15 @@ abbrev pub from_of : Mode → Label → Tick → (Tick → Result) → Tick
 from_of twice label deadline inside = from_by deadline (least_sign label (inside deadline).log)
 from_of (by_table table) label deadline inside = table label
 
-abbrev pub left_from : Kind → Label → Tick → Bool → Stack → Tick → Result → Result
-left_from kind label deadline shield stack from r =
-    leaving kind label deadline (left_with (catches from shield stack r.end) r.exc) r
+abbrev pub left_from : Kind → Label → ℕ → Tick → Bool → Stack → Tick → Result → Result
+left_from kind label t deadline shield stack from r =
+    leaving kind label t deadline (left_with (catches from shield stack r.end) r.exc) r
 
--- A scope or a nursery: its inside is walked with the block's from.
-unfoldable pub block : Mode → Kind → Label → Tick → Bool → Stack → (Tick → Result) → Result
-block mode kind label deadline shield stack inside =
+-- A scope or a nursery that is entered in tick t: its inside is walked with the block's from.
+unfoldable pub block : Mode → Kind → Label → ℕ → Tick → Bool → Stack → (Tick → Result) → Result
+block mode kind label t deadline shield stack inside =
     let from = from_of mode label deadline inside in
-    left_from kind label deadline shield stack from (inside from)
+    left_from kind label t deadline shield stack from (inside from)
 
 -- the stack inside a block
 abbrev pub within : Label → Bool → Tick → Stack → Stack
@@ -292,10 +294,10 @@ unfoldable mutual
   walk_step m (raise name) here st t = raised_at (raised name here.task t) t
   walk_step m (cancel name) here st t = cancelling (label_on name st) t
   walk_step m (scope name deadline shield fail body) here st t =
-      block m (a_scope fail) (label_here name here) (due deadline t) shield st
+      block m (a_scope fail) (label_here name here) t (due deadline t) shield st
       (λ from. walk m body here (within (label_here name here) shield from st) t)
   walk_step m (nursery name deadline shield body) here st t =
-      block m a_nursery (label_here name here) (due deadline t) shield st
+      block m a_nursery (label_here name here) t (due deadline t) shield st
       (λ from. let inner = within (label_here name here) shield from st in gathered (label_here name here) (signed inner (walk m body here inner t)))
   walk_step m (start name None body) here st t =
       child (label_here name here) t (signed st (walk m body (here_in (label_here name here) here.part here) st t))

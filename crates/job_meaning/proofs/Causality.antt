@@ -1,0 +1,371 @@
+-- A tick from which a scope is cancelled tells nothing of earlier ticks.
+use Rattle.std.proofs.Common.{◌≡◌, ℕ, zero, suc, ◌+◌, ◌<◌, ◌≤◌, min, Bool, true, false, ◌&&◌, ◌||◌, not, Option, Some, None, List, [], ◌∷◌, refl, ap, sym, ◌∙◌, subst, ◌⊎◌, inl, inr, arith, nat_le, nat_lt, if◌then◌else◌}
+use Rattle.std.proofs.lemmas.Bool.{true≢false, le-ltb, cases_lt}
+use Rattle.std.proofs.lemmas.Bool.Decides.{nat_tests}
+use Rattle.job_tree.specs.Tree.{Step, sleep, checkpoint, forever, pace, find, head, longest, need, raise, cancel, scope, nursery, start, attempt, Steps, stop, step, Handled, unhandled, except, Cleaned, uncleaned, finally}
+use Rattle.exc_groups.specs.Exceptions.{Label, Exc, cancelled, by_nursery, group_of, parts_of}
+use Rattle.exc_groups.specs.Split.{Wanted, keep, drop}
+use Rattle.cancel_scopes.specs.Sight.{Tick, sight, seen, reached}
+use Rattle.job_meaning.specs.Log.{Log, nil, entry, entered, followed_by, Member, Result}
+use Rattle.job_meaning.specs.Walk.{Stack, Mode, twice, by_table, Here, walk, walk_step, walk_handler, walk_cleanup, done_at, raised_at, joined, and_then, then_if, slept, sleeping, cancelling, label_on, Kind, from_of, block, left_from, left_with, left_as, exc_after, catches, within, signed, sign_if, home_of, latest, with_exc, excs_of, gathered, child, each, handled, handled_exc, handled_if, handler_exc, with_outcome, outcome_after, cleaned}
+use Rattle.job_meaning.specs.Before.{upto, Near, Agree, soon, later, known_members, clipped, exc_if, entered_if, task_if}
+use Rattle.job_meaning.specs.Laws.{NothingBeforeItsCause}
+use Rattle.job_meaning.proofs.Late.{Timed, Late, late, late_signed, late_gathered, latest_ends, child_ends, each_ends}
+use Rattle.job_meaning.proofs.Clips.{sight_near, seen_near, reached_near, label_near, home_near, both_clipped, clipped_tail, least_near, from_near, both_known, latest_known, all_known}
+
+-- a walk agrees with itself
+pub agree_same : (c : ℕ) (r : Result) → Agree c r r
+agree_same c r = by_order (cases_lt r.end c)
+  where
+    by_order : (r.end < c) ⊎ (c ≤ r.end) → Agree c r r
+    by_order (inl lt) = soon lt refl refl refl refl
+    by_order (inr le) = later le le refl
+
+-- one after another
+pub agree_joined : (c : ℕ) (r r' q q' : Result) → Agree c r r' → Agree c q q' → r.end ≤ q.end → r'.end ≤ q'.end → Agree c (joined r q) (joined r' q')
+agree_joined c r r' q q' (soon b e x m l) (soon b₂ e₂ x₂ m₂ l₂) le le' = soon b₂ e₂ x₂ (both_known c _ _ _ _ m m₂) (both_clipped c r.log q.log r'.log q'.log l l₂)
+agree_joined c r r' q q' (soon b e x m l) (later f s l₂) le le' = later f s (both_clipped c r.log q.log r'.log q'.log l l₂)
+agree_joined c r r' q q' (later f s l) (soon b₂ e₂ x₂ m₂ l₂) le le' = absurd (omega arith)
+agree_joined c r r' q q' (later f s l) (later f₂ s₂ l₂) le le' = later f₂ s₂ (both_clipped c r.log q.log r'.log q'.log l l₂)
+
+-- x goes on from r, which ended at c or later: before c it tells the same
+record Past (c : ℕ) (r x : Result) : Type 0 where
+  ends : c ≤ x.end
+  logs : clipped c x.log ≡ clipped c r.log
+
+past_same : (c : ℕ) (r : Result) → c ≤ r.end → Past c r r
+past_same c r le = record { ends = le; logs = refl }
+
+past_joined : (c : ℕ) (r q : Result) → c ≤ r.end → Late r.end q → Past c r (joined r q)
+past_joined c r q le h =
+    let first = h.ends in
+    record { ends = omega arith; logs = clipped_tail c r.end r.log q.log le h.timed }
+
+agree_past : (c : ℕ) (r r' x x' : Result) → clipped c r.log ≡ clipped c r'.log → Past c r x → Past c r' x' → Agree c x x'
+agree_past c r r' x x' l p p' = later p.ends p'.ends (p.logs ∙ (l ∙ sym p'.logs))
+
+past_then : (c : ℕ) (r : Result) (go : ℕ → Result) → ((u : ℕ) → Late u (go u)) → c ≤ r.end → (o : Option Exc) → Past c r (then_if o r go)
+past_then c r go h le None = past_joined c r (go r.end) le (h r.end)
+past_then c r go h le (Some e) = past_same c r le
+
+-- the second walks agree where they start at one tick
+agree_from : (c : ℕ) (go go' : ℕ → Result) → ((u : ℕ) → Agree c (go u) (go' u)) → (u v : ℕ) → u ≡ v → Agree c (go u) (go' v)
+agree_from c go go' h u v e = subst (λ (w : ℕ). Agree c (go u) (go' w)) e (h u)
+
+pub agree_and_then : (c : ℕ) (r r' : Result) (go go' : ℕ → Result) → Agree c r r' → ((u : ℕ) → Agree c (go u) (go' u)) →
+    ((u : ℕ) → Late u (go u)) → ((u : ℕ) → Late u (go' u)) → Agree c (and_then r go) (and_then r' go')
+unfolding and_then
+agree_and_then c r r' go go' (soon b e x m l) h k k' = subst (λ (o : Option Exc). Agree c (then_if r.exc r go) (then_if o r' go')) x (by_exc r.exc)
+  where
+    by_exc : (o : Option Exc) → Agree c (then_if o r go) (then_if o r' go')
+    by_exc None = agree_joined c r r' (go r.end) (go' r'.end) (soon b e x m l) (agree_from c go go' h r.end r'.end e) (k r.end).ends (k' r'.end).ends
+    by_exc (Some y) = soon b e x m l
+agree_and_then c r r' go go' (later f s l) h k k' = agree_past c r r' _ _ l (past_then c r go k f r.exc) (past_then c r' go' k' s r'.exc)
+
+-- a sleep that is seen at c or later
+slept_past : (from n t c : ℕ) → c ≤ from → c ≤ t + n → Past c (done_at c) (slept (Some from) n t)
+slept_past from n t c le far = by_now (nat_le from t) (nat_le from (t + n)) refl
+  where
+    by_now : (now due : Bool) → nat_le from t ≡ now → Past c (done_at c) (if now then raised_at cancelled t else (if due then raised_at cancelled from else done_at (t + n)))
+    by_now true due e = record { ends = grind (arith, nat_tests); logs = refl }
+    by_now false true e = record { ends = le; logs = refl }
+    by_now false false e = record { ends = far; logs = refl }
+
+slept_whole : (from n t c : ℕ) → c ≤ from → t + n < c → slept (Some from) n t ≡ done_at (t + n)
+slept_whole from n t c le lt = by_now (nat_le from t) (nat_le from (t + n)) (grind (arith, nat_tests)) (grind (arith, nat_tests))
+  where
+    by_now : (now due : Bool) → now ≡ false → due ≡ false → (if now then raised_at cancelled t else (if due then raised_at cancelled from else done_at (t + n))) ≡ done_at (t + n)
+    by_now true due e f = absurd (true≢false e)
+    by_now false true e f = absurd (true≢false f)
+    by_now false false e f = refl
+
+never_past : (n t c : ℕ) → c ≤ t + n → Past c (done_at c) (slept None n t)
+never_past n t c far = record { ends = far; logs = refl }
+
+agree_slept : (c : ℕ) (a b : Tick) (n t : ℕ) → upto c a ≡ upto c b → Agree c (slept a n t) (slept b n t)
+agree_slept c None None n t e = agree_same c (slept None n t)
+agree_slept c None (Some y) n t e = by_order (cases_lt (t + n) c)
+  where
+    le : c ≤ y
+    le = omega arith
+
+    by_order : (t + n < c) ⊎ (c ≤ t + n) → Agree c (slept None n t) (slept (Some y) n t)
+    by_order (inl lt) = subst (λ (r : Result). Agree c (done_at (t + n)) r) (sym (slept_whole y n t c le lt)) (agree_same c (done_at (t + n)))
+    by_order (inr far) = agree_past c (done_at c) (done_at c) _ _ refl (never_past n t c far) (slept_past y n t c le far)
+agree_slept c (Some x) None n t e = by_order (cases_lt (t + n) c)
+  where
+    le : c ≤ x
+    le = omega arith
+
+    by_order : (t + n < c) ⊎ (c ≤ t + n) → Agree c (slept (Some x) n t) (slept None n t)
+    by_order (inl lt) = subst (λ (r : Result). Agree c r (done_at (t + n))) (sym (slept_whole x n t c le lt)) (agree_same c (done_at (t + n)))
+    by_order (inr far) = agree_past c (done_at c) (done_at c) _ _ refl (slept_past x n t c le far) (never_past n t c far)
+agree_slept c (Some x) (Some y) n t e = by_before (cases_lt x c)
+  where
+    by_order : c ≤ x → c ≤ y → (t + n < c) ⊎ (c ≤ t + n) → Agree c (slept (Some x) n t) (slept (Some y) n t)
+    by_order p q (inl lt) =
+        subst (λ (r : Result). Agree c r (slept (Some y) n t)) (sym (slept_whole x n t c p lt))
+        (subst (λ (r : Result). Agree c (done_at (t + n)) r) (sym (slept_whole y n t c q lt)) (agree_same c (done_at (t + n))))
+    by_order p q (inr far) = agree_past c (done_at c) (done_at c) _ _ refl (slept_past x n t c p far) (slept_past y n t c q far)
+
+    by_before : (x < c) ⊎ (c ≤ x) → Agree c (slept (Some x) n t) (slept (Some y) n t)
+    by_before (inl lt) = subst (λ (u : ℕ). Agree c (slept (Some x) n t) (slept (Some u) n t)) (omega arith) (agree_same c (slept (Some x) n t))
+    by_before (inr p) = by_order p (omega arith) (cases_lt (t + n) c)
+
+pub agree_sleeping : (c : ℕ) (st su : Stack) (n t : ℕ) → Near c st su → Agree c (sleeping st n t) (sleeping su n t)
+unfolding sleeping
+agree_sleeping c st su n t near = agree_slept c (sight st) (sight su) n t (sight_near c st su near)
+
+pub agree_cancelling : (c : ℕ) (name : List ℕ) (st su : Stack) (t : ℕ) → Near c st su → Agree c (cancelling (label_on name st) t) (cancelling (label_on name su) t)
+agree_cancelling c name st su t near =
+    subst (λ (o : Option Label). Agree c (cancelling (label_on name st) t) (cancelling o t)) (label_near c name st su near) (agree_same c (cancelling (label_on name st) t))
+
+-- whether a block catches in a tick before c is told by stacks and froms before c
+catches_near : (c : ℕ) (f g : Tick) (shield : Bool) (st su : Stack) (u v : ℕ) → upto c f ≡ upto c g → Near c st su → u < c → u ≡ v → catches f shield st u ≡ catches g shield su v
+catches_near c f g shield st su u v e near lt same =
+    let a : reached f u ≡ reached g u = reached_near c f g u e lt in
+    let b : seen st u ≡ seen su u = seen_near c st su u near lt in
+    same_tests a b
+  where
+    same_tests : reached f u ≡ reached g u → seen st u ≡ seen su u → (reached f u && (shield || not (seen st u))) ≡ (reached g v && (shield || not (seen su v)))
+    same_tests a b = ap2 a b ∙ ap (λ (w : ℕ). reached g w && (shield || not (seen su w))) same
+      where
+        ap2 : reached f u ≡ reached g u → seen st u ≡ seen su u → (reached f u && (shield || not (seen st u))) ≡ (reached g u && (shield || not (seen su u)))
+        ap2 p q = cc
+
+pub agree_logs : {c : ℕ} {r q : Result} → Agree c r q → clipped c r.log ≡ clipped c q.log
+agree_logs (soon b e x m l) = l
+agree_logs (later f s l) = l
+
+-- what is left of an inside that ended in tick u with an exception, caught or not
+abbrev left_result : Kind → Label → ℕ → Tick → Log → ℕ → Option Exc → Bool → Result
+left_result kind label t d log u o caught =
+    record {
+      end = u;
+      exc = exc_after kind label u (left_with caught o);
+      members = [];
+      log = entered label t d (followed_by log (entry u (left_as kind label (left_with caught o).caught) nil));
+    }
+
+module _ (c : ℕ) (kind : Kind) (label : Label) (t : ℕ) (d : Tick) where
+  same_left : (a b : Log) (u v : ℕ) (o p : Option Exc) (x y : Bool) → u < c → clipped c a ≡ clipped c b → u ≡ v → o ≡ p → x ≡ y →
+      Agree c (left_result kind label t d a u o x) (left_result kind label t d b v p y)
+  same_left a b u v o p x y lt l i j k =
+      subst (λ (z : Bool). Agree c (left_result kind label t d a u o x) (left_result kind label t d b v p z)) k
+      (subst (λ (z : Option Exc). Agree c (left_result kind label t d a u o x) (left_result kind label t d b v z x)) j
+      (subst (λ (z : ℕ). Agree c (left_result kind label t d a u o x) (left_result kind label t d b z o x)) i
+      (soon lt refl refl refl (ap (λ (z : Log). entered_if (nat_lt t c) label t d z) (both_clipped c a _ b _ l refl)))))
+
+  module _ (shield : Bool) (st su : Stack) (near : Near c st su) where
+    -- how a block is left agrees, where its insides agree
+    agree_left : (f g : Tick) (r q : Result) → upto c f ≡ upto c g → Agree c r q →
+        Agree c (left_from kind label t d shield st f r) (left_from kind label t d shield su g q)
+    agree_left f g r q e (soon b en x m l) =
+        same_left r.log q.log r.end q.end r.exc q.exc _ _ b l en x (catches_near c f g shield st su r.end q.end e near b en)
+    agree_left f g r q e (later p s l) =
+        later p s (ap (λ (z : Log). entered_if (nat_lt t c) label t d z)
+        (clipped_tail c r.end r.log _ p (omega arith, tt) ∙ (l ∙ sym (clipped_tail c q.end q.log _ s (omega arith, tt)))))
+
+    -- the froms of a block are near, where its insides agree
+    block_near : (m : Mode) (inside inside' : Tick → Result) → ((f : Tick) → Late t (inside f)) → ((f : Tick) → Late t (inside' f)) →
+        ((f g : Tick) → upto c f ≡ upto c g → Agree c (inside f) (inside' g)) → upto c (from_of m label d inside) ≡ upto c (from_of m label d inside')
+    block_near twice inside inside' h h' k =
+        from_near c d _ _ (least_near c t label _ _ (h d).timed (h' d).timed (agree_logs (k d d refl)))
+    block_near (by_table table) inside inside' h h' k = refl
+
+    pub agree_block : (m : Mode) (inside inside' : Tick → Result) → ((f : Tick) → Late t (inside f)) → ((f : Tick) → Late t (inside' f)) →
+        ((f g : Tick) → upto c f ≡ upto c g → Agree c (inside f) (inside' g)) → Agree c (block m kind label t d shield st inside) (block m kind label t d shield su inside')
+    unfolding block
+    agree_block m inside inside' h h' k =
+        let e = block_near m inside inside' h h' k in
+        agree_left _ _ _ _ e (k _ _ e)
+
+pub near_within : (c : ℕ) (label : Label) (shield : Bool) (f g : Tick) (st su : Stack) → upto c f ≡ upto c g → Near c st su → Near c (within label shield f st) (within label shield g su)
+near_within c label shield f g st su e near = (refl, refl, e, near)
+
+-- a member's sign at the end of its log
+pub agree_signed : (c : ℕ) (st su : Stack) (r q : Result) → Near c st su → Agree c r q → Agree c (signed st r) (signed su q)
+unfolding signed
+agree_signed c st su r q near (soon b e x m l) =
+    soon b e x m (both_clipped c r.log _ q.log _ l (ap (λ (z : Log). clipped c z) (same_sign r.exc q.exc (home_of st) (home_of su) r.end q.end x (home_near c st su near) e)))
+  where
+    same_sign : (o p : Option Exc) (a b : Option Label) (u v : ℕ) → o ≡ p → a ≡ b → u ≡ v → sign_if o a u ≡ sign_if p b v
+    same_sign o p a b u v i j k = cc
+agree_signed c st su r q near (later p s l) =
+    later p s (clipped_tail c r.end r.log _ p (timed_sign r.exc (home_of st) r.end) ∙ (l ∙ sym (clipped_tail c q.end q.log _ s (timed_sign q.exc (home_of su) q.end))))
+  where
+    timed_sign : (o : Option Exc) (a : Option Label) (u : ℕ) → Timed u (sign_if o a u)
+    timed_sign None a u = tt
+    timed_sign (Some e) None u = tt
+    timed_sign (Some e) (Some x) u = (omega arith, tt)
+
+-- a nursery's end before c, and its group, are told by what is known of its members
+pub agree_gathered : (c : ℕ) (label : Label) (r q : Result) → Agree c r q → Agree c (gathered label r) (gathered label q)
+unfolding gathered
+agree_gathered c label r q (soon b e x m l) = by_order (cases_lt (latest r.end r.members) c)
+  where
+    known : min c (latest r.end r.members) ≡ min c (latest q.end q.members)
+    known =
+        latest_known c r.end r.members
+        ∙ (ends_known (min c r.end) (min c q.end) (known_members c r.members) (known_members c q.members) (ap (λ (u : ℕ). min c u) e) m ∙ sym (latest_known c q.end q.members))
+      where
+        ends_known : (u v : ℕ) (ms ns : List Member) → u ≡ v → ms ≡ ns → latest u ms ≡ latest v ns
+        ends_known u v ms ns i j = cc
+
+    same_group : (o p : Option Exc) (ms ns : List Member) → o ≡ p → ms ≡ ns → group_of (by_nursery label) (parts_of (with_exc o (excs_of ms))) ≡ group_of (by_nursery label) (parts_of (with_exc p (excs_of ns)))
+    same_group o p ms ns i j = cc
+
+    by_order : (latest r.end r.members < c) ⊎ (c ≤ latest r.end r.members) → Agree c (gathered label r) (gathered label q)
+    by_order (inl lt) = at_end same_end
+      where
+        same_end : latest r.end r.members ≡ latest q.end q.members
+        same_end = let k = known in omega arith
+
+        at_end : latest r.end r.members ≡ latest q.end q.members → Agree c (gathered label r) (gathered label q)
+        at_end i =
+            soon lt i
+            (same_group r.exc q.exc r.members q.members x (sym (all_known c r.end r.members lt) ∙ (m ∙ all_known c q.end q.members (below i))))
+            refl l
+          where
+            below : latest r.end r.members ≡ latest q.end q.members → latest q.end q.members < c
+            below j = omega arith
+    by_order (inr le) = later le (let k = known in omega arith) l
+agree_gathered c label r q (later f s l) =
+    let a = latest_ends r.end r.members in
+    let b = latest_ends q.end q.members in
+    later (omega arith) (omega arith) l
+
+-- what is known of an end and an exception, where walks agree
+known_end : (c : ℕ) (r q : Result) → Agree c r q → min c r.end ≡ min c q.end
+known_end c r q (soon b e x m l) = ap (λ (u : ℕ). min c u) e
+known_end c r q (later f s l) = omega arith
+
+known_outcome : (c : ℕ) (r q : Result) → Agree c r q → exc_if (nat_lt r.end c) r.exc ≡ exc_if (nat_lt q.end c) q.exc
+known_outcome c r q (soon b e x m l) = same_known r.end q.end r.exc q.exc e x
+  where
+    same_known : (u v : ℕ) (o p : Option Exc) → u ≡ v → o ≡ p → exc_if (nat_lt u c) o ≡ exc_if (nat_lt v c) p
+    same_known u v o p i j = cc
+known_outcome c r q (later f s l) = unknown (nat_lt r.end c) r.exc (le-ltb r.end c f) ∙ sym (unknown (nat_lt q.end c) q.exc (le-ltb q.end c s))
+  where
+    unknown : (b : Bool) (o : Option Exc) → b ≡ false → exc_if b o ≡ None
+    unknown true o e = absurd (true≢false e)
+    unknown false o e = refl
+
+pub agree_child : (c : ℕ) (label : Label) (t : ℕ) (r q : Result) → Agree c r q → Agree c (child label t r) (child label t q)
+unfolding child
+agree_child c label t r q h = by_order (cases_lt t c) (known_end c r q h) (known_outcome c r q h) (agree_logs h)
+  where
+    same_member : (u v : ℕ) (o p : Option Exc) → u ≡ v → o ≡ p → ◌≡◌ {A = List Member} (record { end = u; exc = o } ∷ []) (record { end = v; exc = p } ∷ [])
+    same_member u v o p i j = cc
+
+    same_task : (b : Bool) (u v : ℕ) (o p : Option Exc) (x y : Log) → u ≡ v → o ≡ p → x ≡ y → task_if b label t u o x nil ≡ task_if b label t v p y nil
+    same_task b u v o p x y i j k = cc
+
+    by_order : (t < c) ⊎ (c ≤ t) → min c r.end ≡ min c q.end → exc_if (nat_lt r.end c) r.exc ≡ exc_if (nat_lt q.end c) q.exc → clipped c r.log ≡ clipped c q.log → Agree c (child label t r) (child label t q)
+    by_order (inl lt) i j k = soon lt refl refl (same_member _ _ _ _ i j) (same_task (nat_lt t c) _ _ _ _ _ _ i j k)
+    by_order (inr le) i j k = later le le (same_task (nat_lt t c) _ _ _ _ _ _ i j k)
+
+pub agree_each : (c : ℕ) (k : ℕ) (go go' : ℕ → Result) (t : ℕ) → ((i : ℕ) → (go i).end ≡ t) → ((i : ℕ) → (go' i).end ≡ t) → ((i : ℕ) → Agree c (go i) (go' i)) → Agree c (each k go t) (each k go' t)
+agree_each c zero go go' t e e' h = agree_same c (done_at t)
+agree_each c (suc k) go go' t e e' h =
+    let a = each_ends k go t e in
+    let b = each_ends k go' t e' in
+    let x = e k in
+    let y = e' k in
+    agree_joined c (each k go t) (each k go' t) (go k) (go' k) (agree_each c k go go' t e e' h) (h k) (omega arith) (omega arith)
+
+-- an outcome that goes by the exception agrees where the walks do
+agree_outcome : (c : ℕ) (r q : Result) (f : Option Exc → Option Exc) → Agree c r q → Agree c (with_outcome (f r.exc) r) (with_outcome (f q.exc) q)
+agree_outcome c r q f (soon b e x m l) = soon b e (ap f x) m l
+agree_outcome c r q f (later p s l) = later p s l
+
+past_handled : (c : ℕ) (wanted : Wanted) (r : Result) (go : ℕ → Result) → ((u : ℕ) → Late u (go u)) → c ≤ r.end → (o : Option Exc) → Past c r (handled_exc o wanted r go)
+past_handled c wanted r go h le None = past_same c r le
+past_handled c wanted r go h le (Some e) = by_match (keep wanted e) (drop wanted e)
+  where
+    both : Past c r (joined r (go r.end))
+    both = past_joined c r (go r.end) le (h r.end)
+
+    by_match : (o rest : Option Exc) → Past c r (handled_if o rest r go)
+    by_match None rest = past_same c r le
+    by_match (Some y) rest = record { ends = both.ends; logs = both.logs }
+
+pub agree_handled : (c : ℕ) (wanted : Wanted) (r r' : Result) (go go' : ℕ → Result) → Agree c r r' → ((u : ℕ) → Agree c (go u) (go' u)) →
+    ((u : ℕ) → Late u (go u)) → ((u : ℕ) → Late u (go' u)) → Agree c (handled wanted r go) (handled wanted r' go')
+unfolding handled
+agree_handled c wanted r r' go go' (soon b e x m l) h k k' = subst (λ (o : Option Exc). Agree c (handled_exc r.exc wanted r go) (handled_exc o wanted r' go')) x (by_exc r.exc)
+  where
+    both : Agree c (joined r (go r.end)) (joined r' (go' r'.end))
+    both = agree_joined c r r' (go r.end) (go' r'.end) (soon b e x m l) (agree_from c go go' h r.end r'.end e) (k r.end).ends (k' r'.end).ends
+
+    by_match : (o rest : Option Exc) → Agree c (handled_if o rest r go) (handled_if o rest r' go')
+    by_match None rest = soon b e x m l
+    by_match (Some y) rest = agree_outcome c (joined r (go r.end)) (joined r' (go' r'.end)) (λ o. handler_exc o rest) both
+
+    by_exc : (o : Option Exc) → Agree c (handled_exc o wanted r go) (handled_exc o wanted r' go')
+    by_exc None = soon b e x m l
+    by_exc (Some y) = by_match (keep wanted y) (drop wanted y)
+agree_handled c wanted r r' go go' (later f s l) h k k' = agree_past c r r' _ _ l (past_handled c wanted r go k f r.exc) (past_handled c wanted r' go' k' s r'.exc)
+
+pub agree_cleaned : (c : ℕ) (r r' : Result) (go go' : ℕ → Result) → Agree c r r' → ((u : ℕ) → Agree c (go u) (go' u)) →
+    ((u : ℕ) → Late u (go u)) → ((u : ℕ) → Late u (go' u)) → Agree c (cleaned r go) (cleaned r' go')
+unfolding cleaned
+agree_cleaned c r r' go go' (soon b e x m l) h k k' =
+    subst (λ (o : Option Exc). Agree c (with_outcome (outcome_after r.exc (go r.end).exc) (joined r (go r.end))) (with_outcome (outcome_after o (go' r'.end).exc) (joined r' (go' r'.end)))) x
+    (agree_outcome c (joined r (go r.end)) (joined r' (go' r'.end)) (λ o. outcome_after r.exc o)
+    (agree_joined c r r' (go r.end) (go' r'.end) (soon b e x m l) (agree_from c go go' h r.end r'.end e) (k r.end).ends (k' r'.end).ends))
+agree_cleaned c r r' go go' (later f s l) h k k' =
+    let a = past_joined c r (go r.end) f (k r.end) in
+    let b = past_joined c r' (go' r'.end) s (k' r'.end) in
+    agree_past c r r' _ _ l (record { ends = a.ends; logs = a.logs }) (record { ends = b.ends; logs = b.logs })
+
+mutual
+  unfolding walk
+
+  -- on near stacks every walk agrees
+  pub agree : (c : ℕ) (m : Mode) (b : Steps) (here : Here) (st su : Stack) (t : ℕ) → Near c st su → Agree c (walk m b here st t) (walk m b here su t)
+  agree c m stop here st su t near = agree_same c (done_at t)
+  agree c m (step s ss) here st su t near =
+      agree_and_then c _ _ _ _ (agree_step c m s here st su t near) (λ u. agree c m ss here st su u near) (λ u. late m ss here st u) (λ u. late m ss here su u)
+
+  pub agree_step : (c : ℕ) (m : Mode) (s : Step) (here : Here) (st su : Stack) (t : ℕ) → Near c st su → Agree c (walk_step m s here st t) (walk_step m s here su t)
+  agree_step c m (sleep n) here st su t near = agree_sleeping c st su _ t near
+  agree_step c m checkpoint here st su t near = agree_sleeping c st su _ t near
+  agree_step c m forever here st su t near = agree_sleeping c st su _ t near
+  agree_step c m (pace k) here st su t near = agree_sleeping c st su _ t near
+  agree_step c m (find text) here st su t near = agree_same c _
+  agree_step c m (head n) here st su t near = agree_same c _
+  agree_step c m longest here st su t near = agree_same c _
+  agree_step c m (need text name) here st su t near = agree_same c _
+  agree_step c m (raise name) here st su t near = agree_same c _
+  agree_step c m (cancel name) here st su t near = agree_cancelling c name st su t near
+  agree_step c m (scope name d shield fail body) here st su t near =
+      agree_block c _ _ t _ shield st su near m _ _
+      (λ f. late m body here _ t)
+      (λ f. late m body here _ t)
+      (λ f g e. agree c m body here _ _ t (near_within c _ shield f g st su e near))
+  agree_step c m (nursery name d shield body) here st su t near =
+      agree_block c _ _ t _ shield st su near m _ _
+      (λ f. late_gathered t _ _ (late_signed t _ _ (late m body here _ t)))
+      (λ f. late_gathered t _ _ (late_signed t _ _ (late m body here _ t)))
+      (λ f g e. agree_gathered c _ _ _ (agree_signed c _ _ _ _ (near_within c _ shield f g st su e near) (agree c m body here _ _ t (near_within c _ shield f g st su e near))))
+  agree_step c m (start name None body) here st su t near =
+      agree_child c _ t _ _ (agree_signed c st su _ _ near (agree c m body _ st su t near))
+  agree_step c m (start name (Some k) body) here st su t near =
+      agree_each c k _ _ t (λ i. child_ends _ t _) (λ i. child_ends _ t _)
+      (λ i. agree_child c _ t _ _ (agree_signed c st su _ _ near (agree c m body _ st su t near)))
+  agree_step c m (attempt body handler cleanup) here st su t near =
+      agree_cleanup c m cleanup here st su _ _ near (agree_handler c m handler here st su _ _ near (agree c m body here st su t near))
+
+  pub agree_handler : (c : ℕ) (m : Mode) (x : Handled) (here : Here) (st su : Stack) (r q : Result) → Near c st su → Agree c r q → Agree c (walk_handler m x here st r) (walk_handler m x here su q)
+  agree_handler c m unhandled here st su r q near h = h
+  agree_handler c m (except name body) here st su r q near h =
+      agree_handled c _ r q _ _ h (λ u. agree c m body here st su u near) (λ u. late m body here st u) (λ u. late m body here su u)
+
+  pub agree_cleanup : (c : ℕ) (m : Mode) (x : Cleaned) (here : Here) (st su : Stack) (r q : Result) → Near c st su → Agree c r q → Agree c (walk_cleanup m x here st r) (walk_cleanup m x here su q)
+  agree_cleanup c m uncleaned here st su r q near h = h
+  agree_cleanup c m (finally body) here st su r q near h =
+      agree_cleaned c r q _ _ h (λ u. agree c m body here st su u near) (λ u. late m body here st u) (λ u. late m body here su u)
+
+pub nothing_before_its_cause : NothingBeforeItsCause
+nothing_before_its_cause c mode steps here stack other t near = agree c mode steps here stack other t near

@@ -1,0 +1,221 @@
+-- A walk ends no earlier than it starts, and all that it notes has a tick from its start on.
+use Rattle.std.proofs.Common.{◌≡◌, ℕ, zero, suc, ◌+◌, ◌≤◌, max, Bool, true, false, Option, Some, None, List, [], ◌∷◌, refl, sym, subst, arith, nat_le, if◌then◌else◌}
+use Rattle.std.proofs.lemmas.Bool.Decides.{nat_tests}
+use Rattle.job_tree.specs.Tree.{Step, sleep, checkpoint, forever, pace, find, head, longest, need, raise, cancel, scope, nursery, start, attempt, Steps, stop, step, Handled, unhandled, except, Cleaned, uncleaned, finally}
+use Rattle.buffer_parts.specs.Lines.{Span}
+use Rattle.exc_groups.specs.Exceptions.{Label, Exc, cancelled}
+use Rattle.exc_groups.specs.Split.{Wanted, keep, drop}
+use Rattle.cancel_scopes.specs.Sight.{Tick, sight}
+use Rattle.job_meaning.specs.Log.{Log, nil, entry, sign, entered, task, followed_by, Member, Result}
+use Rattle.job_meaning.specs.Walk.{Stack, Mode, Here, walk, walk_step, walk_handler, walk_cleanup, done_at, raised_at, joined, and_then, then_if, slept, sleeping, log_of_lines, showing, needing, cancelling, Kind, from_of, block, signed, sign_if, home_of, latest, gathered, child, each, handled, handled_exc, handled_if, cleaned}
+
+-- all that a log tells of is at tick t or later
+abbrev pub Timed : ℕ → Log → Type 0
+Timed t nil = Unit {0}
+Timed t (entry u e rest) = (t ≤ u) × Timed t rest
+Timed t (sign l u rest) = (t ≤ u) × Timed t rest
+Timed t (entered l u d rest) = (t ≤ u) × Timed t rest
+Timed t (task l u v e own rest) = (t ≤ u) × (u ≤ v) × Timed u own × Timed t rest
+
+-- one log after another
+pub timed_followed : (t : ℕ) (a b : Log) → Timed t a → Timed t b → Timed t (followed_by a b)
+timed_followed t nil b h k = k
+timed_followed t (entry u e rest) b h k = (h.0, timed_followed t rest b h.1 k)
+timed_followed t (sign l u rest) b h k = (h.0, timed_followed t rest b h.1 k)
+timed_followed t (entered l u d rest) b h k = (h.0, timed_followed t rest b h.1 k)
+timed_followed t (task l u v e own rest) b h k = (h.0, h.1, h.2, timed_followed t rest b h.3 k)
+
+-- what is timed from a tick on is timed from an earlier one on
+pub timed_earlier : (t u : ℕ) (a : Log) → t ≤ u → Timed u a → Timed t a
+timed_earlier t u nil le h = tt
+timed_earlier t u (entry v e rest) le h = (earlier_still h.0, timed_earlier t u rest le h.1)
+  where
+    earlier_still : u ≤ v → t ≤ v
+    earlier_still k = omega arith
+timed_earlier t u (sign l v rest) le h = (earlier_still h.0, timed_earlier t u rest le h.1)
+  where
+    earlier_still : u ≤ v → t ≤ v
+    earlier_still k = omega arith
+timed_earlier t u (entered l v d rest) le h = (earlier_still h.0, timed_earlier t u rest le h.1)
+  where
+    earlier_still : u ≤ v → t ≤ v
+    earlier_still k = omega arith
+timed_earlier t u (task l v w e own rest) le h = (earlier_still h.0, h.1, h.2, timed_earlier t u rest le h.3)
+  where
+    earlier_still : u ≤ v → t ≤ v
+    earlier_still k = omega arith
+
+-- the walk that started at tick t ends then or later, and notes nothing earlier
+pub record Late (t : ℕ) (r : Result) : Type 0 where
+  pub ends : t ≤ r.end
+  pub timed : Timed t r.log
+
+-- one after another
+pub late_joined : (t : ℕ) (r q : Result) → Late t r → Late r.end q → Late t (joined r q)
+late_joined t r q h k =
+    let first : t ≤ r.end = h.ends in
+    let second : r.end ≤ q.end = k.ends in
+    record {
+      ends = omega arith;
+      timed = timed_followed t r.log q.log h.timed (timed_earlier t r.end q.log h.ends k.timed);
+    }
+
+pub late_and_then : (t : ℕ) (r : Result) (go : ℕ → Result) → Late t r → ((u : ℕ) → Late u (go u)) → Late t (and_then r go)
+unfolding and_then
+late_and_then t r go h k = by_exc r.exc
+  where
+    by_exc : (o : Option Exc) → Late t (then_if o r go)
+    by_exc None = late_joined t r (go r.end) h (k r.end)
+    by_exc (Some e) = h
+
+pub late_done : (t u : ℕ) → t ≤ u → Late t (done_at u)
+late_done t u le = record { ends = le; timed = tt }
+
+pub late_raised : (e : Exc) (t u : ℕ) → t ≤ u → Late t (raised_at e u)
+late_raised e t u le = record { ends = le; timed = tt }
+
+-- a sleep ends when it is due, or at the first tick at which a cancellation is seen, or at once
+pub late_slept : (a : Tick) (n t : ℕ) → Late t (slept a n t)
+late_slept None n t = late_done t (t + n) (omega arith)
+late_slept (Some from) n t = by_now (nat_le from t) (nat_le from (t + n)) refl
+  where
+    by_now : (now due : Bool) → nat_le from t ≡ now → Late t (if now then raised_at cancelled t else (if due then raised_at cancelled from else done_at (t + n)))
+    by_now true due e = late_raised cancelled t t (omega arith)
+    by_now false true e = late_raised cancelled t from (grind (arith, nat_tests))
+    by_now false false e = late_done t (t + n) (omega arith)
+
+pub late_sleeping : (st : Stack) (n t : ℕ) → Late t (sleeping st n t)
+unfolding sleeping
+late_sleeping st n t = late_slept (sight st) n t
+
+pub timed_lines : (ls : List Span) (t : ℕ) → Timed t (log_of_lines t ls)
+timed_lines [] t = tt
+timed_lines (l ∷ ls) t = (omega arith, timed_lines ls t)
+
+pub late_showing : (ls : List Span) (t : ℕ) → Late t (showing ls t)
+unfolding showing
+late_showing ls t = record { ends = omega arith; timed = timed_lines ls t }
+
+pub late_needing : (found : Option Span) (name : List ℕ) (label : Label) (t : ℕ) → Late t (needing found name label t)
+unfolding needing
+late_needing (Some l) name label t = late_showing (l ∷ []) t
+late_needing None name label t = record { ends = omega arith; timed = tt }
+
+pub late_cancelling : (label : Option Label) (t : ℕ) → Late t (cancelling label t)
+unfolding cancelling
+late_cancelling None t = record { ends = omega arith; timed = tt }
+late_cancelling (Some l) t = record { ends = omega arith; timed = (omega arith, tt) }
+
+pub late_block : (m : Mode) (kind : Kind) (label : Label) (t : ℕ) (d : Tick) (shield : Bool) (st : Stack) (inside : Tick → Result) →
+    ((from : Tick) → Late t (inside from)) → Late t (block m kind label t d shield st inside)
+unfolding block
+late_block m kind label t d shield st inside h =
+    let inner : Late t (inside (from_of m label d inside)) = h (from_of m label d inside) in
+    record {
+      ends = inner.ends;
+      timed = (omega arith, timed_followed t (inside (from_of m label d inside)).log (entry (inside (from_of m label d inside)).end _ nil) inner.timed (inner.ends, tt));
+    }
+
+pub late_signed : (t : ℕ) (st : Stack) (r : Result) → Late t r → Late t (signed st r)
+unfolding signed
+late_signed t st r h =
+    record { ends = h.ends; timed = timed_followed t r.log (sign_if r.exc (home_of st) r.end) h.timed (timed_sign r.exc (home_of st)) }
+  where
+    le : t ≤ r.end
+    le = h.ends
+
+    timed_sign : (o : Option Exc) (home : Option Label) → Timed t (sign_if o home r.end)
+    timed_sign None home = tt
+    timed_sign (Some e) None = tt
+    timed_sign (Some e) (Some l) = (le, tt)
+
+-- a nursery ends no earlier than its body
+pub latest_ends : (t : ℕ) (ms : List Member) → t ≤ latest t ms
+latest_ends t [] = omega arith
+latest_ends t (m ∷ ms) =
+    let rest : max t m.end ≤ latest (max t m.end) ms = latest_ends (max t m.end) ms in
+    omega arith
+
+pub late_gathered : (t : ℕ) (label : Label) (r : Result) → Late t r → Late t (gathered label r)
+unfolding gathered
+late_gathered t label r h =
+    let first : t ≤ r.end = h.ends in
+    let last : r.end ≤ latest r.end r.members = latest_ends r.end r.members in
+    record { ends = omega arith; timed = h.timed }
+
+pub late_child : (label : Label) (t : ℕ) (r : Result) → Late t r → Late t (child label t r)
+unfolding child
+late_child label t r h = record { ends = omega arith; timed = (omega arith, h.ends, h.timed, tt) }
+
+-- the starter goes on in the same tick
+pub child_ends : (label : Label) (t : ℕ) (r : Result) → (child label t r).end ≡ t
+unfolding child
+child_ends label t r = refl
+
+pub each_ends : (k : ℕ) (go : ℕ → Result) (t : ℕ) → ((i : ℕ) → (go i).end ≡ t) → (each k go t).end ≡ t
+each_ends zero go t h = refl
+each_ends (suc k) go t h = h k
+
+pub late_each : (k : ℕ) (go : ℕ → Result) (t : ℕ) → ((i : ℕ) → (go i).end ≡ t) → ((i : ℕ) → Late t (go i)) → Late t (each k go t)
+late_each zero go t ends h = late_done t t (omega arith)
+late_each (suc k) go t ends h =
+    late_joined t (each k go t) (go k) (late_each k go t ends h)
+    (subst (λ (u : ℕ). Late u (go k)) (sym (each_ends k go t ends)) (h k))
+
+pub late_handled : (t : ℕ) (wanted : Wanted) (r : Result) (go : ℕ → Result) → Late t r → ((u : ℕ) → Late u (go u)) → Late t (handled wanted r go)
+unfolding handled
+late_handled t wanted r go h k = by_exc r.exc
+  where
+    by_match : (o rest : Option Exc) → Late t (handled_if o rest r go)
+    by_match None rest = h
+    by_match (Some e) rest =
+        let both : Late t (joined r (go r.end)) = late_joined t r (go r.end) h (k r.end) in
+        record { ends = both.ends; timed = both.timed }
+
+    by_exc : (o : Option Exc) → Late t (handled_exc o wanted r go)
+    by_exc None = h
+    by_exc (Some e) = by_match (keep wanted e) (drop wanted e)
+
+pub late_cleaned : (t : ℕ) (r : Result) (go : ℕ → Result) → Late t r → ((u : ℕ) → Late u (go u)) → Late t (cleaned r go)
+unfolding cleaned
+late_cleaned t r go h k =
+    let both : Late t (joined r (go r.end)) = late_joined t r (go r.end) h (k r.end) in
+    record { ends = both.ends; timed = both.timed }
+
+mutual
+  unfolding walk
+
+  -- every walk is late
+  pub late : (m : Mode) (b : Steps) (here : Here) (st : Stack) (t : ℕ) → Late t (walk m b here st t)
+  late m stop here st t = late_done t t (omega arith)
+  late m (step s ss) here st t = late_and_then t _ _ (late_step m s here st t) (λ u. late m ss here st u)
+
+  pub late_step : (m : Mode) (s : Step) (here : Here) (st : Stack) (t : ℕ) → Late t (walk_step m s here st t)
+  late_step m (sleep n) here st t = late_sleeping st _ t
+  late_step m checkpoint here st t = late_sleeping st _ t
+  late_step m forever here st t = late_sleeping st _ t
+  late_step m (pace k) here st t = late_sleeping st _ t
+  late_step m (find text) here st t = late_showing _ t
+  late_step m (head n) here st t = late_showing _ t
+  late_step m longest here st t = late_showing _ t
+  late_step m (need text name) here st t = late_needing _ name here.task t
+  late_step m (raise name) here st t = late_raised _ t t (omega arith)
+  late_step m (cancel name) here st t = late_cancelling _ t
+  late_step m (scope name d shield fail body) here st t =
+      late_block m _ _ t _ shield st _ (λ from. late m body here _ t)
+  late_step m (nursery name d shield body) here st t =
+      late_block m _ _ t _ shield st _ (λ from. late_gathered t _ _ (late_signed t _ _ (late m body here _ t)))
+  late_step m (start name None body) here st t =
+      late_child _ t _ (late_signed t st _ (late m body _ st t))
+  late_step m (start name (Some k) body) here st t =
+      late_each k _ t (λ i. child_ends _ t _) (λ i. late_child _ t _ (late_signed t st _ (late m body _ st t)))
+  late_step m (attempt body handler cleanup) here st t =
+      late_cleanup m cleanup here st _ t (late_handler m handler here st _ t (late m body here st t))
+
+  pub late_handler : (m : Mode) (x : Handled) (here : Here) (st : Stack) (r : Result) (t : ℕ) → Late t r → Late t (walk_handler m x here st r)
+  late_handler m unhandled here st r t h = h
+  late_handler m (except name body) here st r t h = late_handled t _ r _ h (λ u. late m body here st u)
+
+  pub late_cleanup : (m : Mode) (x : Cleaned) (here : Here) (st : Stack) (r : Result) (t : ℕ) → Late t r → Late t (walk_cleanup m x here st r)
+  late_cleanup m uncleaned here st r t h = h
+  late_cleanup m (finally body) here st r t h = late_cleaned t r _ h (λ u. late m body here st u)

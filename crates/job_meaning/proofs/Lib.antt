@@ -1,0 +1,11 @@
+pub mod Ticks
+pub mod Late
+pub mod Leaves
+pub mod Root
+pub mod Clips
+pub mod Causality
+pub mod Distinct
+pub mod Touched
+pub mod Tidy
+pub mod Fits
+pub mod Settled

@@ -1,0 +1,219 @@
+-- A walk whose exception holds a `Cancelled` ends in a tick at which its stack is seen.
+use Rattle.std.proofs.Common.{◌≡◌, ℕ, zero, suc, ◌+◌, ◌≤◌, max, Bool, true, false, ◌||◌, ◌&&◌, not, Option, Some, None, List, [], ◌∷◌, ◌++◌, refl, sym, ◌∙◌, IsTrue, ◌⊎◌, inl, inr, arith, nat_le, if◌then◌else◌}
+use Rattle.std.proofs.lemmas.Bool.{false≢true, or_cases}
+use Rattle.std.proofs.lemmas.Bool.Decides.{nat_tests}
+use Rattle.job_tree.specs.Tree.{Step, sleep, checkpoint, forever, pace, find, head, longest, need, raise, cancel, scope, nursery, start, attempt, Steps, stop, step, Handled, unhandled, except, Cleaned, uncleaned, finally}
+use Rattle.buffer_parts.specs.Lines.{Span}
+use Rattle.exc_groups.specs.Exceptions.{Label, Exc, cancelled, hold_cancelled, parts_of, holds_cancelled, by_nursery}
+use Rattle.exc_groups.specs.Split.{Wanted, keep, drop}
+use Rattle.cancel_scopes.specs.Sight.{Tick, sight, seen, reached}
+use Rattle.job_meaning.specs.Log.{Member, Result}
+use Rattle.job_meaning.specs.Walk.{Stack, Mode, Here, walk, walk_step, walk_handler, walk_cleanup, done_at, raised_at, joined, and_then, then_if, slept, sleeping, showing, needing, cancelling, Kind, from_of, block, within, catches, left_with, exc_after, signed, latest, with_exc, excs_of, gathered, child, each, handled, handled_exc, handled_if, handler_exc, cleaned, outcome_after}
+use Rattle.job_meaning.specs.Meaning.{root_walk, root_here}
+use Rattle.job_meaning.specs.Laws.{some_cancelled, CancelledIsSeen, NoneReachesTheRoot}
+use Rattle.job_meaning.proofs.Ticks.{seen_cons, stays_seen}
+use Rattle.job_meaning.proofs.Late.{Late, late, latest_ends}
+use Rattle.job_meaning.proofs.Leaves.{group_holds, with_exc_holds, pruned_holds, left_holds}
+
+-- each member that ended with a `Cancelled` did so in a tick at which its stack is seen
+abbrev pub MembersSeen : Stack → List Member → Type 0
+MembersSeen st [] = Unit {0}
+MembersSeen st (m ∷ ms) = (IsTrue (some_cancelled m.exc) → IsTrue (seen st m.end)) × MembersSeen st ms
+
+-- the result of a walk on a stack holds a `Cancelled` only where it is seen
+pub record Rooted (st : Stack) (r : Result) : Type 0 where
+  pub exc : IsTrue (some_cancelled r.exc) → IsTrue (seen st r.end)
+  pub members : MembersSeen st r.members
+
+pub members_append : (st : Stack) (ms ns : List Member) → MembersSeen st ms → MembersSeen st ns → MembersSeen st (ms ++ ns)
+members_append st [] ns h k = k
+members_append st (m ∷ ms) ns h k = (h.0, members_append st ms ns h.1 k)
+
+pub root_joined : (st : Stack) (r q : Result) → Rooted st r → Rooted st q → Rooted st (joined r q)
+root_joined st r q h k = record { exc = k.exc; members = members_append st r.members q.members h.members k.members }
+
+pub root_and_then : (st : Stack) (r : Result) (go : ℕ → Result) → Rooted st r → ((u : ℕ) → Rooted st (go u)) → Rooted st (and_then r go)
+unfolding and_then
+root_and_then st r go h k = by_exc r.exc
+  where
+    by_exc : (o : Option Exc) → Rooted st (then_if o r go)
+    by_exc None = root_joined st r (go r.end) h (k r.end)
+    by_exc (Some e) = h
+
+pub root_done : (st : Stack) (t : ℕ) → Rooted st (done_at t)
+root_done st t = record { exc = λ h. absurd (false≢true h); members = tt }
+
+-- a sleep is cancelled in a tick at which that is seen
+pub root_sleeping : (st : Stack) (n t : ℕ) → Rooted st (sleeping st n t)
+unfolding sleeping
+root_sleeping st n t = by_sight (sight st) (λ u h. h)
+  where
+    by_sight : (a : Tick) → ((u : ℕ) → IsTrue (reached a u) → IsTrue (seen st u)) → Rooted st (slept a n t)
+    by_sight None sees = root_done st (t + n)
+    by_sight (Some from) sees = by_now (nat_le from t) (nat_le from (t + n)) (sees t)
+      where
+        at_from : IsTrue (seen st from)
+        at_from = sees from (grind (arith, nat_tests))
+
+        by_now : (now due : Bool) → (IsTrue now → IsTrue (seen st t)) → Rooted st (if now then raised_at cancelled t else (if due then raised_at cancelled from else done_at (t + n)))
+        by_now true due h = record { exc = h; members = tt }
+        by_now false true h = record { exc = λ k. at_from; members = tt }
+        by_now false false h = root_done st (t + n)
+
+pub root_showing : (st : Stack) (ls : List Span) (t : ℕ) → Rooted st (showing ls t)
+unfolding showing
+root_showing st ls t = record { exc = λ h. absurd (false≢true h); members = tt }
+
+pub root_needing : (st : Stack) (found : Option Span) (name : List ℕ) (label : Label) (t : ℕ) → Rooted st (needing found name label t)
+unfolding needing
+root_needing st (Some l) name label t = root_showing st (l ∷ []) t
+root_needing st None name label t = record { exc = λ h. absurd (false≢true h); members = tt }
+
+pub root_cancelling : (st : Stack) (label : Option Label) (t : ℕ) → Rooted st (cancelling label t)
+unfolding cancelling
+root_cancelling st label t = record { exc = λ h. absurd (false≢true h); members = tt }
+
+-- where a block sees a cancellation and does not catch, its outside sees it
+pub seen_outside : (label : Label) (shield : Bool) (from : Tick) (st : Stack) (t : ℕ) →
+    catches from shield st t ≡ false → IsTrue (seen (within label shield from st) t) → IsTrue (seen st t)
+seen_outside label shield from st t c h = outside (reached from t) shield (seen st t) c (sym (seen_cons (record { label = label; shield = shield; from = from }) st t) ∙ h)
+  where
+    outside : (a s x : Bool) → (a && (s || not x)) ≡ false → IsTrue (a || (not s && x)) → IsTrue x
+    outside a s x e k = grind arith
+
+pub root_block : (m : Mode) (kind : Kind) (label : Label) (t : ℕ) (d : Tick) (shield : Bool) (st : Stack) (inside : Tick → Result) →
+    ((from : Tick) → Rooted (within label shield from st) (inside from)) → Rooted st (block m kind label t d shield st inside)
+unfolding block
+root_block m kind label t d shield st inside h =
+    record { exc = leaves (from_of m label d inside); members = tt }
+  where
+    leaves : (from : Tick) → IsTrue (some_cancelled (exc_after kind label (inside from).end (left_with (catches from shield st (inside from).end) (inside from).exc))) → IsTrue (seen st (inside from).end)
+    leaves from k =
+        let both = left_holds kind label (inside from).end (catches from shield st (inside from).end) (inside from).exc k in
+        seen_outside label shield from st (inside from).end both.0 ((h from).exc both.1)
+
+pub root_signed : (st : Stack) (r : Result) → Rooted st r → Rooted st (signed st r)
+unfolding signed
+root_signed st r h = record { exc = h.exc; members = h.members }
+
+-- a member's `Cancelled` is still seen when the last member ends
+pub members_hold : (st : Stack) (t : ℕ) (ms : List Member) → MembersSeen st ms → IsTrue (hold_cancelled (parts_of (excs_of ms))) → IsTrue (seen st (latest t ms))
+members_hold st t [] h k = absurd (false≢true k)
+members_hold st t (m ∷ ms) h k =
+    either_one (members_hold st (max t m.end) ms h.1) (or_cases _ _ (sym (with_exc_holds m.exc (excs_of ms)) ∙ k))
+  where
+    last : max t m.end ≤ latest (max t m.end) ms
+    last = latest_ends (max t m.end) ms
+
+    by_then : m.end ≤ latest (max t m.end) ms
+    by_then = let h = last in omega arith
+
+    either_one : (IsTrue (hold_cancelled (parts_of (excs_of ms))) → IsTrue (seen st (latest (max t m.end) ms))) →
+        IsTrue (some_cancelled m.exc) ⊎ IsTrue (hold_cancelled (parts_of (excs_of ms))) → IsTrue (seen st (latest (max t m.end) ms))
+    either_one others (inl first) = stays_seen st m.end (latest (max t m.end) ms) by_then (h.0 first)
+    either_one others (inr rest) = others rest
+
+pub root_gathered : (st : Stack) (label : Label) (r : Result) → Rooted st r → Rooted st (gathered label r)
+unfolding gathered
+root_gathered st label r h =
+    record { exc = λ k. either_one (or_cases _ _ (sym (with_exc_holds r.exc (excs_of r.members)) ∙ (sym (group_holds (by_nursery label) (parts_of (with_exc r.exc (excs_of r.members)))) ∙ k))); members = tt }
+  where
+    either_one : IsTrue (some_cancelled r.exc) ⊎ IsTrue (hold_cancelled (parts_of (excs_of r.members))) → IsTrue (seen st (latest r.end r.members))
+    either_one (inl body) = stays_seen st r.end (latest r.end r.members) (latest_ends r.end r.members) (h.exc body)
+    either_one (inr rest) = members_hold st r.end r.members h.members rest
+
+pub root_child : (st : Stack) (label : Label) (t : ℕ) (r : Result) → Rooted st r → Rooted st (child label t r)
+unfolding child
+root_child st label t r h = record { exc = λ k. absurd (false≢true k); members = (h.exc, tt) }
+
+pub root_each : (st : Stack) (k : ℕ) (go : ℕ → Result) (t : ℕ) → ((i : ℕ) → Rooted st (go i)) → Rooted st (each k go t)
+root_each st zero go t h = root_done st t
+root_each st (suc k) go t h = root_joined st (each k go t) (go k) (root_each st k go t h) (h k)
+
+-- a handler ends no earlier than the body, so what the body's rest holds is still seen
+pub root_handled : (st : Stack) (wanted : Wanted) (r : Result) (go : ℕ → Result) → Rooted st r → ((u : ℕ) → Rooted st (go u)) → ((u : ℕ) → Late u (go u)) → Rooted st (handled wanted r go)
+unfolding handled
+root_handled st wanted r go h k later = by_exc r.exc h.exc
+  where
+    still : IsTrue (seen st r.end) → IsTrue (seen st (go r.end).end)
+    still s = stays_seen st r.end (go r.end).end (later r.end).ends s
+
+    outcome : (o rest : Option Exc) → (IsTrue (some_cancelled o) → IsTrue (seen st (go r.end).end)) → (IsTrue (some_cancelled rest) → IsTrue (seen st r.end)) → IsTrue (some_cancelled (handler_exc o rest)) → IsTrue (seen st (go r.end).end)
+    outcome None rest own old e = still (old e)
+    outcome (Some x) None own old e = own e
+    outcome (Some x) (Some y) own old e = by_part (or_cases (holds_cancelled x) (holds_cancelled y || false) e)
+      where
+        or_nothing : (b : Bool) → IsTrue (b || false) → IsTrue b
+        or_nothing true i = i
+        or_nothing false i = i
+
+        by_part : IsTrue (holds_cancelled x) ⊎ IsTrue (holds_cancelled y || false) → IsTrue (seen st (go r.end).end)
+        by_part (inl a) = own a
+        by_part (inr b) = still (old (or_nothing (holds_cancelled y) b))
+
+    by_match : (o rest : Option Exc) → (IsTrue (some_cancelled rest) → IsTrue (seen st r.end)) → Rooted st (handled_if o rest r go)
+    by_match None rest old = h
+    by_match (Some e) rest old =
+        record { exc = outcome (go r.end).exc rest (k r.end).exc old; members = members_append st r.members (go r.end).members h.members (k r.end).members }
+
+    by_exc : (o : Option Exc) → (IsTrue (some_cancelled o) → IsTrue (seen st r.end)) → Rooted st (handled_exc o wanted r go)
+    by_exc None old = h
+    by_exc (Some e) old = by_match (keep wanted e) (drop wanted e) (λ i. old (pruned_holds e _ i))
+
+pub root_cleaned : (st : Stack) (r : Result) (go : ℕ → Result) → Rooted st r → ((u : ℕ) → Rooted st (go u)) → ((u : ℕ) → Late u (go u)) → Rooted st (cleaned r go)
+unfolding cleaned
+root_cleaned st r go h k later =
+    record { exc = outcome (go r.end).exc (k r.end).exc; members = members_append st r.members (go r.end).members h.members (k r.end).members }
+  where
+    outcome : (o : Option Exc) → (IsTrue (some_cancelled o) → IsTrue (seen st (go r.end).end)) → IsTrue (some_cancelled (outcome_after r.exc o)) → IsTrue (seen st (go r.end).end)
+    outcome None own e = stays_seen st r.end (go r.end).end (later r.end).ends (h.exc e)
+    outcome (Some x) own e = own e
+
+mutual
+  unfolding walk
+
+  -- every walk is rooted
+  pub root : (m : Mode) (b : Steps) (here : Here) (st : Stack) (t : ℕ) → Rooted st (walk m b here st t)
+  root m stop here st t = root_done st t
+  root m (step s ss) here st t = root_and_then st _ _ (root_step m s here st t) (λ u. root m ss here st u)
+
+  pub root_step : (m : Mode) (s : Step) (here : Here) (st : Stack) (t : ℕ) → Rooted st (walk_step m s here st t)
+  root_step m (sleep n) here st t = root_sleeping st _ t
+  root_step m checkpoint here st t = root_sleeping st _ t
+  root_step m forever here st t = root_sleeping st _ t
+  root_step m (pace k) here st t = root_sleeping st _ t
+  root_step m (find text) here st t = root_showing st _ t
+  root_step m (head n) here st t = root_showing st _ t
+  root_step m longest here st t = root_showing st _ t
+  root_step m (need text name) here st t = root_needing st _ name here.task t
+  root_step m (raise name) here st t = record { exc = λ h. absurd (false≢true h); members = tt }
+  root_step m (cancel name) here st t = root_cancelling st _ t
+  root_step m (scope name d shield fail body) here st t =
+      root_block m _ _ t _ shield st _ (λ from. root m body here _ t)
+  root_step m (nursery name d shield body) here st t =
+      root_block m _ _ t _ shield st _ (λ from. root_gathered _ _ _ (root_signed _ _ (root m body here _ t)))
+  root_step m (start name None body) here st t =
+      root_child st _ t _ (root_signed st _ (root m body _ st t))
+  root_step m (start name (Some k) body) here st t =
+      root_each st k _ t (λ i. root_child st _ t _ (root_signed st _ (root m body _ st t)))
+  root_step m (attempt body handler cleanup) here st t =
+      root_cleanup m cleanup here st _ (root_handler m handler here st _ (root m body here st t))
+
+  pub root_handler : (m : Mode) (x : Handled) (here : Here) (st : Stack) (r : Result) → Rooted st r → Rooted st (walk_handler m x here st r)
+  root_handler m unhandled here st r h = h
+  root_handler m (except name body) here st r h = root_handled st _ r _ h (λ u. root m body here st u) (λ u. late m body here st u)
+
+  pub root_cleanup : (m : Mode) (x : Cleaned) (here : Here) (st : Stack) (r : Result) → Rooted st r → Rooted st (walk_cleanup m x here st r)
+  root_cleanup m uncleaned here st r h = h
+  root_cleanup m (finally body) here st r h = root_cleaned st r _ h (λ u. root m body here st u) (λ u. late m body here st u)
+
+pub cancelled_is_seen : CancelledIsSeen
+cancelled_is_seen mode steps here stack t = (root mode steps here stack t).exc
+
+pub none_reaches_the_root : NoneReachesTheRoot
+none_reaches_the_root mode job input =
+    by_cases (some_cancelled (root_walk mode job input).exc) (root mode job.steps (root_here job input) [] 0).exc
+  where
+    by_cases : (b : Bool) → (IsTrue b → IsTrue false) → b ≡ false
+    by_cases true h = absurd (false≢true (h refl))
+    by_cases false h = refl

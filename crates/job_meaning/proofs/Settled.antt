@@ -1,0 +1,323 @@
+-- Following the table of the meaning is the meaning.
+use Rattle.std.proofs.Common.{◌≡◌, ℕ, zero, suc, ◌<◌, Bool, true, false, Option, Some, None, List, [], ◌∷◌, ◌++◌, refl, ap, sym, ◌∙◌, subst, ◌⊎◌, inl, inr}
+use Rattle.job_tree.specs.Tree.{Step, sleep, checkpoint, forever, pace, find, head, longest, need, raise, cancel, scope, nursery, start, attempt, Steps, stop, step, Handled, unhandled, except, Cleaned, uncleaned, finally}
+use Rattle.job_tree.specs.Names.{names_of, names_in, handled_names, cleaned_names}
+use Rattle.buffer_parts.specs.Cuts.{cut_of}
+use Rattle.exc_groups.specs.Exceptions.{Label, Exc}
+use Rattle.exc_groups.specs.Split.{Wanted, keep, drop}
+use Rattle.cancel_scopes.specs.Sight.{Tick}
+use Rattle.job_meaning.specs.Log.{Log, nil, entry, followed_by, Result, least_sign, deadline_of, deadline_if, either, same_label, from_by, Table, table_of}
+use Rattle.job_meaning.specs.Walk.{Stack, Mode, twice, by_table, Here, walk, walk_step, walk_handler, walk_cleanup, joined, and_then, then_if, Kind, block, left_from, left_as, left_with, catches, within, signed, sign_if, home_of, gathered, child, each, handled, handled_exc, handled_if, handled_by, cleaned, cleaned_by, label_here, label_over, here_in}
+use Rattle.job_meaning.specs.Meaning.{meaning, meaning_table, root_walk, root_here}
+use Rattle.job_meaning.specs.Follow.{follow}
+use Rattle.job_meaning.specs.Before.{upto, clipped, Near}
+use Rattle.job_meaning.specs.Laws.{FollowingIsMeaning, TableIsSettled}
+use Rattle.job_meaning.proofs.Late.{Late, late, late_signed, late_gathered}
+use Rattle.job_meaning.proofs.Clips.{least_near}
+use Rattle.job_meaning.proofs.Causality.{agree, agree_logs, agree_signed, agree_gathered, near_within}
+use Rattle.job_meaning.proofs.Distinct.{Among, among_left, among_right, Distinct, distinct_left, distinct_right, distinct_apart, distinct_by_bytes, same_label_itself, same_label_equal, Belongs, behind_other, OnStack, Fresh, fresh_in}
+use Rattle.job_meaning.proofs.Touched.{Enters, least_followed, deadline_followed, deadline_entered, either_nothing, earlier_never}
+use Rattle.job_meaning.proofs.Tidy.{Tidy, tidy, tidy_step, tidy_handler, tidy_in, tidy_each, tidy_child, tidy_signed, tidy_gathered, signs_home, enters_home}
+use Rattle.job_meaning.proofs.Fits.{Fits, fits_own, fits_first, fits_second, Apart, apart_tidy, same_first_sign}
+
+-- one after another: the first walk is the same, and then the second
+fits_then : (table : Table) (r : Result) (go : ℕ → Result) → ((u : ℕ) → Apart r.log (go u).log) → (o : Option Exc) → Fits table (then_if o r go).log → Fits table r.log
+fits_then table r go apart None f = fits_first table r.log (go r.end).log (apart r.end) f
+fits_then table r go apart (Some e) f = f
+
+same_then : (table : Table) (r : Result) (go go' : ℕ → Result) → ((u : ℕ) → Apart r.log (go u).log) → ((u : ℕ) → Fits table (go u).log → go' u ≡ go u) →
+    (o : Option Exc) → Fits table (then_if o r go).log → then_if o r go' ≡ then_if o r go
+same_then table r go go' apart h None f = ap (λ (q : Result). joined r q) (h r.end (fits_second table r.log (go r.end).log (apart r.end) f))
+same_then table r go go' apart h (Some e) f = refl
+
+settled_and_then : (table : Table) (r q : Result) (go go' : ℕ → Result) → (Fits table r.log → q ≡ r) → ((u : ℕ) → Fits table (go u).log → go' u ≡ go u) →
+    ((u : ℕ) → Apart r.log (go u).log) → Fits table (and_then r go).log → and_then q go' ≡ and_then r go
+unfolding and_then
+settled_and_then table r q go go' h k apart f =
+    ap (λ (x : Result). then_if x.exc x go') (h (fits_then table r go apart r.exc f)) ∙ same_then table r go go' apart k r.exc f
+
+module _ (table : Table) (kind : Kind) (label : Label) (t : ℕ) (d : Tick) (shield : Bool) (st : Stack) (inside inside' : Tick → Result)
+    (own : (f : Tick) → Enters label (inside f).log → ⊥) where
+  -- the log of a block behind the entering of its label
+  abbrev inner_log : Tick → Log
+  inner_log f = followed_by (inside f).log (entry (inside f).end (left_as kind label (left_with (catches f shield st (inside f).end) (inside f).exc).caught) nil)
+
+  -- the deadline and signs in a block's log are those inside, but for its own deadline
+  block_signs : (f : Tick) (l : Label) → least_sign l (left_from kind label t d shield st f (inside f)).log ≡ least_sign l (inside f).log
+  block_signs f l = least_followed l (inside f).log _ ∙ earlier_never (least_sign l (inside f).log)
+
+  fits_inside : (f : Tick) → Fits table (left_from kind label t d shield st f (inside f)).log → Fits table (inside f).log
+  fits_inside f h = record { each_label = each_one }
+    where
+      each_one : (l : Label) (x : Tick) → deadline_of l (inside f).log ≡ Some x → table l ≡ from_by x (least_sign l (inside f).log)
+      each_one l x e = h.each_label l x (found (same_label l label) refl) ∙ ap (λ (s : Tick). from_by x s) (block_signs f l)
+        where
+          rest : deadline_of l (inner_log f) ≡ Some x
+          rest = deadline_followed l (inside f).log _ ∙ (either_nothing (deadline_of l (inside f).log) ∙ e)
+
+          found : (b : Bool) → same_label l label ≡ b → either (deadline_if b d) (deadline_of l (inner_log f)) ≡ Some x
+          found true i = absurd (own f (subst (λ (m : Label). Enters m (inside f).log) (same_label_equal l label i) (deadline_entered l (inside f).log x e)))
+          found false i = rest
+
+  fits_label : (f : Tick) → Fits table (left_from kind label t d shield st f (inside f)).log → table label ≡ from_by d (least_sign label (inside f).log)
+  fits_label f h =
+      h.each_label label d (ap (λ (b : Bool). either (deadline_if b d) (deadline_of label (inner_log f))) (same_label_itself label))
+      ∙ ap (λ (s : Tick). from_by d s) (block_signs f label)
+
+  -- a block: the table has its from, and inside all is the same
+  settled_block : ((f : Tick) → Late t (inside f)) → ((c : ℕ) (f g : Tick) → upto c f ≡ upto c g → clipped c (inside f).log ≡ clipped c (inside g).log) →
+      ((f : Tick) → Fits table (inside f).log → inside' f ≡ inside f) →
+      Fits table (block twice kind label t d shield st inside).log → block (by_table table) kind label t d shield st inside' ≡ block twice kind label t d shield st inside
+  unfolding block
+  settled_block later causal same h =
+      let first : Tick = least_sign label (inside d).log in
+      let from : Tick = from_by d first in
+      let again : least_sign label (inside from).log ≡ first =
+      same_first_sign d first (least_sign label (inside from).log)
+      (λ c e. least_near c t label (inside d).log (inside from).log (later d).timed (later from).timed (causal c d from e)) in
+      let told : table label ≡ from = fits_label from h ∙ ap (λ (s : Tick). from_by d s) again in
+      ap (λ (f : Tick). left_from kind label t d shield st f (inside' f)) told
+      ∙ ap (λ (r : Result). left_from kind label t d shield st from r) (same from (fits_inside from h))
+
+-- a sign for the home of a stack is for no label that a walk on it enters
+home_apart : (st : Stack) (P : Label → Type 0) (r : Result) → Tidy st P r → ((l : Label) → OnStack l st → P l → ⊥) → Apart r.log (sign_if r.exc (home_of st) r.end)
+home_apart st P r h fresh =
+    record {
+      unsigned_after = λ l e s. fresh l (signs_home st r.exc r.end l s) (h.enters l e);
+      entered_once = λ l e i. enters_home st r.exc r.end l i;
+      unsigned_before = λ l i s. enters_home st r.exc r.end l i;
+    }
+
+settled_signed : (table : Table) (st : Stack) (P : Label → Type 0) (r q : Result) → Tidy st P r → ((l : Label) → OnStack l st → P l → ⊥) →
+    (Fits table r.log → q ≡ r) → Fits table (signed st r).log → signed st q ≡ signed st r
+unfolding signed
+settled_signed table st P r q h fresh same f =
+    ap (λ (x : Result). signed st x) (same (fits_first table r.log (sign_if r.exc (home_of st) r.end) (home_apart st P r h fresh) f))
+
+settled_gathered : (table : Table) (label : Label) (r q : Result) → (Fits table r.log → q ≡ r) → Fits table (gathered label r).log → gathered label q ≡ gathered label r
+unfolding gathered
+settled_gathered table label r q same f = ap (λ (x : Result). gathered label x) (same f)
+
+-- a child's log stands alone in what it leaves
+settled_child : (table : Table) (label : Label) (t : ℕ) (r q : Result) → (Fits table r.log → q ≡ r) → Fits table (child label t r).log → child label t q ≡ child label t r
+unfolding child
+settled_child table label t r q same f = ap (λ (x : Result). child label t x) (same (record { each_label = own }))
+  where
+    own : (l : Label) (d : Tick) → deadline_of l r.log ≡ Some d → table l ≡ from_by d (least_sign l r.log)
+    own l d e = f.each_label l d (either_nothing (deadline_of l r.log) ∙ e) ∙ ap (λ (s : Tick). from_by d s) (earlier_never (least_sign l r.log))
+
+-- the children of one `start .. over` enter different labels
+settled_each : (table : Table) (st : Stack) (names : List (List ℕ)) (path : List ℕ) (k : ℕ) (go go' : ℕ → Result) (t : ℕ) →
+    Fresh st names → ((i : ℕ) → Tidy st (Belongs names (path ++ i ∷ [])) (go i)) → ((i : ℕ) → Fits table (go i).log → go' i ≡ go i) →
+    Fits table (each k go t).log → each k go' t ≡ each k go t
+settled_each table st names path zero go go' t fresh h same f = refl
+settled_each table st names path (suc k) go go' t fresh h same f =
+    both (settled_each table st names path k go go' t fresh h same (fits_first table (each k go t).log (go k).log apart f))
+    (same k (fits_second table (each k go t).log (go k).log apart f))
+  where
+    Before : Label → Type 0
+    Before l = (i : ℕ) × (i < k) × Belongs names (path ++ i ∷ []) l
+
+    before : (i : ℕ) → i < k → (l : Label) → Belongs names (path ++ i ∷ []) l → Before l
+    before i lt l b = (i, lt, b)
+
+    apart : Apart (each k go t).log (go k).log
+    apart =
+        apart_tidy st Before (Belongs names (path ++ k ∷ [])) (each k go t) (go k)
+        (tidy_each st Before k go t (λ i lt. tidy_in st (Belongs names (path ++ i ∷ [])) Before (go i) (before i lt) (h i)))
+        (h k)
+        (λ l b c. behind_other names names path b.0 k l b.1 b.2 c)
+        (λ l o b. fresh.none l o b.2.named)
+        (λ l o b. fresh.none l o b.named)
+
+    both : each k go' t ≡ each k go t → go' k ≡ go k → joined (each k go' t) (go' k) ≡ joined (each k go t) (go k)
+    both e i = ap (λ (x : Result). joined x (go' k)) e ∙ ap (λ (x : Result). joined (each k go t) x) i
+
+-- a handler or a cleanup behind a body that is the same
+fits_handled : (table : Table) (wanted : Wanted) (r : Result) (go : ℕ → Result) → ((u : ℕ) → Apart r.log (go u).log) → (o : Option Exc) → Fits table (handled_exc o wanted r go).log → Fits table r.log
+fits_handled table wanted r go apart None f = f
+fits_handled table wanted r go apart (Some e) f = by_match (keep wanted e) (drop wanted e) f
+  where
+    by_match : (o rest : Option Exc) → Fits table (handled_if o rest r go).log → Fits table r.log
+    by_match None rest h = h
+    by_match (Some x) rest h = fits_first table r.log (go r.end).log (apart r.end) h
+
+same_handled : (table : Table) (wanted : Wanted) (r : Result) (go go' : ℕ → Result) → ((u : ℕ) → Apart r.log (go u).log) → ((u : ℕ) → Fits table (go u).log → go' u ≡ go u) →
+    (o : Option Exc) → Fits table (handled_exc o wanted r go).log → handled_exc o wanted r go' ≡ handled_exc o wanted r go
+same_handled table wanted r go go' apart same None f = refl
+same_handled table wanted r go go' apart same (Some e) f = by_match (keep wanted e) (drop wanted e) f
+  where
+    by_match : (o rest : Option Exc) → Fits table (handled_if o rest r go).log → handled_if o rest r go' ≡ handled_if o rest r go
+    by_match None rest h = refl
+    by_match (Some x) rest h = ap (λ (q : Result). handled_by rest r q) (same r.end (fits_second table r.log (go r.end).log (apart r.end) h))
+
+settled_handled : (table : Table) (wanted : Wanted) (r : Result) (go go' : ℕ → Result) → ((u : ℕ) → Apart r.log (go u).log) → ((u : ℕ) → Fits table (go u).log → go' u ≡ go u) →
+    Fits table (handled wanted r go).log → Fits table r.log × (handled wanted r go' ≡ handled wanted r go)
+unfolding handled
+settled_handled table wanted r go go' apart same f = (fits_handled table wanted r go apart r.exc f, same_handled table wanted r go go' apart same r.exc f)
+
+settled_cleaned : (table : Table) (r : Result) (go go' : ℕ → Result) → ((u : ℕ) → Apart r.log (go u).log) → ((u : ℕ) → Fits table (go u).log → go' u ≡ go u) →
+    Fits table (cleaned r go).log → Fits table r.log × (cleaned r go' ≡ cleaned r go)
+unfolding cleaned
+settled_cleaned table r go go' apart same f = (
+  fits_first table r.log (go r.end).log (apart r.end) f,
+  ap (λ (q : Result). cleaned_by r q) (same r.end (fits_second table r.log (go r.end).log (apart r.end) f)),
+)
+
+-- two blocks side by side, whose names are given once, on a stack with none of them
+side_by_side : (st : Stack) (a b : List (List ℕ)) (path : List ℕ) (r q : Result) → Distinct (a ++ b) → Fresh st (a ++ b) →
+    Tidy st (Belongs a path) r → Tidy st (Belongs b path) q → Apart r.log q.log
+side_by_side st a b path r q distinct fresh h k =
+    apart_tidy st (Belongs a path) (Belongs b path) r q h k
+    (λ l x y. distinct_apart a b distinct l.name x.named y.named)
+    (λ l o x. fresh.none l o (among_left l.name a b x.named))
+    (λ l o y. fresh.none l o (among_right l.name a b y.named))
+
+fresh_left : (st : Stack) (a b : List (List ℕ)) → Fresh st (a ++ b) → Fresh st a
+fresh_left st a b h = fresh_in st a (a ++ b) (λ n i. among_left n a b i) h
+
+fresh_right : (st : Stack) (a b : List (List ℕ)) → Fresh st (a ++ b) → Fresh st b
+fresh_right st a b h = fresh_in st b (a ++ b) (λ n i. among_right n a b i) h
+
+-- inside a block its own name stands on the stack, and is not given again
+fresh_within : (name : List ℕ) (names : List (List ℕ)) (here : Here) (shield : Bool) (f : Tick) (st : Stack) → Distinct (name ∷ names) → Fresh st (name ∷ names) → Fresh (within (label_here name here) shield f st) names
+fresh_within name names here shield f st distinct fresh = record { none = none }
+  where
+    none : (l : Label) → (l ≡ label_here name here) ⊎ OnStack l st → Among l.name names → ⊥
+    none l (inl e) i = distinct.0 (subst (λ (x : Label). Among x.name names) e i)
+    none l (inr o) i = fresh.none l o (inr i)
+
+-- a block's own label is not entered inside it
+not_inside : (name : List ℕ) (names : List (List ℕ)) (here : Here) (path : List ℕ) → Distinct (name ∷ names) → Belongs names path (label_here name here) → ⊥
+not_inside name names here path distinct b = distinct.0 b.named
+
+near_same : (c : ℕ) (st : Stack) → Near c st st
+near_same c [] = tt
+near_same c (l ∷ ls) = (refl, refl, refl, near_same c ls)
+
+-- the inside of a nursery, walked on the stack within it
+abbrev nursery_inside : Mode → Steps → Label → Here → Stack → ℕ → Result
+nursery_inside m body label here inner t = gathered label (signed inner (walk m body here inner t))
+
+tidy_nursery : (body : Steps) (label : Label) (here : Here) (inner : Stack) (t : ℕ) → Tidy inner (Belongs (names_of body) here.path) (nursery_inside twice body label here inner t)
+tidy_nursery body label here inner t = tidy_gathered inner _ label _ (tidy_signed inner _ _ (tidy twice body here inner t))
+
+late_nursery : (body : Steps) (label : Label) (here : Here) (inner : Stack) (t : ℕ) → Late t (nursery_inside twice body label here inner t)
+late_nursery body label here inner t = late_gathered t label _ (late_signed t inner _ (late twice body here inner t))
+
+agree_nursery : (c : ℕ) (body : Steps) (label : Label) (here : Here) (inner other : Stack) (t : ℕ) → Near c inner other →
+    clipped c (nursery_inside twice body label here inner t).log ≡ clipped c (nursery_inside twice body label here other t).log
+agree_nursery c body label here inner other t near =
+    agree_logs (agree_gathered c label _ _ (agree_signed c inner other _ _ near (agree c twice body here inner other t near)))
+
+mutual
+  unfolding walk
+
+  -- every walk by a table that fits its meaning is that meaning
+  settled : (table : Table) (b : Steps) (here : Here) (st : Stack) (t : ℕ) → Distinct (names_of b) → Fresh st (names_of b) →
+      Fits table (walk twice b here st t).log → walk (by_table table) b here st t ≡ walk twice b here st t
+  settled table stop here st t distinct fresh f = refl
+  settled table (step s ss) here st t distinct fresh f =
+      settled_and_then table (walk_step twice s here st t) (walk_step (by_table table) s here st t)
+      (λ u. walk twice ss here st u) (λ u. walk (by_table table) ss here st u)
+      (λ g. settled_step table s here st t (distinct_left (names_in s) (names_of ss) distinct) (fresh_left st (names_in s) (names_of ss) fresh) g)
+      (λ u g. settled table ss here st u (distinct_right (names_in s) (names_of ss) distinct) (fresh_right st (names_in s) (names_of ss) fresh) g)
+      (λ u. side_by_side st (names_in s) (names_of ss) here.path (walk_step twice s here st t) (walk twice ss here st u) distinct fresh (tidy_step twice s here st t) (tidy twice ss here st u))
+      f
+
+  settled_step : (table : Table) (s : Step) (here : Here) (st : Stack) (t : ℕ) → Distinct (names_in s) → Fresh st (names_in s) →
+      Fits table (walk_step twice s here st t).log → walk_step (by_table table) s here st t ≡ walk_step twice s here st t
+  settled_step table (sleep n) here st t distinct fresh f = refl
+  settled_step table checkpoint here st t distinct fresh f = refl
+  settled_step table forever here st t distinct fresh f = refl
+  settled_step table (pace k) here st t distinct fresh f = refl
+  settled_step table (find text) here st t distinct fresh f = refl
+  settled_step table (head n) here st t distinct fresh f = refl
+  settled_step table longest here st t distinct fresh f = refl
+  settled_step table (need text name) here st t distinct fresh f = refl
+  settled_step table (raise name) here st t distinct fresh f = refl
+  settled_step table (cancel name) here st t distinct fresh f = refl
+  settled_step table (scope name d shield fail body) here st t distinct fresh f =
+      settled_block table _ (label_here name here) t _ shield st _ _
+      (λ g e. not_inside name (names_of body) here here.path distinct ((tidy twice body here _ t).enters _ e))
+      (λ g. late twice body here _ t)
+      (λ c g k e. agree_logs (agree c twice body here _ _ t (near_within c (label_here name here) shield g k st st e (near_same c st))))
+      (λ g h. settled table body here _ t distinct.1 (fresh_within name (names_of body) here shield g st distinct fresh) h)
+      f
+  settled_step table (nursery name d shield body) here st t distinct fresh f =
+      settled_block table _ (label_here name here) t _ shield st _ _
+      (λ g e. not_inside name (names_of body) here here.path distinct
+      ((tidy_nursery body (label_here name here) here (within (label_here name here) shield g st) t).enters _ e))
+      (λ g. late_nursery body (label_here name here) here (within (label_here name here) shield g st) t)
+      (λ c g k e. agree_nursery c body (label_here name here) here (within (label_here name here) shield g st) (within (label_here name here) shield k st) t
+      (near_within c (label_here name here) shield g k st st e (near_same c st)))
+      (λ g h. settled_gathered table (label_here name here) _ _
+      (settled_signed table (within (label_here name here) shield g st) (Belongs (names_of body) here.path) _ _
+      (tidy twice body here (within (label_here name here) shield g st) t)
+      (λ l o b. (fresh_within name (names_of body) here shield g st distinct fresh).none l o b.named)
+      (λ i. settled table body here (within (label_here name here) shield g st) t distinct.1 (fresh_within name (names_of body) here shield g st distinct fresh) i))
+      h)
+      f
+  settled_step table (start name None body) here st t distinct fresh f =
+      settled_child table (label_here name here) t _ _
+      (settled_signed table st (Belongs (names_of body) here.path) _ _ (tidy twice body _ st t)
+      (λ l o b. fresh.none l o (inr b.named))
+      (λ g. settled table body _ st t distinct.1 (fresh_in st (names_of body) (name ∷ names_of body) (λ n i. inr i) fresh) g))
+      f
+  settled_step table (start name (Some k) body) here st t distinct fresh f =
+      settled_each table st (names_of body) here.path k _ _ t
+      (fresh_in st (names_of body) (name ∷ names_of body) (λ n i. inr i) fresh)
+      (λ i. tidy_child st _ (label_over name here i) t _ (tidy_signed st _ _ (tidy twice body (here_in (label_over name here i) (cut_of here.input here.part k i) here) st t)))
+      (λ i g. settled_child table (label_over name here i) t _ _
+      (settled_signed table st (Belongs (names_of body) (here.path ++ i ∷ [])) _ _ (tidy twice body (here_in (label_over name here i) (cut_of here.input here.part k i) here) st t)
+      (λ l o b. fresh.none l o (inr b.named))
+      (λ h. settled table body (here_in (label_over name here i) (cut_of here.input here.part k i) here) st t distinct.1 (fresh_in st (names_of body) (name ∷ names_of body) (λ n j. inr j) fresh) h))
+      g)
+      f
+  settled_step table (attempt body handler cleanup) here st t distinct fresh f =
+      let names : List (List ℕ) = names_of body ++ handled_names handler in
+      let first : Result = walk twice body here st t in
+      let second : Result = walk_handler twice handler here st first in
+      let tidy_first : Tidy st (Belongs (names_of body) here.path) first = tidy twice body here st t in
+      let cleanup_same = settled_cleanup table cleanup here st second names
+      (tidy_handler twice handler here st first (names_of body) tidy_first) distinct fresh f in
+      let handler_same = settled_handler table handler here st first (names_of body) tidy_first
+      (distinct_left names (cleaned_names cleanup) distinct) (fresh_left st names (cleaned_names cleanup) fresh) cleanup_same.0 in
+      let body_same = settled table body here st t
+      (distinct_left (names_of body) (handled_names handler) (distinct_left names (cleaned_names cleanup) distinct))
+      (fresh_left st (names_of body) (handled_names handler) (fresh_left st names (cleaned_names cleanup) fresh)) handler_same.0 in
+      ap (λ (r : Result). walk_cleanup (by_table table) cleanup here st (walk_handler (by_table table) handler here st r)) body_same
+      ∙ (ap (λ (r : Result). walk_cleanup (by_table table) cleanup here st r) handler_same.1 ∙ cleanup_same.1)
+
+  -- a handler behind a body that is the same
+  settled_handler : (table : Table) (x : Handled) (here : Here) (st : Stack) (r : Result) (names : List (List ℕ)) → Tidy st (Belongs names here.path) r →
+      Distinct (names ++ handled_names x) → Fresh st (names ++ handled_names x) → Fits table (walk_handler twice x here st r).log →
+      Fits table r.log × (walk_handler (by_table table) x here st r ≡ walk_handler twice x here st r)
+  settled_handler table unhandled here st r names h distinct fresh f = (f, refl)
+  settled_handler table (except name body) here st r names h distinct fresh f =
+      settled_handled table _ r (λ u. walk twice body here st u) (λ u. walk (by_table table) body here st u)
+      (λ u. side_by_side st names (names_of body) here.path r (walk twice body here st u) distinct fresh h (tidy twice body here st u))
+      (λ u g. settled table body here st u (distinct_right names (names_of body) distinct) (fresh_right st names (names_of body) fresh) g)
+      f
+
+  -- a cleanup behind what is the same
+  settled_cleanup : (table : Table) (x : Cleaned) (here : Here) (st : Stack) (r : Result) (names : List (List ℕ)) → Tidy st (Belongs names here.path) r →
+      Distinct (names ++ cleaned_names x) → Fresh st (names ++ cleaned_names x) → Fits table (walk_cleanup twice x here st r).log →
+      Fits table r.log × (walk_cleanup (by_table table) x here st r ≡ walk_cleanup twice x here st r)
+  settled_cleanup table uncleaned here st r names h distinct fresh f = (f, refl)
+  settled_cleanup table (finally body) here st r names h distinct fresh f =
+      settled_cleaned table r (λ u. walk twice body here st u) (λ u. walk (by_table table) body here st u)
+      (λ u. side_by_side st names (names_of body) here.path r (walk twice body here st u) distinct fresh h (tidy twice body here st u))
+      (λ u g. settled table body here st u (distinct_right names (names_of body) distinct) (fresh_right st names (names_of body) fresh) g)
+      f
+
+pub following_is_meaning : FollowingIsMeaning
+unfolding follow meaning
+following_is_meaning job input once =
+    settled (meaning_table job input) job.steps (root_here job input) [] 0
+    (distinct_by_bytes (job.name ∷ names_of job.steps) once).1
+    (record { none = λ l o i. o })
+    (fits_own (root_walk twice job input).log)
+
+pub table_is_settled : TableIsSettled
+table_is_settled job input once l = ap (λ (r : Result). table_of r.log l) (sym (following_is_meaning job input once))

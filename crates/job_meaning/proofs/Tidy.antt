@@ -1,0 +1,308 @@
+-- A walk enters only labels of its own block, and signs only labels that it entered or that stand on its stack. It
+-- holds in both modes.
+use Rattle.std.proofs.Common.{◌≡◌, ℕ, zero, suc, ◌+◌, ◌<◌, Bool, true, false, Option, Some, None, List, [], ◌∷◌, ◌++◌, refl, sym, subst, ◌⊎◌, inl, inr, arith, nat_le, if◌then◌else◌}
+use Rattle.std.proofs.lemmas.List.{append-nil}
+use Rattle.std.specs.Str.{bytes_eq}
+use Rattle.job_tree.specs.Tree.{Step, sleep, checkpoint, forever, pace, find, head, longest, need, raise, cancel, scope, nursery, start, attempt, Steps, stop, step, Handled, unhandled, except, Cleaned, uncleaned, finally}
+use Rattle.job_tree.specs.Names.{names_of, names_in, handled_names, cleaned_names}
+use Rattle.buffer_parts.specs.Lines.{Span}
+use Rattle.exc_groups.specs.Exceptions.{Label, Exc, cancelled}
+use Rattle.exc_groups.specs.Split.{Wanted, keep, drop}
+use Rattle.cancel_scopes.specs.Sight.{Tick, sight}
+use Rattle.job_meaning.specs.Log.{Log, nil, entry, followed_by, Result}
+use Rattle.job_meaning.specs.Walk.{Stack, Mode, Here, walk, walk_step, walk_handler, walk_cleanup, done_at, raised_at, joined, and_then, then_if, slept, sleeping, log_of_lines, showing, needing, label_on, label_if, sign_of, cancelling, Kind, from_of, block, left_from, left_as, left_with, catches, within, signed, sign_if, home_of, gathered, child, each, handled, handled_exc, handled_if, cleaned, label_here}
+use Rattle.job_meaning.proofs.Distinct.{among_left, among_right, Belongs, belongs_in, belongs_behind, OnStack}
+use Rattle.job_meaning.proofs.Touched.{Enters, Signs, enters_followed, enters_first, enters_second, signs_followed}
+
+-- a walk on a stack enters only labels that belong to it, and signs only those and labels of the stack
+pub record Tidy (st : Stack) (Own : Label → Type 0) (r : Result) : Type 0 where
+  pub enters : (l : Label) → Enters l r.log → Own l
+  pub signs : (l : Label) → Signs l r.log → OnStack l st ⊎ Enters l r.log
+
+pub tidy_in : (st : Stack) (P Q : Label → Type 0) (r : Result) → ((l : Label) → P l → Q l) → Tidy st P r → Tidy st Q r
+tidy_in st P Q r f h = record { enters = λ l e. f l (h.enters l e); signs = h.signs }
+
+-- a log with no entered label and no sign
+record Plain (a : Log) : Type 0 where
+  none : (l : Label) → Enters l a → ⊥
+  unsigned : (l : Label) → Signs l a → ⊥
+
+plain_nil : Plain nil
+plain_nil = record { none = λ l h. h; unsigned = λ l h. h }
+
+tidy_plain : (st : Stack) (P : Label → Type 0) (r : Result) → Plain r.log → Tidy st P r
+tidy_plain st P r h = record { enters = λ l e. absurd (h.none l e); signs = λ l e. absurd (h.unsigned l e) }
+
+pub tidy_joined : (st : Stack) (P : Label → Type 0) (r q : Result) → Tidy st P r → Tidy st P q → Tidy st P (joined r q)
+tidy_joined st P r q h k =
+    record {
+      enters = λ l e. own l (enters_followed l r.log q.log e);
+      signs = λ l e. seen_to l (signs_followed l r.log q.log e);
+    }
+  where
+    own : (l : Label) → Enters l r.log ⊎ Enters l q.log → P l
+    own l (inl e) = h.enters l e
+    own l (inr e) = k.enters l e
+
+    first : (l : Label) → OnStack l st ⊎ Enters l r.log → OnStack l st ⊎ Enters l (followed_by r.log q.log)
+    first l (inl o) = inl o
+    first l (inr e) = inr (enters_first l r.log q.log e)
+
+    second : (l : Label) → OnStack l st ⊎ Enters l q.log → OnStack l st ⊎ Enters l (followed_by r.log q.log)
+    second l (inl o) = inl o
+    second l (inr e) = inr (enters_second l r.log q.log e)
+
+    seen_to : (l : Label) → Signs l r.log ⊎ Signs l q.log → OnStack l st ⊎ Enters l (followed_by r.log q.log)
+    seen_to l (inl e) = first l (h.signs l e)
+    seen_to l (inr e) = second l (k.signs l e)
+
+pub tidy_and_then : (st : Stack) (P : Label → Type 0) (r : Result) (go : ℕ → Result) → Tidy st P r → ((u : ℕ) → Tidy st P (go u)) → Tidy st P (and_then r go)
+unfolding and_then
+tidy_and_then st P r go h k = by_exc r.exc
+  where
+    by_exc : (o : Option Exc) → Tidy st P (then_if o r go)
+    by_exc None = tidy_joined st P r (go r.end) h (k r.end)
+    by_exc (Some e) = h
+
+pub tidy_done : (st : Stack) (P : Label → Type 0) (t : ℕ) → Tidy st P (done_at t)
+tidy_done st P t = tidy_plain st P (done_at t) plain_nil
+
+pub tidy_raised : (st : Stack) (P : Label → Type 0) (e : Exc) (t : ℕ) → Tidy st P (raised_at e t)
+tidy_raised st P e t = tidy_plain st P (raised_at e t) plain_nil
+
+pub tidy_sleeping : (st : Stack) (P : Label → Type 0) (n t : ℕ) → Tidy st P (sleeping st n t)
+unfolding sleeping
+tidy_sleeping st P n t = by_sight (sight st)
+  where
+    by_sight : (a : Tick) → Tidy st P (slept a n t)
+    by_sight None = tidy_done st P (t + n)
+    by_sight (Some from) = by_now (nat_le from t) (nat_le from (t + n))
+      where
+        by_now : (now due : Bool) → Tidy st P (if now then raised_at cancelled t else (if due then raised_at cancelled from else done_at (t + n)))
+        by_now true due = tidy_raised st P cancelled t
+        by_now false true = tidy_raised st P cancelled from
+        by_now false false = tidy_done st P (t + n)
+
+no_enters_lines : (l : Label) (t : ℕ) (ls : List Span) → Enters l (log_of_lines t ls) → ⊥
+no_enters_lines l t [] h = h
+no_enters_lines l t (s ∷ ss) h = no_enters_lines l t ss h
+
+no_signs_lines : (l : Label) (t : ℕ) (ls : List Span) → Signs l (log_of_lines t ls) → ⊥
+no_signs_lines l t [] h = h
+no_signs_lines l t (s ∷ ss) h = no_signs_lines l t ss h
+
+pub tidy_showing : (st : Stack) (P : Label → Type 0) (ls : List Span) (t : ℕ) → Tidy st P (showing ls t)
+unfolding showing
+tidy_showing st P ls t = tidy_plain st P (showing ls t) (record { none = λ l h. no_enters_lines l t ls h; unsigned = λ l h. no_signs_lines l t ls h })
+
+pub tidy_needing : (st : Stack) (P : Label → Type 0) (found : Option Span) (name : List ℕ) (label : Label) (t : ℕ) → Tidy st P (needing found name label t)
+unfolding needing
+tidy_needing st P (Some l) name label t = tidy_showing st P (l ∷ []) t
+tidy_needing st P None name label t = tidy_plain st P (needing None name label t) plain_nil
+
+-- a label that was found on a stack stands there
+abbrev OnStackIf : Option Label → Stack → Type 0
+OnStackIf None st = Unit {0}
+OnStackIf (Some l) st = OnStack l st
+
+found_on : (name : List ℕ) (st : Stack) → OnStackIf (label_on name st) st
+found_on name [] = tt
+found_on name (k ∷ ks) = by_test (bytes_eq name k.label.name) (label_on name ks) (found_on name ks)
+  where
+    by_test : (b : Bool) (o : Option Label) → OnStackIf o ks → OnStackIf (label_if b k.label o) (k ∷ ks)
+    by_test true o h = inl refl
+    by_test false None h = tt
+    by_test false (Some l) h = inr h
+
+pub home_on : (st : Stack) → OnStackIf (home_of st) st
+home_on [] = tt
+home_on (k ∷ ks) = inl refl
+
+-- a sign for such a label, and nothing else
+pub sign_on : (st : Stack) (o : Option Label) (t : ℕ) → OnStackIf o st → (l : Label) → Signs l (sign_of o t) → OnStack l st
+sign_on st None t h l s = absurd s
+sign_on st (Some m) t h l (inl e) = subst (λ (x : Label). OnStack x st) (sym e) h
+sign_on st (Some m) t h l (inr s) = absurd s
+
+no_enters_sign : (o : Option Label) (t : ℕ) (l : Label) → Enters l (sign_of o t) → ⊥
+no_enters_sign None t l h = h
+no_enters_sign (Some m) t l h = h
+
+pub tidy_cancelling : (st : Stack) (P : Label → Type 0) (name : List ℕ) (t : ℕ) → Tidy st P (cancelling (label_on name st) t)
+unfolding cancelling
+tidy_cancelling st P name t =
+    record {
+      enters = λ l e. absurd (no_enters_sign (label_on name st) t l e);
+      signs = λ l e. inl (sign_on st (label_on name st) t (found_on name st) l e);
+    }
+
+pub tidy_block : (m : Mode) (kind : Kind) (label : Label) (t : ℕ) (d : Tick) (shield : Bool) (st : Stack) (P : Label → Type 0) (inside : Tick → Result) →
+    P label → ((f : Tick) → Tidy (within label shield f st) P (inside f)) → Tidy st P (block m kind label t d shield st inside)
+unfolding block
+tidy_block m kind label t d shield st P inside p h = at_from (from_of m label d inside)
+  where
+    at_from : (f : Tick) → Tidy st P (left_from kind label t d shield st f (inside f))
+    at_from f = record { enters = own; signs = λ l e. seen_to l (signs_followed l (inside f).log _ e) }
+      where
+        end_log : Log
+        end_log = entry (inside f).end (left_as kind label (left_with (catches f shield st (inside f).end) (inside f).exc).caught) nil
+
+        behind : (l : Label) → Enters l (inside f).log ⊎ ⊥ → P l
+        behind l (inl e) = (h f).enters l e
+        behind l (inr e) = absurd e
+
+        own : (l : Label) → (l ≡ label) ⊎ Enters l (followed_by (inside f).log end_log) → P l
+        own l (inl e) = subst P (sym e) p
+        own l (inr e) = behind l (enters_followed l (inside f).log end_log e)
+
+        by_place : (l : Label) → ((l ≡ label) ⊎ OnStack l st) ⊎ Enters l (inside f).log → OnStack l st ⊎ ((l ≡ label) ⊎ Enters l (followed_by (inside f).log end_log))
+        by_place l (inl (inl e)) = inr (inl e)
+        by_place l (inl (inr o)) = inl o
+        by_place l (inr e) = inr (inr (enters_first l (inside f).log end_log e))
+
+        seen_to : (l : Label) → Signs l (inside f).log ⊎ ⊥ → OnStack l st ⊎ ((l ≡ label) ⊎ Enters l (followed_by (inside f).log end_log))
+        seen_to l (inl e) = by_place l ((h f).signs l e)
+        seen_to l (inr e) = absurd e
+
+-- a member signs its home
+pub signs_home : (st : Stack) (o : Option Exc) (t : ℕ) (l : Label) → Signs l (sign_if o (home_of st) t) → OnStack l st
+signs_home st None t l s = absurd s
+signs_home st (Some e) t l s = sign_on st (home_of st) t (home_on st) l s
+
+pub enters_home : (st : Stack) (o : Option Exc) (t : ℕ) (l : Label) → Enters l (sign_if o (home_of st) t) → ⊥
+enters_home st None t l s = s
+enters_home st (Some e) t l s = no_enters_sign (home_of st) t l s
+
+pub tidy_signed : (st : Stack) (P : Label → Type 0) (r : Result) → Tidy st P r → Tidy st P (signed st r)
+unfolding signed
+tidy_signed st P r h =
+    record {
+      enters = λ l e. own l (enters_followed l r.log (sign_if r.exc (home_of st) r.end) e);
+      signs = λ l e. seen_to l (signs_followed l r.log (sign_if r.exc (home_of st) r.end) e);
+    }
+  where
+    own : (l : Label) → Enters l r.log ⊎ Enters l (sign_if r.exc (home_of st) r.end) → P l
+    own l (inl e) = h.enters l e
+    own l (inr e) = absurd (enters_home st r.exc r.end l e)
+
+    first : (l : Label) → OnStack l st ⊎ Enters l r.log → OnStack l st ⊎ Enters l (followed_by r.log (sign_if r.exc (home_of st) r.end))
+    first l (inl o) = inl o
+    first l (inr e) = inr (enters_first l r.log _ e)
+
+    seen_to : (l : Label) → Signs l r.log ⊎ Signs l (sign_if r.exc (home_of st) r.end) → OnStack l st ⊎ Enters l (followed_by r.log (sign_if r.exc (home_of st) r.end))
+    seen_to l (inl e) = first l (h.signs l e)
+    seen_to l (inr e) = inl (signs_home st r.exc r.end l e)
+
+pub tidy_gathered : (st : Stack) (P : Label → Type 0) (label : Label) (r : Result) → Tidy st P r → Tidy st P (gathered label r)
+unfolding gathered
+tidy_gathered st P label r h = record { enters = h.enters; signs = h.signs }
+
+pub tidy_child : (st : Stack) (P : Label → Type 0) (label : Label) (t : ℕ) (r : Result) → Tidy st P r → Tidy st P (child label t r)
+unfolding child
+tidy_child st P label t r h = record { enters = own; signs = seen_to }
+  where
+    own : (l : Label) → Enters l r.log ⊎ ⊥ → P l
+    own l (inl e) = h.enters l e
+    own l (inr e) = absurd e
+
+    first : (l : Label) → OnStack l st ⊎ Enters l r.log → OnStack l st ⊎ (Enters l r.log ⊎ ⊥)
+    first l (inl o) = inl o
+    first l (inr e) = inr (inl e)
+
+    seen_to : (l : Label) → Signs l r.log ⊎ ⊥ → OnStack l st ⊎ (Enters l r.log ⊎ ⊥)
+    seen_to l (inl e) = first l (h.signs l e)
+    seen_to l (inr e) = absurd e
+
+pub tidy_each : (st : Stack) (P : Label → Type 0) (k : ℕ) (go : ℕ → Result) (t : ℕ) → ((i : ℕ) → i < k → Tidy st P (go i)) → Tidy st P (each k go t)
+tidy_each st P zero go t h = tidy_done st P t
+tidy_each st P (suc k) go t h = tidy_joined st P (each k go t) (go k) (tidy_each st P k go t (λ i lt. h i (below i lt))) (h k (omega arith))
+  where
+    below : (i : ℕ) → i < k → i < suc k
+    below i lt = omega arith
+
+pub tidy_handled : (st : Stack) (P : Label → Type 0) (wanted : Wanted) (r : Result) (go : ℕ → Result) → Tidy st P r → ((u : ℕ) → Tidy st P (go u)) → Tidy st P (handled wanted r go)
+unfolding handled
+tidy_handled st P wanted r go h k = by_exc r.exc
+  where
+    both : Tidy st P (joined r (go r.end))
+    both = tidy_joined st P r (go r.end) h (k r.end)
+
+    by_match : (o rest : Option Exc) → Tidy st P (handled_if o rest r go)
+    by_match None rest = h
+    by_match (Some e) rest = record { enters = both.enters; signs = both.signs }
+
+    by_exc : (o : Option Exc) → Tidy st P (handled_exc o wanted r go)
+    by_exc None = h
+    by_exc (Some e) = by_match (keep wanted e) (drop wanted e)
+
+pub tidy_cleaned : (st : Stack) (P : Label → Type 0) (r : Result) (go : ℕ → Result) → Tidy st P r → ((u : ℕ) → Tidy st P (go u)) → Tidy st P (cleaned r go)
+unfolding cleaned
+tidy_cleaned st P r go h k =
+    let both : Tidy st P (joined r (go r.end)) = tidy_joined st P r (go r.end) h (k r.end) in
+    record { enters = both.enters; signs = both.signs }
+
+-- a label that is entered here belongs to its block
+pub belongs_here : (name : List ℕ) (names : List (List ℕ)) (here : Here) → Belongs (name ∷ names) here.path (label_here name here)
+belongs_here name names here = record { named = inl refl; beyond = []; extends = sym (append-nil here.path) }
+
+-- what belongs to a part belongs to the whole
+pub in_left : (a b : List (List ℕ)) (path : List ℕ) (l : Label) → Belongs a path l → Belongs (a ++ b) path l
+in_left a b path l h = belongs_in a (a ++ b) path (λ n i. among_left n a b i) l h
+
+pub in_right : (a b : List (List ℕ)) (path : List ℕ) (l : Label) → Belongs b path l → Belongs (a ++ b) path l
+in_right a b path l h = belongs_in b (a ++ b) path (λ n i. among_right n a b i) l h
+
+pub in_body : (name : List ℕ) (names : List (List ℕ)) (path : List ℕ) (l : Label) → Belongs names path l → Belongs (name ∷ names) path l
+in_body name names path l h = belongs_in names (name ∷ names) path (λ n i. inr i) l h
+
+mutual
+  unfolding walk
+
+  -- every walk is tidy
+  pub tidy : (m : Mode) (b : Steps) (here : Here) (st : Stack) (t : ℕ) → Tidy st (Belongs (names_of b) here.path) (walk m b here st t)
+  tidy m stop here st t = tidy_done st _ t
+  tidy m (step s ss) here st t =
+      tidy_and_then st _ _ _
+      (tidy_in st _ _ _ (in_left (names_in s) (names_of ss) here.path) (tidy_step m s here st t))
+      (λ u. tidy_in st _ _ _ (in_right (names_in s) (names_of ss) here.path) (tidy m ss here st u))
+
+  pub tidy_step : (m : Mode) (s : Step) (here : Here) (st : Stack) (t : ℕ) → Tidy st (Belongs (names_in s) here.path) (walk_step m s here st t)
+  tidy_step m (sleep n) here st t = tidy_sleeping st _ _ t
+  tidy_step m checkpoint here st t = tidy_sleeping st _ _ t
+  tidy_step m forever here st t = tidy_sleeping st _ _ t
+  tidy_step m (pace k) here st t = tidy_sleeping st _ _ t
+  tidy_step m (find text) here st t = tidy_showing st _ _ t
+  tidy_step m (head n) here st t = tidy_showing st _ _ t
+  tidy_step m longest here st t = tidy_showing st _ _ t
+  tidy_step m (need text name) here st t = tidy_needing st _ _ name here.task t
+  tidy_step m (raise name) here st t = tidy_raised st _ _ t
+  tidy_step m (cancel name) here st t = tidy_cancelling st _ name t
+  tidy_step m (scope name d shield fail body) here st t =
+      tidy_block m _ _ t _ shield st _ _ (belongs_here name (names_of body) here)
+      (λ f. tidy_in _ _ _ _ (in_body name (names_of body) here.path) (tidy m body here _ t))
+  tidy_step m (nursery name d shield body) here st t =
+      tidy_block m _ _ t _ shield st _ _ (belongs_here name (names_of body) here)
+      (λ f. tidy_in _ _ _ _ (in_body name (names_of body) here.path) (tidy_gathered _ _ _ _ (tidy_signed _ _ _ (tidy m body here _ t))))
+  tidy_step m (start name None body) here st t =
+      tidy_in st _ _ _ (in_body name (names_of body) here.path) (tidy_child st _ _ t _ (tidy_signed st _ _ (tidy m body _ st t)))
+  tidy_step m (start name (Some k) body) here st t =
+      tidy_each st _ k _ t (λ i lt. tidy_in st _ _ _
+      (λ l h. in_body name (names_of body) here.path l (belongs_behind (names_of body) here.path i l h))
+      (tidy_child st _ _ t _ (tidy_signed st _ _ (tidy m body _ st t))))
+  tidy_step m (attempt body handler cleanup) here st t =
+      tidy_cleanup m cleanup here st _ (names_of body ++ handled_names handler)
+      (tidy_handler m handler here st _ (names_of body) (tidy m body here st t))
+
+  pub tidy_handler : (m : Mode) (x : Handled) (here : Here) (st : Stack) (r : Result) (names : List (List ℕ)) →
+      Tidy st (Belongs names here.path) r → Tidy st (Belongs (names ++ handled_names x) here.path) (walk_handler m x here st r)
+  tidy_handler m unhandled here st r names h = tidy_in st _ _ _ (in_left names [] here.path) h
+  tidy_handler m (except name body) here st r names h =
+      tidy_handled st _ _ r _ (tidy_in st _ _ _ (in_left names (names_of body) here.path) h)
+      (λ u. tidy_in st _ _ _ (in_right names (names_of body) here.path) (tidy m body here st u))
+
+  pub tidy_cleanup : (m : Mode) (x : Cleaned) (here : Here) (st : Stack) (r : Result) (names : List (List ℕ)) →
+      Tidy st (Belongs names here.path) r → Tidy st (Belongs (names ++ cleaned_names x) here.path) (walk_cleanup m x here st r)
+  tidy_cleanup m uncleaned here st r names h = tidy_in st _ _ _ (in_left names [] here.path) h
+  tidy_cleanup m (finally body) here st r names h =
+      tidy_cleaned st _ r _ (tidy_in st _ _ _ (in_left names (names_of body) here.path) h)
+      (λ u. tidy_in st _ _ _ (in_right names (names_of body) here.path) (tidy m body here st u))

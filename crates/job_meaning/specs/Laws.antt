@@ -1,0 +1,63 @@
+-- The laws of the definitions. Each is the contract of a function that does nothing.
+use Rattle.std.specs.Prelude.{◌≡◌, ℕ, ◌≤◌, Bool, false, IsTrue, Option, Some, None, List, [], ◌∷◌}
+use Rattle.job_tree.specs.Tree.{Steps, Tree}
+use Rattle.job_tree.specs.Names.{GivesNamesOnce}
+use Rattle.exc_groups.specs.Exceptions.{Exc, holds_cancelled}
+use Rattle.cancel_scopes.specs.Sight.{Tick, seen}
+use Rattle.job_meaning.specs.Walk.{Stack, Mode, Here, walk}
+use Rattle.job_meaning.specs.Meaning.{root_walk, meaning, meaning_table}
+use Rattle.job_meaning.specs.Follow.{follow, IsSettled}
+use Rattle.job_meaning.specs.Before.{Near, Agree}
+
+-- one tick is at most another, where each may be never
+abbrev pub AtMost : Tick → Tick → Type 0
+AtMost t None = Unit {0}
+AtMost None (Some u) = ⊥
+AtMost (Some t) (Some u) = t ≤ u
+
+-- two stacks have the same labels and shields, and each from of the second is at most that of the first
+abbrev pub Lowered : Stack → Stack → Type 0
+Lowered [] [] = Unit {0}
+Lowered (l ∷ ls) (k ∷ ks) = (l.label ≡ k.label) × (l.shield ≡ k.shield) × AtMost k.from l.from × Lowered ls ks
+Lowered [] (k ∷ ks) = ⊥
+Lowered (l ∷ ls) [] = ⊥
+
+-- what is seen at a tick is seen at every later one
+abbrev pub StaysSeen : Type 0
+StaysSeen = (stack : Stack) (t u : ℕ) → t ≤ u → IsTrue (seen stack t) → IsTrue (seen stack u)
+
+-- lowering a from hides nothing
+abbrev pub LoweringShows : Type 0
+LoweringShows = (stack lowered : Stack) (t : ℕ) → Lowered stack lowered → IsTrue (seen stack t) → IsTrue (seen lowered t)
+
+-- whether an outcome holds a `Cancelled`
+abbrev pub some_cancelled : Option Exc → Bool
+some_cancelled None = false
+some_cancelled (Some e) = holds_cancelled e
+
+-- a walk whose exception holds a `Cancelled` ends in a tick at which its stack is seen
+abbrev pub CancelledIsSeen : Type 0
+CancelledIsSeen =
+    (mode : Mode) (steps : Steps) (here : Here) (stack : Stack) (t : ℕ) →
+    let r = walk mode steps here stack t in
+    IsTrue (some_cancelled r.exc) → IsTrue (seen stack r.end)
+
+-- so no `Cancelled` comes out of a job
+abbrev pub NoneReachesTheRoot : Type 0
+NoneReachesTheRoot = (mode : Mode) (job : Tree) (input : List ℕ) → some_cancelled (root_walk mode job input).exc ≡ false
+
+-- A tick from which a scope is cancelled tells nothing of earlier ticks: on two stacks that agree except where both
+-- froms are at least c, a walk does the same in all ticks before c.
+abbrev pub NothingBeforeItsCause : Type 0
+NothingBeforeItsCause =
+    (c : ℕ) (mode : Mode) (steps : Steps) (here : Here) (stack other : Stack) (t : ℕ) →
+    Near c stack other → Agree c (walk mode steps here stack t) (walk mode steps here other t)
+
+-- where names are given once, following the table of the meaning is the meaning
+abbrev pub FollowingIsMeaning : Type 0
+FollowingIsMeaning =
+    (job : Tree) (input : List ℕ) → GivesNamesOnce job → follow (meaning_table job input) job input ≡ meaning job input
+
+-- so that table is settled
+abbrev pub TableIsSettled : Type 0
+TableIsSettled = (job : Tree) (input : List ℕ) → GivesNamesOnce job → IsSettled (meaning_table job input) job input
