@@ -1,3 +1,4 @@
 pub mod Settings
 pub mod Records
 pub mod Runs
+pub mod Walks

@@ -1,10 +1,12 @@
 -- What clauses read of a run.
-use Rattle.std.specs.Prelude.{ℕ, List, map}
+use Rattle.std.specs.Prelude.{ℕ, List, map, All}
+use Rattle.job_meaning.specs.Meaning.{From}
 use Rattle.job_meaning.specs.Shown.{Row}
 use Rattle.job_runner.specs.declared.entry.Record.{Record}
 use Rattle.job_runner.specs.declared.entry.ScopeFrom.{ScopeFrom}
-use Rattle.job_runner.specs.declared.run.Run.{Run}
+use Rattle.job_runner.specs.declared.finished.Run.{Run}
 use Rattle.job_runner.specs.Records.{row_in}
+use Rattle.job_runner.specs.Walks.{IsSlice}
 
 abbrev pub name_of : Run → List ℕ
 name_of run = run.name
@@ -19,5 +21,13 @@ rows_of run = map row_in (records_in run)
 abbrev pub froms_in : Run → List ScopeFrom
 froms_in run = run.froms.items
 
-abbrev pub turns_of : Run → ℕ
-turns_of run = run.turns
+-- a scope or nursery with the tick from which it was cancelled
+abbrev pub from_of : ScopeFrom → From
+from_of f = record { label = f.label; seen = f.seen }
+
+abbrev pub scope_froms_of : Run → List From
+scope_froms_of run = map from_of (froms_in run)
+
+-- every line of the records is the slice of the input at its place
+abbrev pub AreSlices : List ℕ → List Record → Type 0
+AreSlices input records = All (λ r. All (IsSlice input) r.entries.items) records

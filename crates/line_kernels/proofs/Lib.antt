@@ -1,4 +1,3 @@
 pub mod ContainsLemmas
 pub mod FindLemmas
 pub mod LongestLemmas
-pub mod SearchLemmas
