@@ -3,16 +3,18 @@ ghost use Rattle.buffer_parts.specs.Part.{buffer_of, range_of};
 ghost use Rattle.line_kernels.specs.Kernels.{found_in};
 ghost use Rattle.line_kernels.specs.Answers.{AreLinesAt};
 
-use std::alloc::{AllocError, Global};
-
-use buffer_parts::Part;
-use memchr::{memchr, memmem};
-
 use crate::contains::contains;
 use crate::lines::FoundLines;
+use buffer_parts::Part;
+use memchr::{memchr, memmem};
+use std::alloc::{AllocError, Global};
 
 /// The lines that contain a string.
-pub(crate) fn found<'a>(alloc: Global, part: Part<'a>, needle: &[u8]) -> Result<FoundLines<'a>, AllocError>
+pub(crate) fn found<'a>(
+    alloc: Global,
+    part: Part<'a>,
+    needle: &[u8],
+) -> Result<FoundLines<'a>, AllocError>
     ensures { IfOk result (AreLinesAt (buffer_of part.entry)
         (found_in (buffer_of part.entry) needle.now (range_of part.entry))) }
 {
@@ -24,7 +26,11 @@ pub(crate) fn found<'a>(alloc: Global, part: Part<'a>, needle: &[u8]) -> Result<
 
 /// The lines that contain a string, each looked through by itself. An empty string stands in every line, and one with a
 /// newline in none, wherever it stands in the part.
-fn found_by_line<'a>(alloc: Global, part: Part<'a>, needle: &[u8]) -> Result<FoundLines<'a>, AllocError>
+fn found_by_line<'a>(
+    alloc: Global,
+    part: Part<'a>,
+    needle: &[u8],
+) -> Result<FoundLines<'a>, AllocError>
     ensures { IfOk result (AreLinesAt (buffer_of part.entry)
         (found_in (buffer_of part.entry) needle.now (range_of part.entry))) }
 {
@@ -38,7 +44,11 @@ fn found_by_line<'a>(alloc: Global, part: Part<'a>, needle: &[u8]) -> Result<Fou
 }
 
 /// The lines that contain a string, by one search through the part.
-fn found_by_search<'a>(alloc: Global, part: Part<'a>, needle: &[u8]) -> Result<FoundLines<'a>, AllocError>
+fn found_by_search<'a>(
+    alloc: Global,
+    part: Part<'a>,
+    needle: &[u8],
+) -> Result<FoundLines<'a>, AllocError>
     requires some { 0 < length needle.now }
     requires in_one_line { (j : ℕ) → j < length needle.now → slice_index needle.now j ≢ 10 }
     ensures { IfOk result (AreLinesAt (buffer_of part.entry)
