@@ -1,7 +1,6 @@
 -- One more line of those that contain a string.
-use Rattle.std.proofs.Common.{◌≡◌, ℕ, Bool, true, false, List, [], ◌∷◌, ◌++◌, map, filter, All, refl, sym, ap, ◌∙◌, append_assoc}
+use Rattle.std.proofs.Common.{◌≡◌, ℕ, Bool, true, false, List, [], ◌∷◌, ◌++◌, map, filter, refl, sym, ap, ◌∙◌, append_assoc}
 use Rattle.std.proofs.lemmas.List.{map_push}
-use Rattle.std.proofs.lemmas.List.Elements.{All-push}
 use Rattle.buffer_parts.specs.Lines.{Span, text_of}
 use Rattle.buffer_parts.specs.Part.{span_of, line_text, IsLineOf}
 use Rattle.buffer_parts.specs.declared.line.Line.{Line}
@@ -24,3 +23,7 @@ shown_more lines line rest = sym (ap (λ ls. ls ++ rest) (map_push span_of lines
 -- a line of the buffer is shown where its own bytes contain the string
 pub stands_in-line : (buffer needle : List ℕ) (line : Line) (test : Bool) → IsLineOf buffer line → contains needle (line_text line) ≡ test → stands_in buffer needle (span_of line) ≡ test
 stands_in-line buffer needle line test placed is = ap (contains needle) (sym placed.text) ∙ is
+
+pub append-nil : {X : Type 0} (xs : List X) → xs ++ [] ≡ xs
+append-nil [] = refl
+append-nil (x ∷ xs) = ap (λ ys. x ∷ ys) (append-nil xs)

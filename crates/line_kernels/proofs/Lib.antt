@@ -1,3 +1,4 @@
 pub mod ContainsLemmas
 pub mod FindLemmas
 pub mod LongestLemmas
+pub mod SearchLemmas

@@ -1,4 +1,4 @@
-ghost use Rattle.std.specs.Prelude.{IfOk};
+ghost use Rattle.std.specs.Prelude.{◌≡◌, ◌≢◌, ◌<◌, ℕ, length, slice_index, IfOk};
 ghost use Rattle.buffer_parts.specs.Part.{buffer_of, range_of};
 ghost use Rattle.line_kernels.specs.Kernels.{found_in};
 ghost use Rattle.line_kernels.specs.Answers.{AreLinesAt};
@@ -6,10 +6,27 @@ ghost use Rattle.line_kernels.specs.Answers.{AreLinesAt};
 use crate::contains::contains;
 use crate::lines::FoundLines;
 use buffer_parts::Part;
+use memchr::{memchr, memmem};
 use std::alloc::{AllocError, Global};
 
 /// The lines that contain a string.
 pub(crate) fn found<'a>(
+    alloc: Global,
+    part: Part<'a>,
+    needle: &[u8],
+) -> Result<FoundLines<'a>, AllocError>
+    ensures { IfOk result (AreLinesAt (buffer_of part.entry)
+        (found_in (buffer_of part.entry) needle.now (range_of part.entry))) }
+{
+    if needle.is_empty() || memchr(b'\n', needle).is_some() {
+        return found_by_line(alloc, part, needle);
+    }
+    found_by_search(alloc, part, needle)
+}
+
+/// The lines that contain a string, each looked through by itself. An empty string stands in every line, and one with a
+/// newline in none, wherever it stands in the part.
+fn found_by_line<'a>(
     alloc: Global,
     part: Part<'a>,
     needle: &[u8],
@@ -22,6 +39,26 @@ pub(crate) fn found<'a>(
         if contains(line.text(), needle) {
             lines.push(line)?;
         }
+    }
+    Ok(FoundLines::from_vec(lines))
+}
+
+/// The lines that contain a string, by one search through the part.
+fn found_by_search<'a>(
+    alloc: Global,
+    part: Part<'a>,
+    needle: &[u8],
+) -> Result<FoundLines<'a>, AllocError>
+    requires some { 0 < length needle.now }
+    requires in_one_line { (j : ℕ) → j < length needle.now → slice_index needle.now j ≢ 10 }
+    ensures { IfOk result (AreLinesAt (buffer_of part.entry)
+        (found_in (buffer_of part.entry) needle.now (range_of part.entry))) }
+{
+    let finder = memmem::Finder::new(needle);
+    let mut left = part.lines();
+    let mut lines = Vec::new(alloc);
+    'lines: while let Some(place) = finder.find(left.text()) {
+        lines.push(left.line_at(place))?;
     }
     Ok(FoundLines::from_vec(lines))
 }

@@ -13,7 +13,11 @@ pub mod kernel;
 pub mod lines;
 mod longest;
 mod need;
+pub mod request;
+#[cfg(test)]
+mod tests;
 
 pub use answers::Answer;
 pub use kernel::{Kernel, answer};
 pub use lines::FoundLines;
+pub use request::Request;

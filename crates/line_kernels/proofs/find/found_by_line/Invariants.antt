@@ -2,7 +2,7 @@ use Rattle.std.proofs.Common.{◌≡◌, ◌++◌, map, filter, All}
 use Rattle.buffer_parts.specs.Part.{span_of, buffer_of, range_of, source_of, lines_left, IsLineOf}
 use Rattle.line_kernels.specs.Kernels.{found_in}
 use Rattle.line_kernels.proofs.FindLemmas.{stands_in}
-use Rattle.line_kernels.proofs.find.found.Given as goal
+use Rattle.line_kernels.proofs.find.found_by_line.Given as goal
 
 abbrev pub invariant-loop-line : goal.invariant-loop-line
 invariant-loop-line l = record {

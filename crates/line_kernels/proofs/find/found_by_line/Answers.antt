@@ -1,9 +1,9 @@
 use Rattle.std.proofs.Common.{◌≡◌, ◌++◌, ◌∷◌, [], true, sym, ap, ◌∙◌, subst, map, filter}
 use Rattle.std.proofs.lemmas.List.Elements.{All-push, All-same}
-use Rattle.buffer_parts.specs.Part.{span_of, buffer_of, line_text, lines_left, IsLineOf, GivesLine}
+use Rattle.buffer_parts.specs.Part.{span_of, buffer_of, line_text, lines_left, IsLineOf}
 use Rattle.line_kernels.specs.Kernels.{contains}
 use Rattle.line_kernels.proofs.FindLemmas.{stands_in, stands_in-line, filter-passed, shown_more}
-use Rattle.line_kernels.proofs.find.found.Goals as goal
+use Rattle.line_kernels.proofs.find.found_by_line.Goals as goal
 
 pub loop-line-preserved-in-Continue-1 : goal.loop-line-preserved-in-Continue-1
 loop-line-preserved-in-Continue-1 c =
