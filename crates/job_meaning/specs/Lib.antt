@@ -3,5 +3,8 @@ pub mod Walk
 pub mod Meaning
 pub mod Follow
 pub mod Examples
+pub mod ExamplesScopes
+pub mod ExamplesNurseries
+pub mod ExamplesLines
 pub mod Before
 pub mod Laws
