@@ -8,3 +8,4 @@ pub mod ExamplesNurseries
 pub mod ExamplesLines
 pub mod Before
 pub mod Laws
+pub mod Rest
