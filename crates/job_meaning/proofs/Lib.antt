@@ -9,3 +9,4 @@ pub mod Touched
 pub mod Tidy
 pub mod Fits
 pub mod Settled
+pub mod Finish

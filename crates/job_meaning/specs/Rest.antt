@@ -1,11 +1,11 @@
 -- A task that stopped on its way: what it made so far, what is left of it, what that comes to, and how much it is.
-use Rattle.std.specs.Prelude.{ℕ, ◌+◌, ◌*◌, Bool, Option, List, [], ◌∷◌, ◌++◌}
+use Rattle.std.specs.Prelude.{ℕ, zero, suc, ◌+◌, ◌*◌, Bool, Option, List, [], ◌∷◌, ◌++◌}
 use Rattle.job_tree.specs.Tree.{Step, pace, Steps, Handled, Cleaned}
 use Rattle.job_tree.specs.Names.{size_of, handled_size, cleaned_size}
 use Rattle.exc_groups.specs.Exceptions.{Label, Exc}
 use Rattle.cancel_scopes.specs.Sight.{Tick, Level}
 use Rattle.job_meaning.specs.Log.{Entry, Log, nil, entry, sign, entered, task, followed_by, Member, Result}
-use Rattle.job_meaning.specs.Walk.{Stack, Mode, Here, walk, walk_step, walk_handler, walk_cleanup, done_at, and_then, sleeping, Kind, a_scope, a_nursery, left_as, Left, left_with, exc_after, catches, signed, gathered, handler_exc, outcome_after, with_outcome}
+use Rattle.job_meaning.specs.Walk.{label_over, Stack, Mode, Here, walk, walk_step, walk_handler, walk_cleanup, done_at, and_then, sleeping, Kind, a_scope, a_nursery, left_as, Left, left_with, exc_after, catches, signed, gathered, handler_exc, outcome_after, with_outcome}
 
 -- What a task made so far, in order. The children that it started are numbered 0, 1, .. within it, and what they come
 -- to is told apart.
@@ -31,6 +31,16 @@ fill told (starts i l t ∷ es) = task l t (told i).end (told i).exc (told i).lo
 abbrev pub told_members : Telling → List ℕ → List Member
 told_members told [] = []
 told_members told (i ∷ is) = record { end = (told i).end; exc = (told i).exc } ∷ told_members told is
+
+-- so many numbers of children from one on, in order
+abbrev pub numbered : ℕ → ℕ → List ℕ
+numbered first zero = []
+numbered first (suc k) = numbered first k ++ (first + k) ∷ []
+
+-- what a task makes that starts children 0 to k - 1 of a `start .. over`, and numbers them from one on
+abbrev pub starts_over : List ℕ → Here → ℕ → ℕ → ℕ → List Event
+starts_over name here t first zero = []
+starts_over name here t first (suc k) = starts_over name here t first k ++ starts (first + k) (label_over name here k) t ∷ []
 
 -- What a task has not finished. It is in one of them inside the other, and its stack has a level for each scope and
 -- nursery among them.
