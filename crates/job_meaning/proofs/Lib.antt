@@ -10,3 +10,4 @@ pub mod Tidy
 pub mod Fits
 pub mod Settled
 pub mod Finish
+pub mod Once
