@@ -11,3 +11,4 @@ pub mod Fits
 pub mod Settled
 pub mod Finish
 pub mod Once
+pub mod LateRest
