@@ -9,3 +9,6 @@ pub mod Touched
 pub mod Tidy
 pub mod Fits
 pub mod Settled
+pub mod Finish
+pub mod Once
+pub mod LateRest

@@ -4,5 +4,9 @@ pub mod Meaning
 pub mod Shown
 pub mod Follow
 pub mod Examples
+pub mod ExamplesScopes
+pub mod ExamplesNurseries
+pub mod ExamplesLines
 pub mod Before
 pub mod Laws
+pub mod Rest

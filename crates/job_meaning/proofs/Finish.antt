@@ -1,0 +1,283 @@
+-- What a task comes to that has frames left: no frame reads what was made before, and what each step makes of the frames.
+use Rattle.std.proofs.Common.{◌≡◌, ℕ, zero, suc, ◌+◌, Bool, Option, Some, None, List, [], ◌∷◌, ◌++◌, refl, ap, sym, ◌∙◌, append_assoc, ◌<◌, arith}
+use Rattle.std.proofs.lemmas.List.{append-nil}
+use Rattle.job_tree.specs.declared.deadline.Deadline.{Deadline}
+use Rattle.job_tree.specs.Tree.{Step, scope, nursery, start, attempt, Steps, stop, step, Handled, unhandled, except, Cleaned, uncleaned, finally}
+use Rattle.buffer_parts.specs.Cuts.{cut_of}
+use Rattle.exc_groups.specs.Exceptions.{Label, Exc}
+use Rattle.exc_groups.specs.Split.{Wanted, named, keep, drop}
+use Rattle.cancel_scopes.specs.Sight.{Level}
+use Rattle.job_meaning.specs.Log.{Log, nil, entry, sign, entered, task, followed_by, Member, Result, Table}
+use Rattle.job_meaning.specs.Walk.{Stack, Mode, by_table, Here, walk, walk_step, walk_handler, walk_cleanup, done_at, joined, and_then, then_if, block, due, within, Kind, signed, gathered, child, handled, handled_exc, handled_if, cleaned, with_outcome, handler_exc, outcome_after, sign_if, a_scope, a_nursery, label_here, label_over, each, here_in}
+use Rattle.job_meaning.specs.Rest.{Event, noted, signs, enters, starts, fill, numbered, starts_over, Telling, told_members, Frame, steps_left, in_scope, in_nursery, in_wait, in_try, in_handler, in_cleanup, block_left, with_children, body_ended, finish, rest_comes_to, rest_at_start}
+
+pub followed_assoc : (a b c : Log) → followed_by (followed_by a b) c ≡ followed_by a (followed_by b c)
+followed_assoc nil b c = refl
+followed_assoc (entry t e rest) b c = ap (λ (x : Log). entry t e x) (followed_assoc rest b c)
+followed_assoc (sign l t rest) b c = ap (λ (x : Log). sign l t x) (followed_assoc rest b c)
+followed_assoc (entered l t d rest) b c = ap (λ (x : Log). entered l t d x) (followed_assoc rest b c)
+followed_assoc (task l s u e own rest) b c = ap (λ (x : Log). task l s u e own x) (followed_assoc rest b c)
+
+-- a result with something made before it
+abbrev pub after : Log → Result → Result
+after a r = record r { log = followed_by a r.log }
+
+after_joined : (a : Log) (r q : Result) → joined (after a r) q ≡ after a (joined r q)
+after_joined a r q = ap (λ (x : Log). record (joined r q) { log = x }) (followed_assoc a r.log q.log)
+
+after_and_then : (a : Log) (r : Result) (go : ℕ → Result) → and_then (after a r) go ≡ after a (and_then r go)
+unfolding and_then
+after_and_then a r go = by_exc r.exc
+  where
+    by_exc : (o : Option Exc) → then_if o (after a r) go ≡ after a (then_if o r go)
+    by_exc None = after_joined a r (go r.end)
+    by_exc (Some e) = refl
+
+after_signed : (a : Log) (st : Stack) (r : Result) → signed st (after a r) ≡ after a (signed st r)
+unfolding signed
+after_signed a st r = ap (λ (x : Log). record r { log = x }) (followed_assoc a r.log _)
+
+after_block_left : (a : Log) (kind : Kind) (l : Level Label) (outer : Stack) (r : Result) → block_left kind l outer (after a r) ≡ after a (block_left kind l outer r)
+after_block_left a kind l outer r = ap (λ (x : Log). record (block_left kind l outer r) { log = x }) (followed_assoc a r.log _)
+
+after_handled : (a : Log) (wanted : Wanted) (r : Result) (go : ℕ → Result) → handled wanted (after a r) go ≡ after a (handled wanted r go)
+unfolding handled
+after_handled a wanted r go = by_exc r.exc
+  where
+    by_match : (o rest : Option Exc) → handled_if o rest (after a r) go ≡ after a (handled_if o rest r go)
+    by_match None rest = refl
+    by_match (Some e) rest = ap (λ (x : Result). with_outcome (handler_exc (go r.end).exc rest) x) (after_joined a r (go r.end))
+
+    by_exc : (o : Option Exc) → handled_exc o wanted (after a r) go ≡ after a (handled_exc o wanted r go)
+    by_exc None = refl
+    by_exc (Some e) = by_match (keep wanted e) (drop wanted e)
+
+after_cleaned : (a : Log) (r : Result) (go : ℕ → Result) → cleaned (after a r) go ≡ after a (cleaned r go)
+unfolding cleaned
+after_cleaned a r go = ap (λ (x : Result). with_outcome (outcome_after r.exc (go r.end).exc) x) (after_joined a r (go r.end))
+
+after_handler : (a : Log) (m : Mode) (x : Handled) (here : Here) (st : Stack) (r : Result) → walk_handler m x here st (after a r) ≡ after a (walk_handler m x here st r)
+unfolding walk
+after_handler a m unhandled here st r = refl
+after_handler a m (except name body) here st r = after_handled a (named name) r (λ u. walk m body here st u)
+
+after_cleanup : (a : Log) (m : Mode) (x : Cleaned) (here : Here) (st : Stack) (r : Result) → walk_cleanup m x here st (after a r) ≡ after a (walk_cleanup m x here st r)
+unfolding walk
+after_cleanup a m uncleaned here st r = refl
+after_cleanup a m (finally body) here st r = after_cleaned a r (λ u. walk m body here st u)
+
+-- no frame reads what was made before it
+pub finish_after : (fs : List Frame) (a : Log) (m : Mode) (told : Telling) (here : Here) (st : Stack) (r : Result) → finish m told fs here st (after a r) ≡ after a (finish m told fs here st r)
+unfolding finish gathered
+finish_after [] a m told here st r = after_signed a st r
+finish_after (steps_left ss ∷ fs) a m told here st r =
+    ap (λ (x : Result). finish m told fs here st x) (after_and_then a r (λ u. walk m ss here st u))
+    ∙ finish_after fs a m told here st (and_then r (λ u. walk m ss here st u))
+finish_after (in_scope fail ∷ fs) a m told here [] r = finish_after fs a m told here [] r
+finish_after (in_scope fail ∷ fs) a m told here (l ∷ outer) r =
+    ap (λ (x : Result). finish m told fs here outer x) (after_block_left a (a_scope fail) l outer r) ∙ finish_after fs a m told here outer _
+finish_after (in_nursery children ∷ fs) a m told here [] r = finish_after fs a m told here [] r
+finish_after (in_nursery children ∷ fs) a m told here (l ∷ outer) r =
+    ap (λ (x : Result). finish m told fs here outer (block_left a_nursery l outer (gathered l.label (with_children (told_members told children) x)))) (after_signed a (l ∷ outer) r)
+    ∙ (ap (λ (x : Result). finish m told fs here outer x) (after_block_left a a_nursery l outer (gathered l.label (with_children (told_members told children) (signed (l ∷ outer) r))))
+    ∙ finish_after fs a m told here outer _)
+finish_after (in_wait children t e ∷ fs) a m told here [] r = finish_after fs a m told here [] r
+finish_after (in_wait children t e ∷ fs) a m told here (l ∷ outer) r =
+    ap (λ (x : Result). finish m told fs here outer x) (after_block_left a a_nursery l outer (gathered l.label (body_ended (told_members told children) t e r.log)))
+    ∙ finish_after fs a m told here outer _
+finish_after (in_try handler cleanup ∷ fs) a m told here st r =
+    ap (λ (x : Result). finish m told fs here st (walk_cleanup m cleanup here st x)) (after_handler a m handler here st r)
+    ∙ (ap (λ (x : Result). finish m told fs here st x) (after_cleanup a m cleanup here st (walk_handler m handler here st r))
+    ∙ finish_after fs a m told here st _)
+finish_after (in_handler rest cleanup ∷ fs) a m told here st r =
+    ap (λ (x : Result). finish m told fs here st x) (after_cleanup a m cleanup here st (with_outcome (handler_exc r.exc rest) r))
+    ∙ finish_after fs a m told here st _
+finish_after (in_cleanup outcome ∷ fs) a m told here st r = finish_after fs a m told here st _
+
+-- a task that was started comes to what its block does
+pub finish_begin : (m : Mode) (told : Telling) (b : Steps) (here : Here) (st : Stack) (t : ℕ) → rest_comes_to m told (rest_at_start b) here st t ≡ signed st (walk m b here st t)
+unfolding finish and_then
+finish_begin m told b here st t = refl
+
+-- a block with no step left
+pub finish_stop : (fs : List Frame) (m : Mode) (told : Telling) (here : Here) (st : Stack) (t : ℕ) → finish m told (steps_left stop ∷ fs) here st (done_at t) ≡ finish m told fs here st (done_at t)
+unfolding finish and_then walk
+finish_stop fs m told here st t = refl
+
+-- a step that opens no frame
+pub finish_step : (fs : List Frame) (m : Mode) (told : Telling) (s : Step) (ss : Steps) (here : Here) (st : Stack) (t : ℕ) →
+    finish m told (steps_left (step s ss) ∷ fs) here st (done_at t) ≡ finish m told (steps_left ss ∷ fs) here st (walk_step m s here st t)
+unfolding finish and_then walk
+finish_step fs m told s ss here st t = refl
+
+-- steps behind an exception are not begun
+pub finish_raised : (fs : List Frame) (m : Mode) (told : Telling) (ss : Steps) (here : Here) (st : Stack) (r : Result) (e : Exc) →
+    finish m told (steps_left ss ∷ fs) here st (record r { exc = Some e }) ≡ finish m told fs here st (record r { exc = Some e })
+unfolding finish and_then
+finish_raised fs m told ss here st r e = refl
+
+-- a scope is entered
+pub finish_scope : (fs : List Frame) (table : Table) (told : Telling) (name : List ℕ) (d : Deadline) (shield fail : Bool) (body ss : Steps) (here : Here) (st : Stack) (t : ℕ) →
+    finish (by_table table) told (steps_left (step (scope name d shield fail body) ss) ∷ fs) here st (done_at t)
+    ≡ after (entered (label_here name here) t (due d t) nil)
+    (finish (by_table table) told (steps_left body ∷ in_scope fail ∷ steps_left ss ∷ fs) here (within (label_here name here) shield (table (label_here name here)) st) (done_at t))
+unfolding finish and_then walk block
+finish_scope fs table told name d shield fail body ss here st t =
+    finish_after (steps_left body ∷ in_scope fail ∷ steps_left ss ∷ fs) (entered (label_here name here) t (due d t) nil) (by_table table) told here
+    (within (label_here name here) shield (table (label_here name here)) st) (done_at t)
+
+-- a nursery is entered
+pub finish_nursery : (fs : List Frame) (table : Table) (told : Telling) (name : List ℕ) (d : Deadline) (shield : Bool) (body ss : Steps) (here : Here) (st : Stack) (t : ℕ) →
+    finish (by_table table) told (steps_left (step (nursery name d shield body) ss) ∷ fs) here st (done_at t)
+    ≡ after (entered (label_here name here) t (due d t) nil)
+    (finish (by_table table) told (steps_left body ∷ in_nursery [] ∷ steps_left ss ∷ fs) here (within (label_here name here) shield (table (label_here name here)) st) (done_at t))
+unfolding finish and_then walk block gathered signed
+finish_nursery fs table told name d shield body ss here st t =
+    finish_after (steps_left body ∷ in_nursery [] ∷ steps_left ss ∷ fs) (entered (label_here name here) t (due d t) nil) (by_table table) told here
+    (within (label_here name here) shield (table (label_here name here)) st) (done_at t)
+
+-- a `try` is entered
+pub finish_try : (fs : List Frame) (m : Mode) (told : Telling) (body : Steps) (handler : Handled) (cleanup : Cleaned) (ss : Steps) (here : Here) (st : Stack) (t : ℕ) →
+    finish m told (steps_left (step (attempt body handler cleanup) ss) ∷ fs) here st (done_at t)
+    ≡ finish m told (steps_left body ∷ in_try handler cleanup ∷ steps_left ss ∷ fs) here st (done_at t)
+unfolding finish and_then walk
+finish_try fs m told body handler cleanup ss here st t = refl
+
+-- a handler is entered where the exception has such leaves
+pub finish_handler : (fs : List Frame) (m : Mode) (told : Telling) (name : List ℕ) (body : Steps) (cleanup : Cleaned) (here : Here) (st : Stack) (r : Result) (e x : Exc) → keep (named name) e ≡ Some x →
+    finish m told (in_try (except name body) cleanup ∷ fs) here st (record r { exc = Some e })
+    ≡ finish m told (steps_left body ∷ in_handler (drop (named name) e) cleanup ∷ fs) here st (record r { exc = None })
+unfolding finish and_then walk handled
+finish_handler fs m told name body cleanup here st r e x k =
+    ap (λ (o : Option Exc). finish m told fs here st (walk_cleanup m cleanup here st (handled_if o (drop (named name) e) (record r { exc = Some e }) (λ u. walk m body here st u)))) k
+
+-- and where it has none, or there is no exception, it is passed by
+pub finish_unhandled : (fs : List Frame) (m : Mode) (told : Telling) (name : List ℕ) (body : Steps) (cleanup : Cleaned) (here : Here) (st : Stack) (r : Result) (e : Exc) → keep (named name) e ≡ None →
+    finish m told (in_try (except name body) cleanup ∷ fs) here st (record r { exc = Some e })
+    ≡ finish m told (in_try unhandled cleanup ∷ fs) here st (record r { exc = Some e })
+unfolding finish walk handled
+finish_unhandled fs m told name body cleanup here st r e k =
+    ap (λ (o : Option Exc). finish m told fs here st (walk_cleanup m cleanup here st (handled_if o (drop (named name) e) (record r { exc = Some e }) (λ u. walk m body here st u)))) k
+
+pub finish_no_handler : (fs : List Frame) (m : Mode) (told : Telling) (handler : Handled) (cleanup : Cleaned) (here : Here) (st : Stack) (r : Result) →
+    finish m told (in_try handler cleanup ∷ fs) here st (record r { exc = None }) ≡ finish m told (in_try unhandled cleanup ∷ fs) here st (record r { exc = None })
+unfolding finish walk handled
+finish_no_handler fs m told unhandled cleanup here st r = refl
+finish_no_handler fs m told (except name body) cleanup here st r = refl
+
+-- a handler has ended: the rest of the split goes with what it raised
+pub finish_handled : (fs : List Frame) (m : Mode) (told : Telling) (rest : Option Exc) (cleanup : Cleaned) (here : Here) (st : Stack) (r : Result) →
+    finish m told (in_handler rest cleanup ∷ fs) here st r ≡ finish m told (in_try unhandled cleanup ∷ fs) here st (with_outcome (handler_exc r.exc rest) r)
+unfolding finish walk
+finish_handled fs m told rest cleanup here st r = refl
+
+-- with no cleanup to come a `try` is left
+pub finish_uncleaned : (fs : List Frame) (m : Mode) (told : Telling) (here : Here) (st : Stack) (r : Result) → finish m told (in_try unhandled uncleaned ∷ fs) here st r ≡ finish m told fs here st r
+unfolding finish walk
+finish_uncleaned fs m told here st r = refl
+
+-- a cleanup is entered, with the outcome so far
+pub finish_cleanup : (fs : List Frame) (m : Mode) (told : Telling) (body : Steps) (here : Here) (st : Stack) (r : Result) →
+    finish m told (in_try unhandled (finally body) ∷ fs) here st r ≡ finish m told (steps_left body ∷ in_cleanup r.exc ∷ fs) here st (record r { exc = None })
+unfolding finish and_then walk cleaned
+finish_cleanup fs m told body here st r = refl
+
+-- a cleanup has ended
+pub finish_cleaned : (fs : List Frame) (m : Mode) (told : Telling) (outcome : Option Exc) (here : Here) (st : Stack) (r : Result) →
+    finish m told (in_cleanup outcome ∷ fs) here st r ≡ finish m told fs here st (with_outcome (outcome_after outcome r.exc) r)
+unfolding finish
+finish_cleaned fs m told outcome here st r = refl
+
+-- a scope is left
+pub finish_leave : (fs : List Frame) (m : Mode) (told : Telling) (fail : Bool) (here : Here) (l : Level Label) (outer : Stack) (r : Result) →
+    finish m told (in_scope fail ∷ fs) here (l ∷ outer) r ≡ finish m told fs here outer (block_left (a_scope fail) l outer r)
+unfolding finish
+finish_leave fs m told fail here l outer r = refl
+
+-- the body of a nursery has ended, and the wait begins
+pub finish_wait : (fs : List Frame) (m : Mode) (told : Telling) (children : List ℕ) (here : Here) (l : Level Label) (outer : Stack) (t : ℕ) (e : Option Exc) (a : Log) →
+    finish m told (in_nursery children ∷ fs) here (l ∷ outer) (body_ended [] t e a)
+    ≡ finish m told (in_wait children t e ∷ fs) here (l ∷ outer) (signed (l ∷ outer) (body_ended [] t e a))
+unfolding finish signed
+finish_wait fs m told children here l outer t e a =
+    ap (λ (ms : List Member). finish m told fs here outer (block_left a_nursery l outer (gathered l.label (body_ended ms t e (followed_by a (sign_if e (Some l.label) t)))))) (append-nil (told_members told children))
+
+-- a nursery is left, once its last member has ended
+pub finish_settled : (fs : List Frame) (m : Mode) (told : Telling) (children : List ℕ) (t : ℕ) (e : Option Exc) (here : Here) (l : Level Label) (outer : Stack) (r : Result) →
+    finish m told (in_wait children t e ∷ fs) here (l ∷ outer) r
+    ≡ finish m told fs here outer (block_left a_nursery l outer (gathered l.label (body_ended (told_members told children) t e r.log)))
+unfolding finish
+finish_settled fs m told children t e here l outer r = refl
+
+told_append : (told : Telling) (is js : List ℕ) → told_members told (is ++ js) ≡ told_members told is ++ told_members told js
+told_append told [] js = refl
+told_append told (i ∷ is) js = ap (λ (ms : List Member). record { end = (told i).end; exc = (told i).exc } ∷ ms) (told_append told is js)
+
+-- children of a nursery count by number as they did by what they come to
+pub finish_children : (fs : List Frame) (m : Mode) (told : Telling) (children more : List ℕ) (here : Here) (l : Level Label) (outer : Stack) (r : Result) →
+    finish m told (in_nursery (children ++ more) ∷ fs) here (l ∷ outer) r
+    ≡ finish m told (in_nursery children ∷ fs) here (l ∷ outer) (record r { members = told_members told more ++ r.members })
+unfolding finish signed
+finish_children fs m told children more here l outer r =
+    ap (λ (ms : List Member). finish m told fs here outer (block_left a_nursery l outer (gathered l.label (record { end = r.end; exc = r.exc; members = ms; log = followed_by r.log (sign_if r.exc (Some l.label) r.end) }))))
+    (ap (λ (ms : List Member). ms ++ r.members) (told_append told children more) ∙ append_assoc (told_members told children) (told_members told more) r.members)
+
+-- what stands for children that were just started: the starter goes on in the same tick
+abbrev pub just_started : Telling → List ℕ → Log → ℕ → Result
+just_started told more a t = record { end = t; exc = None; members = told_members told more; log = a }
+
+pub finish_started : (fs : List Frame) (m : Mode) (told : Telling) (ss : Steps) (children more : List ℕ) (here : Here) (l : Level Label) (outer : Stack) (t : ℕ) (a : Log) →
+    finish m told (steps_left ss ∷ in_nursery children ∷ fs) here (l ∷ outer) (just_started told more a t)
+    ≡ after a (finish m told (steps_left ss ∷ in_nursery (children ++ more) ∷ fs) here (l ∷ outer) (done_at t))
+unfolding finish and_then
+finish_started fs m told ss children more here l outer t a =
+    sym (finish_children fs m told children more here l outer (after a (walk m ss here (l ∷ outer) t)))
+    ∙ finish_after (in_nursery (children ++ more) ∷ fs) a m told here (l ∷ outer) (walk m ss here (l ∷ outer) t)
+
+-- a child is started
+pub finish_start : (fs : List Frame) (m : Mode) (told : Telling) (i : ℕ) (name : List ℕ) (body ss : Steps) (children : List ℕ) (here : Here) (l : Level Label) (outer : Stack) (t : ℕ) →
+    told i ≡ signed (l ∷ outer) (walk m body (here_in (label_here name here) here.part here) (l ∷ outer) t) →
+    finish m told (steps_left (step (start name None body) ss) ∷ in_nursery children ∷ fs) here (l ∷ outer) (done_at t)
+    ≡ after (fill told (starts i (label_here name here) t ∷ []))
+    (finish m told (steps_left ss ∷ in_nursery (children ++ i ∷ []) ∷ fs) here (l ∷ outer) (done_at t))
+unfolding walk child
+finish_start fs m told i name body ss children here l outer t e =
+    finish_step (in_nursery children ∷ fs) m told (start name None body) ss here (l ∷ outer) t
+    ∙ (ap (λ (r : Result). finish m told (steps_left ss ∷ in_nursery children ∷ fs) here (l ∷ outer) (child (label_here name here) t r)) (sym e)
+    ∙ finish_started fs m told ss children (i ∷ []) here l outer t (fill told (starts i (label_here name here) t ∷ [])))
+
+fill_append : (told : Telling) (es others : List Event) → fill told (es ++ others) ≡ followed_by (fill told es) (fill told others)
+fill_append told [] others = refl
+fill_append told (noted t e ∷ es) others = ap (λ (x : Log). entry t e x) (fill_append told es others)
+fill_append told (signs l t ∷ es) others = ap (λ (x : Log). sign l t x) (fill_append told es others)
+fill_append told (enters l t d ∷ es) others = ap (λ (x : Log). entered l t d x) (fill_append told es others)
+fill_append told (starts i l t ∷ es) others = ap (λ (x : Log). task l t (told i).end (told i).exc (told i).log x) (fill_append told es others)
+
+-- the children of a `start .. over`, by their numbers
+each_started : (told : Telling) (name : List ℕ) (here : Here) (t first k : ℕ) (go : ℕ → Result) → ((i : ℕ) → i < k → told (first + i) ≡ go i) →
+    each k (λ i. child (label_over name here i) t (go i)) t ≡ just_started told (numbered first k) (fill told (starts_over name here t first k)) t
+unfolding child
+each_started told name here t first zero go h = refl
+each_started told name here t first (suc k) go h =
+    ap (λ (r : Result). joined r (child (label_over name here k) t (go k))) (each_started told name here t first k go (λ i lt. h i (below i lt)))
+    ∙ (ap (λ (r : Result). joined (just_started told (numbered first k) (fill told (starts_over name here t first k)) t) (child (label_over name here k) t r)) (sym (h k (omega arith)))
+    ∙ both (sym (told_append told (numbered first k) ((first + k) ∷ []))) (sym (fill_append told (starts_over name here t first k) (starts (first + k) (label_over name here k) t ∷ []))))
+  where
+    below : (i : ℕ) → i < k → i < suc k
+    below i lt = omega arith
+
+    both : {ms ns : List Member} {a b : Log} → ms ≡ ns → a ≡ b → ◌≡◌ {A = Result} (record { end = t; exc = None; members = ms; log = a }) (record { end = t; exc = None; members = ns; log = b })
+    both e f = cc
+
+-- the children of a `start .. over` are started
+pub finish_start_over : (fs : List Frame) (m : Mode) (told : Telling) (first k : ℕ) (name : List ℕ) (body ss : Steps) (children : List ℕ) (here : Here) (l : Level Label) (outer : Stack) (t : ℕ) →
+    ((i : ℕ) → i < k → told (first + i) ≡ signed (l ∷ outer) (walk m body (here_in (label_over name here i) (cut_of here.input here.part k i) here) (l ∷ outer) t)) →
+    finish m told (steps_left (step (start name (Some k) body) ss) ∷ in_nursery children ∷ fs) here (l ∷ outer) (done_at t)
+    ≡ after (fill told (starts_over name here t first k))
+    (finish m told (steps_left ss ∷ in_nursery (children ++ numbered first k) ∷ fs) here (l ∷ outer) (done_at t))
+unfolding walk
+finish_start_over fs m told first k name body ss children here l outer t h =
+    finish_step (in_nursery children ∷ fs) m told (start name (Some k) body) ss here (l ∷ outer) t
+    ∙ (ap (λ (r : Result). finish m told (steps_left ss ∷ in_nursery children ∷ fs) here (l ∷ outer) r)
+    (each_started told name here t first k (λ i. signed (l ∷ outer) (walk m body (here_in (label_over name here i) (cut_of here.input here.part k i) here) (l ∷ outer) t)) h)
+    ∙ finish_started fs m told ss children (numbered first k) here l outer t (fill told (starts_over name here t first k)))

@@ -1,0 +1,182 @@
+-- A task that stopped on its way: what it made so far, what is left of it, what that comes to, and how much it is.
+use Rattle.std.specs.Prelude.{ℕ, zero, suc, ◌+◌, ◌*◌, Bool, Option, List, [], ◌∷◌, ◌++◌}
+use Rattle.job_tree.specs.Tree.{Step, pace, Steps, Handled, Cleaned}
+use Rattle.job_tree.specs.Names.{size_of, handled_size, cleaned_size}
+use Rattle.exc_groups.specs.Exceptions.{Label, Exc}
+use Rattle.cancel_scopes.specs.Sight.{Tick, Level}
+use Rattle.job_meaning.specs.Log.{Entry, Log, nil, entry, sign, entered, task, followed_by, Member, Result}
+use Rattle.job_meaning.specs.Walk.{label_over, Stack, Mode, Here, walk, walk_step, walk_handler, walk_cleanup, done_at, and_then, sleeping, Kind, a_scope, a_nursery, left_as, Left, left_with, exc_after, catches, signed, gathered, handler_exc, outcome_after, with_outcome}
+
+-- What a task made so far, in order. The children that it started are numbered 0, 1, .. within it, and what they come
+-- to is told apart.
+pub data Event : Type 0 where
+  noted : (tick : ℕ) → (entry : Entry) → Event
+  signs : (label : Label) → (tick : ℕ) → Event
+  enters : (label : Label) → (tick : ℕ) → (deadline : Tick) → Event
+  starts : (child : ℕ) → (label : Label) → (tick : ℕ) → Event
+
+-- what each child of a task comes to, by its number
+abbrev pub Telling : Type 0
+Telling = ℕ → Result
+
+-- the log of what was made, with what is told of the children
+abbrev pub fill : Telling → List Event → Log
+fill told [] = nil
+fill told (noted t e ∷ es) = entry t e (fill told es)
+fill told (signs l t ∷ es) = sign l t (fill told es)
+fill told (enters l t d ∷ es) = entered l t d (fill told es)
+fill told (starts i l t ∷ es) = task l t (told i).end (told i).exc (told i).log (fill told es)
+
+-- children as members of their nursery
+abbrev pub told_members : Telling → List ℕ → List Member
+told_members told [] = []
+told_members told (i ∷ is) = record { end = (told i).end; exc = (told i).exc } ∷ told_members told is
+
+-- so many numbers of children from one on, in order
+abbrev pub numbered : ℕ → ℕ → List ℕ
+numbered first zero = []
+numbered first (suc k) = numbered first k ++ (first + k) ∷ []
+
+-- what a task makes that starts children 0 to k - 1 of a `start .. over`, and numbers them from one on
+abbrev pub starts_over : List ℕ → Here → ℕ → ℕ → ℕ → List Event
+starts_over name here t first zero = []
+starts_over name here t first (suc k) = starts_over name here t first k ++ starts (first + k) (label_over name here k) t ∷ []
+
+-- What a task has not finished. It is in one of them inside the other, and its stack has a level for each scope and
+-- nursery among them.
+pub data Frame : Type 0 where
+  -- the steps of a block that were not begun
+  steps_left : (steps : Steps) → Frame
+  -- a scope
+  in_scope : (fail : Bool) → Frame
+  -- the body of a nursery, with the children started so far
+  in_nursery : (children : List ℕ) → Frame
+  -- a nursery whose body ended, with its children
+  in_wait : (children : List ℕ) → (ended : ℕ) → (exc : Option Exc) → Frame
+  -- the body of a `try`
+  in_try : (handler : Handled) → (cleanup : Cleaned) → Frame
+  -- a handler, with the rest of the split
+  in_handler : (rest : Option Exc) → (cleanup : Cleaned) → Frame
+  -- a cleanup, with the earlier outcome
+  in_cleanup : (outcome : Option Exc) → Frame
+
+-- where a task stopped
+pub data Stopped : Type 0 where
+  -- it was started, and nothing of it was begun
+  to_begin : Stopped
+  -- it asked for the kernel of this step
+  asking : (asked : Step) → Stopped
+  -- it sleeps so many ticks since this one
+  asleep : (ticks since : ℕ) → Stopped
+  -- it waits for the last member of a nursery
+  awaiting : Stopped
+  -- it ended
+  at_end : (end : ℕ) → (exc : Option Exc) → Stopped
+
+-- what is left of a task: where it stopped, and its frames, innermost first
+pub record Rest : Type 0 where
+  pub stopped : Stopped
+  pub frames : List Frame
+
+-- a block is left: it catches or not, and notes that
+abbrev pub leaving_log : Kind → Label → Left → Result → Result
+leaving_log kind label left r =
+    record {
+      end = r.end;
+      exc = exc_after kind label r.end left;
+      members = [];
+      log = followed_by r.log (entry r.end (left_as kind label left.caught) nil);
+    }
+
+abbrev pub block_left : Kind → Level Label → Stack → Result → Result
+block_left kind level outer r = leaving_log kind level.label (left_with (catches level.from level.shield outer r.end) r.exc) r
+
+-- a nursery's body with the children that were started before
+abbrev pub with_children : List Member → Result → Result
+with_children ms r = record r { members = ms ++ r.members }
+
+-- a nursery whose body ended, before what comes after it
+abbrev pub body_ended : List Member → ℕ → Option Exc → Log → Result
+body_ended ms ended exc log = record { end = ended; exc = exc; members = ms; log = log }
+
+-- What a task comes to that has come to a result so far, and has these frames left on this stack. With no frame left
+-- it signs for its home nursery, if it ends with an exception.
+unfoldable pub finish : Mode → Telling → List Frame → Here → Stack → Result → Result
+finish m told [] here st r = signed st r
+finish m told (steps_left ss ∷ fs) here st r = finish m told fs here st (and_then r (λ u. walk m ss here st u))
+finish m told (in_scope fail ∷ fs) here [] r = finish m told fs here [] r
+finish m told (in_scope fail ∷ fs) here (l ∷ outer) r = finish m told fs here outer (block_left (a_scope fail) l outer r)
+finish m told (in_nursery children ∷ fs) here [] r = finish m told fs here [] r
+finish m told (in_nursery children ∷ fs) here (l ∷ outer) r =
+    finish m told fs here outer
+    (block_left a_nursery l outer (gathered l.label (with_children (told_members told children) (signed (l ∷ outer) r))))
+finish m told (in_wait children ended exc ∷ fs) here [] r = finish m told fs here [] r
+finish m told (in_wait children ended exc ∷ fs) here (l ∷ outer) r =
+    finish m told fs here outer
+    (block_left a_nursery l outer (gathered l.label (body_ended (told_members told children) ended exc r.log)))
+finish m told (in_try handler cleanup ∷ fs) here st r =
+    finish m told fs here st (walk_cleanup m cleanup here st (walk_handler m handler here st r))
+finish m told (in_handler rest cleanup ∷ fs) here st r =
+    finish m told fs here st (walk_cleanup m cleanup here st (with_outcome (handler_exc r.exc rest) r))
+finish m told (in_cleanup outcome ∷ fs) here st r =
+    finish m told fs here st (with_outcome (outcome_after outcome r.exc) r)
+
+-- what comes of a stop in tick t: of a kernel in the same tick, of a sleep when it is due or cancelled
+abbrev pub outcome_of : Mode → Stopped → Here → Stack → ℕ → Result
+outcome_of m to_begin here st t = done_at t
+outcome_of m (asking s) here st t = walk_step m s here st t
+outcome_of m (asleep n since) here st t = sleeping st n since
+outcome_of m awaiting here st t = done_at t
+outcome_of m (at_end u e) here st t = record { end = u; exc = e; members = []; log = nil }
+
+-- a task that ended has nothing left
+abbrev pub finished_from : Mode → Telling → Stopped → List Frame → Here → Stack → ℕ → Result
+finished_from m told (at_end u e) fs here st t = outcome_of m (at_end u e) here st t
+finished_from m told to_begin fs here st t = finish m told fs here st (outcome_of m to_begin here st t)
+finished_from m told (asking s) fs here st t = finish m told fs here st (outcome_of m (asking s) here st t)
+finished_from m told (asleep n since) fs here st t = finish m told fs here st (outcome_of m (asleep n since) here st t)
+finished_from m told awaiting fs here st t = finish m told fs here st (outcome_of m awaiting here st t)
+
+-- what is left of a task comes to this, on its stack in tick t
+abbrev pub rest_comes_to : Mode → Telling → Rest → Here → Stack → ℕ → Result
+rest_comes_to m told rest here st t = finished_from m told rest.stopped rest.frames here st t
+
+-- and the whole task to this, with what it made before
+abbrev pub task_comes_to : Mode → Telling → List Event → Rest → Here → Stack → ℕ → Result
+task_comes_to m told made rest here st t =
+    let r = rest_comes_to m told rest here st t in
+    record r { log = followed_by (fill told made) r.log }
+
+-- the rest of a task that was started and has not begun
+abbrev pub rest_at_start : Steps → Rest
+rest_at_start steps = record { stopped = to_begin; frames = steps_left steps ∷ [] }
+
+-- How much is left of a task: each turn makes it less. A step that was not begun counts 2, those of children still to
+-- be started too, and an open nursery 1.
+abbrev pub frame_weight : Frame → ℕ
+frame_weight (steps_left ss) = 2 * size_of ss
+frame_weight (in_scope fail) = 0
+frame_weight (in_nursery children) = 1
+frame_weight (in_wait children ended exc) = 1
+frame_weight (in_try handler cleanup) = 2 * (handled_size handler + cleaned_size cleanup)
+frame_weight (in_handler rest cleanup) = 2 * cleaned_size cleanup
+frame_weight (in_cleanup outcome) = 0
+
+abbrev pub frames_weight : List Frame → ℕ
+frames_weight [] = 0
+frames_weight (f ∷ fs) = frame_weight f + frames_weight fs
+
+-- a `pace` asks for a count and then sleeps
+abbrev pub asking_weight : Step → ℕ
+asking_weight (pace k) = 2
+asking_weight _ = 1
+
+abbrev pub stop_weight : Stopped → ℕ
+stop_weight to_begin = 1
+stop_weight (asking s) = asking_weight s
+stop_weight (asleep n since) = 1
+stop_weight awaiting = 0
+stop_weight (at_end u e) = 0
+
+abbrev pub rest_weight : Rest → ℕ
+rest_weight rest = stop_weight rest.stopped + frames_weight rest.frames
