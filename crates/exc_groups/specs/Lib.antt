@@ -4,3 +4,4 @@ pub mod ExcCode
 pub mod Weigh
 pub mod Held
 pub mod PartsFall
+pub mod Matching

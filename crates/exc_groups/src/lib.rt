@@ -4,8 +4,13 @@
 //! stands on `job_tree` for names.
 #![tactic(auto)]
 
+mod copy;
 mod exc;
 mod label;
+mod leaves;
+mod wanted;
 
 pub use exc::{Exc, Parts, Whose};
 pub use label::Label;
+pub use leaves::{group, holds_cancelled, split};
+pub use wanted::Match;

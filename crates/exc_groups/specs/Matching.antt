@@ -1,0 +1,15 @@
+-- What to split by, as the code holds it.
+use Rattle.std.specs.Prelude.{Bool, true, false, not}
+use Rattle.exc_groups.specs.declared.wanted.Match.{Match}
+use Rattle.exc_groups.specs.declared.wanted.Match.TheVariants.{Name, Cancelled}
+use Rattle.exc_groups.specs.Exceptions.{Exc}
+use Rattle.exc_groups.specs.Split.{Wanted, named, is_cancelled, matches}
+
+abbrev pub wanted_of : Match → Wanted
+wanted_of (Name name) = named name
+wanted_of Cancelled = is_cancelled
+
+-- the test of one side of a split: the leaves that match, or the others
+abbrev pub side : Bool → Wanted → Exc → Bool
+side true w leaf = matches w leaf
+side false w leaf = not (matches w leaf)
