@@ -1,14 +1,14 @@
 -- From the lines that are left to the one that holds a place.
-use Rattle.std.proofs.Common.{◌≡◌, ◌≢◌, ◌⊎◌, ℕ, zero, suc, ◌+◌, ◌-◌, ◌<◌, ◌≤◌, true, false, eqb, List, [], ◌∷◌, ◌++◌, length, get_or, slice_range, Option, Some, None, refl, sym, ap, subst, ◌∙◌, inl, inr, ⊎_elim, arith}
+use Rattle.std.proofs.Common.{◌≡◌, ◌≢◌, ◌⊎◌, ℕ, suc, ◌+◌, ◌-◌, ◌<◌, ◌≤◌, true, false, eqb, List, [], ◌∷◌, ◌++◌, length, get_or, slice_range, Option, Some, None, refl, sym, ap, subst, ◌∙◌, inl, inr, ⊎_elim, arith}
 use Rattle.std.specs.Prelude.{IsSome}
 use Rattle.std.proofs.lemmas.Bool.{eq-eqb, eqb-true, cases_Bool, cases_lt}
 use Rattle.memchr.specs.Find.{IsLastByte, is_byte}
-use Rattle.buffer_parts.specs.Lines.{Range, Span, lines_from, begun_at, lines_of}
+use Rattle.buffer_parts.specs.Lines.{Span, lines_from, begun_at, lines_of}
 use Rattle.buffer_parts.specs.Part.{GivesLine, SkipsTo, GoesToLine, IsLineOf, span_of, lines_left, source_of, range_left}
 use Rattle.buffer_parts.specs.declared.line.Line.{Line}
 use Rattle.buffer_parts.specs.declared.line.Lines.{Lines}
 use Rattle.buffer_parts.proofs.RangeLemmas.{length-slice_range, get_or-slice_range}
-use Rattle.buffer_parts.proofs.LineLemmas.{span, range, lines_of-none}
+use Rattle.buffer_parts.proofs.LineLemmas.{range, lines_of-none}
 use Rattle.buffer_parts.proofs.SearchLemmas.{starts_line-newline}
 use Rattle.buffer_parts.proofs.JoinLemmas.{lines_of-split, lines_from-some}
 

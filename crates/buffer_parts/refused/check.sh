@@ -1,10 +1,11 @@
 #!/bin/sh
-# The borrow checker must refuse each snippet of this folder at the end of the crate.
+# The borrow checker must refuse each snippet of this folder at the end of the crate. They are text files, since rt reads
+# code only below src/.
 set -eu
 here=$(cd "$(dirname "$0")" && pwd)
 room=$(mktemp -d)
 trap 'rm -rf "$room"' EXIT
-for snippet in "$here"/*.rt; do
+for snippet in "$here"/*.txt; do
     rm -rf "$room/crates"
     mkdir -p "$room/crates/buffer_parts"
     echo 'buffer_parts: memchr' > "$room/crates.txt"

@@ -1,5 +1,5 @@
-use Rattle.std.proofs.Common.{◌≡◌, ◌≤◌, ◌<◌, length, arith, ap}
-use Rattle.buffer_parts.specs.Part.{lines_left, source_of}
+use Rattle.std.proofs.Common.{arith}
+use Rattle.buffer_parts.specs.Part.{source_of}
 use Rattle.buffer_parts.proofs.SkipLemmas.{GivesLine-some, goes_to_line, lines_of-some}
 use Rattle.buffer_parts.proofs.line.Lines.line_at.Goals as goal
 
