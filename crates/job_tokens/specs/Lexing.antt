@@ -3,7 +3,8 @@ use Rattle.std.specs.Prelude.{◌≡◌, ℕ, zero, suc, ◌+◌, ◌*◌, ◌-�
 use Rattle.std.specs.List.{prefix_len}
 use Rattle.job_tree.specs.Words.{is_letter, is_digit, is_word_byte, is_word, is_text}
 use Rattle.job_tokens.specs.declared.token.Shape.{Shape}
-use Rattle.job_tokens.specs.declared.token.Shape.TheVariants.{Word, Number, Text, Open, Close, Semicolon}
+use Rattle.job_tokens.specs.declared.token.Shape.TheVariants.{Word, Number, Text, Mark}
+use Rattle.job_tokens.specs.declared.token.Mark.TheVariants.{Open, Close, Semicolon}
 use Rattle.job_tokens.specs.declared.token.Token.{Token}
 
 -- ---- blanks
@@ -150,9 +151,9 @@ token_at (b ∷ rest) =
     if is_letter b then word_at (b ∷ rest)
     else (if is_digit b then number_at (b ∷ rest)
     else (if b == 34 then string_at rest
-    else (if b == 123 then Some (Open, rest)
-    else (if b == 125 then Some (Close, rest)
-    else (if b == 59 then Some (Semicolon, rest)
+    else (if b == 123 then Some (Mark Open, rest)
+    else (if b == 125 then Some (Mark Close, rest)
+    else (if b == 59 then Some (Mark Semicolon, rest)
     else None)))))
 
 -- The bytes, which reach to the end, are these tokens with blanks before, between and behind them; or they are these

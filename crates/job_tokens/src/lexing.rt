@@ -1,7 +1,7 @@
 ghost use Rattle.std.specs.Prelude.{◌≡◌, ◌<◌, ◌≤◌, length, IfOk, IfSome};
 ghost use Rattle.job_tokens.specs.Lexing.{behind_blanks, token_at, Gives, Lexes};
 
-use crate::token::{Shape, Token};
+use crate::token::{Mark, Shape, Token};
 use crate::{number, run, string, word};
 use std::alloc::{AllocError, Global};
 
@@ -60,9 +60,9 @@ fn token_at(bytes: &[u8]) -> Option<(Shape, &[u8])>
     }
     match *first {
         b'"' => string::string_at(rest),
-        b'{' => Some((Shape::Open, rest)),
-        b'}' => Some((Shape::Close, rest)),
-        b';' => Some((Shape::Semicolon, rest)),
+        b'{' => Some((Shape::Mark(Mark::Open), rest)),
+        b'}' => Some((Shape::Mark(Mark::Close), rest)),
+        b';' => Some((Shape::Mark(Mark::Semicolon), rest)),
         _ => None,
     }
 }

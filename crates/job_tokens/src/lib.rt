@@ -12,4 +12,4 @@ mod token;
 mod word;
 
 pub use lexing::{Lexed, lex};
-pub use token::{Shape, Token};
+pub use token::{Mark, Shape, Token};

@@ -1,0 +1,8 @@
+//! Job texts to jobs and back.
+#![tactic(auto)]
+
+mod keyword;
+mod symbol;
+
+pub use keyword::Keyword;
+pub use symbol::Symbol;
