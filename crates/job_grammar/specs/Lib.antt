@@ -1,2 +1,5 @@
 pub mod Keywords
 pub mod Symbols
+pub mod Pieces
+pub mod Syntax
+pub mod Reserved

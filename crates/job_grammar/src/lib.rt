@@ -1,6 +1,7 @@
 //! Job texts to jobs and back.
 #![tactic(auto)]
 
+mod course;
 mod keyword;
 mod symbol;
 
