@@ -3,7 +3,9 @@
 
 mod course;
 mod keyword;
+mod range;
 mod symbol;
+mod tree;
 
 pub use keyword::Keyword;
 pub use symbol::Symbol;
