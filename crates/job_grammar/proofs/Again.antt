@@ -1,14 +1,14 @@
 -- A job is read again from its tokens, so no tokens are those of two jobs.
-use Rattle.std.proofs.Common.{◌≡◌, ℕ, zero, suc, ◌+◌, ◌<◌, ◌≤◌, eqb, List, [], ◌∷◌, ◌++◌, length, Option, Some, None, refl, sym, ap, subst, ◌∙◌, append_assoc, arith}
+use Rattle.std.proofs.Common.{◌≡◌, ℕ, zero, suc, ◌<◌, List, [], ◌∷◌, ◌++◌, length, Some, refl, sym, ap, ◌∙◌, arith}
 use Rattle.std.proofs.lemmas.List.{map-append, length-append}
-use Rattle.job_tree.specs.Tree.{Step, sleep, checkpoint, forever, pace, find, head, longest, need, raise, cancel, scope, nursery, start, attempt, Steps, stop, step, Tree}
+use Rattle.job_tree.specs.Tree.{Step, sleep, find, raise, Steps, stop, step, Tree}
 use Rattle.job_tokens.specs.declared.token.Mark.TheVariants as mark
 use Rattle.job_tokens.specs.declared.token.Shape.{Shape}
 use Rattle.job_tokens.specs.declared.token.Shape.TheVariants as shape
 use Rattle.job_grammar.specs.Keywords.{keyword_of}
 use Rattle.job_grammar.specs.Symbols.{◌>>=◌}
 use Rattle.job_grammar.specs.Pieces.{Piece, shapes_in, closes, steps_pieces, job_pieces, AreSteps}
-use Rattle.job_grammar.specs.Reading.{Read, steps_at, job_at, ended_or}
+use Rattle.job_grammar.specs.Reading.{Read, steps_at, job_at}
 
 -- the tokens of steps, the mark that ends them, and others
 abbrev closed : Steps → List Shape → List Shape
@@ -29,29 +29,16 @@ steps_again (step (find t) others) rest (suc n) are lt = with_step (find t) (ste
 steps_again (step (raise e) others) rest (suc n) are lt = with_step (raise e) (steps_at n (closed others rest)) others rest (steps_again others rest n are.1 (omega arith))
 steps_again (step _ others) rest (suc n) are lt = absurd are.0
 
-pub job_again : (job : Tree) → AreSteps job.steps → job_at (shapes_in (job_pieces job)) ≡ Some (job.name, job.steps)
+pub job_again : (job : Tree) → AreSteps job.steps → job_at (shapes_in (job_pieces job)) ≡ Some job
 unfolding keyword_of
 job_again job are =
     let split : shapes_in (steps_pieces job.steps ++ closes ∷ []) ≡ closed job.steps [] = map-append (λ (p : Piece). p.shape) (steps_pieces job.steps) (closes ∷ []) in
     let whole = steps_again job.steps [] (length (closed job.steps [])) are (omega (arith, length-append (shapes_in (steps_pieces job.steps)) (shape.Mark mark.Close ∷ []))) in
     rw (split, whole) refl
 
-abbrev found : List ℕ × Steps → Option (List ℕ × Steps)
-found pair = Some pair
-
-found_same : (a b : List ℕ × Steps) → found a ≡ found b → a ≡ b
-found_same a b e = cc
-
-found_name : (a b : List ℕ × Steps) → found a ≡ found b → a.0 ≡ b.0
-found_name a b e = ap (λ (p : List ℕ × Steps). p.0) (found_same a b e)
-
-found_steps : (a b : List ℕ × Steps) → found a ≡ found b → a.1 ≡ b.1
-found_steps a b e = ap (λ (p : List ℕ × Steps). p.1) (found_same a b e)
+some_same : (a b : Tree) → Some a ≡ Some b → a ≡ b
+some_same a b e = cc
 
 -- no tokens are those of two jobs
 pub one_job : (a b : Tree) → AreSteps a.steps → AreSteps b.steps → shapes_in (job_pieces a) ≡ shapes_in (job_pieces b) → a ≡ b
-one_job a b are_a are_b e =
-    let both : found (a.name, a.steps) ≡ found (b.name, b.steps) = sym (job_again a are_a) ∙ ap job_at e ∙ job_again b are_b in
-    let names : a.name ≡ b.name = found_name (a.name, a.steps) (b.name, b.steps) both in
-    let steps : a.steps ≡ b.steps = found_steps (a.name, a.steps) (b.name, b.steps) both in
-    λ i. record { name = names i; steps = steps i }
+one_job a b are_a are_b e = some_same a b (sym (job_again a are_a) ∙ ap job_at e ∙ job_again b are_b)

@@ -2,7 +2,7 @@
 use Rattle.std.proofs.Common.{◌≡◌, ℕ, Bool, true, false, cond, List, [], ◌∷◌, ◌++◌, Option, Some, None, refl, sym, ap, subst, ◌∙◌}
 use Rattle.std.specs.Str.{bytes_eq}
 use Rattle.std.proofs.lemmas.Slice.Eq.{bytes_eq-Decides}
-use Rattle.job_tree.specs.Tree.{sleep, find, raise, Steps, stop, step, Tree}
+use Rattle.job_tree.specs.Tree.{sleep, find, raise, stop, step, Tree}
 use Rattle.job_tokens.specs.declared.token.Mark.TheVariants as mark
 use Rattle.job_tokens.specs.declared.token.Shape.{Shape}
 use Rattle.job_tokens.specs.declared.token.Shape.TheVariants as shape
@@ -12,8 +12,8 @@ use Rattle.job_grammar.specs.declared.symbol.Symbol.{Symbol}
 use Rattle.job_grammar.specs.declared.symbol.Symbol.TheVariants as symbol
 use Rattle.job_grammar.specs.Keywords.{spelling, among, keywords, keyword_of}
 use Rattle.job_grammar.specs.Symbols.{Rest, next, text_rest, step_rest, ◌>>=◌}
-use Rattle.job_grammar.specs.Pieces.{Role, Piece, keyword, named, number, string, opens, closes, ends, step_pieces, steps_pieces, job_pieces, AreSteps}
-use Rattle.job_grammar.specs.Syntax.{Prints, Fits, role_of}
+use Rattle.job_grammar.specs.Pieces.{Piece, keyword, named, number, string, opens, closes, ends, steps_pieces, job_pieces}
+use Rattle.job_grammar.specs.Syntax.{Fits, role_of}
 use Rattle.job_grammar.proofs.Grammar.{Left}
 
 -- ---- a keyword is spelled so

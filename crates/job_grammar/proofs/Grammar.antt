@@ -1,19 +1,11 @@
 -- The grammar symbol by symbol: each symbol can be completed, and a token in front of the rest goes on and back.
-use Rattle.std.proofs.Common.{◌≡◌, ℕ, List, [], ◌∷◌, ◌++◌, Option, Some, None, refl, sym, ap, subst, ◌∙◌, append_assoc}
-use Rattle.std.specs.Str.{bytes_eq}
-use Rattle.std.proofs.lemmas.Slice.Eq.{bytes_eq-Decides}
-use Rattle.job_tree.specs.Tree.{Step, sleep, checkpoint, forever, pace, find, head, longest, need, raise, cancel, scope, nursery, start, attempt, Steps, stop, step, Tree}
-use Rattle.job_tokens.specs.declared.token.Mark.{Mark}
-use Rattle.job_tokens.specs.declared.token.Mark.TheVariants as mark
-use Rattle.job_tokens.specs.declared.token.Shape.{Shape}
-use Rattle.job_tokens.specs.declared.token.Shape.TheVariants as shape
-use Rattle.job_grammar.specs.declared.keyword.Keyword.{Keyword}
-use Rattle.job_grammar.specs.declared.keyword.Keyword.TheVariants as word
+use Rattle.std.proofs.Common.{◌≡◌, List, [], ◌∷◌, ◌++◌, Some, None, refl, sym, subst}
+use Rattle.job_tree.specs.Tree.{sleep, find, raise, Steps, stop, step, Tree}
 use Rattle.job_grammar.specs.declared.symbol.Symbol.{Symbol}
 use Rattle.job_grammar.specs.declared.symbol.Symbol.TheVariants as symbol
-use Rattle.job_grammar.specs.Keywords.{spelling, among, keywords, keyword_of}
-use Rattle.job_grammar.specs.Symbols.{Rest, next, text_rest, step_rest, ◌>>=◌}
-use Rattle.job_grammar.specs.Pieces.{Role, Piece, keyword, named, number, string, opens, closes, ends, step_pieces, steps_pieces, job_pieces, AreSteps}
+use Rattle.job_grammar.specs.Keywords.{keyword_of}
+use Rattle.job_grammar.specs.Symbols.{Rest, next}
+use Rattle.job_grammar.specs.Pieces.{Piece, named, number, string, opens, closes, ends, steps_pieces, job_pieces, AreSteps}
 use Rattle.job_grammar.specs.Syntax.{Prints, Fits, role_of}
 
 -- ---- completion

@@ -3,3 +3,7 @@ pub mod Forward
 pub mod Places
 pub mod Steps
 pub mod Again
+pub mod Sizes
+pub mod Names
+pub mod Passing
+pub mod Arms

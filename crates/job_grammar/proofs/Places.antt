@@ -1,14 +1,13 @@
 -- The place at which tokens leave the grammar: found token by token, and only one.
-use Rattle.std.proofs.Common.{◌≡◌, ℕ, suc, ◌+◌, ◌<◌, ◌≤◌, List, [], ◌∷◌, ◌++◌, length, map, Option, Some, None, ◌⊎◌, inl, inr, refl, sym, ap, subst, ◌∙◌, append_assoc, arith}
-use Rattle.std.proofs.lemmas.List.{append-nil}
+use Rattle.std.proofs.Common.{◌≡◌, ℕ, List, [], ◌∷◌, ◌++◌, Option, Some, None, inl, inr, refl, sym, ap, subst, ◌∙◌}
 use Rattle.job_tokens.specs.declared.token.Shape.{Shape}
 use Rattle.job_tokens.specs.declared.token.Token.{Token}
 use Rattle.job_tokens.specs.Shapes.{shapes_of}
 use Rattle.job_grammar.specs.declared.symbol.Symbol.{Symbol}
 use Rattle.job_grammar.specs.Symbols.{Rest, next}
 use Rattle.job_grammar.specs.Pieces.{Piece, shapes_in}
-use Rattle.job_grammar.specs.Syntax.{Fits, IsText, Begins, StopsAt, EndsEarly, LeavesAt, fault_at, or_stop, role_of}
-use Rattle.job_grammar.proofs.Grammar.{Left, Goes, goes, completed}
+use Rattle.job_grammar.specs.Syntax.{IsText, Begins, LeavesAt, fault_at, or_stop, role_of}
+use Rattle.job_grammar.proofs.Grammar.{Left, goes, completed}
 use Rattle.job_grammar.proofs.Forward.{forward}
 
 -- ---- one token
@@ -68,10 +67,13 @@ leaves_on end s ss more t ts at is (inl stops) = inl (record {
   no_further = λ b. stops.no_further (b.0, text_on s ss more t.shape (shapes_of (stops.front ++ stops.stop ∷ []) ++ b.0) is b.1);
   place = stops.place;
 })
-leaves_on end s ss more t ts at is (inr early) = inr (record {
-  begins = (early.0.begins.0, text_forward s ss more t.shape (shapes_of ts ++ early.0.begins.0) is early.0.begins.1);
-  not_whole = λ text. early.0.not_whole (text_on s ss more t.shape (shapes_of ts) is text);
-}, early.1)
+leaves_on end s ss more t ts at is (inr early) = inr (
+  record {
+    begins = (early.0.begins.0, text_forward s ss more t.shape (shapes_of ts ++ early.0.begins.0) is early.0.begins.1);
+    not_whole = λ text. early.0.not_whole (text_on s ss more t.shape (shapes_of ts) is text);
+  },
+  early.1,
+)
 
 fault_on : (end : ℕ) (s : Symbol) (ss more : List Symbol) (t : Token) (ts : List Token) (o : Option ℕ) → next s t.shape ≡ Some more → IsFault end (more ++ ss) ts o → IsFault end (s ∷ ss) (t ∷ ts) o
 fault_on end s ss more t ts None is text = text_forward s ss more t.shape (shapes_of ts) is text

@@ -1,12 +1,12 @@
 -- Reading steps one after the other, and reading them again from their tokens.
-use Rattle.std.proofs.Common.{◌≡◌, ℕ, zero, suc, ◌+◌, ◌-◌, ◌<◌, ◌≤◌, List, [], ◌∷◌, ◌++◌, length, Option, Some, None, refl, sym, ap, subst, ◌∙◌, append_assoc, arith}
+use Rattle.std.proofs.Common.{◌≡◌, ℕ, suc, ◌+◌, ◌-◌, ◌<◌, ◌≤◌, List, [], ◌∷◌, ◌++◌, Some, None, refl, sym, ap, ◌∙◌, arith}
 use Rattle.job_tree.specs.declared.step.Step.{Step}
 use Rattle.job_tree.specs.Tree as tree
 use Rattle.job_tree.specs.Blocks.{step_of, steps_of}
 use Rattle.job_tokens.specs.declared.token.Mark.TheVariants as mark
 use Rattle.job_tokens.specs.declared.token.Shape.{Shape}
 use Rattle.job_grammar.specs.Symbols.{◌>>=◌}
-use Rattle.job_grammar.specs.Reading.{Read, mark_at, step_at, steps_at, ended_or}
+use Rattle.job_grammar.specs.Reading.{Read, mark_at, step_at, steps_at}
 
 -- steps in front of a block
 abbrev pub in_front : List Step → tree.Steps → tree.Steps

@@ -5,3 +5,6 @@ pub mod Syntax
 pub mod Reserved
 pub mod Ranges
 pub mod Reading
+pub mod Kinds
+pub mod Refusals
+pub mod Jobs

@@ -69,5 +69,5 @@ abbrev pub head_at : List Shape → Read (List ℕ)
 head_at shapes = keyword_at shapes >>= λ k. (if is_job k.0 then word_at k.1 else None) >>= λ w. mark_at mark.Open w.1 >>= λ rest. Some (w.0, rest)
 
 -- a whole job
-abbrev pub job_at : List Shape → Option (List ℕ × Steps)
-job_at shapes = head_at shapes >>= λ name. steps_at (length name.1) name.1 >>= λ steps. if length steps.1 == 0 then Some (name.0, steps.0) else None
+abbrev pub job_at : List Shape → Option Tree
+job_at shapes = head_at shapes >>= λ name. steps_at (length name.1) name.1 >>= λ steps. if length steps.1 == 0 then Some (record { name = name.0; steps = steps.0 }) else None

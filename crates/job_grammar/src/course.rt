@@ -27,10 +27,16 @@ pub fn follow(alloc: Global, tokens: &[Token], end: usize) -> Result<Course, All
     let mut reserved = None;
     for token in tokens {
         let Some(symbol) = stack.pop() else {
-            return Ok(Course { fault: Some(token.at), reserved });
+            return Ok(Course {
+                fault: Some(token.at),
+                reserved,
+            });
         };
         let Some(rest) = symbol.next(token.shape) else {
-            return Ok(Course { fault: Some(token.at), reserved });
+            return Ok(Course {
+                fault: Some(token.at),
+                reserved,
+            });
         };
         if reserved.is_none() && !allows(symbol, token.shape) {
             reserved = Some(token.at);
@@ -69,5 +75,6 @@ fn is_free(word: Option<Name>) -> bool
 fn is_reserved(word: Name) -> bool
     ensures { result ≡ is_reserved word }
 {
-    Keyword::of(word).is_some() || (word.bytes() == b"Cancelled".as_slice() || word.bytes() == b"TooSlow".as_slice())
+    Keyword::of(word).is_some()
+        || (word.bytes() == b"Cancelled".as_slice() || word.bytes() == b"TooSlow".as_slice())
 }

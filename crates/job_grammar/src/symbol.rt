@@ -26,9 +26,13 @@ pub enum Symbol {
 
 // What follows a token is listed last first, as it goes onto a stack.
 const NOTHING: [Symbol; 0] = [];
+
 const JOB: [Symbol; 3] = [Symbol::Steps, Symbol::Open, Symbol::Name];
+
 const SLEEP: [Symbol; 3] = [Symbol::Steps, Symbol::Semicolon, Symbol::Number];
+
 const FIND: [Symbol; 3] = [Symbol::Steps, Symbol::Semicolon, Symbol::Text];
+
 const RAISE: [Symbol; 3] = [Symbol::Steps, Symbol::Semicolon, Symbol::Name];
 
 impl Symbol {

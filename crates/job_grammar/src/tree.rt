@@ -4,14 +4,15 @@ ghost use Rattle.job_tokens.specs.Shapes.{shapes_of};
 ghost use Rattle.job_tokens.specs.Lexing.{Gives};
 ghost use Rattle.job_grammar.specs.Reading.{word_at, keyword_at, number_at, text_at, mark_at, step_at, step_behind, steps_at, head_at, job_at};
 
+use crate::job::Job;
 use crate::keyword::Keyword;
 use job_tokens::{Mark, Token};
 use job_tree::{Body, Name, Step, Text};
 use std::alloc::{AllocError, Global};
 
-/// The name and the steps of the job whose tokens these are: none where they are no job's.
-pub fn job_at(alloc: Global, tokens: &[Token]) -> Result<Option<(Name, Body)>, AllocError>
-    ensures { IfOk result (λ x. Gives (λ j. (j.0, j.1)) x (job_at (shapes_of tokens.now))) }
+/// The job whose tokens these are: none where they are no job's.
+pub fn job_at(alloc: Global, tokens: &[Token]) -> Result<Option<Job>, AllocError>
+    ensures { IfOk result (λ job. job ≡ job_at (shapes_of tokens.now)) }
 {
     let Some((name, rest)) = head_at(tokens) else {
         return Ok(None);
@@ -22,7 +23,7 @@ pub fn job_at(alloc: Global, tokens: &[Token]) -> Result<Option<(Name, Body)>, A
     if !rest.is_empty() {
         return Ok(None);
     }
-    Ok(Some((name, body)))
+    Ok(Some(Job::new(name, body)))
 }
 
 // The job's name, behind its keyword and in front of its `{`.

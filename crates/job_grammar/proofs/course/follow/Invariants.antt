@@ -7,5 +7,5 @@ use Rattle.job_grammar.proofs.course.follow.Given as goal
 abbrev pub invariant-loop-token : goal.invariant-loop-token
 invariant-loop-token l = record {
   fault : fault_at l.end (reverse l.stack.items) (drop l.token-index l.tokens) ≡ fault_at l.end whole_job l.tokens;
-  reserved : option_or l.reserved (reserved_at (reverse l.stack.items) (drop l.token-index l.tokens)) ≡ reserved_at whole_job l.tokens
+  reserved : option_or l.reserved (reserved_at (reverse l.stack.items) (drop l.token-index l.tokens)) ≡ reserved_at whole_job l.tokens;
 }

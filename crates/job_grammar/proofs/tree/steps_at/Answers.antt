@@ -1,6 +1,5 @@
-use Rattle.std.proofs.Common.{◌≡◌, ◌++◌, ◌∷◌, [], length, sym, ◌∙◌, subst}
+use Rattle.std.proofs.Common.{length}
 use Rattle.job_tokens.specs.Shapes.{shapes_of}
-use Rattle.job_tree.specs.Blocks.{steps_of}
 use Rattle.job_grammar.specs.Reading.{steps_at}
 use Rattle.job_grammar.proofs.Steps.{ends, fails, goes_on, is_over}
 use Rattle.job_grammar.proofs.tree.steps_at.Goals as goal
