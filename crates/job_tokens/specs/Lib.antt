@@ -1,2 +1,3 @@
 pub mod Shapes
 pub mod Lexing
+pub mod Canon

@@ -4,6 +4,7 @@
 //! first byte from which no token can be read. It stands on `job_tree` for names and strings.
 #![tactic(auto)]
 
+mod canon;
 mod lexing;
 mod number;
 mod run;
@@ -11,5 +12,6 @@ mod string;
 mod token;
 mod word;
 
+pub use canon::push_canon;
 pub use lexing::{Lexed, lex};
 pub use token::{Mark, Shape, Token};
