@@ -7,3 +7,4 @@ pub mod Sizes
 pub mod Names
 pub mod Passing
 pub mod Arms
+pub mod Writing_steps

@@ -8,3 +8,4 @@ pub mod Reading
 pub mod Kinds
 pub mod Refusals
 pub mod Jobs
+pub mod Canon

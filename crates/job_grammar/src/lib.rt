@@ -9,7 +9,9 @@ mod range;
 mod reading;
 mod symbol;
 mod tree;
+mod writing;
 
 pub use fault::{JobFault, JobKind};
 pub use job::Job;
-pub use reading::{MOST_BYTES, read_job};
+pub use reading::{FIRST_LINE, MOST_BYTES, read_job};
+pub use writing::write_job;

@@ -15,7 +15,8 @@ use std::alloc::{AllocError, Global};
 /// The most bytes of a job text.
 pub const MOST_BYTES: usize = 65_536;
 
-const FIRST_LINE: [u8; 11] = *b"trio-job 1\n";
+/// The line with which each job text begins.
+pub const FIRST_LINE: [u8; 11] = *b"trio-job 1\n";
 
 /// The job that a text spells, or why the text is refused.
 pub fn read_job(alloc: Global, text: &[u8]) -> Result<Job, JobFault>
