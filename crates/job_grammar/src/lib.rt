@@ -15,3 +15,6 @@ pub use fault::{JobFault, JobKind};
 pub use job::Job;
 pub use reading::{FIRST_LINE, MOST_BYTES, read_job};
 pub use writing::write_job;
+
+#[cfg(test)]
+mod tests;
