@@ -1,0 +1,11 @@
+pub mod Keywords
+pub mod Symbols
+pub mod Pieces
+pub mod Syntax
+pub mod Reserved
+pub mod Ranges
+pub mod Reading
+pub mod Kinds
+pub mod Refusals
+pub mod Jobs
+pub mod Canon

@@ -1,0 +1,80 @@
+ghost use Rattle.std.specs.Prelude.{◌≡◌, IfOk, None};
+ghost use Rattle.job_grammar.specs.Syntax.{fault_at, role_of, whole_job};
+ghost use Rattle.job_grammar.specs.Reserved.{reserved_at, allows, is_free, is_reserved};
+
+use crate::keyword::Keyword;
+use crate::symbol::Symbol;
+use job_tokens::{Shape, Token};
+use job_tree::Name;
+use std::alloc::{AllocError, Global};
+
+/// What was found along the tokens of a text.
+#[derive(Clone, Copy)]
+pub struct Course {
+    /// Where the tokens leave the grammar.
+    pub fault: Option<usize>,
+    /// The first name that is reserved.
+    pub reserved: Option<usize>,
+}
+
+/// Goes along the tokens of a text that ends at `end`.
+pub fn follow(alloc: Global, tokens: &[Token], end: usize) -> Result<Course, AllocError>
+    ensures fault { IfOk result (λ c. c.fault ≡ fault_at end whole_job tokens.now) }
+    ensures reserved { IfOk result (λ c. c.fault ≡ None → c.reserved ≡ reserved_at whole_job tokens.now) }
+{
+    let mut stack = Vec::new(alloc);
+    stack.push(Symbol::Job)?;
+    let mut reserved = None;
+    for token in tokens {
+        let Some(symbol) = stack.pop() else {
+            return Ok(Course {
+                fault: Some(token.at),
+                reserved,
+            });
+        };
+        let Some(rest) = symbol.next(token.shape) else {
+            return Ok(Course {
+                fault: Some(token.at),
+                reserved,
+            });
+        };
+        if reserved.is_none() && !allows(symbol, token.shape) {
+            reserved = Some(token.at);
+        }
+        stack.extend_from_slice(rest)?;
+    }
+    let fault = if stack.is_empty() { None } else { Some(end) };
+    Ok(Course { fault, reserved })
+}
+
+// Whether a token may stand for a symbol: a name that is reserved may not.
+fn allows(symbol: Symbol, shape: Shape) -> bool
+    ensures { result ≡ allows (role_of symbol) shape }
+{
+    match symbol {
+        Symbol::Name => is_free(shape.word()),
+        Symbol::Job => true,
+        Symbol::Steps => true,
+        Symbol::Number => true,
+        Symbol::Text => true,
+        Symbol::Open => true,
+        Symbol::Semicolon => true,
+    }
+}
+
+fn is_free(word: Option<Name>) -> bool
+    ensures { result ≡ is_free word }
+{
+    match word {
+        Some(word) => !is_reserved(word),
+        None => true,
+    }
+}
+
+// A keyword, or an exception that no step raises.
+fn is_reserved(word: Name) -> bool
+    ensures { result ≡ is_reserved word }
+{
+    Keyword::of(word).is_some()
+        || (word.bytes() == b"Cancelled".as_slice() || word.bytes() == b"TooSlow".as_slice())
+}

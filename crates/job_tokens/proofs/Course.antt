@@ -1,0 +1,73 @@
+-- Lexing goes on from left to right, and gives one answer.
+use Rattle.std.proofs.Common.{◌≡◌, ℕ, ◌+◌, ◌-◌, ◌<◌, ◌≤◌, List, [], ◌∷◌, ◌++◌, length, Option, Some, None, refl, sym, ap, subst, ◌∙◌, append_assoc, arith}
+use Rattle.std.proofs.lemmas.List.{append-nil, nil_from_length}
+use Rattle.job_tokens.specs.declared.token.Shape.{Shape}
+use Rattle.job_tokens.specs.declared.token.Token.{Token}
+use Rattle.job_tokens.specs.Lexing.{behind_blanks, token_at, Lexes}
+
+-- the bytes from the first that is no blank, and the tokens from there on
+abbrev pub LexesFrom : ℕ → List ℕ → List Token → Option ℕ → Type 0
+LexesFrom end bytes [] None = bytes ≡ []
+LexesFrom end bytes [] (Some at) = (token_at bytes ≡ None) × (0 < length bytes) × (at + length bytes ≡ end)
+LexesFrom end bytes (t ∷ ts) fault = (rest : List ℕ) × (token_at bytes ≡ Some (t.shape, rest)) × (t.at + length bytes ≡ end) × Lexes end rest ts fault
+
+pub from_blanks : (end : ℕ) (bytes rest : List ℕ) (ts : List Token) (fault : Option ℕ) → rest ≡ behind_blanks bytes → LexesFrom end rest ts fault → Lexes end bytes ts fault
+from_blanks end bytes rest [] None e h = sym e ∙ h
+from_blanks end bytes rest [] (Some at) e h = subst (λ (r : List ℕ). (token_at r ≡ None) × (0 < length r) × (at + length r ≡ end)) e h
+from_blanks end bytes rest (t ∷ ts) fault e h = subst (λ (r : List ℕ). (after : List ℕ) × (token_at r ≡ Some (t.shape, after)) × (t.at + length r ≡ end) × Lexes end after ts fault) e h
+
+-- what is left to read, behind the blanks, completes the tokens so far
+pub record LexesOn (end : ℕ) (bytes : List ℕ) (front : List Token) (rest : List ℕ) : Type 0 where
+  pub on : (ts : List Token) (fault : Option ℕ) → LexesFrom end rest ts fault → Lexes end bytes (front ++ ts) fault
+
+pub none_yet : (end : ℕ) (bytes rest : List ℕ) → rest ≡ behind_blanks bytes → LexesOn end bytes [] rest
+none_yet end bytes rest e = record { on = λ ts fault h. from_blanks end bytes rest ts fault e h }
+
+pub one_more : (end : ℕ) (bytes : List ℕ) (front : List Token) (rest after next : List ℕ) (t : Token) → token_at rest ≡ Some (t.shape, after) → t.at + length rest ≡ end → next ≡ behind_blanks after
+    → LexesOn end bytes front rest → LexesOn end bytes (front ++ t ∷ []) next
+one_more end bytes front rest after next t found place e before = record {
+  on = λ ts fault h. subst (λ (all : List Token). Lexes end bytes all fault) (sym (append_assoc front (t ∷ []) ts)) (before.on (t ∷ ts) fault (after, found, place, from_blanks end after next ts fault e h));
+}
+
+-- where no token can be read
+pub stops : (end : ℕ) (bytes : List ℕ) (front : List Token) (rest : List ℕ) → token_at rest ≡ None → 0 < length rest → length rest ≤ end → LexesOn end bytes front rest → Lexes end bytes front (Some (end - length rest))
+stops end bytes front rest none some within before =
+    subst (λ (all : List Token). Lexes end bytes all (Some (end - length rest))) (append-nil front) (before.on [] (Some (end - length rest)) (none, some, omega arith))
+
+-- where nothing is left
+pub is_done : (end : ℕ) (bytes : List ℕ) (front : List Token) (rest : List ℕ) → length rest ≡ 0 → LexesOn end bytes front rest → Lexes end bytes front None
+is_done end bytes front rest empty before =
+    subst (λ (all : List Token). Lexes end bytes all None) (append-nil front) (before.on [] None (nil_from_length rest empty))
+
+-- ---- one answer
+
+-- two tokens of one reading
+some_is : {A : Type 0} (o : Option A) (x y : A) → o ≡ Some x → o ≡ Some y → x ≡ y
+some_is o x y p q = cc
+
+not_both : {A : Type 0} (o : Option A) (x : A) → o ≡ Some x → o ≡ None → ⊥
+not_both o x p q = cc
+
+-- nothing is no token
+nothing_there : (bytes : List ℕ) (x : Shape × List ℕ) → bytes ≡ [] → token_at bytes ≡ Some x → ⊥
+nothing_there bytes x e found = let none : token_at bytes ≡ None = ap token_at e in not_both (token_at bytes) x found none
+
+abbrev Same : List Token → List Token → Option ℕ → Option ℕ → Type 0
+Same ts us f g = (ts ≡ us) × (f ≡ g)
+
+pub Lexes-unique : (end : ℕ) (bytes : List ℕ) (ts us : List Token) (f g : Option ℕ) → Lexes end bytes ts f → Lexes end bytes us g → (ts ≡ us) × (f ≡ g)
+Lexes-unique end bytes [] [] None None p q = (refl, refl)
+Lexes-unique end bytes [] [] None (Some b) p q = absurd (omega (arith, ap (length {A = ℕ}) p, q.1))
+Lexes-unique end bytes [] [] (Some a) None p q = absurd (omega (arith, ap (length {A = ℕ}) q, p.1))
+Lexes-unique end bytes [] [] (Some a) (Some b) p q = (refl, ap Some (omega (arith, p.2, q.2)))
+Lexes-unique end bytes [] (u ∷ us) None g p q = absurd (nothing_there (behind_blanks bytes) (u.shape, q.0) p q.1)
+Lexes-unique end bytes [] (u ∷ us) (Some a) g p q = absurd (not_both (token_at (behind_blanks bytes)) (u.shape, q.0) q.1 p.0)
+Lexes-unique end bytes (t ∷ ts) [] f None p q = absurd (nothing_there (behind_blanks bytes) (t.shape, p.0) q p.1)
+Lexes-unique end bytes (t ∷ ts) [] f (Some b) p q = absurd (not_both (token_at (behind_blanks bytes)) (t.shape, p.0) p.1 q.0)
+Lexes-unique end bytes (t ∷ ts) (u ∷ us) f g p q =
+    let one = some_is (token_at (behind_blanks bytes)) (t.shape, p.0) (u.shape, q.0) p.1 q.1 in
+    let shape : t.shape ≡ u.shape = ap (λ (x : Shape × List ℕ). x.0) one in
+    let rest : p.0 ≡ q.0 = ap (λ (x : Shape × List ℕ). x.1) one in
+    let place : t.at ≡ u.at = omega (arith, p.2, q.2) in
+    let others = Lexes-unique end q.0 ts us f g (subst (λ (r : List ℕ). Lexes end r ts f) rest p.3) q.3 in
+    ((λ i. record { at = place i; shape = shape i } ∷ others.0 i), others.1)

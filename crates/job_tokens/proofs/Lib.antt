@@ -1,0 +1,3 @@
+pub mod Course
+pub mod Numbers
+pub mod Units

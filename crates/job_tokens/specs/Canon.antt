@@ -1,0 +1,55 @@
+-- The one canonical text of tokens.
+use Rattle.std.specs.Prelude.{ℕ, ◌+◌, ◌/◌, ◌%◌, List, [], ◌∷◌, ◌++◌, Bool, true, false, ◌&&◌, ◌||◌, ◌==◌, nat_lt, Option, Some, None, if◌then◌else◌}
+use Rattle.std.specs.List.{flat_map}
+use Rattle.std.specs.Fmt.{decimal}
+use Rattle.job_tokens.specs.declared.token.Mark.{Mark}
+use Rattle.job_tokens.specs.declared.token.Mark.TheVariants.{Open, Close, Semicolon}
+use Rattle.job_tokens.specs.declared.token.Shape.{Shape}
+use Rattle.job_tokens.specs.declared.token.Shape.TheVariants as shape
+use Rattle.job_tokens.specs.Lexing.{is_plain}
+
+-- a hexadecimal digit
+abbrev pub hex_digit : ℕ → ℕ
+hex_digit d = if nat_lt d 10 then 48 + d else 87 + d
+
+-- one byte of a string
+abbrev pub unit : ℕ → List ℕ
+unit b =
+    if (b == 34) || (b == 92) then 92 ∷ b ∷ []
+    else (if is_plain b then b ∷ [] else 92 ∷ 120 ∷ hex_digit (b / 16) ∷ hex_digit (b % 16) ∷ [])
+
+abbrev pub mark_byte : Mark → ℕ
+mark_byte Open = 123
+mark_byte Close = 125
+mark_byte Semicolon = 59
+
+-- digits without leading zeros
+abbrev pub number : Option ℕ → List ℕ
+number None = []
+number (Some n) = decimal n
+
+-- one token
+abbrev pub token : Shape → List ℕ
+token (shape.Word word) = word
+token (shape.Number n) = number n
+token (shape.Text text) = 34 ∷ (flat_map unit text ++ 34 ∷ [])
+token (shape.Mark mark) = mark_byte mark ∷ []
+
+-- a word or a number
+abbrev pub is_wordlike : Shape → Bool
+is_wordlike (shape.Word word) = true
+is_wordlike (shape.Number n) = true
+is_wordlike (shape.Text text) = false
+is_wordlike (shape.Mark mark) = false
+
+-- the space between two words or numbers
+abbrev pub gap : Bool → Bool → List ℕ
+gap before behind = if before && behind then 32 ∷ [] else []
+
+-- tokens behind a word or number, or behind another token or none
+abbrev pub canon_behind : Bool → List Shape → List ℕ
+canon_behind before [] = []
+canon_behind before (s ∷ ss) = (gap before (is_wordlike s) ++ token s) ++ canon_behind (is_wordlike s) ss
+
+abbrev pub canon_of : List Shape → List ℕ
+canon_of shapes = canon_behind false shapes

@@ -1,0 +1,3 @@
+pub mod Shapes
+pub mod Lexing
+pub mod Canon

@@ -1,0 +1,98 @@
+ghost use Rattle.std.specs.Prelude.{◌≡◌, ◌+◌, ◌<◌, ◌++◌, ◌∷◌, [], OnOk};
+ghost use Rattle.std.specs.List.{flat_map};
+ghost use Rattle.std.specs.Fmt.{decimal};
+ghost use Rattle.job_tokens.specs.Canon.{hex_digit, unit, mark_byte, number as canon_number, token, is_wordlike, gap, canon_of};
+
+use crate::token::{Mark, Shape};
+use std::alloc::{AllocError, Global};
+
+/// Writes the canonical text of the tokens at the end.
+pub fn push_canon(alloc: Global, out: &mut Vec<u8>, shapes: &[Shape]) -> Result<(), AllocError>
+    ensures { OnOk result (out.new.items ≡ out.old.items ++ canon_of shapes.now) }
+{
+    let mut before = false;
+    for shape in shapes {
+        let behind = is_wordlike(*shape);
+        if before && behind {
+            out.push(b' ')?;
+        }
+        push_token(alloc, out, *shape)?;
+        before = behind;
+    }
+    Ok(())
+}
+
+// A word or a number.
+fn is_wordlike(shape: Shape) -> bool
+    ensures { result ≡ is_wordlike shape }
+{
+    match shape {
+        Shape::Word(_) => true,
+        Shape::Number(_) => true,
+        Shape::Text(_) => false,
+        Shape::Mark(_) => false,
+    }
+}
+
+fn push_token(alloc: Global, out: &mut Vec<u8>, shape: Shape) -> Result<(), AllocError>
+    ensures { OnOk result (out.new.items ≡ out.old.items ++ token shape) }
+{
+    match shape {
+        Shape::Word(word) => out.extend_from_slice(word.bytes()),
+        Shape::Number(number) => push_number(alloc, out, number),
+        Shape::Text(text) => push_string(out, text.bytes()),
+        Shape::Mark(mark) => Ok(out.push(mark_byte(mark))?),
+    }
+}
+
+fn push_number(alloc: Global, out: &mut Vec<u8>, number: Option<u64>) -> Result<(), AllocError>
+    ensures { OnOk result (out.new.items ≡ out.old.items ++ canon_number number) }
+{
+    match number {
+        Some(number) => {
+            let digits = number.to_string(alloc)?;
+            out.extend_from_slice(digits.as_bytes())
+        }
+        None => Ok(()),
+    }
+}
+
+fn push_string(out: &mut Vec<u8>, text: &[u8]) -> Result<(), AllocError>
+    ensures { OnOk result (out.new.items ≡ out.old.items ++ 34 ∷ (flat_map unit text.now ++ 34 ∷ [])) }
+{
+    out.push(b'"')?;
+    for byte in text {
+        push_unit(out, *byte)?;
+    }
+    out.push(b'"')?;
+    Ok(())
+}
+
+fn push_unit(out: &mut Vec<u8>, byte: u8) -> Result<(), AllocError>
+    ensures { OnOk result (out.new.items ≡ out.old.items ++ unit byte) }
+{
+    if byte == b'"' || byte == b'\\' {
+        return out.extend_from_slice(&[b'\\', byte]);
+    }
+    if b' ' <= byte && byte <= b'~' {
+        return out.extend_from_slice(&[byte]);
+    }
+    out.extend_from_slice(&[b'\\', b'x', hex_digit(byte / 16), hex_digit(byte % 16)])
+}
+
+fn hex_digit(d: u8) -> u8
+    requires { d < 16 }
+    ensures { result ≡ hex_digit d }
+{
+    if d < 10 { b'0' + d } else { b'a' - 10 + d }
+}
+
+fn mark_byte(mark: Mark) -> u8
+    ensures { result ≡ mark_byte mark }
+{
+    match mark {
+        Mark::Open => b'{',
+        Mark::Close => b'}',
+        Mark::Semicolon => b';',
+    }
+}

@@ -1,0 +1,68 @@
+ghost use Rattle.std.specs.Prelude.{◌≡◌, ◌<◌, ◌≤◌, length, IfOk, IfSome};
+ghost use Rattle.job_tokens.specs.Lexing.{behind_blanks, token_at, Gives, Lexes};
+
+use crate::token::{Mark, Shape, Token};
+use crate::{number, run, string, word};
+use std::alloc::{AllocError, Global};
+
+/// The tokens of a text, up to the first place from which no token can be read.
+#[derive(Drop)]
+pub struct Lexed {
+    /// The tokens, in order.
+    pub tokens: Vec<Token>,
+    /// The place from which no token can be read, where there is one.
+    pub fault: Option<usize>,
+}
+
+/// Reads the tokens of the bytes with which a text of `end` bytes ends.
+pub fn lex(alloc: Global, bytes: &[u8], end: usize) -> Result<Lexed, AllocError>
+    requires { length bytes.now ≤ end }
+    ensures { IfOk result (λ found. Lexes end bytes.now found.tokens.items found.fault) }
+{
+    let mut tokens = Vec::new(alloc);
+    let mut rest = skip_blanks(bytes);
+    while !rest.is_empty() {
+        let at = end - rest.len();
+        let Some((shape, after)) = token_at(rest) else {
+            return Ok(Lexed {
+                tokens,
+                fault: Some(at),
+            });
+        };
+        tokens.push(Token { at, shape })?;
+        rest = skip_blanks(after);
+    }
+    Ok(Lexed {
+        tokens,
+        fault: None,
+    })
+}
+
+// The bytes from the first that is no blank.
+fn skip_blanks(bytes: &[u8]) -> &[u8]
+    ensures value { result.now ≡ behind_blanks bytes.now }
+    ensures shorter { length result.now ≤ length bytes.now }
+{
+    bytes.split_at(run::count_blanks(bytes)).1
+}
+
+// The token that the bytes begin with, and what is behind it.
+fn token_at(bytes: &[u8]) -> Option<(Shape, &[u8])>
+    ensures value { Gives (λ x. (x.0, x.1.now)) result (token_at bytes.now) }
+    ensures shorter { IfSome result (λ x. length x.1.now < length bytes.now) }
+{
+    let (first, rest) = bytes.split_first()?;
+    if run::is_letter(*first) {
+        return word::word_at(bytes);
+    }
+    if run::is_digit(*first) {
+        return number::number_at(bytes);
+    }
+    match *first {
+        b'"' => string::string_at(rest),
+        b'{' => Some((Shape::Mark(Mark::Open), rest)),
+        b'}' => Some((Shape::Mark(Mark::Close), rest)),
+        b';' => Some((Shape::Mark(Mark::Semicolon), rest)),
+        _ => None,
+    }
+}

@@ -1,0 +1,17 @@
+//! The tokens of a job text: words, numbers, strings and marks, each with its place, and their one canonical text.
+//!
+//! The layer promises that `lex` gives the tokens of a text exactly as `specs/Lexing.antt` says, and the place of the
+//! first byte from which no token can be read. It stands on `job_tree` for names and strings.
+#![tactic(auto)]
+
+mod canon;
+mod lexing;
+mod number;
+mod run;
+mod string;
+mod token;
+mod word;
+
+pub use canon::push_canon;
+pub use lexing::{Lexed, lex};
+pub use token::{Mark, Shape, Token};

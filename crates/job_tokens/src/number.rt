@@ -1,0 +1,61 @@
+ghost use Rattle.std.specs.Prelude.{◌≡◌};
+ghost use Rattle.job_tokens.specs.Lexing.{number_at, number_of, value_within, has_leading_zero, goes_on, Gives};
+
+use crate::run;
+use crate::token::Shape;
+
+/// The greatest number of a job text.
+pub const MOST: u64 = 1_000_000_000;
+
+/// The number that the bytes, which begin with a digit, begin with.
+pub fn number_at(bytes: &[u8]) -> Option<(Shape, &[u8])>
+    ensures { Gives (λ x. (x.0, x.1.now)) result (number_at bytes.now) }
+{
+    let (front, rest) = bytes.split_at(run::count_digits(bytes));
+    if goes_on(rest) {
+        return None;
+    }
+    Some((Shape::Number(number_of(front)), rest))
+}
+
+// Whether a byte of a word comes first.
+fn goes_on(bytes: &[u8]) -> bool
+    ensures { result ≡ goes_on bytes.now }
+{
+    match bytes.split_first() {
+        Some((first, _)) => run::is_word_byte(*first),
+        None => false,
+    }
+}
+
+fn has_leading_zero(digits: &[u8]) -> bool
+    ensures { result ≡ has_leading_zero digits.now }
+{
+    match digits.split_first() {
+        Some((first, rest)) => *first == b'0' && !rest.is_empty(),
+        None => false,
+    }
+}
+
+// The number of these digits, where the number rule allows it.
+fn number_of(digits: &[u8]) -> Option<u64>
+    ensures { result ≡ number_of digits.now }
+{
+    if has_leading_zero(digits) {
+        return None;
+    }
+    value_of(digits)
+}
+
+fn value_of(digits: &[u8]) -> Option<u64>
+    ensures { result ≡ value_within digits.now }
+{
+    let mut value: u64 = 0;
+    for digit in digits {
+        value = 10 * value + u64::from(digit.saturating_sub(b'0'));
+        if value > MOST {
+            return None;
+        }
+    }
+    Some(value)
+}

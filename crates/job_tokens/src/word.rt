@@ -1,0 +1,14 @@
+ghost use Rattle.job_tokens.specs.Lexing.{word_at, Gives};
+
+use crate::run;
+use crate::token::Shape;
+use job_tree::Name;
+
+/// The word that the bytes, which begin with a letter, begin with.
+pub fn word_at(bytes: &[u8]) -> Option<(Shape, &[u8])>
+    ensures { Gives (λ x. (x.0, x.1.now)) result (word_at bytes.now) }
+{
+    let (front, rest) = bytes.split_at(run::count_word_bytes(bytes));
+    let name = Name::new(front)?;
+    Some((Shape::Word(name), rest))
+}
