@@ -7,7 +7,8 @@ use crate::entry::Entry;
 use crate::fault::RunFault;
 use buffer_parts::{Line, Part};
 use exc_groups::{Exc, Label};
-use job_grammar::{Job, Step, Text};
+use job_grammar::Job;
+use job_tree::{Step, Text};
 use line_kernels::{Answer, Kernel, answer};
 use std::alloc::{AllocError, Global};
 

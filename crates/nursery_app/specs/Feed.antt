@@ -1,5 +1,5 @@
 -- A feed: a job text, a line that is exactly `%input`, and the input.
-use Rattle.std.specs.Prelude.{ℕ, Bool, true, false, ◌&&◌, ◌==◌, nat_eq, if◌then◌else◌, List, [], ◌∷◌, ◌++◌, drop, codes}
+use Rattle.std.specs.Prelude.{ℕ, Bool, true, ◌&&◌, ◌==◌, nat_eq, if◌then◌else◌, List, [], ◌∷◌, ◌++◌, drop, codes}
 use Rattle.std.specs.List.{starts_with}
 
 -- bytes that end a line or begin with its end

@@ -1,1 +1,4 @@
 pub mod Feed
+pub mod Reads
+pub mod Verdict
+pub mod Checking

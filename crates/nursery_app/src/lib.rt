@@ -1,6 +1,19 @@
 //! A job text and an input in, a report out: `serve`, `check`, and what the program around them needs.
+//!
+//! The layer promises the product's headline, as the contract of `serve`: for every job text, input, number of workers
+//! and order of picks, the bytes written are the report of the job's one-thread meaning over that input, or the refusal
+//! which that meaning names, and every line shown is the slice of the input at its stated place.
 #![tactic(auto)]
 
+mod checking;
 mod feed;
+mod lines;
+mod read;
+mod serving;
+mod verdict;
 
+pub use checking::check;
 pub use feed::split_feed;
+pub use read::{ReadFault, read_whole};
+pub use serving::serve;
+pub use verdict::{CheckVerdict, ServeFault, Verdict};

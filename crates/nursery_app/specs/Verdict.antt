@@ -1,0 +1,78 @@
+-- What `serve` answers: the report of a job's meaning over an input, or the refusal which that meaning names.
+use Rattle.std.specs.Prelude.{◌≡◌, ◌≢◌, ℕ, ◌+◌, ◌<◌, ◌≤◌, Bool, true, false, Option, List, [], ◌∷◌, ◌++◌, length, take, codes, decimal, IsSome, IsNone}
+use Rattle.job_tree.specs.Tree.{Tree}
+use Rattle.job_grammar.specs.declared.fault.JobFault.{JobFault}
+use Rattle.job_grammar.specs.declared.fault.JobKind.TheVariants as kinds
+use Rattle.job_grammar.specs.Kinds.{number_of, name_of}
+use Rattle.job_grammar.specs.Refusals.{Spells, IsRefused}
+use Rattle.job_meaning.specs.Meaning.{meaning, meaning_end}
+use Rattle.job_meaning.specs.Shown.{Row, Ending, well, by_cancellation, with_exception, meaning_rows}
+use Rattle.job_report.specs.Text.{report_text}
+use Rattle.job_report.specs.Sending.{with_bytes}
+use Rattle.nursery_app.specs.declared.verdict.Verdict.{Verdict}
+use Rattle.nursery_app.specs.declared.verdict.Verdict.TheVariants.{Done, Raised, JobRefused, Limit}
+use Rattle.nursery_app.specs.declared.verdict.ServeFault.{ServeFault}
+use Rattle.nursery_app.specs.declared.verdict.ServeFault.TheVariants.{Send, NoMemory}
+
+-- the line for a refused job, as `refused J6 Syntax at 27`
+abbrev pub refusal_line : JobFault → List ℕ
+refusal_line fault = codes "refused J" ++ decimal (number_of fault.kind) ++ codes " " ++ name_of fault.kind ++ codes " at " ++ decimal fault.at ++ codes "\n"
+
+-- the line for a job that ends later than the limit
+abbrev pub limit_line : ℕ → List ℕ
+limit_line limit = codes "limit " ++ decimal limit ++ codes "\n"
+
+-- the report of a job's meaning over an input
+abbrev pub meaning_report : Tree → List ℕ → List ℕ
+meaning_report job input = report_text job.name (meaning_rows job input)
+
+-- the text spells a job whose meaning over the input ends by the limit, and these bytes are its report
+pub record IsReport (text input : List ℕ) (limit : ℕ) (job : Tree) (bytes : List ℕ) : Type 0 where
+  pub spelled : Spells text job
+  pub in_time : meaning_end job input ≤ limit
+  pub report : bytes ≡ meaning_report job input
+
+-- A verdict and its bytes: the report where the job ends by the limit, and else the refusal which the meaning names.
+abbrev pub IsVerdict : List ℕ → List ℕ → ℕ → Verdict → List ℕ → Type 0
+IsVerdict text input limit Done bytes = (job : Tree) × IsReport text input limit job bytes × IsNone (meaning job input).exc
+IsVerdict text input limit Raised bytes = (job : Tree) × IsReport text input limit job bytes × IsSome (meaning job input).exc
+IsVerdict text input limit (JobRefused fault) bytes = IsRefused text fault.kind fault.at × (bytes ≡ refusal_line fault)
+IsVerdict text input limit Limit bytes = (job : Tree) × Spells text job × (limit < meaning_end job input) × (bytes ≡ limit_line limit)
+
+-- The verdict's bytes were sent, all of them.
+abbrev pub IsSent : List ℕ → List ℕ → ℕ → Option (List ℕ) → Option (List ℕ) → Verdict → Type 0
+IsSent text input limit before after verdict = (bytes : List ℕ) × IsVerdict text input limit verdict bytes × (after ≡ with_bytes before bytes)
+
+-- The writer failed behind the first `sent` of the verdict's bytes; or memory was refused, and nothing was sent.
+abbrev pub IsServeFault : List ℕ → List ℕ → ℕ → Option (List ℕ) → Option (List ℕ) → ServeFault → Type 0
+IsServeFault text input limit before after (Send sent) =
+    (verdict : Verdict) × (bytes : List ℕ) × IsVerdict text input limit verdict bytes × (sent < length bytes) × (after ≡ with_bytes before (take sent bytes))
+IsServeFault text input limit before after NoMemory = after ≡ before
+
+-- the count of a writer's failures rises by one where a sending stops, and else stays
+abbrev pub CountsFailure : ℕ → ℕ → ServeFault → Type 0
+CountsFailure before after (Send sent) = after ≡ before + 1
+CountsFailure before after NoMemory = after ≡ before
+
+-- whether the root ended well
+abbrev pub is_well : Ending → Bool
+is_well well = true
+is_well by_cancellation = false
+is_well (with_exception e) = false
+
+abbrev pub root_is_well : List Row → Bool
+root_is_well [] = true
+root_is_well (r ∷ rs) = is_well r.ending
+
+-- the verdict on a fault of the reader that is no want of memory
+pub record IsRefusalOf (fault : JobFault) (verdict : Verdict) (bytes : List ℕ) : Type 0 where
+  pub verdict_is : verdict ≡ JobRefused fault
+  pub line : bytes ≡ refusal_line fault
+  pub kind : fault.kind ≢ kinds.NoMemory
+
+-- the verdict on a job that was read
+abbrev pub IsRunVerdict : Tree → List ℕ → ℕ → Verdict → List ℕ → Type 0
+IsRunVerdict job input limit Done bytes = (meaning_end job input ≤ limit) × (bytes ≡ meaning_report job input) × IsNone (meaning job input).exc
+IsRunVerdict job input limit Raised bytes = (meaning_end job input ≤ limit) × (bytes ≡ meaning_report job input) × IsSome (meaning job input).exc
+IsRunVerdict job input limit (JobRefused fault) bytes = ⊥
+IsRunVerdict job input limit Limit bytes = (limit < meaning_end job input) × (bytes ≡ limit_line limit)

@@ -1,0 +1,38 @@
+ghost use Rattle.std.specs.Prelude.{◌≡◌, ◌++◌, IfOk, OnOk, decimal};
+ghost use Rattle.nursery_app.specs.Verdict.{refusal_line, limit_line};
+
+use itoa::Buffer;
+use job_grammar::JobFault;
+use std::alloc::{AllocError, Global};
+
+// Appends a number in decimal digits.
+fn push_number(out: &mut Vec<u8>, n: u64) -> Result<(), AllocError>
+    ensures { OnOk result (out.new.items ≡ out.old.items ++ decimal n) }
+{
+    let mut buffer = Buffer::new();
+    out.extend_from_slice(buffer.format(n).as_bytes())
+}
+
+// The line for a refused job.
+pub fn refusal(alloc: Global, fault: JobFault) -> Result<Vec<u8>, AllocError>
+    ensures { IfOk result (λ line. line.items ≡ refusal_line fault) }
+{
+    let mut line = Vec::from_slice(alloc, b"refused J")?;
+    push_number(&mut line, fault.kind.number())?;
+    line.extend_from_slice(b" ")?;
+    line.extend_from_slice(fault.kind.name().as_bytes())?;
+    line.extend_from_slice(b" at ")?;
+    push_number(&mut line, fault.at as u64)?;
+    line.extend_from_slice(b"\n")?;
+    Ok(line)
+}
+
+// The line for a job that ends later than the limit.
+pub fn past_limit(alloc: Global, limit: u64) -> Result<Vec<u8>, AllocError>
+    ensures { IfOk result (λ line. line.items ≡ limit_line limit) }
+{
+    let mut line = Vec::from_slice(alloc, b"limit ")?;
+    push_number(&mut line, limit)?;
+    line.extend_from_slice(b"\n")?;
+    Ok(line)
+}

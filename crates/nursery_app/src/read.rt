@@ -1,0 +1,46 @@
+ghost use Rattle.std.specs.Prelude.{◌≡◌, ◌<◌, ◌≤◌, ◌≢◌, IfOk, IfErr, OnOk, IfSome, length, vec_len};
+ghost use Rattle.nursery_app.specs.Reads.{IsAllOf, IsTooLong};
+
+use std::alloc::{AllocError, Global};
+use std::io::Read;
+use thiserror::Error;
+
+/// Why a reader was not read whole. What was read is gone.
+#[derive(Clone, Copy, Debug, PartialEq, Eq, Error)]
+pub enum ReadFault {
+    /// More bytes came than were allowed.
+    #[error("input too long")]
+    TooLong,
+    /// A read answered an error, of whatever kind.
+    #[error("cannot read the input file")]
+    Device,
+    /// Memory was refused.
+    #[error("no memory")]
+    NoMemory,
+}
+
+/// All bytes that a reader gives, of which there may be `most`. It makes at most `most + 2` reads.
+pub fn read_whole<R: Read>(alloc: Global, reader: &mut R, most: usize) -> Result<Vec<u8>, ReadFault>
+    ensures whole { IfOk result (λ bytes. IsAllOf (R.remaining reader.old) bytes.items) }
+    ensures within { IfOk result (λ bytes. vec_len bytes ≤ most) }
+    ensures too_long { result ≡ Err ReadFault.TooLong → IsTooLong (R.remaining reader.old) most }
+{
+    let mut bytes = Vec::new(alloc);
+    let mut chunk = [0u8; 4096];
+    'reads: for _turn in 0..=most {
+        let Ok(n) = reader.read(&mut chunk) else {
+            return Err(ReadFault::Device);
+        };
+        if n == 0 {
+            return Ok(bytes);
+        }
+        if n > most - bytes.len() {
+            return Err(ReadFault::TooLong);
+        }
+        let (front, _) = chunk.split_at(n);
+        if bytes.extend_from_slice(front).is_err() {
+            return Err(ReadFault::NoMemory);
+        }
+    }
+    unreachable!()
+}

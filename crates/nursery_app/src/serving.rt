@@ -1,0 +1,114 @@
+ghost use Rattle.std.specs.Prelude.{◌≡◌, ◌<◌, ◌≤◌, length, map, IfOk, IfErr, OnOk};
+ghost use Rattle.job_runner.specs.Records.{row_in};
+ghost use Rattle.job_runner.specs.Runs.{rows_of};
+ghost use Rattle.nursery_app.specs.Verdict.{IsVerdict, IsSent, IsServeFault, CountsFailure, IsRefusalOf, IsRunVerdict, root_is_well};
+
+use crate::lines::{past_limit, refusal};
+use crate::verdict::{ServeFault, Verdict};
+use job_grammar::{Job, JobFault, JobKind, read_job};
+use job_report::{Out, report, send};
+use job_runner::{Gate, Outcome, Pick, Run, RunFault, Settings, run};
+use std::alloc::{AllocError, Global};
+use std::thread::Threads;
+
+/// Runs a job text over an input, and writes the report of the job's one-thread meaning, or the refusal which that
+/// meaning names. The number of workers, the picker and the gate change no byte of it. All bytes are built before the
+/// first is sent, so after `NoMemory` nothing was sent.
+pub fn serve<R: Threads + Sync, P: Pick, G: Gate + Sync, W: Out>(
+    rt: &R,
+    alloc: Global,
+    job_text: &[u8],
+    input: &[u8],
+    settings: Settings,
+    picker: &mut P,
+    gate: &G,
+    out: &mut W,
+) -> Result<Verdict, ServeFault>
+    requires input { length input.now ≤ 16777216 }
+    requires countable { W.failed out.old < 18446744073709551615 }
+
+    // The bytes written are the report of the meaning, or the refusal which it names.
+    ensures sent { IfOk result (IsSent job_text.now input.now settings.limit (W.contents out.old) (W.contents out.new)) }
+    ensures well { OnOk result (W.failed out.new ≡ W.failed out.old) }
+
+    // A writer that failed took the front of those bytes; after want of memory nothing was sent.
+    ensures fault { IfErr result (IsServeFault job_text.now input.now settings.limit (W.contents out.old) (W.contents out.new)) }
+    ensures counted { IfErr result (CountsFailure (W.failed out.old) (W.failed out.new)) }
+{
+    let Ok((verdict, bytes)) = answer(rt, alloc, job_text, input, settings, picker, gate) else {
+        return Err(ServeFault::NoMemory);
+    };
+    match send(bytes.as_slice(), out) {
+        Ok(()) => Ok(verdict),
+        Err(fault) => Err(ServeFault::Send { sent: fault.sent }),
+    }
+}
+
+// The verdict and all its bytes.
+fn answer<R: Threads + Sync, P: Pick, G: Gate + Sync>(
+    rt: &R,
+    alloc: Global,
+    job_text: &[u8],
+    input: &[u8],
+    settings: Settings,
+    picker: &mut P,
+    gate: &G,
+) -> Result<(Verdict, Vec<u8>), AllocError>
+    requires { length input.now ≤ 16777216 }
+    ensures { IfOk result (λ r. IsVerdict job_text.now input.now settings.limit r.0 r.1.items) }
+{
+    match read_job(alloc, job_text) {
+        Ok(job) => {
+            let (verdict, bytes) = run_answer(rt, alloc, &job, input, settings, picker, gate)?;
+            Ok((verdict, bytes))
+        }
+        Err(fault) => refused(alloc, fault),
+    }
+}
+
+// The verdict on a refused text.
+fn refused(alloc: Global, fault: JobFault) -> Result<(Verdict, Vec<u8>), AllocError>
+    ensures { IfOk result (λ r. IsRefusalOf fault r.0 r.1.items) }
+{
+    if matches!(fault.kind, JobKind::NoMemory) {
+        return Err(AllocError);
+    }
+    Ok((Verdict::JobRefused(fault), refusal(alloc, fault)?))
+}
+
+// The verdict on a job that was read.
+fn run_answer<R: Threads + Sync, P: Pick, G: Gate + Sync>(
+    rt: &R,
+    alloc: Global,
+    job: &Job,
+    input: &[u8],
+    settings: Settings,
+    picker: &mut P,
+    gate: &G,
+) -> Result<(Verdict, Vec<u8>), AllocError>
+    requires { length input.now ≤ 16777216 }
+    ensures { IfOk result (λ r. IsRunVerdict job.now input.now settings.limit r.0 r.1.items) }
+{
+    match run(rt, alloc, job, input, settings, picker, gate) {
+        Ok(finished) => {
+            let verdict = if is_root_well(&finished) {
+                Verdict::Done
+            } else {
+                Verdict::Raised
+            };
+            Ok((verdict, report(alloc, &finished)?))
+        }
+        Err(RunFault::Limit { limit }) => Ok((Verdict::Limit, past_limit(alloc, limit)?)),
+        Err(RunFault::NoMemory) => Err(AllocError),
+    }
+}
+
+// Whether the root ended well.
+fn is_root_well(run: &Run<'_>) -> bool
+    ensures { result ≡ root_is_well (rows_of run.now) }
+{
+    match run.records().split_first() {
+        Some((root, _)) => matches!(root.outcome, Outcome::Done),
+        None => true,
+    }
+}
