@@ -10,6 +10,8 @@ mod feed;
 mod lines;
 mod read;
 mod serving;
+#[cfg(test)]
+mod tests;
 mod verdict;
 
 pub use checking::check;

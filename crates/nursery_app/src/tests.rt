@@ -1,0 +1,191 @@
+use crate::{CheckVerdict, ReadFault, ServeFault, Verdict, check, read_whole, serve, split_feed};
+use job_report::{MemOut, Out};
+use job_runner::{Forward, NoGate, Settings};
+use std::io;
+use std::io::Read;
+use std::process::Abort;
+use std::test::Fail;
+use std::thread::Threads;
+
+// The first job: its text, its input and its report.
+const FIND_ER: &str = "find \"er\";";
+
+const TWO_LINES: &[u8] = b"error\nok\n";
+
+const FOUND: &str = "job main 0\ntask main 0 0 done\n  line 0+5 error\n";
+
+// What `serve` writes for the job `main` of these steps, with the limit 100.
+fn assert_serves<R: Abort + Threads + Sync + AllocGlobal>(
+    rt: &R,
+    steps: &str,
+    input: &[u8],
+    expected: &str,
+) -> Result<(), Fail> {
+    assert!(rt; input.len() <= 16_777_216);
+    let text = format!(in rt.alloc(); "trio-job 1\njob main {{ {steps} }}")?;
+    let settings = Settings::new(1, 100).expect(rt, "settings");
+    let mut out = MemOut::new(rt.alloc(), 65_536, 4_096, None)?;
+    let verdict = serve(
+        rt,
+        rt.alloc(),
+        text.as_bytes(),
+        input,
+        settings,
+        &mut Forward,
+        &NoGate,
+        &mut out,
+    );
+    assert!(rt; verdict.is_ok(), "{steps}");
+    assert_eq!(rt; out.taken(), expected.as_bytes(), "{steps}");
+    Ok(())
+}
+
+#[test]
+fn reports_of_the_plain_steps(rt: HostRuntime) -> Result<(), Fail> {
+    for (steps, input, expected) in [
+        (FIND_ER, TWO_LINES, FOUND),
+        (
+            "sleep 2; raise A; sleep 3;",
+            b"".as_slice(),
+            "job main 2\ntask main 0 2 raised A(main@2)\n",
+        ),
+        (
+            "sleep 100;",
+            b"".as_slice(),
+            "job main 100\ntask main 0 100 done\n",
+        ),
+        ("sleep 101;", b"".as_slice(), "limit 100\n"),
+        (
+            "find \"\\\\\"; find \"\\xff\";",
+            b"\x00\\\n\xff".as_slice(),
+            "job main 0\ntask main 0 0 done\n  line 0+2 \\x00\\\\\n  line 3+1 \\xff\n",
+        ),
+    ] {
+        assert_serves(&rt, steps, input, expected)?;
+    }
+    Ok(())
+}
+
+#[test]
+fn refusals_are_told_by_a_line(rt: HostRuntime) -> Result<(), Fail> {
+    for (text, expected) in [
+        ("trio-job 1\njob main { sleep", "refused J6 Syntax at 27\n"),
+        (
+            "trio-job 1\njob main { raise Cancelled; }",
+            "refused J10 Reserved at 28\n",
+        ),
+        ("trio-job 3\njob main { }", "refused J3 Version at 0\n"),
+        ("", "refused J3 Version at 0\n"),
+    ] {
+        let settings = Settings::new(1, 100).expect(&rt, "settings");
+        let mut out = MemOut::new(rt.alloc(), 100, 7, None)?;
+        let verdict = serve(
+            &rt,
+            rt.alloc(),
+            text.as_bytes(),
+            b"",
+            settings,
+            &mut Forward,
+            &NoGate,
+            &mut out,
+        );
+        assert!(rt; matches!(verdict, Ok(Verdict::JobRefused(_))), "{text}");
+        assert_eq!(rt; out.taken(), expected.as_bytes());
+    }
+    Ok(())
+}
+
+#[test]
+fn a_writer_that_fails_took_the_front(rt: HostRuntime) -> Result<(), Fail> {
+    let settings = Settings::new(1, 100).expect(&rt, "settings");
+    let mut out = MemOut::new(rt.alloc(), 10, 4, None)?;
+    let text = "trio-job 1\njob main { find \"er\"; }";
+    let answer = serve(
+        &rt,
+        rt.alloc(),
+        text.as_bytes(),
+        TWO_LINES,
+        settings,
+        &mut Forward,
+        &NoGate,
+        &mut out,
+    );
+    assert!(rt; matches!(answer, Err(ServeFault::Send { sent: 10 })));
+    assert_eq!(rt; out.taken(), b"job main 0".as_slice());
+    assert_eq!(rt; out.failures(), 1);
+    Ok(())
+}
+
+#[test]
+fn check_writes_the_canonical_text(rt: HostRuntime) -> Result<(), Fail> {
+    let mut out = MemOut::new(rt.alloc(), 100, 100, None)?;
+    let text = b"trio-job 1\njob main {\n  find \"er\" ;\n}\n";
+    let verdict = check(rt.alloc(), text, &mut out);
+    assert!(rt; matches!(verdict, Ok(CheckVerdict::Fine)));
+    assert_eq!(rt;
+        out.taken(),
+        b"trio-job 1\njob main{find\"er\";}\n".as_slice()
+    );
+
+    let mut out = MemOut::new(rt.alloc(), 100, 100, None)?;
+    let verdict = check(rt.alloc(), b"trio-job 1\njob main { sleep", &mut out);
+    assert!(rt; matches!(verdict, Ok(CheckVerdict::JobRefused(_))));
+    assert_eq!(rt; out.taken(), b"refused J6 Syntax at 27\n".as_slice());
+    Ok(())
+}
+
+#[test]
+fn a_feed_is_cut_at_its_mark(rt: HostRuntime) {
+    for (feed, job, input) in [
+        (
+            b"x\n%input\ny".as_slice(),
+            b"x\n".as_slice(),
+            b"y".as_slice(),
+        ),
+        (b"x", b"x", b""),
+        (b"%input", b"", b""),
+        (b"x%input\n%input\n", b"x%input\n", b""),
+    ] {
+        let parts = split_feed(feed);
+        assert_eq!(rt; parts.0, job);
+        assert_eq!(rt; parts.1, input);
+    }
+}
+
+// A reader that gives `each` bytes a read, `left` reads long, and then fails or ends.
+#[derive(Drop)]
+struct Piecewise {
+    left: u64,
+    each: usize,
+    fails: bool,
+}
+
+impl Read for Piecewise {
+    fn read(&mut self, buf: &mut [u8]) -> io::Result<usize> {
+        if self.left == 0 {
+            if self.fails {
+                return Err(io::Error::from(io::ErrorKind::Other));
+            }
+            return Ok(0);
+        }
+        self.left -= 1;
+        Ok(self.each.min(buf.len()))
+    }
+}
+
+#[test]
+fn reading_whole(rt: HostRuntime) -> Result<(), Fail> {
+    for (left, each, fails, most, expected) in [
+        (1, 5, false, 5, Ok(5)),
+        (1, 5, false, 4, Err(ReadFault::TooLong)),
+        (1, 2, true, 9, Err(ReadFault::Device)),
+        (0, 2, true, 9, Err(ReadFault::Device)),
+        (1_000_000, 1, false, 4, Err(ReadFault::TooLong)),
+        (0, 1, false, 0, Ok(0)),
+    ] {
+        let mut reader = Piecewise { left, each, fails };
+        let answer = read_whole(rt.alloc(), &mut reader, most).map(|bytes| bytes.len());
+        assert_eq!(rt; answer, expected);
+    }
+    Ok(())
+}
