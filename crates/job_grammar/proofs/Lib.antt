@@ -8,3 +8,4 @@ pub mod Names
 pub mod Passing
 pub mod Arms
 pub mod Writing_steps
+pub mod Canonical

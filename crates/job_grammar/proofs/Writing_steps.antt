@@ -1,5 +1,5 @@
 -- The tokens of steps, one step after the other.
-use Rattle.std.proofs.Common.{◌≡◌, ℕ, ◌+◌, ◌<◌, List, [], ◌∷◌, ◌++◌, length, get_or, drop, refl, sym, ap, ◌∙◌, append_assoc}
+use Rattle.std.proofs.Common.{◌≡◌, ℕ, ◌+◌, ◌<◌, List, ◌∷◌, ◌++◌, length, get_or, drop, sym, ap, ◌∙◌, append_assoc}
 use Rattle.std.proofs.lemmas.List.{map-append, at_drop_more}
 use Rattle.job_tree.specs.declared.step.Step.{Step}
 use Rattle.job_tree.specs.Blocks.{step_of, steps_of}

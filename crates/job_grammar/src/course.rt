@@ -26,20 +26,21 @@ pub fn follow(alloc: Global, tokens: &[Token], end: usize) -> Result<Course, All
     stack.push(Symbol::Job)?;
     let mut reserved = None;
     for token in tokens {
+        let here = Some(token.at);
         let Some(symbol) = stack.pop() else {
             return Ok(Course {
-                fault: Some(token.at),
+                fault: here,
                 reserved,
             });
         };
         let Some(rest) = symbol.next(token.shape) else {
             return Ok(Course {
-                fault: Some(token.at),
+                fault: here,
                 reserved,
             });
         };
         if reserved.is_none() && !allows(symbol, token.shape) {
-            reserved = Some(token.at);
+            reserved = here;
         }
         stack.extend_from_slice(rest)?;
     }

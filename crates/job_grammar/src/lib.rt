@@ -5,6 +5,7 @@ mod course;
 mod fault;
 mod job;
 mod keyword;
+mod laws;
 mod range;
 mod reading;
 mod symbol;
@@ -13,6 +14,7 @@ mod writing;
 
 pub use fault::{JobFault, JobKind};
 pub use job::Job;
+pub use laws::{canonical_text_spells, spells_one_job};
 pub use reading::{FIRST_LINE, MOST_BYTES, read_job};
 pub use writing::write_job;
 

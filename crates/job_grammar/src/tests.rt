@@ -18,20 +18,52 @@ fn refusals(rt: HostRuntime) {
         (b"trio-job 1\njob main \xff".as_slice(), 2, 20),
         (b"trio-job 1\njob main { find \"a }".as_slice(), 4, 27),
         (b"trio-job 1\njob main { find \"\"; }".as_slice(), 4, 27),
-        (b"trio-job 1\njob main { find \"\\x4G\"; }".as_slice(), 4, 27),
+        (
+            b"trio-job 1\njob main { find \"\\x4G\"; }".as_slice(),
+            4,
+            27,
+        ),
         (b"trio-job 1\njob main { sleep 5a; }".as_slice(), 4, 28),
-        (b"trio-job 1\njob aaaaaaaaaaaaaaaaaaaaaaaaaaaaaaaaa { }".as_slice(), 4, 15),
-        (b"trio-job 1\njob main { nursery n { start p over 65 { } } }".as_slice(), 5, 47),
-        (b"trio-job 1\njob main { nursery n { start p over 064 { } } }".as_slice(), 5, 47),
+        (
+            b"trio-job 1\njob aaaaaaaaaaaaaaaaaaaaaaaaaaaaaaaaa { }".as_slice(),
+            4,
+            15,
+        ),
+        (
+            b"trio-job 1\njob main { nursery n { start p over 65 { } } }".as_slice(),
+            5,
+            47,
+        ),
+        (
+            b"trio-job 1\njob main { nursery n { start p over 064 { } } }".as_slice(),
+            5,
+            47,
+        ),
         (b"trio-job 1\njob main { pace 0; }".as_slice(), 5, 27),
-        (b"trio-job 1\njob main { sleep 1000000001; }".as_slice(), 5, 28),
+        (
+            b"trio-job 1\njob main { sleep 1000000001; }".as_slice(),
+            5,
+            28,
+        ),
         (b"trio-job 1\njob main { start a { } }".as_slice(), 6, 22),
         (b"trio-job 1\njob main { sleep".as_slice(), 6, 27),
         (b"trio-job 1\njob main { } }".as_slice(), 6, 24),
-        (b"trio-job 1\njob main { raise Cancelled; }".as_slice(), 10, 28),
-        (b"trio-job 1\njob main { raise TooSlow; }".as_slice(), 10, 28),
+        (
+            b"trio-job 1\njob main { raise Cancelled; }".as_slice(),
+            10,
+            28,
+        ),
+        (
+            b"trio-job 1\njob main { raise TooSlow; }".as_slice(),
+            10,
+            28,
+        ),
         (b"trio-job 1\njob over { raise raise; }".as_slice(), 10, 15),
-        (b"trio-job 1\njob main{sleep 5;find\"\\x00\\\\\";raise A;}".as_slice(), 0, 0),
+        (
+            b"trio-job 1\njob main{sleep 5;find\"\\x00\\\\\";raise A;}".as_slice(),
+            0,
+            0,
+        ),
     ];
     for (text, number, at) in rows {
         assert_eq!(rt; answer(rt.alloc(), text), (number, at));
@@ -86,7 +118,9 @@ fn canonical_texts(rt: HostRuntime) -> Result<(), Fail> {
 
 #[test]
 fn parts_of_a_job(rt: HostRuntime) -> Result<(), Fail> {
-    let job = read_job(rt.alloc(), b"trio-job 1\njob main { sleep 1; raise A; }").ok().ok_or("a job")?;
+    let job = read_job(rt.alloc(), b"trio-job 1\njob main { sleep 1; raise A; }")
+        .ok()
+        .ok_or("a job")?;
     assert_eq!(rt; job.name().bytes(), b"main".as_slice());
     assert_eq!(rt; job.steps().len(), 2);
     assert_eq!(rt; job.size(), 2);

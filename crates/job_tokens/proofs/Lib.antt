@@ -1,3 +1,11 @@
 pub mod Course
 pub mod Numbers
 pub mod Units
+pub mod Round_bytes
+pub mod Round_words
+pub mod Round_numbers
+pub mod Round_strings
+pub mod Round_tokens
+pub mod Shortest_texts
+pub mod Shortest_tokens
+pub mod Ascii_texts
