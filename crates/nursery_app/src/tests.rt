@@ -189,3 +189,27 @@ fn reading_whole(rt: HostRuntime) -> Result<(), Fail> {
     }
     Ok(())
 }
+
+#[test]
+fn settings_have_their_ranges(rt: HostRuntime) {
+    for (workers, limit, fits) in [
+        (0, 1, false),
+        (65, 1, false),
+        (1, 4_294_967_296, false),
+        (64, 4_294_967_295, true),
+    ] {
+        assert_eq!(rt; Settings::new(workers, limit).is_some(), fits);
+    }
+}
+
+#[test]
+fn a_text_that_nests_thousands_deep_is_refused(rt: HostRuntime) -> Result<(), Fail> {
+    let mut text = Vec::from_slice(rt.alloc(), b"trio-job 1\njob main{")?;
+    for _ in 0..16_378u64 {
+        text.extend_from_slice(b"try{")?;
+    }
+    let mut out = MemOut::new(rt.alloc(), 100, 100, None)?;
+    let verdict = check(rt.alloc(), text.as_slice(), &mut out);
+    assert!(rt; matches!(verdict, Ok(CheckVerdict::JobRefused(_))));
+    Ok(())
+}
