@@ -1,4 +1,8 @@
 //! Job texts to jobs and back.
+//!
+//! The layer promises that `read_job` finds exactly what a text spells, and refuses any other text by the first of its
+//! passes that finds a fault, at the earliest place (`specs/Refusals.antt`); and that the canonical text of a job, which
+//! `write_job` gives, spells that job. It stands on `job_tree` for the tree and on `job_tokens` for the tokens.
 #![tactic(auto)]
 
 mod course;
