@@ -19,12 +19,29 @@ pub enum Whose {
 pub enum Exc {
     /// What a checkpoint raises where a cancellation is seen.
     Cancelled,
-    /// What `raise` or `need` raised: its name, the task that raised it, and the tick.
-    Raised { name: Name, task: Label, tick: u64 },
-    /// What a `fail` scope raised as it caught its cancellation: its label, and its exit tick.
-    TooSlow { scope: Label, tick: u64 },
+    /// What `raise` or `need` raised.
+    Raised {
+        /// The name that was raised.
+        name: Name,
+        /// The task that raised it.
+        task: Label,
+        /// The tick in which it was raised.
+        tick: u64,
+    },
+    /// What a `fail` scope raised as it caught its cancellation.
+    TooSlow {
+        /// The scope.
+        scope: Label,
+        /// The tick in which the scope was left.
+        tick: u64,
+    },
     /// A group.
-    Group { whose: Whose, parts: Parts },
+    Group {
+        /// Who made it.
+        whose: Whose,
+        /// Its parts, in order.
+        parts: Parts,
+    },
 }
 
 /// The parts of a group, in order. A contract sees them as the parts of a tree.

@@ -63,4 +63,16 @@ impl Label {
         let indices = SmallVec::from_slice(alloc, self.indices.as_slice())?;
         Ok(Label { name, indices })
     }
+
+    /// The label with one more index, innermost.
+    pub fn indexed(self, index: u64) -> Result<Label, AllocError>
+        ensures { IfOk result (λ label. label ≡ record { name = self.name; indices = self.indices ++ index ∷ [] }) }
+    {
+        let mut indices = self.indices;
+        indices.push(index)?;
+        Ok(Label {
+            name: self.name,
+            indices,
+        })
+    }
 }

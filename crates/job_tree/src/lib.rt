@@ -8,6 +8,8 @@ pub mod deadline;
 mod name;
 mod room;
 mod step;
+#[cfg(test)]
+mod tests;
 mod text;
 
 pub use deadline::Deadline;

@@ -1,0 +1,47 @@
+use crate::{Body, Name, Step, Text};
+use std::test::Fail;
+
+#[test]
+fn words_are_names(rt: HostRuntime) {
+    let rows = [
+        (b"a_1".as_slice(), true),
+        (b"job".as_slice(), true),
+        (b"aaaaaaaaaaaaaaaaaaaaaaaaaaaaaaaa".as_slice(), true),
+        (b"aaaaaaaaaaaaaaaaaaaaaaaaaaaaaaaaa".as_slice(), false),
+        (b"9a".as_slice(), false),
+        (b"_a".as_slice(), false),
+        (b"".as_slice(), false),
+    ];
+    for (text, is_name) in rows {
+        assert_eq!(rt; Name::new(text).is_some(), is_name, "at {text:?}");
+    }
+}
+
+#[test]
+fn names_and_texts_keep_their_bytes(rt: HostRuntime) -> Result<(), Fail> {
+    let name = Name::new(b"a_1").ok_or("a word")?;
+    assert_eq!(rt; name.bytes(), b"a_1".as_slice());
+    let text = Text::new(b"\x00\\\xff").ok_or("a string")?;
+    assert_eq!(rt; text.bytes(), b"\x00\\\xff".as_slice());
+    Ok(())
+}
+
+#[test]
+fn strings_have_1_to_64_bytes(rt: HostRuntime) {
+    let bytes = [b'a'; 65];
+    for (length, is_text) in [(0, false), (1, true), (64, true), (65, false)] {
+        assert_eq!(rt;
+            Text::new(&bytes[..length]).is_some(),
+            is_text,
+            "at {length}"
+        );
+    }
+}
+
+#[test]
+fn blocks_keep_their_steps(rt: HostRuntime) -> Result<(), Fail> {
+    let body = Body::new(vec![in rt.alloc(); Step::Sleep(1), Step::Sleep(2)]?);
+    assert_eq!(rt; body.as_slice().len(), 2);
+    assert_eq!(rt; body.into_vec().len(), 2);
+    Ok(())
+}
