@@ -18,6 +18,7 @@ mod writing;
 
 pub use fault::{JobFault, JobKind};
 pub use job::Job;
+pub use job_tree::{Body, Deadline, Name, Step, Text};
 pub use laws::{canonical_text_spells, spells_one_job};
 pub use reading::{FIRST_LINE, MOST_BYTES, read_job};
 pub use writing::write_job;
