@@ -1,0 +1,4 @@
+pub mod Modest
+pub mod Weigh
+pub mod Blocks
+pub mod BodyFalls

@@ -1,0 +1,6 @@
+pub mod Grammar
+pub mod Forward
+pub mod Places
+pub mod Again
+pub mod Steps
+pub mod Names

@@ -1,0 +1,8 @@
+pub mod Keywords
+pub mod Symbols
+pub mod Pieces
+pub mod Syntax
+pub mod Depth
+pub mod Reading
+pub mod Ranges
+pub mod Reserved

@@ -1,0 +1,146 @@
+-- A job as tokens, each with what it is for: one short case for each construct. Each construct is printed in front of
+-- the tokens behind it.
+use Rattle.std.specs.Prelude.{◌≡◌, ◌⊎◌, ℕ, List, [], ◌∷◌, map, Bool, true, false, Option, Some, None}
+use Rattle.job_tree.specs.declared.deadline.Deadline.{Deadline}
+use Rattle.job_tree.specs.declared.deadline.Deadline.TheVariants.{Never, After, At}
+use Rattle.job_tree.specs.Tree.{Step, sleep, checkpoint, forever, pace, find, head, longest, need, raise, cancel, scope, nursery, start, attempt, Steps, stop, step, Handled, unhandled, except, Cleaned, uncleaned, finally, Tree}
+use Rattle.job_tokens.specs.declared.token.Mark.{Mark}
+use Rattle.job_tokens.specs.declared.token.Mark.TheVariants as mark
+use Rattle.job_tokens.specs.declared.token.Shape.{Shape}
+use Rattle.job_tokens.specs.declared.token.Shape.TheVariants as shape
+use Rattle.job_syntax.specs.declared.keyword.Keyword.{Keyword}
+use Rattle.job_syntax.specs.declared.keyword.Keyword.TheVariants as word
+use Rattle.job_syntax.specs.Keywords.{spelling}
+
+-- what a token is for: no name; the name that a job, scope, nursery or start is given; that of an exception, of one
+-- that is handled, or of what is cancelled
+pub data Role : Type 0 where
+  plain : Role
+  given : Role
+  raised : Role
+  handled : Role
+  target : Role
+
+-- a token and what it is for
+pub record Piece : Type 0 where
+  pub shape : Shape
+  pub role : Role
+
+-- the tokens alone
+abbrev pub shapes_in : List Piece → List Shape
+shapes_in ps = map (λ p. p.shape) ps
+
+abbrev pub keyword : Keyword → Piece
+keyword k = record { shape = shape.Word (spelling k); role = plain }
+
+abbrev pub named : Role → List ℕ → Piece
+named role bytes = record { shape = shape.Word bytes; role = role }
+
+abbrev pub number : ℕ → Piece
+number n = record { shape = shape.Number (Some n); role = plain }
+
+abbrev pub string : List ℕ → Piece
+string bytes = record { shape = shape.Text bytes; role = plain }
+
+abbrev pub mark_piece : Mark → Piece
+mark_piece m = record { shape = shape.Mark m; role = plain }
+
+abbrev pub opens : Piece
+opens = mark_piece mark.Open
+
+abbrev pub closes : Piece
+closes = mark_piece mark.Close
+
+abbrev pub ends : Piece
+ends = mark_piece mark.Semicolon
+
+-- a deadline of a scope
+abbrev pub deadline_pieces : Deadline → List Piece → List Piece
+deadline_pieces Never rest = rest
+deadline_pieces (After n) rest = keyword word.After ∷ number n ∷ rest
+deadline_pieces (At n) rest = keyword word.At ∷ number n ∷ rest
+
+-- a word that may stand or not
+abbrev pub flag_pieces : Keyword → Bool → List Piece → List Piece
+flag_pieces k false rest = rest
+flag_pieces k true rest = keyword k ∷ rest
+
+-- how many copies of a task are started
+abbrev pub over_pieces : Option ℕ → List Piece → List Piece
+over_pieces None rest = rest
+over_pieces (Some n) rest = keyword word.Over ∷ number n ∷ rest
+
+abbrev mutual
+  -- the steps of a block and the mark that ends it
+  pub steps_pieces : Steps → List Piece → List Piece
+  steps_pieces stop rest = closes ∷ rest
+  steps_pieces (step s ss) rest = step_pieces s (steps_pieces ss rest)
+
+  -- one step
+  pub step_pieces : Step → List Piece → List Piece
+  step_pieces (sleep ticks) rest = keyword word.Sleep ∷ number ticks ∷ ends ∷ rest
+  step_pieces checkpoint rest = keyword word.Checkpoint ∷ ends ∷ rest
+  step_pieces forever rest = keyword word.Forever ∷ ends ∷ rest
+  step_pieces (pace per_tick) rest = keyword word.Pace ∷ number per_tick ∷ ends ∷ rest
+  step_pieces (find text) rest = keyword word.Find ∷ string text ∷ ends ∷ rest
+  step_pieces (head count) rest = keyword word.Head ∷ number count ∷ ends ∷ rest
+  step_pieces longest rest = keyword word.Longest ∷ ends ∷ rest
+  step_pieces (need text name) rest = keyword word.Need ∷ string text ∷ named raised name ∷ ends ∷ rest
+  step_pieces (raise name) rest = keyword word.Raise ∷ named raised name ∷ ends ∷ rest
+  step_pieces (cancel name) rest = keyword word.Cancel ∷ named target name ∷ ends ∷ rest
+  step_pieces (scope name deadline shield fail body) rest =
+      keyword word.Scope ∷ named given name ∷ deadline_pieces deadline (flag_pieces word.Shield shield (flag_pieces word.Fail fail (opens ∷ steps_pieces body rest)))
+  step_pieces (nursery name deadline shield body) rest = keyword word.Nursery ∷ named given name ∷ opens ∷ steps_pieces body rest
+  step_pieces (start name over body) rest = keyword word.Start ∷ named given name ∷ over_pieces over (opens ∷ steps_pieces body rest)
+  step_pieces (attempt body handler cleanup) rest = keyword word.Try ∷ opens ∷ steps_pieces body (handler_pieces handler (cleanup_pieces cleanup rest))
+
+  pub handler_pieces : Handled → List Piece → List Piece
+  handler_pieces unhandled rest = rest
+  handler_pieces (except name body) rest = keyword word.Except ∷ named handled name ∷ opens ∷ steps_pieces body rest
+
+  pub cleanup_pieces : Cleaned → List Piece → List Piece
+  cleanup_pieces uncleaned rest = rest
+  cleanup_pieces (finally body) rest = keyword word.Finally ∷ opens ∷ steps_pieces body rest
+
+-- a job, in front of other tokens and alone
+abbrev pub job_onto : Tree → List Piece → List Piece
+job_onto job rest = keyword word.Job ∷ named given job.name ∷ opens ∷ steps_pieces job.steps rest
+
+abbrev pub job_pieces : Tree → List Piece
+job_pieces job = job_onto job []
+
+-- a `try` has a handler or a cleanup
+abbrev pub HasTail : Handled → Cleaned → Type 0
+HasTail (except name body) cleanup = Unit {0}
+HasTail unhandled (finally body) = Unit {0}
+HasTail unhandled uncleaned = ⊥
+
+abbrev mutual
+  -- what stands in a block: a `start` only right inside a nursery
+  pub AreSteps : Bool → Steps → Type 0
+  AreSteps inside stop = Unit {0}
+  AreSteps inside (step s ss) = IsStep inside s × AreSteps inside ss
+
+  pub IsStep : Bool → Step → Type 0
+  IsStep inside (sleep ticks) = Unit {0}
+  IsStep inside checkpoint = Unit {0}
+  IsStep inside forever = Unit {0}
+  IsStep inside (pace per_tick) = Unit {0}
+  IsStep inside (find text) = Unit {0}
+  IsStep inside (head count) = Unit {0}
+  IsStep inside longest = Unit {0}
+  IsStep inside (need text name) = Unit {0}
+  IsStep inside (raise name) = Unit {0}
+  IsStep inside (cancel name) = Unit {0}
+  IsStep inside (scope name deadline shield fail body) = AreSteps false body
+  IsStep inside (nursery name deadline shield body) = (deadline ≡ Never) × (shield ≡ false) × AreSteps true body
+  IsStep inside (start name over body) = (inside ≡ true) × AreSteps false body
+  IsStep inside (attempt body handler cleanup) = HasTail handler cleanup × AreSteps false body × IsHandler handler × IsCleanup cleanup
+
+  pub IsHandler : Handled → Type 0
+  IsHandler unhandled = Unit {0}
+  IsHandler (except name body) = AreSteps false body
+
+  pub IsCleanup : Cleaned → Type 0
+  IsCleanup uncleaned = Unit {0}
+  IsCleanup (finally body) = AreSteps false body

@@ -1,0 +1,147 @@
+-- Reading a job from its tokens, construct by construct. Blocks are read so many deep at most.
+use Rattle.std.specs.Prelude.{ℕ, zero, suc, List, [], ◌∷◌, length, Bool, true, false, ◌==◌, Option, Some, None, if◌then◌else◌}
+use Rattle.std.specs.Str.{bytes_eq}
+use Rattle.job_tree.specs.declared.deadline.Deadline.{Deadline}
+use Rattle.job_tree.specs.declared.deadline.Deadline.TheVariants.{Never, After, At}
+use Rattle.job_tree.specs.Tree.{Step, sleep, checkpoint, forever, pace, find, head, longest, need, raise, cancel, scope, nursery, start, attempt, Steps, stop, step, Handled, unhandled, except, Cleaned, uncleaned, finally, Tree}
+use Rattle.job_tokens.specs.declared.token.Mark.{Mark}
+use Rattle.job_tokens.specs.declared.token.Mark.TheVariants as mark
+use Rattle.job_tokens.specs.declared.token.Shape.{Shape}
+use Rattle.job_tokens.specs.Shapes.{word_in, number_in, text_in, mark_in}
+use Rattle.job_syntax.specs.declared.keyword.Keyword.{Keyword}
+use Rattle.job_syntax.specs.declared.keyword.Keyword.TheVariants as word
+use Rattle.job_syntax.specs.Keywords.{spelling, keyword_of}
+use Rattle.job_syntax.specs.Symbols.{◌>>=◌}
+
+-- something and the tokens behind it
+abbrev pub Read : Type 0 → Type 0
+Read A = Option (A × List Shape)
+
+abbrev pub first_of : {A : Type 0} → (Shape → Option A) → List Shape → Read A
+first_of kind [] = None
+first_of kind (s ∷ rest) = kind s >>= λ x. Some (x, rest)
+
+abbrev pub word_at : List Shape → Read (List ℕ)
+word_at shapes = first_of word_in shapes
+
+abbrev pub keyword_at : List Shape → Read Keyword
+keyword_at shapes = word_at shapes >>= λ w. keyword_of w.0 >>= λ k. Some (k, w.1)
+
+abbrev pub number_at : List Shape → Read ℕ
+number_at shapes = first_of number_in shapes
+
+abbrev pub text_at : List Shape → Read (List ℕ)
+text_at shapes = first_of text_in shapes
+
+abbrev pub is_mark : Mark → Mark → Bool
+is_mark mark.Open mark.Open = true
+is_mark mark.Close mark.Close = true
+is_mark mark.Semicolon mark.Semicolon = true
+is_mark _ _ = false
+
+-- what is behind a mark
+abbrev pub mark_at : Mark → List Shape → Option (List Shape)
+mark_at m shapes = first_of mark_in shapes >>= λ found. if is_mark found.0 m then Some found.1 else None
+
+-- what is behind a keyword, where it comes first
+abbrev pub unless_other : Keyword → Read (List ℕ) → Option (List Shape)
+unless_other k None = None
+unless_other k (Some w) = if bytes_eq w.0 (spelling k) then Some w.1 else None
+
+abbrev pub behind_word : Keyword → List Shape → Option (List Shape)
+behind_word k shapes = unless_other k (word_at shapes)
+
+-- a word that may stand or not
+abbrev pub flag_read : Option (List Shape) → List Shape → Bool × List Shape
+flag_read (Some rest) shapes = (true, rest)
+flag_read None shapes = (false, shapes)
+
+abbrev pub flag_at : Keyword → List Shape → Bool × List Shape
+flag_at k shapes = flag_read (behind_word k shapes) shapes
+
+-- what may stand behind a keyword, or something else
+abbrev pub or_else : {A : Type 0} → Option (List Shape) → (List Shape → Read A) → Read A → Read A
+or_else (Some rest) behind other = behind rest
+or_else None behind other = other
+
+abbrev pub deadline_at : List Shape → Read Deadline
+deadline_at shapes =
+    or_else (behind_word word.After shapes) (λ rest. number_at rest >>= λ n. Some (After n.0, n.1))
+    (or_else (behind_word word.At shapes) (λ rest. number_at rest >>= λ n. Some (At n.0, n.1)) (Some (Never, shapes)))
+
+abbrev pub over_at : List Shape → Read (Option ℕ)
+over_at shapes = or_else (behind_word word.Over shapes) (λ rest. number_at rest >>= λ n. Some (Some n.0, n.1)) (Some (None, shapes))
+
+-- how a block inside is read
+abbrev pub Blocks : Type 0
+Blocks = List Shape → Read Steps
+
+abbrev pub body_at : Blocks → List Shape → Read Steps
+body_at blocks shapes = mark_at mark.Open shapes >>= blocks
+
+abbrev pub handler_at : Blocks → List Shape → Read Handled
+handler_at blocks shapes =
+    or_else (behind_word word.Except shapes) (λ rest. word_at rest >>= λ n. body_at blocks n.1 >>= λ b. Some (except n.0 b.0, b.1)) (Some (unhandled, shapes))
+
+abbrev pub cleanup_at : Blocks → List Shape → Read Cleaned
+cleanup_at blocks shapes = or_else (behind_word word.Finally shapes) (λ rest. body_at blocks rest >>= λ b. Some (finally b.0, b.1)) (Some (uncleaned, shapes))
+
+-- a scope behind its keyword
+abbrev pub scope_at : Blocks → List Shape → Read Step
+scope_at blocks shapes =
+    word_at shapes >>= λ n. deadline_at n.1 >>= λ d.
+    body_at blocks (flag_at word.Fail (flag_at word.Shield d.1).1).1 >>= λ b.
+    Some (scope n.0 d.0 (flag_at word.Shield d.1).0 (flag_at word.Fail (flag_at word.Shield d.1).1).0 b.0, b.1)
+
+abbrev pub try_at : Blocks → List Shape → Read Step
+try_at blocks shapes =
+    body_at blocks shapes >>= λ b. handler_at blocks b.1 >>= λ h. cleanup_at blocks h.1 >>= λ c. Some (attempt b.0 h.0 c.0, c.1)
+
+abbrev pub ended : Step → List Shape → Read Step
+ended s shapes = mark_at mark.Semicolon shapes >>= λ rest. Some (s, rest)
+
+abbrev pub nursery_at : Blocks → List Shape → Read Step
+nursery_at blocks shapes = word_at shapes >>= λ n. body_at blocks n.1 >>= λ b. Some (nursery n.0 Never false b.0, b.1)
+
+abbrev pub start_at : Blocks → List Shape → Read Step
+start_at blocks shapes = word_at shapes >>= λ n. over_at n.1 >>= λ o. body_at blocks o.1 >>= λ b. Some (start n.0 o.0 b.0, b.1)
+
+-- a step that holds no block, behind its keyword
+abbrev pub plain_step : Keyword → List Shape → Read Step
+plain_step word.Sleep shapes = number_at shapes >>= λ n. ended (sleep n.0) n.1
+plain_step word.Checkpoint shapes = ended checkpoint shapes
+plain_step word.Forever shapes = ended forever shapes
+plain_step word.Pace shapes = number_at shapes >>= λ n. ended (pace n.0) n.1
+plain_step word.Find shapes = text_at shapes >>= λ t. ended (find t.0) t.1
+plain_step word.Head shapes = number_at shapes >>= λ n. ended (head n.0) n.1
+plain_step word.Longest shapes = ended longest shapes
+plain_step word.Need shapes = text_at shapes >>= λ t. word_at t.1 >>= λ n. ended (need t.0 n.0) n.1
+plain_step word.Raise shapes = word_at shapes >>= λ n. ended (raise n.0) n.1
+plain_step word.Cancel shapes = word_at shapes >>= λ n. ended (cancel n.0) n.1
+plain_step _ shapes = None
+
+-- a step behind its keyword
+abbrev pub step_behind : Blocks → Keyword → List Shape → Read Step
+step_behind blocks word.Scope shapes = scope_at blocks shapes
+step_behind blocks word.Nursery shapes = nursery_at blocks shapes
+step_behind blocks word.Start shapes = start_at blocks shapes
+step_behind blocks word.Try shapes = try_at blocks shapes
+step_behind blocks k shapes = plain_step k shapes
+
+abbrev pub step_at : Blocks → List Shape → Read Step
+step_at blocks shapes = keyword_at shapes >>= λ k. step_behind blocks k.0 k.1
+
+abbrev pub ended_or : Option (List Shape) → Read Steps → Read Steps
+ended_or (Some rest) others = Some (stop, rest)
+ended_or None others = others
+
+-- the steps up to the `}` that ends them, fewer than so many
+unfoldable pub steps_with : Blocks → ℕ → List Shape → Read Steps
+steps_with blocks zero shapes = None
+steps_with blocks (suc n) shapes = ended_or (mark_at mark.Close shapes)
+    (step_at blocks shapes >>= λ s. steps_with blocks n s.1 >>= λ others. Some (step s.0 others.0, others.1))
+
+-- a block that holds at most so many blocks in one another
+unfoldable pub blocks_at : ℕ → List Shape → Read Steps
+blocks_at zero shapes = None
+blocks_at (suc depth) shapes = steps_with (blocks_at depth) (length shapes) shapes

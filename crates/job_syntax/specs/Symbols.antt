@@ -1,0 +1,139 @@
+-- What may stand behind a token, symbol by symbol.
+use Rattle.std.specs.Prelude.{List, [], ◌∷◌, Bool, true, false, Option, Some, None}
+use Rattle.job_tokens.specs.declared.token.Mark.{Mark}
+use Rattle.job_tokens.specs.declared.token.Mark.TheVariants as mark
+use Rattle.job_tokens.specs.declared.token.Shape.{Shape}
+use Rattle.job_tokens.specs.Shapes.{word_in, number_in, text_in, mark_in}
+use Rattle.job_syntax.specs.declared.keyword.Keyword.{Keyword}
+use Rattle.job_syntax.specs.declared.keyword.Keyword.TheVariants as word
+use Rattle.job_syntax.specs.declared.symbol.Symbol.{Symbol}
+use Rattle.job_syntax.specs.declared.symbol.Symbol.TheVariants.{Job, Steps, Items, StepsTail, ItemsTail, StepsCleanup, ItemsCleanup, Scope, Shield, Fail, Over, Given, Raised, Handled, Target, Number, Text, Open, Semicolon}
+use Rattle.job_syntax.specs.Keywords.{keyword_of}
+
+-- what comes of a value, where there is one
+infixl 10 ◌>>=◌
+abbrev pub ◌>>=◌ : {A B : Type 0} → Option A → (A → Option B) → Option B
+None >>= f = None
+(Some x) >>= f = f x
+
+-- the symbols that must follow, the next one first: none where the token cannot stand there
+abbrev pub Rest : Type 0
+Rest = Option (List Symbol)
+
+-- the rest of a block, of a nursery or of another, and the same with what may stand behind a `try` or a handler
+abbrev pub outer : Bool → Symbol
+outer false = Steps
+outer true = Items
+
+abbrev pub tail : Bool → Symbol
+tail false = StepsTail
+tail true = ItemsTail
+
+abbrev pub cleanup : Bool → Symbol
+cleanup false = StepsCleanup
+cleanup true = ItemsCleanup
+
+-- behind the first word of a text
+abbrev pub text_rest : Keyword → Rest
+text_rest word.Job = Some (Given ∷ Open ∷ Steps ∷ [])
+text_rest _ = None
+
+-- behind `start`, which stands only right inside a nursery
+abbrev pub start_rest : Bool → Rest
+start_rest true = Some (Given ∷ Over ∷ Items ∷ [])
+start_rest false = None
+
+-- behind the first word of a step
+abbrev pub step_rest : Bool → Keyword → Rest
+step_rest inside word.Sleep = Some (Number ∷ Semicolon ∷ outer inside ∷ [])
+step_rest inside word.Checkpoint = Some (Semicolon ∷ outer inside ∷ [])
+step_rest inside word.Forever = Some (Semicolon ∷ outer inside ∷ [])
+step_rest inside word.Pace = Some (Number ∷ Semicolon ∷ outer inside ∷ [])
+step_rest inside word.Find = Some (Text ∷ Semicolon ∷ outer inside ∷ [])
+step_rest inside word.Head = Some (Number ∷ Semicolon ∷ outer inside ∷ [])
+step_rest inside word.Longest = Some (Semicolon ∷ outer inside ∷ [])
+step_rest inside word.Need = Some (Text ∷ Raised ∷ Semicolon ∷ outer inside ∷ [])
+step_rest inside word.Raise = Some (Raised ∷ Semicolon ∷ outer inside ∷ [])
+step_rest inside word.Cancel = Some (Target ∷ Semicolon ∷ outer inside ∷ [])
+step_rest inside word.Scope = Some (Given ∷ Scope ∷ outer inside ∷ [])
+step_rest inside word.Nursery = Some (Given ∷ Open ∷ Items ∷ outer inside ∷ [])
+step_rest inside word.Start = start_rest inside
+step_rest inside word.Try = Some (Open ∷ Steps ∷ tail inside ∷ [])
+step_rest inside _ = None
+
+-- behind the first word of what may stand behind a handler, where it is no step
+abbrev pub cleanup_rest : Bool → Keyword → Rest
+cleanup_rest inside word.Finally = Some (Open ∷ Steps ∷ outer inside ∷ [])
+cleanup_rest inside k = step_rest inside k
+
+-- behind the word that follows the block of a `try`
+abbrev pub tail_rest : Bool → Keyword → Rest
+tail_rest inside word.Except = Some (Handled ∷ Open ∷ Steps ∷ cleanup inside ∷ [])
+tail_rest inside word.Finally = Some (Open ∷ Steps ∷ outer inside ∷ [])
+tail_rest inside _ = None
+
+-- behind a word in the head of a scope
+abbrev pub fail_rest : Keyword → Rest
+fail_rest word.Fail = Some (Open ∷ Steps ∷ [])
+fail_rest _ = None
+
+abbrev pub shield_rest : Keyword → Rest
+shield_rest word.Shield = Some (Fail ∷ [])
+shield_rest k = fail_rest k
+
+abbrev pub scope_rest : Keyword → Rest
+scope_rest word.After = Some (Number ∷ Shield ∷ [])
+scope_rest word.At = Some (Number ∷ Shield ∷ [])
+scope_rest k = shield_rest k
+
+abbrev pub over_rest : Keyword → Rest
+over_rest word.Over = Some (Number ∷ Open ∷ Steps ∷ [])
+over_rest _ = None
+
+abbrev pub open_rest : Rest → Mark → Rest
+open_rest rest mark.Open = rest
+open_rest rest mark.Close = None
+open_rest rest mark.Semicolon = None
+
+abbrev pub close_rest : Mark → Rest
+close_rest mark.Open = None
+close_rest mark.Close = Some []
+close_rest mark.Semicolon = None
+
+abbrev pub semicolon_rest : Mark → Rest
+semicolon_rest mark.Open = None
+semicolon_rest mark.Close = None
+semicolon_rest mark.Semicolon = Some []
+
+-- behind a mark, or else behind a keyword
+abbrev pub by_mark : (Mark → Rest) → (Keyword → Rest) → Option Mark → Shape → Rest
+by_mark marks words (Some m) shape = marks m
+by_mark marks words None shape = word_in shape >>= λ w. keyword_of w >>= words
+
+abbrev pub either : (Mark → Rest) → (Keyword → Rest) → Shape → Rest
+either marks words shape = by_mark marks words (mark_in shape) shape
+
+abbrev pub any_name : Shape → Rest
+any_name shape = word_in shape >>= λ w. Some []
+
+-- behind a token that stands for a symbol
+abbrev pub next : Symbol → Shape → Rest
+next Job shape = word_in shape >>= λ w. keyword_of w >>= text_rest
+next Steps shape = either close_rest (step_rest false) shape
+next Items shape = either close_rest (step_rest true) shape
+next StepsTail shape = word_in shape >>= λ w. keyword_of w >>= tail_rest false
+next ItemsTail shape = word_in shape >>= λ w. keyword_of w >>= tail_rest true
+next StepsCleanup shape = either close_rest (cleanup_rest false) shape
+next ItemsCleanup shape = either close_rest (cleanup_rest true) shape
+next Scope shape = either (open_rest (Some (Steps ∷ []))) scope_rest shape
+next Shield shape = either (open_rest (Some (Steps ∷ []))) shield_rest shape
+next Fail shape = either (open_rest (Some (Steps ∷ []))) fail_rest shape
+next Over shape = either (open_rest (Some (Steps ∷ []))) over_rest shape
+next Given shape = any_name shape
+next Raised shape = any_name shape
+next Handled shape = any_name shape
+next Target shape = any_name shape
+next Number shape = number_in shape >>= λ n. Some []
+next Text shape = text_in shape >>= λ t. Some []
+next Open shape = mark_in shape >>= open_rest (Some [])
+next Semicolon shape = mark_in shape >>= semicolon_rest

@@ -1,0 +1,374 @@
+ghost use Rattle.std.specs.Prelude.{◌≡◌, length, IfOk};
+ghost use Rattle.all_steps.specs.Blocks.{step_of, steps_of, handled_of, cleaned_of};
+ghost use Rattle.job_tokens.specs.Shapes.{shapes_of};
+ghost use Rattle.job_tokens.specs.Lexing.{Gives};
+ghost use Rattle.job_syntax.specs.declared.keyword.Keyword.TheVariants as word;
+ghost use Rattle.job_syntax.specs.Reading.{word_at, keyword_at, number_at, text_at, mark_at, behind_word, flag_at, deadline_at, over_at, body_at, handler_at, cleanup_at, scope_at, nursery_at, start_at, try_at, ended, plain_step, step_at, steps_with, blocks_at};
+
+use crate::keyword::Keyword;
+use job_tokens::{Mark, Token};
+use all_steps::{Body, Handler, Step};
+use job_tree::{Deadline, Name, Text};
+use std::alloc::{AllocError, Global};
+
+fn word_at(tokens: &[Token]) -> Option<(Name, &[Token])>
+    ensures { Gives (λ x. (x.0, shapes_of x.1.now)) result (word_at (shapes_of tokens.now)) }
+{
+    let (first, rest) = tokens.split_first()?;
+    let word = first.shape.word()?;
+    Some((word, rest))
+}
+
+fn keyword_at(tokens: &[Token]) -> Option<(Keyword, &[Token])>
+    ensures { Gives (λ x. (x.0, shapes_of x.1.now)) result (keyword_at (shapes_of tokens.now)) }
+{
+    let Some((word, rest)) = word_at(tokens) else {
+        return None;
+    };
+    let keyword = Keyword::of(word)?;
+    Some((keyword, rest))
+}
+
+fn number_at(tokens: &[Token]) -> Option<(u64, &[Token])>
+    ensures { Gives (λ x. (x.0, shapes_of x.1.now)) result (number_at (shapes_of tokens.now)) }
+{
+    let (first, rest) = tokens.split_first()?;
+    let number = first.shape.number()?;
+    Some((number, rest))
+}
+
+fn text_at(tokens: &[Token]) -> Option<(Text, &[Token])>
+    ensures { Gives (λ x. (x.0, shapes_of x.1.now)) result (text_at (shapes_of tokens.now)) }
+{
+    let (first, rest) = tokens.split_first()?;
+    let text = first.shape.text()?;
+    Some((text, rest))
+}
+
+// What is behind a mark.
+fn mark_at(tokens: &[Token], mark: Mark) -> Option<&[Token]>
+    ensures { Gives (λ x. shapes_of x.now) result (mark_at mark (shapes_of tokens.now)) }
+{
+    let (first, rest) = tokens.split_first()?;
+    let found = first.shape.mark()?;
+    if found != mark {
+        return None;
+    }
+    Some(rest)
+}
+
+// What is behind a keyword, where it comes first.
+fn behind_word(tokens: &[Token], keyword: Keyword) -> Option<&[Token]>
+    ensures { Gives (λ x. shapes_of x.now) result (behind_word keyword (shapes_of tokens.now)) }
+{
+    let Some((word, rest)) = word_at(tokens) else {
+        return None;
+    };
+    if word.bytes() != keyword.bytes() {
+        return None;
+    }
+    Some(rest)
+}
+
+// A word that may stand or not.
+fn flag_at(tokens: &[Token], keyword: Keyword) -> (bool, &[Token])
+    ensures { (result.0, shapes_of result.1.now) ≡ flag_at keyword (shapes_of tokens.now) }
+{
+    match behind_word(tokens, keyword) {
+        Some(rest) => (true, rest),
+        None => (false, tokens),
+    }
+}
+
+fn deadline_at(tokens: &[Token]) -> Option<(Deadline, &[Token])>
+    ensures { Gives (λ x. (x.0, shapes_of x.1.now)) result (deadline_at (shapes_of tokens.now)) }
+{
+    if let Some(rest) = behind_word(tokens, Keyword::After) {
+        let (ticks, rest) = number_at(rest)?;
+        return Some((Deadline::After(ticks), rest));
+    }
+    if let Some(rest) = behind_word(tokens, Keyword::At) {
+        let (tick, rest) = number_at(rest)?;
+        return Some((Deadline::At(tick), rest));
+    }
+    Some((Deadline::Never, tokens))
+}
+
+// How many copies are started.
+fn over_at(tokens: &[Token]) -> Option<(Option<u64>, &[Token])>
+    ensures { Gives (λ x. (x.0, shapes_of x.1.now)) result (over_at (shapes_of tokens.now)) }
+{
+    if let Some(rest) = behind_word(tokens, Keyword::Over) {
+        let (copies, rest) = number_at(rest)?;
+        return Some((Some(copies), rest));
+    }
+    Some((None, tokens))
+}
+
+// A block that holds at most so many blocks in one another, itself included, behind its `{`.
+#[cycle(tree)]
+#[tactic(auto, unfolding(crate::specs::Reading::blocks_at))]
+fn blocks_at(
+    alloc: Global,
+    depth: usize,
+    tokens: &[Token],
+) -> Result<Option<(Body, &[Token])>, AllocError>
+    ensures { IfOk result (λ x. Gives (λ s. (s.0, shapes_of s.1.now)) x (blocks_at depth (shapes_of tokens.now))) }
+{
+    if depth == 0 {
+        return Ok(None);
+    }
+    steps_with(alloc, depth - 1, tokens)
+}
+
+// The steps up to the `}` that ends them, and what is behind it.
+#[cycle(tree)]
+fn steps_with(
+    alloc: Global,
+    depth: usize,
+    tokens: &[Token],
+) -> Result<Option<(Body, &[Token])>, AllocError>
+    ensures { IfOk result (λ x. Gives (λ s. (s.0, shapes_of s.1.now)) x
+        (steps_with (blocks_at depth) (length tokens.now) (shapes_of tokens.now))) }
+{
+    let mut steps = Vec::new(alloc);
+    let mut rest = tokens;
+    'steps: for _ in 0..tokens.len() {
+        if let Some(after) = mark_at(rest, Mark::Close) {
+            return Ok(Some((Body::new(steps), after)));
+        }
+        let Some((step, after)) = step_at(alloc, depth, rest)? else {
+            return Ok(None);
+        };
+        steps.push(step)?;
+        rest = after;
+    }
+    Ok(None)
+}
+
+// The step that the tokens begin with, and what is behind it.
+#[cycle(tree)]
+fn step_at(
+    alloc: Global,
+    depth: usize,
+    tokens: &[Token],
+) -> Result<Option<(Step, &[Token])>, AllocError>
+    ensures { IfOk result (λ x. Gives (λ s. (step_of s.0, shapes_of s.1.now)) x (step_at (blocks_at depth) (shapes_of tokens.now))) }
+{
+    let Some((keyword, rest)) = keyword_at(tokens) else {
+        return Ok(None);
+    };
+    match keyword {
+        Keyword::Scope => scope_at(alloc, depth, rest),
+        Keyword::Nursery => nursery_at(alloc, depth, rest),
+        Keyword::Start => start_at(alloc, depth, rest),
+        Keyword::Try => try_at(alloc, depth, rest),
+        _ => Ok(plain_step(keyword, rest)),
+    }
+}
+
+// A block with its `{`.
+#[cycle(tree)]
+fn body_at(
+    alloc: Global,
+    depth: usize,
+    tokens: &[Token],
+) -> Result<Option<(Body, &[Token])>, AllocError>
+    ensures { IfOk result (λ x. Gives (λ s. (s.0, shapes_of s.1.now)) x (body_at (blocks_at depth) (shapes_of tokens.now))) }
+{
+    let Some(rest) = mark_at(tokens, Mark::Open) else {
+        return Ok(None);
+    };
+    blocks_at(alloc, depth, rest)
+}
+
+#[cycle(tree)]
+fn scope_at(
+    alloc: Global,
+    depth: usize,
+    tokens: &[Token],
+) -> Result<Option<(Step, &[Token])>, AllocError>
+    ensures { IfOk result (λ x. Gives (λ s. (step_of s.0, shapes_of s.1.now)) x (scope_at (blocks_at depth) (shapes_of tokens.now))) }
+{
+    let Some((name, rest)) = word_at(tokens) else {
+        return Ok(None);
+    };
+    let Some((deadline, rest)) = deadline_at(rest) else {
+        return Ok(None);
+    };
+    let (shield, rest) = flag_at(rest, Keyword::Shield);
+    let (fail, rest) = flag_at(rest, Keyword::Fail);
+    let Some((body, rest)) = body_at(alloc, depth, rest)? else {
+        return Ok(None);
+    };
+    let scope = Step::Scope {
+        name,
+        deadline,
+        shield,
+        fail,
+        body,
+    };
+    Ok(Some((scope, rest)))
+}
+
+#[cycle(tree)]
+fn nursery_at(
+    alloc: Global,
+    depth: usize,
+    tokens: &[Token],
+) -> Result<Option<(Step, &[Token])>, AllocError>
+    ensures { IfOk result (λ x. Gives (λ s. (step_of s.0, shapes_of s.1.now)) x (nursery_at (blocks_at depth) (shapes_of tokens.now))) }
+{
+    let Some((name, rest)) = word_at(tokens) else {
+        return Ok(None);
+    };
+    let Some((body, rest)) = body_at(alloc, depth, rest)? else {
+        return Ok(None);
+    };
+    Ok(Some((Step::Nursery { name, body }, rest)))
+}
+
+#[cycle(tree)]
+fn start_at(
+    alloc: Global,
+    depth: usize,
+    tokens: &[Token],
+) -> Result<Option<(Step, &[Token])>, AllocError>
+    ensures { IfOk result (λ x. Gives (λ s. (step_of s.0, shapes_of s.1.now)) x (start_at (blocks_at depth) (shapes_of tokens.now))) }
+{
+    let Some((name, rest)) = word_at(tokens) else {
+        return Ok(None);
+    };
+    let Some((over, rest)) = over_at(rest) else {
+        return Ok(None);
+    };
+    let Some((body, rest)) = body_at(alloc, depth, rest)? else {
+        return Ok(None);
+    };
+    Ok(Some((Step::Start { name, over, body }, rest)))
+}
+
+#[cycle(tree)]
+fn try_at(
+    alloc: Global,
+    depth: usize,
+    tokens: &[Token],
+) -> Result<Option<(Step, &[Token])>, AllocError>
+    ensures { IfOk result (λ x. Gives (λ s. (step_of s.0, shapes_of s.1.now)) x (try_at (blocks_at depth) (shapes_of tokens.now))) }
+{
+    let Some((body, rest)) = body_at(alloc, depth, tokens)? else {
+        return Ok(None);
+    };
+    let Some((handler, rest)) = handler_at(alloc, depth, rest)? else {
+        return Ok(None);
+    };
+    let Some((cleanup, rest)) = cleanup_at(alloc, depth, rest)? else {
+        return Ok(None);
+    };
+    let attempt = Step::Try {
+        body,
+        handler,
+        cleanup,
+    };
+    Ok(Some((attempt, rest)))
+}
+
+#[cycle(tree)]
+fn handler_at(
+    alloc: Global,
+    depth: usize,
+    tokens: &[Token],
+) -> Result<Option<(Option<Handler>, &[Token])>, AllocError>
+    ensures { IfOk result (λ x. Gives (λ h. (handled_of h.0, shapes_of h.1.now)) x (handler_at (blocks_at depth) (shapes_of tokens.now))) }
+{
+    let Some(rest) = behind_word(tokens, Keyword::Except) else {
+        return Ok(Some((None, tokens)));
+    };
+    let Some((name, rest)) = word_at(rest) else {
+        return Ok(None);
+    };
+    let Some((body, rest)) = body_at(alloc, depth, rest)? else {
+        return Ok(None);
+    };
+    Ok(Some((Some(Handler { name, body }), rest)))
+}
+
+#[cycle(tree)]
+fn cleanup_at(
+    alloc: Global,
+    depth: usize,
+    tokens: &[Token],
+) -> Result<Option<(Option<Body>, &[Token])>, AllocError>
+    ensures { IfOk result (λ x. Gives (λ c. (cleaned_of c.0, shapes_of c.1.now)) x (cleanup_at (blocks_at depth) (shapes_of tokens.now))) }
+{
+    let Some(rest) = behind_word(tokens, Keyword::Finally) else {
+        return Ok(Some((None, tokens)));
+    };
+    let Some((body, rest)) = body_at(alloc, depth, rest)? else {
+        return Ok(None);
+    };
+    Ok(Some((Some(body), rest)))
+}
+
+// A step that holds no block, behind its keyword.
+fn plain_step(keyword: Keyword, tokens: &[Token]) -> Option<(Step, &[Token])>
+    ensures { Gives (λ x. (step_of x.0, shapes_of x.1.now)) result (plain_step keyword (shapes_of tokens.now)) }
+{
+    match keyword {
+        Keyword::Sleep => {
+            let (ticks, rest) = number_at(tokens)?;
+            ended(Step::Sleep(ticks), rest)
+        }
+        Keyword::Checkpoint => ended(Step::Checkpoint, tokens),
+        Keyword::Forever => ended(Step::Forever, tokens),
+        Keyword::Pace => {
+            let (per_tick, rest) = number_at(tokens)?;
+            ended(Step::Pace(per_tick), rest)
+        }
+        Keyword::Find => {
+            let Some((text, rest)) = text_at(tokens) else {
+                return None;
+            };
+            ended(Step::Find(text), rest)
+        }
+        Keyword::Head => {
+            let (count, rest) = number_at(tokens)?;
+            ended(Step::Head(count), rest)
+        }
+        Keyword::Longest => ended(Step::Longest, tokens),
+        Keyword::Need => need_at(tokens),
+        Keyword::Raise => {
+            let Some((name, rest)) = word_at(tokens) else {
+                return None;
+            };
+            ended(Step::Raise(name), rest)
+        }
+        Keyword::Cancel => {
+            let Some((name, rest)) = word_at(tokens) else {
+                return None;
+            };
+            ended(Step::Cancel(name), rest)
+        }
+        _ => None,
+    }
+}
+
+fn need_at(tokens: &[Token]) -> Option<(Step, &[Token])>
+    ensures { Gives (λ x. (step_of x.0, shapes_of x.1.now)) result (plain_step word.Need (shapes_of tokens.now)) }
+{
+    let Some((text, rest)) = text_at(tokens) else {
+        return None;
+    };
+    let Some((name, rest)) = word_at(rest) else {
+        return None;
+    };
+    ended(Step::Need { text, name }, rest)
+}
+
+// A step and what is behind its `;`.
+fn ended(step: Step, tokens: &[Token]) -> Option<(Step, &[Token])>
+    ensures { Gives (λ x. (step_of x.0, shapes_of x.1.now)) result (ended (step_of step) (shapes_of tokens.now)) }
+{
+    let rest = mark_at(tokens, Mark::Semicolon)?;
+    Some((step, rest))
+}
