@@ -15,3 +15,4 @@ pub use course::{Course, follow};
 pub use keyword::Keyword;
 pub use range::number_fault;
 pub use symbol::Symbol;
+pub use tree::blocks_at;

@@ -6,8 +6,8 @@ ghost use Rattle.job_syntax.specs.declared.keyword.Keyword.TheVariants as word;
 ghost use Rattle.job_syntax.specs.Reading.{word_at, keyword_at, number_at, text_at, mark_at, behind_word, flag_at, deadline_at, over_at, body_at, handler_at, cleanup_at, scope_at, nursery_at, start_at, try_at, ended, plain_step, step_at, steps_with, blocks_at};
 
 use crate::keyword::Keyword;
-use job_tokens::{Mark, Token};
 use all_steps::{Body, Handler, Step};
+use job_tokens::{Mark, Token};
 use job_tree::{Deadline, Name, Text};
 use std::alloc::{AllocError, Global};
 
@@ -105,10 +105,11 @@ fn over_at(tokens: &[Token]) -> Option<(Option<u64>, &[Token])>
     Some((None, tokens))
 }
 
-// A block that holds at most so many blocks in one another, itself included, behind its `{`.
+/// The steps of a block that holds at most so many blocks in one another, itself included, behind its `{`, and the tokens
+/// behind its `}`: none where they are no such block. It recurses no deeper than that.
 #[cycle(tree)]
 #[tactic(auto, unfolding(crate::specs::Reading::blocks_at))]
-fn blocks_at(
+pub fn blocks_at(
     alloc: Global,
     depth: usize,
     tokens: &[Token],

@@ -1,0 +1,213 @@
+ghost use Rattle.std.specs.Prelude.{◌≡◌, ◌+◌, ◌<◌, ◌^◌, ◌++◌, ℕ, List, IfOk, OnOk, Option, map};
+ghost use Rattle.buffer_parts.specs.Lines.{Span};
+ghost use Rattle.line_kernels.specs.Answers.{AreLinesAt};
+ghost use Rattle.exc_groups.specs.Exceptions.{Exc};
+ghost use Rattle.job_meaning.specs.Log as meaning;
+ghost use Rattle.job_meaning.specs.Log.{nil, entry, sign, entered, task, followed_by, tick_if, same_label};
+ghost use Rattle.job_meaning.specs.Walk.{log_of_lines, left_as};
+ghost use Rattle.job_meaning.specs.Shown.{ending_of};
+ghost use Rattle.plain_walk.specs.Kinds.{kind_of};
+ghost use Rattle.job_runner.specs.Records.{ending_in};
+ghost use Rattle.plain_walk.specs.Logs.{Tells, deadline_in, seen_in};
+
+use crate::kind::{Kind, entry_of_leaving};
+use crate::stack::{earlier, is_same_label};
+use buffer_parts::Line;
+use exc_groups::Label;
+use job_runner::{Entry, Outcome, Record};
+use std::alloc::{AllocError, Global};
+
+/// A cancellation of a scope or nursery, with the tick from which it is seen.
+#[derive(Drop)]
+pub struct Sign {
+    pub label: Label,
+    pub seen: u64,
+}
+
+/// A scope or nursery that was entered, with its deadline.
+#[derive(Drop)]
+pub struct Due {
+    pub label: Label,
+    pub deadline: Option<u64>,
+}
+
+/// What was done in a walk, sorted by who reads it: what the task itself noted and entered, the records and the
+/// entered labels of the tasks that it started, and all cancellations and deadlines.
+#[derive(Drop)]
+pub struct Log<'a> {
+    pub entries: Vec<Entry<'a>>,
+    pub records: Vec<Record<'a>>,
+    pub entered: Vec<Label>,
+    pub entered_below: Vec<Label>,
+    pub signs: Vec<Sign>,
+    pub dues: Vec<Due>,
+}
+
+impl<'a> Log<'a> {
+    /// A log of nothing.
+    pub fn new(alloc: Global) -> Log<'a>
+        ensures { (input : List ℕ) → Tells input result nil }
+    {
+        Log {
+            entries: Vec::new(alloc),
+            records: Vec::new(alloc),
+            entered: Vec::new(alloc),
+            entered_below: Vec::new(alloc),
+            signs: Vec::new(alloc),
+            dues: Vec::new(alloc),
+        }
+    }
+
+    /// Appends what was done next.
+    pub fn append(&mut self, next: Log<'a>) -> Result<(), AllocError>
+        ensures { OnOk result ((input : List ℕ) (a b : meaning.Log) → Tells input self.old a → Tells input next.entry b → Tells input self.new (followed_by a b)) }
+    {
+        move_all(&mut self.entries, next.entries)?;
+        move_all(&mut self.records, next.records)?;
+        move_all(&mut self.entered, next.entered)?;
+        move_all(&mut self.entered_below, next.entered_below)?;
+        move_all(&mut self.signs, next.signs)?;
+        move_all(&mut self.dues, next.dues)?;
+        Ok(())
+    }
+
+    /// A log of having shown lines.
+    pub fn of_lines(alloc: Global, lines: &[Line<'a>]) -> Result<Log<'a>, AllocError>
+        ensures { IfOk result (λ log. (input : List ℕ) (spans : List Span) (t : ℕ) → AreLinesAt input spans lines.now → Tells input log (log_of_lines t spans)) }
+    {
+        let mut log = Log::new(alloc);
+        push_lines(&mut log.entries, lines)?;
+        Ok(log)
+    }
+
+    /// A log of having left a scope or nursery.
+    pub fn of_leaving(
+        alloc: Global,
+        kind: Kind,
+        label: Label,
+        tick: u64,
+        caught: bool,
+    ) -> Result<Log<'a>, AllocError>
+        ensures { IfOk result (λ log. (input : List ℕ) → Tells input log (entry tick (left_as (kind_of kind) label caught) nil)) }
+    {
+        let mut log = Log::new(alloc);
+        log.entries
+            .push(entry_of_leaving(kind, label, tick, caught))?;
+        Ok(log)
+    }
+
+    /// A log of having cancelled a scope or nursery in a tick.
+    pub fn of_sign(alloc: Global, label: Label, tick: u64) -> Result<Log<'a>, AllocError>
+        requires { tick + 1 < 2 ^ 64 }
+        ensures { IfOk result (λ log. (input : List ℕ) → Tells input log (sign label tick nil)) }
+    {
+        let mut log = Log::new(alloc);
+        log.signs.push(Sign {
+            label,
+            seen: tick + 1,
+        })?;
+        Ok(log)
+    }
+
+    /// A log of having entered a scope or nursery.
+    pub fn of_entering(
+        alloc: Global,
+        label: &Label,
+        deadline: Option<u64>,
+    ) -> Result<Log<'a>, AllocError>
+        ensures { IfOk result (λ log. (input : List ℕ) (t : ℕ) → Tells input log (entered label.now t deadline nil)) }
+    {
+        let mut log = Log::new(alloc);
+        log.entered.push(label.copy(alloc)?)?;
+        log.dues.push(Due {
+            label: label.copy(alloc)?,
+            deadline,
+        })?;
+        Ok(log)
+    }
+
+    /// A log of having started a task, of which this is the log.
+    pub fn into_started(
+        self,
+        alloc: Global,
+        label: Label,
+        start: u64,
+        end: u64,
+        outcome: Outcome,
+    ) -> Result<Log<'a>, AllocError>
+        ensures { IfOk result (λ log. (input : List ℕ) (e : Option Exc) (own : meaning.Log) → ending_in outcome ≡ ending_of e → Tells input self.entry own → Tells input log (task label start end e own nil)) }
+    {
+        let mut records = Vec::new(alloc);
+        records.push(Record {
+            label,
+            from_tick: start,
+            to_tick: end,
+            outcome,
+            entries: self.entries,
+        })?;
+        move_all(&mut records, self.records)?;
+        let mut entered_below = self.entered;
+        move_all(&mut entered_below, self.entered_below)?;
+        Ok(Log {
+            entries: Vec::new(alloc),
+            records,
+            entered: Vec::new(alloc),
+            entered_below,
+            signs: self.signs,
+            dues: self.dues,
+        })
+    }
+}
+
+/// The tick from which the first cancellation of a label is seen.
+pub fn seen_from(signs: &[Sign], label: &Label) -> Option<u64>
+    ensures { result ≡ seen_in label.now signs.now }
+{
+    let mut seen = None;
+    'signs: for sign in signs {
+        seen = earlier(seen, seen_by(sign, label));
+    }
+    seen
+}
+
+// The tick from which a cancellation is seen, if it is one of that label.
+fn seen_by(sign: &Sign, label: &Label) -> Option<u64>
+    ensures { result ≡ tick_if (same_label label.now sign.now.label) sign.now.seen }
+{
+    if is_same_label(label, &sign.label) {
+        Some(sign.seen)
+    } else {
+        None
+    }
+}
+
+/// The deadline with which a label was entered, where it was.
+pub fn deadline_of(dues: &[Due], label: &Label) -> Option<Option<u64>>
+    ensures { result ≡ deadline_in label.now dues.now }
+{
+    let mut rest = dues;
+    'dues: while let Some((due, others)) = rest.split_first() {
+        if is_same_label(label, &due.label) {
+            return Some(due.deadline);
+        }
+        rest = others;
+    }
+    None
+}
+
+/// Moves all of a list behind another.
+pub fn move_all<T: Drop>(to: &mut Vec<T>, mut from: Vec<T>) -> Result<(), AllocError>
+    ensures { OnOk result (to.new.items ≡ to.old.items ++ from.items) }
+{
+    to.append(&mut from)
+}
+
+// Appends an entry for each line.
+fn push_lines<'a>(entries: &mut Vec<Entry<'a>>, lines: &[Line<'a>]) -> Result<(), AllocError>
+    ensures { OnOk result (entries.new.items ≡ entries.old.items ++ map Entry.Line lines.now) }
+{
+    'lines: for line in lines {
+        entries.push(Entry::Line(*line))?;
+    }
+    Ok(())
+}

@@ -1,0 +1,106 @@
+ghost use Rattle.std.specs.Prelude.{◌≡◌, Option, ◌&&◌};
+ghost use Rattle.std.specs.Option.{option_copied};
+ghost use Rattle.std.specs.Str.{bytes_eq};
+ghost use Rattle.cancel_scopes.specs.Sight.{sight, earlier, reached};
+ghost use Rattle.job_meaning.specs.Log.{same_label};
+ghost use Rattle.job_meaning.specs.Walk.{label_on, home_of, catches};
+ghost use Rattle.plain_walk.specs.Stacks.{stack_of};
+
+use exc_groups::Label;
+use job_tree::Name;
+
+/// A scope or nursery that is open: its label, whether it is shielded, and the tick from which it is cancelled.
+#[derive(Drop)]
+pub struct Level {
+    pub label: Label,
+    pub shield: bool,
+    pub from: Option<u64>,
+}
+
+/// The scopes and nurseries that are open round a task, innermost first.
+#[derive(Drop)]
+pub enum Stack<'s> {
+    /// None is open.
+    Empty,
+    /// One, and those round it.
+    Within(Level, &'s Stack<'s>),
+}
+
+impl<'s> Stack<'s> {
+    /// The earliest tick from which the stack is cancelled: up to and including the first shielded level.
+    pub fn sight(&self) -> Option<u64>
+        ensures { result ≡ sight (stack_of self.now) }
+    {
+        match self {
+            Stack::Empty => None,
+            Stack::Within(level, _) if level.shield => level.from,
+            Stack::Within(level, outer) => earlier(level.from, outer.sight()),
+        }
+    }
+
+    /// The label of the innermost level.
+    pub fn home(&self) -> Option<&Label>
+        ensures { option_copied result ≡ home_of (stack_of self.now) }
+    {
+        match self {
+            Stack::Empty => None,
+            Stack::Within(level, _) => Some(&level.label),
+        }
+    }
+
+    /// The label of the innermost level of that name.
+    pub fn label_on(&self, name: &Name) -> Option<&Label>
+        ensures { option_copied result ≡ label_on name.now (stack_of self.now) }
+    {
+        match self {
+            Stack::Empty => None,
+            Stack::Within(level, _) if is_same_name(name, &level.label.name()) => {
+                Some(&level.label)
+            }
+            Stack::Within(_, outer) => outer.label_on(name),
+        }
+    }
+
+    /// Whether a block inside this stack catches at its exit tick: it is itself cancelled by then, and no cancellation
+    /// from outside is seen at its level.
+    pub fn catches(&self, from: Option<u64>, shield: bool, tick: u64) -> bool
+        ensures { result ≡ catches from shield (stack_of self.now) tick }
+    {
+        is_reached(from, tick) && (shield || !is_reached(self.sight(), tick))
+    }
+}
+
+// Whether a tick, if it ever comes, has come at another.
+fn is_reached(from: Option<u64>, tick: u64) -> bool
+    ensures { result ≡ reached from tick }
+{
+    match from {
+        None => false,
+        Some(from) => from <= tick,
+    }
+}
+
+/// The earlier of two ticks, each of which may never come.
+pub fn earlier(t: Option<u64>, u: Option<u64>) -> Option<u64>
+    ensures { result ≡ earlier t u }
+{
+    match (t, u) {
+        (None, _) => u,
+        (_, None) => t,
+        (Some(t), Some(u)) => Some(if u < t { u } else { t }),
+    }
+}
+
+/// Whether two labels are the same.
+pub fn is_same_label(a: &Label, b: &Label) -> bool
+    ensures { result ≡ same_label a.now b.now }
+{
+    is_same_name(&a.name(), &b.name()) && a.indices() == b.indices()
+}
+
+// Whether two names are the same.
+fn is_same_name(a: &Name, b: &Name) -> bool
+    ensures { result ≡ bytes_eq a.now b.now }
+{
+    a.bytes() == b.bytes()
+}
