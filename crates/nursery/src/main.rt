@@ -5,10 +5,10 @@
 use job_report::WriteOut;
 use job_runner::{Forward, NoGate, Settings};
 use nursery_app::{ReadFault, ServeFault, Verdict, read_whole, serve, split_feed};
-use std::io;
 use std::process::ExitCode;
+use std::rt::Env;
 use std::thread::Threads;
-use std::{env, rt::Env};
+use std::{env, io};
 
 /// The most bytes of an input.
 const MOST_INPUT: usize = 16_777_216;
@@ -49,7 +49,16 @@ fn feed<R: Input + Print + Threads + Sync + AllocGlobal>(rt: &R) -> Result<Verdi
         unreachable!()
     };
     let mut out = WriteOut::new(io::writer(rt));
-    match serve(rt, rt.alloc(), job_text, input, settings, &mut Forward, &NoGate, &mut out) {
+    match serve(
+        rt,
+        rt.alloc(),
+        job_text,
+        input,
+        settings,
+        &mut Forward,
+        &NoGate,
+        &mut out,
+    ) {
         Ok(verdict) => Ok(verdict),
         Err(fault) => Err(Fault::Serve(fault)),
     }
