@@ -1,14 +1,35 @@
 -- The steps that the code holds, as the tree of a job.
-use Rattle.std.specs.Prelude.{List, [], ◌∷◌}
+use Rattle.std.specs.Prelude.{Option, Some, None, List, [], ◌∷◌, false}
 use Rattle.job_tree.specs.declared.step.Step.{Step}
-use Rattle.job_tree.specs.declared.step.Step.TheVariants.{Sleep, Find, Raise}
+use Rattle.job_tree.specs.declared.step.Handler.{Handler}
+use Rattle.job_tree.specs.declared.step.Step.TheVariants.{Sleep, Checkpoint, Forever, Pace, Find, Head, Longest, Need, Raise, Cancel, Scope, Nursery, Start, Try}
+use Rattle.job_tree.specs.declared.deadline.Deadline.TheVariants.{Never}
 use Rattle.job_tree.specs.Tree as tree
+
+abbrev pub handled_of : Option Handler → tree.Handled
+handled_of None = tree.unhandled
+handled_of (Some h) = tree.except h.name h.body
+
+abbrev pub cleaned_of : Option tree.Steps → tree.Cleaned
+cleaned_of None = tree.uncleaned
+cleaned_of (Some body) = tree.finally body
 
 -- one step
 abbrev pub step_of : Step → tree.Step
 step_of (Sleep n) = tree.sleep n
+step_of Checkpoint = tree.checkpoint
+step_of Forever = tree.forever
+step_of (Pace k) = tree.pace k
 step_of (Find text) = tree.find text
+step_of (Head n) = tree.head n
+step_of Longest = tree.longest
+step_of (Need text name) = tree.need text name
 step_of (Raise name) = tree.raise name
+step_of (Cancel name) = tree.cancel name
+step_of (Scope name deadline shield fail body) = tree.scope name deadline shield fail body
+step_of (Nursery name body) = tree.nursery name Never false body
+step_of (Start name over body) = tree.start name over body
+step_of (Try body handler cleanup) = tree.attempt body (handled_of handler) (cleaned_of cleanup)
 
 -- a list of steps as a block
 abbrev pub steps_of : List Step → tree.Steps

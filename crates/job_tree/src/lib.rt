@@ -14,5 +14,5 @@ mod text;
 
 pub use deadline::Deadline;
 pub use name::Name;
-pub use step::{Body, Step};
+pub use step::{Body, Handler, Step};
 pub use text::Text;

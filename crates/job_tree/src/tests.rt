@@ -21,6 +21,8 @@ fn words_are_names(rt: HostRuntime) {
 fn names_and_texts_keep_their_bytes(rt: HostRuntime) -> Result<(), Fail> {
     let name = Name::new(b"a_1").ok_or("a word")?;
     assert_eq!(rt; name.bytes(), b"a_1".as_slice());
+    assert!(rt; Name::new(b"a_1") == Some(name));
+    assert!(rt; Name::new(b"a_2") != Some(name));
     let text = Text::new(b"\x00\\\xff").ok_or("a string")?;
     assert_eq!(rt; text.bytes(), b"\x00\\\xff".as_slice());
     Ok(())

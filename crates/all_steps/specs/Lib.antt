@@ -1,4 +1,0 @@
-pub mod Modest
-pub mod Weigh
-pub mod Blocks
-pub mod BodyFalls

@@ -1,0 +1,56 @@
+-- The numbers of a job that was read.
+use Rattle.std.specs.Prelude.{ℕ, ◌≤◌, Option, Some, None}
+use Rattle.job_tree.specs.declared.deadline.Deadline.{Deadline}
+use Rattle.job_tree.specs.declared.deadline.Deadline.TheVariants.{Never, After, At}
+use Rattle.job_tree.specs.Tree.{Step, sleep, checkpoint, forever, pace, find, head, longest, need, raise, cancel, scope, nursery, start, attempt, Steps, stop, step, Handled, unhandled, except, Cleaned, uncleaned, finally, Tree}
+use Rattle.job_tree.specs.Names.{size_of}
+
+-- the greatest number of a job text
+abbrev pub greatest : ℕ
+greatest = 1000000000
+
+-- a deadline's number is at most the greatest
+abbrev pub IsModestDeadline : Deadline → Type 0
+IsModestDeadline Never = Unit {0}
+IsModestDeadline (After n) = n ≤ greatest
+IsModestDeadline (At n) = n ≤ greatest
+
+-- how many copies a `start .. over` makes: 1 to 64
+abbrev pub IsModestOver : Option ℕ → Type 0
+IsModestOver None = Unit {0}
+IsModestOver (Some k) = (1 ≤ k) × (k ≤ 64)
+
+-- all numbers of a block are in their ranges
+abbrev mutual
+  pub AreModest : Steps → Type 0
+  AreModest stop = Unit {0}
+  AreModest (step s ss) = IsModestStep s × AreModest ss
+
+  pub IsModestStep : Step → Type 0
+  IsModestStep (sleep n) = n ≤ greatest
+  IsModestStep checkpoint = Unit {0}
+  IsModestStep forever = Unit {0}
+  IsModestStep (pace k) = (1 ≤ k) × (k ≤ greatest)
+  IsModestStep (find text) = Unit {0}
+  IsModestStep (head n) = n ≤ greatest
+  IsModestStep longest = Unit {0}
+  IsModestStep (need text name) = Unit {0}
+  IsModestStep (raise name) = Unit {0}
+  IsModestStep (cancel name) = Unit {0}
+  IsModestStep (scope name deadline shield fail body) = IsModestDeadline deadline × AreModest body
+  IsModestStep (nursery name deadline shield body) = IsModestDeadline deadline × AreModest body
+  IsModestStep (start name over body) = IsModestOver over × AreModest body
+  IsModestStep (attempt body handler cleanup) = AreModest body × IsModestHandler handler × IsModestCleanup cleanup
+
+  pub IsModestHandler : Handled → Type 0
+  IsModestHandler unhandled = Unit {0}
+  IsModestHandler (except name body) = AreModest body
+
+  pub IsModestCleanup : Cleaned → Type 0
+  IsModestCleanup uncleaned = Unit {0}
+  IsModestCleanup (finally body) = AreModest body
+
+-- a job whose numbers are in their ranges, with at most 100,000 step instances
+pub record IsModest (job : Tree) : Type 0 where
+  pub numbers : AreModest job.steps
+  pub size : size_of job.steps ≤ 100000
