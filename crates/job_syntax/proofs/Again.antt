@@ -1,19 +1,16 @@
 -- Blocks are read again from their tokens.
-use Rattle.std.proofs.Common.{◌≡◌, ℕ, zero, suc, ◌+◌, ◌-◌, ◌<◌, ◌≤◌, Bool, true, false, cond, List, [], ◌∷◌, ◌++◌, length, Option, Some, None, refl, sym, ap, subst, ◌∙◌, arith}
-use Rattle.std.specs.Str.{bytes_eq}
+use Rattle.std.proofs.Common.{◌≡◌, ℕ, zero, suc, ◌+◌, ◌-◌, ◌<◌, ◌≤◌, Bool, true, false, List, [], ◌∷◌, length, Option, Some, None, refl, sym, subst, arith}
 use Rattle.job_tree.specs.declared.deadline.Deadline.{Deadline}
 use Rattle.job_tree.specs.declared.deadline.Deadline.TheVariants.{Never, After, At}
 use Rattle.job_tree.specs.Tree.{Step, sleep, checkpoint, forever, pace, find, head, longest, need, raise, cancel, scope, nursery, start, attempt, Steps, stop, step, Handled, unhandled, except, Cleaned, uncleaned, finally, Tree}
 use Rattle.job_tokens.specs.declared.token.Mark.TheVariants as mark
 use Rattle.job_tokens.specs.declared.token.Shape.{Shape}
-use Rattle.job_tokens.specs.declared.token.Shape.TheVariants as shape
 use Rattle.job_syntax.specs.declared.keyword.Keyword.{Keyword}
 use Rattle.job_syntax.specs.declared.keyword.Keyword.TheVariants as word
-use Rattle.job_syntax.specs.Keywords.{spelling, keyword_of}
-use Rattle.job_syntax.specs.Symbols.{◌>>=◌}
-use Rattle.job_syntax.specs.Pieces.{Piece, shapes_in, keyword, opens, closes, deadline_pieces, flag_pieces, over_pieces, steps_pieces, step_pieces, handler_pieces, cleanup_pieces, AreSteps, IsStep, IsHandler, IsCleanup, HasTail}
-use Rattle.job_syntax.specs.Depth.{AreWithin, IsWithin, IsHandlerWithin, IsCleanupWithin}
-use Rattle.job_syntax.specs.Reading.{Read, Blocks, mark_at, behind_word, flag_at, deadline_at, over_at, body_at, handler_at, cleanup_at, scope_at, try_at, step_behind, step_at, ended_or, steps_with, blocks_at}
+use Rattle.job_syntax.specs.Keywords.{keyword_of}
+use Rattle.job_syntax.specs.Pieces.{Piece, shapes_in, opens, deadline_pieces, flag_pieces, over_pieces, steps_pieces, step_pieces, handler_pieces, cleanup_pieces, job_pieces, AreSteps, IsStep}
+use Rattle.job_syntax.specs.Depth.{AreWithin, IsWithin}
+use Rattle.job_syntax.specs.Reading.{Read, Blocks, mark_at, behind_word, step_at, steps_with, blocks_at, job_at}
 
 length_shapes : (ps : List Piece) → length (shapes_in ps) ≡ length ps
 length_shapes [] = refl
@@ -213,3 +210,14 @@ mutual
       (block_again false body depth (λ inside' depth' n' rest'. steps_again body inside' depth' n' rest') is.1 within.0.0 within.0.1)
       (block_again false clean depth (λ inside' depth' n' rest'. steps_again clean inside' depth' n' rest') is.3 within.2.0 within.2.1)
   step_again (attempt body unhandled uncleaned) inside depth rest is within none = absurd is.0
+
+-- ---- a whole job
+
+one_job : (name : List ℕ) (body : Steps) → blocks_at 32 (shapes_in (steps_pieces body [])) ≡ Some (body, []) → job_at (shapes_in (job_pieces (record { name = name; steps = body }))) ≡ Some (record { name = name; steps = body })
+unfolding keyword_of
+one_job name body reads = rw reads refl
+
+-- a job is read again from its tokens
+pub job_again : (job : Tree) → AreSteps false job.steps → AreWithin 31 job.steps → job_at (shapes_in (job_pieces job)) ≡ Some job
+job_again job are within =
+    one_job job.name job.steps (block_again false job.steps 32 (λ inside depth n rest. steps_again job.steps inside depth n rest) are (omega arith) within [])

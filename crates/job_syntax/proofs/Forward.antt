@@ -1,9 +1,9 @@
 -- A token that stands for a symbol goes in front of what fits the rest.
-use Rattle.std.proofs.Common.{◌≡◌, ℕ, Bool, true, false, cond, List, [], ◌∷◌, ◌++◌, Option, Some, None, refl, sym, ap, subst, ◌∙◌}
+use Rattle.std.proofs.Common.{◌≡◌, ℕ, Bool, true, false, cond, List, [], ◌∷◌, Option, Some, None, refl, sym, ap, subst, ◌∙◌}
 use Rattle.std.specs.Str.{bytes_eq}
 use Rattle.std.proofs.lemmas.Slice.Eq.{bytes_eq-Decides}
 use Rattle.job_tree.specs.declared.deadline.Deadline.TheVariants.{Never, After, At}
-use Rattle.job_tree.specs.Tree.{Step, sleep, checkpoint, forever, pace, find, head, longest, need, raise, cancel, scope, nursery, start, attempt, Steps, stop, step, Handled, unhandled, except, Cleaned, uncleaned, finally, Tree}
+use Rattle.job_tree.specs.Tree.{Step, sleep, checkpoint, forever, pace, find, head, longest, need, raise, cancel, scope, nursery, start, attempt, Steps, stop, step, unhandled, except, uncleaned, finally, Tree}
 use Rattle.job_tokens.specs.declared.token.Mark.TheVariants as mark
 use Rattle.job_tokens.specs.declared.token.Shape.{Shape}
 use Rattle.job_tokens.specs.declared.token.Shape.TheVariants as shape
@@ -13,7 +13,9 @@ use Rattle.job_syntax.specs.declared.symbol.Symbol.{Symbol}
 use Rattle.job_syntax.specs.declared.symbol.Symbol.TheVariants as symbol
 use Rattle.job_syntax.specs.Keywords.{spelling, among, keywords, keyword_of}
 use Rattle.job_syntax.specs.Symbols.{Rest, next, text_rest, step_rest, cleanup_rest, tail_rest, scope_rest, shield_rest, fail_rest, over_rest, outer, tail, cleanup, ◌>>=◌}
-use Rattle.job_syntax.specs.Pieces.{Role, plain, given, raised, handled, target, Piece, keyword, named, number, string, opens, closes, ends, deadline_pieces, flag_pieces, over_pieces, step_pieces, steps_pieces, handler_pieces, cleanup_pieces, job_onto, AreSteps, IsStep, IsHandler, IsCleanup, HasTail}
+use Rattle.job_syntax.specs.declared.role.Role.{Role}
+use Rattle.job_syntax.specs.declared.role.Role.TheVariants as role
+use Rattle.job_syntax.specs.Pieces.{Piece, keyword, named, number, string, opens, ends, deadline_pieces, flag_pieces, over_pieces, step_pieces, steps_pieces, AreSteps, IsStep}
 use Rattle.job_syntax.specs.Syntax.{IsBlock, IsTail, IsCleanupAndBlock, Stands, Fits, role_of}
 use Rattle.job_syntax.proofs.Grammar.{Left}
 
@@ -85,22 +87,22 @@ find_step inside ss ps (r, (t, e), (r', e', (q, block, fits))) =
 need_step : (inside : Bool) (ss : List Symbol) (ps : List Piece) → Fits (symbol.Text ∷ symbol.Raised ∷ symbol.Semicolon ∷ outer inside ∷ ss) ps → BlockFits inside ss (keyword word.Need ∷ ps)
 need_step inside ss ps (r, (t, e), (r', (n, e'), (r'', e'', (q, block, fits)))) =
     let b = block_of inside r'' q block in
-    step_on inside (need t n) ss (keyword word.Need ∷ ps) q b.0 tt b.1 (ap (on (keyword word.Need)) (e ∙ ap (on (string t)) (e' ∙ ap (on (named raised n)) (e'' ∙ ap (on ends) b.2)))) fits
+    step_on inside (need t n) ss (keyword word.Need ∷ ps) q b.0 tt b.1 (ap (on (keyword word.Need)) (e ∙ ap (on (string t)) (e' ∙ ap (on (named role.Raised n)) (e'' ∙ ap (on ends) b.2)))) fits
 
 scope_step : (inside : Bool) (ss : List Symbol) (ps : List Piece) → Fits (symbol.Given ∷ symbol.Scope ∷ outer inside ∷ ss) ps → BlockFits inside ss (keyword word.Scope ∷ ps)
 scope_step inside ss ps (r, (n, e), (r', (d, s, f, body, are, e'), (q, block, fits))) =
     let b = block_of inside r' q block in
     let tail_is : r ≡ deadline_pieces d (flag_pieces word.Shield s (flag_pieces word.Fail f (opens ∷ steps_pieces body (steps_pieces b.0 q)))) = e' ∙ ap (λ (x : List Piece). deadline_pieces d (flag_pieces word.Shield s (flag_pieces word.Fail f (opens ∷ steps_pieces body x)))) b.2 in
-    step_on inside (scope n d s f body) ss (keyword word.Scope ∷ ps) q b.0 are b.1 (ap (on (keyword word.Scope)) (e ∙ ap (on (named given n)) tail_is)) fits
+    step_on inside (scope n d s f body) ss (keyword word.Scope ∷ ps) q b.0 are b.1 (ap (on (keyword word.Scope)) (e ∙ ap (on (named role.Given n)) tail_is)) fits
 
 nursery_step : (inside : Bool) (ss : List Symbol) (ps : List Piece) → Fits (symbol.Given ∷ symbol.Open ∷ symbol.Items ∷ outer inside ∷ ss) ps → BlockFits inside ss (keyword word.Nursery ∷ ps)
 nursery_step inside ss ps (r, (n, e), (r', e', (r'', (body, are, e''), (q, block, fits)))) =
     let b = block_of inside r'' q block in
-    step_on inside (nursery n Never false body) ss (keyword word.Nursery ∷ ps) q b.0 (refl, refl, are) b.1 (ap (on (keyword word.Nursery)) (e ∙ ap (on (named given n)) (e' ∙ ap (on opens) (e'' ∙ ap (steps_pieces body) b.2)))) fits
+    step_on inside (nursery n Never false body) ss (keyword word.Nursery ∷ ps) q b.0 (refl, refl, are) b.1 (ap (on (keyword word.Nursery)) (e ∙ ap (on (named role.Given n)) (e' ∙ ap (on opens) (e'' ∙ ap (steps_pieces body) b.2)))) fits
 
 start_step : (ss : List Symbol) (ps : List Piece) → Fits (symbol.Given ∷ symbol.Over ∷ symbol.Items ∷ ss) ps → BlockFits true ss (keyword word.Start ∷ ps)
 start_step ss ps (r, (n, e), (r', (o, body, are, e'), (q, (steps, behind, e''), fits))) =
-    step_on true (start n o body) ss (keyword word.Start ∷ ps) q steps (refl, are) behind (ap (on (keyword word.Start)) (e ∙ ap (on (named given n)) (e' ∙ ap (λ (x : List Piece). over_pieces o (opens ∷ steps_pieces body x)) e''))) fits
+    step_on true (start n o body) ss (keyword word.Start ∷ ps) q steps (refl, are) behind (ap (on (keyword word.Start)) (e ∙ ap (on (named role.Given n)) (e' ∙ ap (λ (x : List Piece). over_pieces o (opens ∷ steps_pieces body x)) e''))) fits
 
 try_step : (inside : Bool) (ss : List Symbol) (ps : List Piece) → Fits (symbol.Open ∷ symbol.Steps ∷ tail inside ∷ ss) ps → BlockFits inside ss (keyword word.Try ∷ ps)
 try_step inside ss ps (r, e, (r', (body, are, e'), (q, block, fits))) =
@@ -116,8 +118,8 @@ by_step inside word.Find ss ps left = find_step inside ss ps left
 by_step inside word.Head ss ps left = number_step inside head (keyword word.Head) ss ps (λ n. tt) (λ n rest. refl) left
 by_step inside word.Longest ss ps left = plain_step inside longest (keyword word.Longest) ss ps tt (λ rest. refl) left
 by_step inside word.Need ss ps left = need_step inside ss ps left
-by_step inside word.Raise ss ps left = name_step inside raise raised symbol.Raised (λ ps rest s. s) (keyword word.Raise) ss ps (λ n. tt) (λ n rest. refl) left
-by_step inside word.Cancel ss ps left = name_step inside cancel target symbol.Target (λ ps rest s. s) (keyword word.Cancel) ss ps (λ n. tt) (λ n rest. refl) left
+by_step inside word.Raise ss ps left = name_step inside raise role.Raised symbol.Raised (λ ps rest s. s) (keyword word.Raise) ss ps (λ n. tt) (λ n rest. refl) left
+by_step inside word.Cancel ss ps left = name_step inside cancel role.Target symbol.Target (λ ps rest s. s) (keyword word.Cancel) ss ps (λ n. tt) (λ n rest. refl) left
 by_step inside word.Scope ss ps left = scope_step inside ss ps left
 by_step inside word.Nursery ss ps left = nursery_step inside ss ps left
 by_step true word.Start ss ps left = start_step ss ps left
@@ -163,7 +165,7 @@ by_cleanup inside _ ss ps left = absurd left
 handler_step : (inside : Bool) (ss : List Symbol) (ps : List Piece) → Fits (symbol.Handled ∷ symbol.Open ∷ symbol.Steps ∷ cleanup inside ∷ ss) ps → TailFits inside ss (keyword word.Except ∷ ps)
 handler_step inside ss ps (r, (n, e), (r', e', (r'', (body, are, e''), (q, block, fits)))) =
     let c = cleanup_of inside r'' q block in
-    (q, (except n body, c.0, c.1, tt, are, c.2, c.3, ap (on (keyword word.Except)) (e ∙ ap (on (named handled n)) (e' ∙ ap (on opens) (e'' ∙ ap (steps_pieces body) c.4)))), fits)
+    (q, (except n body, c.0, c.1, tt, are, c.2, c.3, ap (on (keyword word.Except)) (e ∙ ap (on (named role.Handled n)) (e' ∙ ap (on opens) (e'' ∙ ap (steps_pieces body) c.4)))), fits)
 
 finally_step : (inside : Bool) (ss : List Symbol) (ps : List Piece) → Fits (symbol.Open ∷ symbol.Steps ∷ outer inside ∷ ss) ps → TailFits inside ss (keyword word.Finally ∷ ps)
 finally_step inside ss ps (r, e, (r', (body, are, e'), (q, block, fits))) =
@@ -204,13 +206,13 @@ by_text : (k : Keyword) (ss : List Symbol) (ps : List Piece) → Left (text_rest
 by_text word.Job ss ps (r, (n, e), left) =
     let b = body_on ss r left in
     let job : Tree = record { name = n; steps = b.1 } in
-    (b.0, (job, b.2, ap (on (keyword word.Job)) (e ∙ ap (on (named given n)) b.3)), b.4)
+    (b.0, (job, b.2, ap (on (keyword word.Job)) (e ∙ ap (on (named role.Given n)) b.3)), b.4)
 by_text _ ss ps left = absurd left
 
 -- ---- all symbols
 
 -- a word that is a keyword is its spelling
-by_keyword : (s : Symbol) (rest : Keyword → Rest) → role_of s ≡ plain → ((k : Keyword) (ss : List Symbol) (ps : List Piece) → Left (rest k) ss ps → Fits (s ∷ ss) (keyword k ∷ ps)) → (w : List ℕ) (o : Option Keyword) → keyword_of w ≡ o → (ss : List Symbol) (ps : List Piece) → Left (o >>= rest) ss ps → Fits (s ∷ ss) (record { shape = shape.Word w; role = role_of s } ∷ ps)
+by_keyword : (s : Symbol) (rest : Keyword → Rest) → role_of s ≡ role.Plain → ((k : Keyword) (ss : List Symbol) (ps : List Piece) → Left (rest k) ss ps → Fits (s ∷ ss) (keyword k ∷ ps)) → (w : List ℕ) (o : Option Keyword) → keyword_of w ≡ o → (ss : List Symbol) (ps : List Piece) → Left (o >>= rest) ss ps → Fits (s ∷ ss) (record { shape = shape.Word w; role = role_of s } ∷ ps)
 by_keyword s rest same each w None is ss ps left = absurd left
 by_keyword s rest same each w (Some k) is ss ps left =
     let taken : Piece = record { shape = shape.Word w; role = role_of s } in

@@ -1,19 +1,17 @@
 -- The grammar symbol by symbol: each symbol can be completed, and a first token leads to what must stand behind it.
-use Rattle.std.proofs.Common.{◌≡◌, ℕ, Bool, true, false, List, [], ◌∷◌, ◌++◌, Option, Some, None, ◌⊎◌, inl, inr, refl, sym, ap, subst, ◌∙◌}
+use Rattle.std.proofs.Common.{◌≡◌, ℕ, Bool, true, false, List, [], ◌∷◌, ◌++◌, Option, Some, None, ◌⊎◌, inl, inr, refl, sym, subst}
 use Rattle.job_tree.specs.declared.deadline.Deadline.{Deadline}
 use Rattle.job_tree.specs.declared.deadline.Deadline.TheVariants.{Never, After, At}
-use Rattle.job_tree.specs.Tree.{Step, sleep, checkpoint, forever, pace, find, head, longest, need, raise, cancel, scope, nursery, start, attempt, Steps, stop, step, Handled, unhandled, except, Cleaned, uncleaned, finally, Tree}
-use Rattle.job_tokens.specs.declared.token.Mark.TheVariants as mark
-use Rattle.job_tokens.specs.declared.token.Shape.{Shape}
-use Rattle.job_tokens.specs.declared.token.Shape.TheVariants as shape
+use Rattle.job_tree.specs.Tree.{sleep, checkpoint, forever, pace, find, head, longest, need, raise, cancel, scope, nursery, start, attempt, Steps, stop, step, Handled, unhandled, except, Cleaned, uncleaned, finally, Tree}
 use Rattle.job_syntax.specs.declared.keyword.Keyword.{Keyword}
 use Rattle.job_syntax.specs.declared.keyword.Keyword.TheVariants as word
 use Rattle.job_syntax.specs.declared.symbol.Symbol.{Symbol}
 use Rattle.job_syntax.specs.declared.symbol.Symbol.TheVariants as symbol
 use Rattle.job_syntax.specs.Keywords.{spelling, keyword_of}
-use Rattle.job_syntax.specs.Symbols.{Rest, next, text_rest, step_rest, cleanup_rest, outer, tail, cleanup, ◌>>=◌}
-use Rattle.job_syntax.specs.Pieces.{Role, given, raised, handled, target, Piece, keyword, named, number, string, opens, closes, ends, deadline_pieces, flag_pieces, over_pieces, step_pieces, steps_pieces, handler_pieces, cleanup_pieces, job_onto, AreSteps, IsStep, IsHandler, IsCleanup, HasTail}
-use Rattle.job_syntax.specs.Syntax.{IsBlock, IsTail, IsCleanupAndBlock, Stands, Fits, role_of}
+use Rattle.job_syntax.specs.Symbols.{Rest, next, step_rest, cleanup_rest, outer, tail, cleanup, ◌>>=◌}
+use Rattle.job_syntax.specs.declared.role.Role.TheVariants as role
+use Rattle.job_syntax.specs.Pieces.{Piece, keyword, named, number, string, opens, closes, ends, deadline_pieces, flag_pieces, over_pieces, steps_pieces, handler_pieces, cleanup_pieces, job_onto, AreSteps, IsHandler, IsCleanup, HasTail}
+use Rattle.job_syntax.specs.Syntax.{Stands, Fits, role_of}
 
 -- ---- completion
 
@@ -30,10 +28,10 @@ shortest symbol.Scope rest = opens ∷ closes ∷ rest
 shortest symbol.Shield rest = opens ∷ closes ∷ rest
 shortest symbol.Fail rest = opens ∷ closes ∷ rest
 shortest symbol.Over rest = opens ∷ closes ∷ rest
-shortest symbol.Given rest = named given [] ∷ rest
-shortest symbol.Raised rest = named raised [] ∷ rest
-shortest symbol.Handled rest = named handled [] ∷ rest
-shortest symbol.Target rest = named target [] ∷ rest
+shortest symbol.Given rest = named role.Given [] ∷ rest
+shortest symbol.Raised rest = named role.Raised [] ∷ rest
+shortest symbol.Handled rest = named role.Handled [] ∷ rest
+shortest symbol.Target rest = named role.Target [] ∷ rest
 shortest symbol.Number rest = number 0 ∷ rest
 shortest symbol.Text rest = string [] ∷ rest
 shortest symbol.Open rest = opens ∷ rest
@@ -94,7 +92,7 @@ cleanup_stands false c steps rest clean are = (c, steps, clean, are, refl)
 cleanup_stands true c steps rest clean are = (c, steps, clean, are, refl)
 
 start_left : (inside : Bool) (n : List ℕ) (o : Option ℕ) (body others : Steps) (ss : List Symbol) (rest : List Piece) → inside ≡ true → AreSteps false body → AreSteps inside others → Fits ss rest
-    → Left (step_rest inside word.Start) ss (named given n ∷ over_pieces o (opens ∷ steps_pieces body (steps_pieces others rest)))
+    → Left (step_rest inside word.Start) ss (named role.Given n ∷ over_pieces o (opens ∷ steps_pieces body (steps_pieces others rest)))
 start_left true n o body others ss rest e are behind fits =
     (over_pieces o (opens ∷ steps_pieces body (steps_pieces others rest)), (n, refl), (steps_pieces others rest, (o, body, are, refl), (rest, block_stands true others rest behind, fits)))
 start_left false n o body others ss rest e are behind fits = absurd cc
@@ -124,7 +122,7 @@ first_of_block inside (step longest others) ss rest are fits =
     inr (word.Longest, refl, (behind, refl, (rest, block_stands inside others rest are.1, fits)))
 first_of_block inside (step (need t n) others) ss rest are fits =
     let behind = steps_pieces others rest in
-    inr (word.Need, refl, (named raised n ∷ ends ∷ behind, (t, refl), (ends ∷ behind, (n, refl), (behind, refl, (rest, block_stands inside others rest are.1, fits)))))
+    inr (word.Need, refl, (named role.Raised n ∷ ends ∷ behind, (t, refl), (ends ∷ behind, (n, refl), (behind, refl, (rest, block_stands inside others rest are.1, fits)))))
 first_of_block inside (step (raise n) others) ss rest are fits =
     let behind = steps_pieces others rest in
     inr (word.Raise, refl, (ends ∷ behind, (n, refl), (behind, refl, (rest, block_stands inside others rest are.1, fits))))
@@ -185,7 +183,7 @@ on_cleanup false (finally body) steps ss rest clean are fits = (block_fits false
 on_cleanup true (finally body) steps ss rest clean are fits = (block_fits true body steps ss rest clean are fits, refl)
 
 handler_fits : (inside : Bool) (n : List ℕ) (body : Steps) (c : Cleaned) (others : Steps) (ss : List Symbol) (rest : List Piece) → AreSteps false body → IsCleanup c → AreSteps inside others → Fits ss rest
-    → Fits (symbol.Handled ∷ symbol.Open ∷ symbol.Steps ∷ cleanup inside ∷ ss) (named handled n ∷ opens ∷ steps_pieces body (cleanup_pieces c (steps_pieces others rest)))
+    → Fits (symbol.Handled ∷ symbol.Open ∷ symbol.Steps ∷ cleanup inside ∷ ss) (named role.Handled n ∷ opens ∷ steps_pieces body (cleanup_pieces c (steps_pieces others rest)))
 handler_fits inside n body c others ss rest are clean behind fits =
     let after = cleanup_pieces c (steps_pieces others rest) in
     (opens ∷ steps_pieces body after, (n, refl), (steps_pieces body after, refl, (after, (body, are, refl), (rest, cleanup_stands inside c others rest clean behind, fits))))

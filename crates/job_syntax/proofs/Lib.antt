@@ -4,3 +4,5 @@ pub mod Places
 pub mod Again
 pub mod Steps
 pub mod Names
+pub mod Deep
+pub mod Modest

@@ -1,12 +1,12 @@
 -- Reading steps one after the other.
-use Rattle.std.proofs.Common.{◌≡◌, ℕ, zero, suc, ◌+◌, ◌-◌, ◌<◌, ◌≤◌, List, [], ◌∷◌, ◌++◌, length, Option, Some, None, refl, sym, ap, subst, ◌∙◌, append_assoc, arith}
-use Rattle.all_steps.specs.declared.step.Step.{Step}
+use Rattle.std.proofs.Common.{◌≡◌, ℕ, zero, suc, ◌+◌, ◌-◌, ◌<◌, ◌≤◌, List, [], ◌∷◌, ◌++◌, length, Some, None, refl, sym, ap, ◌∙◌, arith}
+use Rattle.job_tree.specs.declared.step.Step.{Step}
 use Rattle.job_tree.specs.Tree as tree
-use Rattle.all_steps.specs.Blocks.{step_of, steps_of}
+use Rattle.job_tree.specs.Blocks.{step_of, steps_of}
 use Rattle.job_tokens.specs.declared.token.Mark.TheVariants as mark
 use Rattle.job_tokens.specs.declared.token.Shape.{Shape}
 use Rattle.job_syntax.specs.Symbols.{◌>>=◌}
-use Rattle.job_syntax.specs.Reading.{Read, Blocks, mark_at, step_at, steps_with, blocks_at, ended_or}
+use Rattle.job_syntax.specs.Reading.{Read, Blocks, mark_at, step_at, steps_with, blocks_at}
 
 -- steps in front of a block
 abbrev pub in_front : List Step → tree.Steps → tree.Steps

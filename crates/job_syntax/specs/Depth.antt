@@ -1,5 +1,9 @@
 -- How deep blocks may stand in one another.
-use Rattle.std.specs.Prelude.{ℕ, ◌-◌, ◌<◌}
+use Rattle.std.specs.Prelude.{ℕ, suc, ◌-◌, ◌<◌, List, [], ◌∷◌, nat_le, Option, Some, None, if◌then◌else◌}
+use Rattle.job_tokens.specs.declared.token.Mark.{Mark}
+use Rattle.job_tokens.specs.declared.token.Mark.TheVariants as mark
+use Rattle.job_tokens.specs.declared.token.Token.{Token}
+use Rattle.job_tokens.specs.Shapes.{mark_in}
 use Rattle.job_tree.specs.Tree.{Step, sleep, checkpoint, forever, pace, find, head, longest, need, raise, cancel, scope, nursery, start, attempt, Steps, stop, step, Handled, unhandled, except, Cleaned, uncleaned, finally}
 
 abbrev mutual
@@ -31,3 +35,19 @@ abbrev mutual
   pub IsCleanupWithin : ℕ → Cleaned → Type 0
   IsCleanupWithin depth uncleaned = Unit {0}
   IsCleanupWithin depth (finally body) = (0 < depth) × AreWithin (depth - 1) body
+
+-- the most blocks that may stand in one another, the job's own included
+abbrev pub most_deep : ℕ
+most_deep = 32
+
+-- how many blocks are open behind a token, if so many were in front of it
+abbrev pub depth_behind : ℕ → Option Mark → ℕ
+depth_behind depth None = depth
+depth_behind depth (Some mark.Open) = suc depth
+depth_behind depth (Some mark.Close) = depth - 1
+depth_behind depth (Some mark.Semicolon) = depth
+
+-- the first `{` behind which more blocks are open than may be, if so many are open already
+abbrev pub depth_fault : ℕ → List Token → Option ℕ
+depth_fault depth [] = None
+depth_fault depth (t ∷ ts) = if nat_le (depth_behind depth (mark_in t.shape)) most_deep then depth_fault (depth_behind depth (mark_in t.shape)) ts else Some t.at

@@ -5,4 +5,3 @@ pub mod Syntax
 pub mod Depth
 pub mod Reading
 pub mod Ranges
-pub mod Reserved

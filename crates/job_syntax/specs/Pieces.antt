@@ -1,6 +1,6 @@
 -- A job as tokens, each with what it is for: one short case for each construct. Each construct is printed in front of
 -- the tokens behind it.
-use Rattle.std.specs.Prelude.{◌≡◌, ◌⊎◌, ℕ, List, [], ◌∷◌, map, Bool, true, false, Option, Some, None}
+use Rattle.std.specs.Prelude.{◌≡◌, ℕ, List, [], ◌∷◌, map, Bool, true, false, Option, Some, None}
 use Rattle.job_tree.specs.declared.deadline.Deadline.{Deadline}
 use Rattle.job_tree.specs.declared.deadline.Deadline.TheVariants.{Never, After, At}
 use Rattle.job_tree.specs.Tree.{Step, sleep, checkpoint, forever, pace, find, head, longest, need, raise, cancel, scope, nursery, start, attempt, Steps, stop, step, Handled, unhandled, except, Cleaned, uncleaned, finally, Tree}
@@ -11,15 +11,8 @@ use Rattle.job_tokens.specs.declared.token.Shape.TheVariants as shape
 use Rattle.job_syntax.specs.declared.keyword.Keyword.{Keyword}
 use Rattle.job_syntax.specs.declared.keyword.Keyword.TheVariants as word
 use Rattle.job_syntax.specs.Keywords.{spelling}
-
--- what a token is for: no name; the name that a job, scope, nursery or start is given; that of an exception, of one
--- that is handled, or of what is cancelled
-pub data Role : Type 0 where
-  plain : Role
-  given : Role
-  raised : Role
-  handled : Role
-  target : Role
+use Rattle.job_syntax.specs.declared.role.Role.{Role}
+use Rattle.job_syntax.specs.declared.role.Role.TheVariants as role
 
 -- a token and what it is for
 pub record Piece : Type 0 where
@@ -30,20 +23,24 @@ pub record Piece : Type 0 where
 abbrev pub shapes_in : List Piece → List Shape
 shapes_in ps = map (λ p. p.shape) ps
 
+-- what each is for
+abbrev pub roles_in : List Piece → List Role
+roles_in ps = map (λ p. p.role) ps
+
 abbrev pub keyword : Keyword → Piece
-keyword k = record { shape = shape.Word (spelling k); role = plain }
+keyword k = record { shape = shape.Word (spelling k); role = role.Plain }
 
 abbrev pub named : Role → List ℕ → Piece
-named role bytes = record { shape = shape.Word bytes; role = role }
+named purpose bytes = record { shape = shape.Word bytes; role = purpose }
 
 abbrev pub number : ℕ → Piece
-number n = record { shape = shape.Number (Some n); role = plain }
+number n = record { shape = shape.Number (Some n); role = role.Plain }
 
 abbrev pub string : List ℕ → Piece
-string bytes = record { shape = shape.Text bytes; role = plain }
+string bytes = record { shape = shape.Text bytes; role = role.Plain }
 
 abbrev pub mark_piece : Mark → Piece
-mark_piece m = record { shape = shape.Mark m; role = plain }
+mark_piece m = record { shape = shape.Mark m; role = role.Plain }
 
 abbrev pub opens : Piece
 opens = mark_piece mark.Open
@@ -85,18 +82,18 @@ abbrev mutual
   step_pieces (find text) rest = keyword word.Find ∷ string text ∷ ends ∷ rest
   step_pieces (head count) rest = keyword word.Head ∷ number count ∷ ends ∷ rest
   step_pieces longest rest = keyword word.Longest ∷ ends ∷ rest
-  step_pieces (need text name) rest = keyword word.Need ∷ string text ∷ named raised name ∷ ends ∷ rest
-  step_pieces (raise name) rest = keyword word.Raise ∷ named raised name ∷ ends ∷ rest
-  step_pieces (cancel name) rest = keyword word.Cancel ∷ named target name ∷ ends ∷ rest
+  step_pieces (need text name) rest = keyword word.Need ∷ string text ∷ named role.Raised name ∷ ends ∷ rest
+  step_pieces (raise name) rest = keyword word.Raise ∷ named role.Raised name ∷ ends ∷ rest
+  step_pieces (cancel name) rest = keyword word.Cancel ∷ named role.Target name ∷ ends ∷ rest
   step_pieces (scope name deadline shield fail body) rest =
-      keyword word.Scope ∷ named given name ∷ deadline_pieces deadline (flag_pieces word.Shield shield (flag_pieces word.Fail fail (opens ∷ steps_pieces body rest)))
-  step_pieces (nursery name deadline shield body) rest = keyword word.Nursery ∷ named given name ∷ opens ∷ steps_pieces body rest
-  step_pieces (start name over body) rest = keyword word.Start ∷ named given name ∷ over_pieces over (opens ∷ steps_pieces body rest)
+      keyword word.Scope ∷ named role.Given name ∷ deadline_pieces deadline (flag_pieces word.Shield shield (flag_pieces word.Fail fail (opens ∷ steps_pieces body rest)))
+  step_pieces (nursery name deadline shield body) rest = keyword word.Nursery ∷ named role.Given name ∷ opens ∷ steps_pieces body rest
+  step_pieces (start name over body) rest = keyword word.Start ∷ named role.Given name ∷ over_pieces over (opens ∷ steps_pieces body rest)
   step_pieces (attempt body handler cleanup) rest = keyword word.Try ∷ opens ∷ steps_pieces body (handler_pieces handler (cleanup_pieces cleanup rest))
 
   pub handler_pieces : Handled → List Piece → List Piece
   handler_pieces unhandled rest = rest
-  handler_pieces (except name body) rest = keyword word.Except ∷ named handled name ∷ opens ∷ steps_pieces body rest
+  handler_pieces (except name body) rest = keyword word.Except ∷ named role.Handled name ∷ opens ∷ steps_pieces body rest
 
   pub cleanup_pieces : Cleaned → List Piece → List Piece
   cleanup_pieces uncleaned rest = rest
@@ -104,7 +101,7 @@ abbrev mutual
 
 -- a job, in front of other tokens and alone
 abbrev pub job_onto : Tree → List Piece → List Piece
-job_onto job rest = keyword word.Job ∷ named given job.name ∷ opens ∷ steps_pieces job.steps rest
+job_onto job rest = keyword word.Job ∷ named role.Given job.name ∷ opens ∷ steps_pieces job.steps rest
 
 abbrev pub job_pieces : Tree → List Piece
 job_pieces job = job_onto job []

@@ -12,6 +12,7 @@ use Rattle.job_syntax.specs.declared.keyword.Keyword.{Keyword}
 use Rattle.job_syntax.specs.declared.keyword.Keyword.TheVariants as word
 use Rattle.job_syntax.specs.Keywords.{spelling, keyword_of}
 use Rattle.job_syntax.specs.Symbols.{◌>>=◌}
+use Rattle.job_syntax.specs.Depth.{most_deep}
 
 -- something and the tokens behind it
 abbrev pub Read : Type 0 → Type 0
@@ -145,3 +146,15 @@ steps_with blocks (suc n) shapes = ended_or (mark_at mark.Close shapes)
 unfoldable pub blocks_at : ℕ → List Shape → Read Steps
 blocks_at zero shapes = None
 blocks_at (suc depth) shapes = steps_with (blocks_at depth) (length shapes) shapes
+
+abbrev pub is_job : Keyword → Bool
+is_job word.Job = true
+is_job _ = false
+
+-- a job's name, between its keyword and its `{`
+abbrev pub head_at : List Shape → Read (List ℕ)
+head_at shapes = keyword_at shapes >>= λ k. (if is_job k.0 then word_at k.1 else None) >>= λ w. mark_at mark.Open w.1 >>= λ rest. Some (w.0, rest)
+
+-- a whole job, whose blocks stand at most 32 deep
+abbrev pub job_at : List Shape → Option Tree
+job_at shapes = head_at shapes >>= λ name. blocks_at most_deep name.1 >>= λ steps. if length steps.1 == 0 then Some (record { name = name.0; steps = steps.0 }) else None

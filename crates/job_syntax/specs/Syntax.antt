@@ -8,7 +8,9 @@ use Rattle.job_tokens.specs.declared.token.Token.{Token}
 use Rattle.job_tokens.specs.Shapes.{shapes_of}
 use Rattle.job_syntax.specs.declared.symbol.Symbol.{Symbol}
 use Rattle.job_syntax.specs.declared.symbol.Symbol.TheVariants as symbol
-use Rattle.job_syntax.specs.Pieces.{Role, plain, given, raised, handled, target, Piece, shapes_in, named, number, string, opens, ends, deadline_pieces, flag_pieces, over_pieces, steps_pieces, handler_pieces, cleanup_pieces, job_onto, AreSteps, IsHandler, IsCleanup, HasTail}
+use Rattle.job_syntax.specs.declared.role.Role.{Role}
+use Rattle.job_syntax.specs.declared.role.Role.TheVariants as role
+use Rattle.job_syntax.specs.Pieces.{Piece, shapes_in, named, number, string, opens, ends, deadline_pieces, flag_pieces, over_pieces, steps_pieces, handler_pieces, cleanup_pieces, job_onto, AreSteps, IsHandler, IsCleanup, HasTail}
 use Rattle.job_syntax.specs.Symbols.{Rest, next}
 
 -- the rest of a block
@@ -46,10 +48,10 @@ Stands symbol.Shield ps rest =
     × (ps ≡ flag_pieces word.Shield shield (flag_pieces word.Fail fail (opens ∷ steps_pieces body rest)))
 Stands symbol.Fail ps rest = (fail : Bool) × (body : Steps) × AreSteps false body × (ps ≡ flag_pieces word.Fail fail (opens ∷ steps_pieces body rest))
 Stands symbol.Over ps rest = (over : Option ℕ) × (body : Steps) × AreSteps false body × (ps ≡ over_pieces over (opens ∷ steps_pieces body rest))
-Stands symbol.Given ps rest = IsName given ps rest
-Stands symbol.Raised ps rest = IsName raised ps rest
-Stands symbol.Handled ps rest = IsName handled ps rest
-Stands symbol.Target ps rest = IsName target ps rest
+Stands symbol.Given ps rest = IsName role.Given ps rest
+Stands symbol.Raised ps rest = IsName role.Raised ps rest
+Stands symbol.Handled ps rest = IsName role.Handled ps rest
+Stands symbol.Target ps rest = IsName role.Target ps rest
 Stands symbol.Number ps rest = (n : ℕ) × (ps ≡ number n ∷ rest)
 Stands symbol.Text ps rest = (bytes : List ℕ) × (ps ≡ string bytes ∷ rest)
 Stands symbol.Open ps rest = ps ≡ opens ∷ rest
@@ -106,8 +108,19 @@ fault_at end (s ∷ ss) (t ∷ ts) = or_stop (next s t.shape) t.at (λ more. fau
 
 -- what a token that stands for a symbol is for
 abbrev pub role_of : Symbol → Role
-role_of symbol.Given = given
-role_of symbol.Raised = raised
-role_of symbol.Handled = handled
-role_of symbol.Target = target
-role_of _ = plain
+role_of symbol.Given = role.Given
+role_of symbol.Raised = role.Raised
+role_of symbol.Handled = role.Handled
+role_of symbol.Target = role.Target
+role_of _ = role.Plain
+
+-- behind a token that stands for a symbol, where it can stand there
+abbrev pub or_nothing : {A : Type 0} → Rest → (List Symbol → List A) → List A
+or_nothing None others = []
+or_nothing (Some more) others = others more
+
+-- what each token of a text is for
+abbrev pub roles_at : List Symbol → List Token → List Role
+roles_at ss [] = []
+roles_at [] (t ∷ ts) = []
+roles_at (s ∷ ss) (t ∷ ts) = role_of s ∷ or_nothing (next s t.shape) (λ more. roles_at (more ++ ss) ts)

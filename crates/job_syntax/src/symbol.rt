@@ -1,9 +1,11 @@
-ghost use Rattle.std.specs.Prelude.{reverse, [], ◌∷◌, Some, true, false};
+ghost use Rattle.std.specs.Prelude.{◌≡◌, reverse, [], ◌∷◌, Some, true, false};
 ghost use Rattle.job_syntax.specs.Symbols.{text_rest, start_rest, step_rest, cleanup_rest, tail_rest, fail_rest, shield_rest, scope_rest, over_rest, open_rest, close_rest, semicolon_rest, either, any_name, next};
 ghost use Rattle.job_syntax.specs.declared.symbol.Symbol.TheVariants as symbol;
+ghost use Rattle.job_syntax.specs.Syntax.{role_of};
 ghost use Rattle.job_tokens.specs.Lexing.{Gives};
 
 use crate::keyword::Keyword;
+use crate::role::Role;
 use job_tokens::{Mark, Shape};
 
 /// What may have to stand next in a job text.
@@ -132,6 +134,19 @@ const ITEMS_HANDLER: [Symbol; 4] = [
 ];
 
 impl Symbol {
+    /// What a token that stands for this symbol is for.
+    pub fn role(self) -> Role
+        ensures { result ≡ role_of self }
+    {
+        match self {
+            Symbol::Given => Role::Given,
+            Symbol::Raised => Role::Raised,
+            Symbol::Handled => Role::Handled,
+            Symbol::Target => Role::Target,
+            _ => Role::Plain,
+        }
+    }
+
     /// What must stand behind a token that stands for this symbol, last first: none where it cannot stand there.
     pub fn next(self, shape: Shape) -> Option<&'static [Symbol]>
         ensures { Gives (λ x. reverse x.now) result (next self shape) }

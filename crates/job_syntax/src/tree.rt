@@ -1,15 +1,49 @@
 ghost use Rattle.std.specs.Prelude.{◌≡◌, length, IfOk};
-ghost use Rattle.all_steps.specs.Blocks.{step_of, steps_of, handled_of, cleaned_of};
+ghost use Rattle.job_tree.specs.Blocks.{step_of, steps_of, handled_of, cleaned_of};
 ghost use Rattle.job_tokens.specs.Shapes.{shapes_of};
 ghost use Rattle.job_tokens.specs.Lexing.{Gives};
 ghost use Rattle.job_syntax.specs.declared.keyword.Keyword.TheVariants as word;
-ghost use Rattle.job_syntax.specs.Reading.{word_at, keyword_at, number_at, text_at, mark_at, behind_word, flag_at, deadline_at, over_at, body_at, handler_at, cleanup_at, scope_at, nursery_at, start_at, try_at, ended, plain_step, step_at, steps_with, blocks_at};
+ghost use Rattle.job_syntax.specs.Reading.{word_at, keyword_at, number_at, text_at, mark_at, behind_word, flag_at, deadline_at, over_at, body_at, handler_at, cleanup_at, scope_at, nursery_at, start_at, try_at, ended, plain_step, step_at, steps_with, blocks_at, head_at, job_at};
 
+use crate::depth::MOST_DEEP;
 use crate::keyword::Keyword;
-use all_steps::{Body, Handler, Step};
 use job_tokens::{Mark, Token};
-use job_tree::{Deadline, Name, Text};
+use job_tree::{Body, Deadline, Handler, Name, Step, Text};
 use std::alloc::{AllocError, Global};
+
+/// The name and the steps of the job whose tokens these are, where at most 32 of its blocks stand in one another. It is
+/// for tokens in which `follow` finds no fault: it asks neither where a `start` stands nor what follows a `try`.
+pub fn job_at(alloc: Global, tokens: &[Token]) -> Result<Option<(Name, Body)>, AllocError>
+    ensures { IfOk result (λ x. Gives (λ j. record { name = j.0; steps = j.1 }) x (job_at (shapes_of tokens.now))) }
+{
+    let Some((name, rest)) = head_at(tokens) else {
+        return Ok(None);
+    };
+    let Some((steps, rest)) = blocks_at(alloc, MOST_DEEP, rest)? else {
+        return Ok(None);
+    };
+    if !rest.is_empty() {
+        return Ok(None);
+    }
+    Ok(Some((name, steps)))
+}
+
+// The job's name, behind its keyword and in front of its `{`.
+fn head_at(tokens: &[Token]) -> Option<(Name, &[Token])>
+    ensures { Gives (λ x. (x.0, shapes_of x.1.now)) result (head_at (shapes_of tokens.now)) }
+{
+    let Some((keyword, rest)) = keyword_at(tokens) else {
+        return None;
+    };
+    if keyword != Keyword::Job {
+        return None;
+    }
+    let Some((name, rest)) = word_at(rest) else {
+        return None;
+    };
+    let rest = mark_at(rest, Mark::Open)?;
+    Some((name, rest))
+}
 
 fn word_at(tokens: &[Token]) -> Option<(Name, &[Token])>
     ensures { Gives (λ x. (x.0, shapes_of x.1.now)) result (word_at (shapes_of tokens.now)) }
@@ -105,11 +139,11 @@ fn over_at(tokens: &[Token]) -> Option<(Option<u64>, &[Token])>
     Some((None, tokens))
 }
 
-/// The steps of a block that holds at most so many blocks in one another, itself included, behind its `{`, and the tokens
-/// behind its `}`: none where they are no such block. It recurses no deeper than that.
+// The steps of a block that holds at most so many blocks in one another, itself included, behind its `{`, and the tokens
+// behind its `}`: none where they are no such block. It recurses no deeper than that.
 #[cycle(tree)]
 #[tactic(auto, unfolding(crate::specs::Reading::blocks_at))]
-pub fn blocks_at(
+fn blocks_at(
     alloc: Global,
     depth: usize,
     tokens: &[Token],

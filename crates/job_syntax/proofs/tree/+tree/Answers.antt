@@ -1,5 +1,5 @@
-use Rattle.std.proofs.Common.{◌≡◌, length}
-use Rattle.std.proofs.Common.{ℕ, arith}
+use Rattle.std.proofs.Common.{length}
+use Rattle.std.proofs.Common.{arith}
 use Rattle.std.proofs.lemmas.List.{length-map}
 use Rattle.job_tokens.specs.Shapes.{shapes_of}
 use Rattle.job_syntax.specs.Reading.{steps_with, blocks_at}

@@ -1,0 +1,34 @@
+ghost use Rattle.std.specs.Prelude.{◌≡◌, ◌≤◌};
+ghost use Rattle.job_tokens.specs.Shapes.{mark_in};
+ghost use Rattle.job_syntax.specs.Depth.{depth_fault, depth_behind};
+
+use job_tokens::{Mark, Shape, Token};
+
+/// The most blocks that may stand in one another, the job's own included.
+pub const MOST_DEEP: usize = 32;
+
+/// The place of the first `{` at which more than 32 blocks are open, its own included.
+pub fn depth_fault(tokens: &[Token]) -> Option<usize>
+    ensures { result ≡ depth_fault 0 tokens.now }
+{
+    let mut depth = 0;
+    for token in tokens {
+        depth = depth_behind(depth, token.shape);
+        if depth > MOST_DEEP {
+            return Some(token.at);
+        }
+    }
+    None
+}
+
+// How many blocks are open behind a token, if so many were open in front of it.
+fn depth_behind(depth: usize, shape: Shape) -> usize
+    requires { depth ≤ 32 }
+    ensures { result ≡ depth_behind depth (mark_in shape) }
+{
+    match shape.mark() {
+        Some(Mark::Open) => depth + 1,
+        Some(Mark::Close) => depth.saturating_sub(1),
+        _ => depth,
+    }
+}
