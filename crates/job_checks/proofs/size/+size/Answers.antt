@@ -1,0 +1,19 @@
+use Rattle.std.proofs.Common.{◌≡◌, ◌+◌, min, List, [], drop, subst, arith}
+use Rattle.std.proofs.lemmas.List.{drop_all}
+use Rattle.job_tree.specs.declared.step.Step.{Step}
+use Rattle.job_tree.specs.Blocks.{steps_of}
+use Rattle.job_tree.specs.Names.{size_of}
+use Rattle.job_checks.proofs.Weights.{weight_at}
+use Rattle.job_checks.proofs.size.+size.Goals as goal
+
+pub size_of-size_in-more-requires : goal.size_of-size_in-more-requires
+size_of-size_in-more-requires t c =
+    let weight = weight_at c.args.steps.now c.steps.step-index c.step-item.result c.steps-test.true c.step-item.is in
+    (omega (arith, weight, c.decreases), tt {0})
+
+pub size_of-returns : goal.size_of-returns
+size_of-returns t c =
+    let done : drop c.steps.step-index c.args.steps.now ≡ [] = drop_all c.steps.step-index c.args.steps.now c.steps-test.false in
+    let all : min (c.steps.size + 0) 18446744073709551615 ≡ min (size_of (steps_of c.args.steps.now)) 18446744073709551615 =
+    subst (λ (ss : List Step). min (c.steps.size + size_of (steps_of ss)) 18446744073709551615 ≡ min (size_of (steps_of c.args.steps.now)) 18446744073709551615) done c.steps.invariant.1 in
+    omega (arith, all, c.steps.invariant.0)

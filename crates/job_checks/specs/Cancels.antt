@@ -1,0 +1,62 @@
+-- Which `cancel` names a scope or nursery round it.
+use Rattle.std.specs.Prelude.{ℕ, List, [], ◌∷◌, ◌++◌, Option, Some, None, if◌then◌else◌}
+use Rattle.job_tokens.specs.declared.token.Token.{Token}
+use Rattle.job_syntax.specs.declared.role.Role.{Role}
+use Rattle.job_syntax.specs.declared.role.Role.TheVariants as role
+use Rattle.job_tree.specs.Tree.{Step, sleep, checkpoint, forever, pace, find, head, longest, need, raise, cancel, scope, nursery, start, attempt, Steps, stop, step, Handled, unhandled, except, Cleaned, uncleaned, finally}
+use Rattle.job_checks.specs.Given.{is_among}
+
+-- a `cancel`: what it names, and the names of the scopes and nurseries round it, the innermost first
+pub record Cancel : Type 0 where
+  pub name : List ℕ
+  pub round : List (List ℕ)
+
+-- the cancels of a block that has these scopes and nurseries round it, in the order of the text
+abbrev mutual
+  pub cancels_of : List (List ℕ) → Steps → List Cancel
+  cancels_of round stop = []
+  cancels_of round (step s ss) = cancels_in round s ++ cancels_of round ss
+
+  pub cancels_in : List (List ℕ) → Step → List Cancel
+  cancels_in round (sleep n) = []
+  cancels_in round checkpoint = []
+  cancels_in round forever = []
+  cancels_in round (pace k) = []
+  cancels_in round (find text) = []
+  cancels_in round (head n) = []
+  cancels_in round longest = []
+  cancels_in round (need text name) = []
+  cancels_in round (raise name) = []
+  cancels_in round (cancel name) = record { name = name; round = round } ∷ []
+  cancels_in round (scope name deadline shield fail body) = cancels_of (name ∷ round) body
+  cancels_in round (nursery name deadline shield body) = cancels_of (name ∷ round) body
+  cancels_in round (start name over body) = cancels_of round body
+  cancels_in round (attempt body handler cleanup) = cancels_of round body ++ (handled_cancels round handler ++ cleaned_cancels round cleanup)
+
+  pub handled_cancels : List (List ℕ) → Handled → List Cancel
+  handled_cancels round unhandled = []
+  handled_cancels round (except name body) = cancels_of round body
+
+  pub cleaned_cancels : List (List ℕ) → Cleaned → List Cancel
+  cleaned_cancels round uncleaned = []
+  cleaned_cancels round (finally body) = cancels_of round body
+
+-- the place of a name of what is cancelled, in front of others
+abbrev pub place_of_target : Role → ℕ → List ℕ → List ℕ
+place_of_target role.Target at others = at ∷ others
+place_of_target role.Plain at others = others
+place_of_target role.Given at others = others
+place_of_target role.Raised at others = others
+place_of_target role.Handled at others = others
+
+-- the places of the names of what is cancelled
+abbrev pub targets_in : List Token → List Role → List ℕ
+targets_in [] roles = []
+targets_in (t ∷ ts) [] = []
+targets_in (t ∷ ts) (r ∷ rs) = place_of_target r t.at (targets_in ts rs)
+
+-- the place of the first `cancel` whose name is not among those round it
+abbrev pub stray_in : List Cancel → List ℕ → Option ℕ
+stray_in [] places = None
+stray_in (c ∷ cs) [] = None
+stray_in (c ∷ cs) (at ∷ places) = if is_among c.round c.name then stray_in cs places else Some at

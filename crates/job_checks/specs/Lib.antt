@@ -1,0 +1,4 @@
+pub mod Given
+pub mod Cancels
+pub mod Reserved
+pub mod Searches

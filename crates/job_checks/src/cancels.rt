@@ -1,0 +1,148 @@
+ghost use Rattle.std.specs.Prelude.{◌≡◌, ◌++◌, ◌∷◌, [], MatchOption, List};
+ghost use Rattle.job_tree.specs.Blocks.{step_of, steps_of, handled_of, cleaned_of};
+ghost use Rattle.job_checks.specs.Given.{is_among};
+ghost use Rattle.job_checks.specs.Cancels.{Cancel, cancels_of, cancels_in, handled_cancels, cleaned_cancels, targets_in, stray_in};
+ghost use Rattle.job_checks.specs.Searches.{names_round, found_in};
+
+use job_syntax::Role;
+use job_tokens::Token;
+use job_tree::{Body, Handler, Name, Step};
+
+/// The place of the first name of a `cancel` that names no scope or nursery round it. Takes no memory.
+pub fn stray_cancel(steps: &[Step], tokens: &[Token], roles: &[Role]) -> Option<usize>
+    ensures { result ≡ stray_in (cancels_of [] (steps_of steps.now)) (targets_in tokens.now roles.now) }
+{
+    let search = Search::Passed(Left { tokens, roles });
+    match search_steps(steps, &Round::Nothing, search) {
+        Search::Passed(_) => None,
+        Search::Stopped(at) => at,
+    }
+}
+
+// The scopes and nurseries round a block, the innermost first.
+#[derive(Clone, Copy)]
+enum Round<'a> {
+    Nothing,
+    Inside(&'a Name, &'a Round<'a>),
+}
+
+// The tokens that are left, with what each is for.
+#[derive(Clone, Copy)]
+struct Left<'a> {
+    tokens: &'a [Token],
+    roles: &'a [Role],
+}
+
+// A search for a stray `cancel`: it passed those up to some tokens, or it has its answer.
+#[derive(Clone, Copy)]
+enum Search<'a> {
+    Passed(Left<'a>),
+    Stopped(Option<usize>),
+}
+
+// Goes on through the steps of a block.
+#[cycle(search)]
+fn search_steps<'a>(steps: &[Step], round: &Round, search: Search<'a>) -> Search<'a>
+    ensures { (more : List Cancel) → found_in result more ≡ found_in search.entry (cancels_of (names_round round.now) (steps_of steps.now) ++ more) }
+{
+    let mut found = search;
+    'steps: for step in steps {
+        if let Search::Stopped(_) = found {
+            return found;
+        }
+        found = search_step(step, round, found);
+    }
+    found
+}
+
+#[cycle(search)]
+fn search_step<'a>(step: &Step, round: &Round, search: Search<'a>) -> Search<'a>
+    ensures { (more : List Cancel) → found_in result more ≡ found_in search.entry (cancels_in (names_round round.now) (step_of step.now) ++ more) }
+{
+    match step {
+        Step::Cancel(name) => search_cancel(name, round, search),
+        Step::Scope { name, body, .. } => {
+            search_steps(body.as_slice(), &Round::Inside(&*name, &*round), search)
+        }
+        Step::Nursery { name, body } => {
+            search_steps(body.as_slice(), &Round::Inside(&*name, &*round), search)
+        }
+        Step::Start { body, .. } => search_steps(body.as_slice(), round, search),
+        Step::Try {
+            body,
+            handler,
+            cleanup,
+        } => {
+            let tried = search_steps(body.as_slice(), round, search);
+            let handled = search_handler(handler, round, tried);
+            search_cleanup(cleanup, round, handled)
+        }
+        _ => search,
+    }
+}
+
+#[cycle(search)]
+fn search_handler<'a>(handler: &Option<Handler>, round: &Round, search: Search<'a>) -> Search<'a>
+    ensures { (more : List Cancel) → found_in result more ≡ found_in search.entry (handled_cancels (names_round round.now) (handled_of handler.now) ++ more) }
+{
+    match handler {
+        Some(handler) => search_steps(handler.body.as_slice(), round, search),
+        None => search,
+    }
+}
+
+#[cycle(search)]
+fn search_cleanup<'a>(cleanup: &Option<Body>, round: &Round, search: Search<'a>) -> Search<'a>
+    ensures { (more : List Cancel) → found_in result more ≡ found_in search.entry (cleaned_cancels (names_round round.now) (cleaned_of cleanup.now) ++ more) }
+{
+    match cleanup {
+        Some(body) => search_steps(body.as_slice(), round, search),
+        None => search,
+    }
+}
+
+// Goes on past one `cancel`, whose name is the next that stands behind that word.
+fn search_cancel<'a>(name: &Name, round: &Round, search: Search<'a>) -> Search<'a>
+    ensures { (more : List Cancel) → found_in result more ≡ found_in search.entry (record { name = name.now; round = names_round round.now } ∷ more) }
+{
+    let Search::Passed(left) = search else {
+        return search;
+    };
+    let Some((at, left)) = next_target(left) else {
+        return Search::Stopped(None);
+    };
+    if is_round(name, round) {
+        Search::Passed(left)
+    } else {
+        Search::Stopped(Some(at))
+    }
+}
+
+// The place of the first name of what is cancelled, and what is left behind it.
+fn next_target(left: Left<'_>) -> Option<(usize, Left<'_>)>
+    ensures { MatchOption result (targets_in left.entry.tokens.now left.entry.roles.now ≡ []) (λ found. targets_in left.entry.tokens.now left.entry.roles.now ≡ found.0 ∷ targets_in found.1.tokens.now found.1.roles.now) }
+{
+    let mut roles = left.roles;
+    let mut tokens = left.tokens;
+    'tokens: while let Some((token, tokens_left)) = tokens.split_first() {
+        let Some((role, roles_left)) = roles.split_first() else {
+            return None;
+        };
+        tokens = tokens_left;
+        roles = roles_left;
+        if *role == Role::Target {
+            return Some((token.at, Left { tokens, roles }));
+        }
+    }
+    None
+}
+
+// Whether a scope or nursery of that name is round a block.
+fn is_round(name: &Name, round: &Round) -> bool
+    ensures { result ≡ is_among (names_round round.now) name.now }
+{
+    match round {
+        Round::Nothing => false,
+        Round::Inside(inner, outer) => name == *inner || is_round(name, outer),
+    }
+}

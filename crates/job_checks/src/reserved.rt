@@ -1,0 +1,61 @@
+ghost use Rattle.std.specs.Prelude.{◌≡◌};
+ghost use Rattle.job_checks.specs.Reserved.{reserved_in, allows, is_free, may_be_handled, is_reserved};
+
+use job_syntax::{Keyword, Role};
+use job_tokens::{Shape, Token};
+use job_tree::Name;
+
+/// The place of the first name that is reserved: a keyword or `Cancelled`, or `TooSlow` but behind `except`.
+pub fn reserved_name(tokens: &[Token], roles: &[Role]) -> Option<usize>
+    ensures { result ≡ reserved_in tokens.now roles.now }
+{
+    let mut left = roles;
+    'tokens: for token in tokens {
+        let Some((role, roles_left)) = left.split_first() else {
+            return None;
+        };
+        left = roles_left;
+        if !allows(*role, token.shape) {
+            return Some(token.at);
+        }
+    }
+    None
+}
+
+// Whether a token may serve as what it is for.
+fn allows(role: Role, shape: Shape) -> bool
+    ensures { result ≡ allows role shape }
+{
+    match role {
+        Role::Plain => true,
+        Role::Given => is_free(shape.word()),
+        Role::Raised => is_free(shape.word()),
+        Role::Handled => may_be_handled(shape.word()),
+        Role::Target => is_free(shape.word()),
+    }
+}
+
+fn is_free(word: Option<Name>) -> bool
+    ensures { result ≡ is_free word }
+{
+    match word {
+        Some(word) => !(is_reserved(word) || word.bytes() == b"TooSlow".as_slice()),
+        None => true,
+    }
+}
+
+fn may_be_handled(word: Option<Name>) -> bool
+    ensures { result ≡ may_be_handled word }
+{
+    match word {
+        Some(word) => !is_reserved(word),
+        None => true,
+    }
+}
+
+// A keyword, or `Cancelled`.
+fn is_reserved(word: Name) -> bool
+    ensures { result ≡ is_reserved word }
+{
+    Keyword::of(word).is_some() || word.bytes() == b"Cancelled".as_slice()
+}

@@ -1,0 +1,77 @@
+ghost use Rattle.std.specs.Prelude.{◌≡◌, ◌+◌, ◌*◌, min};
+ghost use Rattle.job_tree.specs.Blocks.{step_of, steps_of, handled_of, cleaned_of};
+ghost use Rattle.job_tree.specs.Names.{copies_of, size_of, size_in, handled_size, cleaned_size};
+
+use job_tree::{Body, Handler, Step};
+
+/// How many step instances a block has, or the greatest number of 64 bits where it has more. Takes no memory.
+#[cycle(size)]
+pub fn size_of(steps: &[Step]) -> u64
+    ensures { result ≡ min (size_of (steps_of steps.now)) 18446744073709551615 }
+{
+    let mut size: u64 = 0;
+    'steps: for step in steps {
+        let more = size_in(step);
+        size = size.saturating_add(more);
+    }
+    size
+}
+
+// The size of one step.
+#[cycle(size)]
+fn size_in(step: &Step) -> u64
+    ensures { result ≡ min (size_in (step_of step.now)) 18446744073709551615 }
+{
+    match step {
+        Step::Scope { body, .. } => one_more(size_of(body.as_slice())),
+        Step::Nursery { body, .. } => one_more(size_of(body.as_slice())),
+        Step::Start { over, body, .. } => times(*over, one_more(size_of(body.as_slice()))),
+        Step::Try {
+            body,
+            handler,
+            cleanup,
+        } => {
+            let tried = one_more(size_of(body.as_slice()));
+            let handled = handled_size(handler);
+            let cleaned = cleaned_size(cleanup);
+            tried.saturating_add(handled).saturating_add(cleaned)
+        }
+        _ => 1,
+    }
+}
+
+#[cycle(size)]
+fn handled_size(handler: &Option<Handler>) -> u64
+    ensures { result ≡ min (handled_size (handled_of handler.now)) 18446744073709551615 }
+{
+    match handler {
+        Some(handler) => size_of(handler.body.as_slice()),
+        None => 0,
+    }
+}
+
+#[cycle(size)]
+fn cleaned_size(cleanup: &Option<Body>) -> u64
+    ensures { result ≡ min (cleaned_size (cleaned_of cleanup.now)) 18446744073709551615 }
+{
+    match cleanup {
+        Some(body) => size_of(body.as_slice()),
+        None => 0,
+    }
+}
+
+fn one_more(size: u64) -> u64
+    ensures { result ≡ min (1 + size) 18446744073709551615 }
+{
+    size.saturating_add(1)
+}
+
+// The size of all copies.
+fn times(over: Option<u64>, size: u64) -> u64
+    ensures { result ≡ min (copies_of over * size) 18446744073709551615 }
+{
+    match over {
+        Some(copies) => copies.saturating_mul(size),
+        None => size,
+    }
+}
