@@ -1,11 +1,4 @@
-pub mod Grammar
-pub mod Forward
-pub mod Places
-pub mod Steps
-pub mod Again
-pub mod Sizes
-pub mod Names
 pub mod Passing
 pub mod Arms
-pub mod Writing_steps
 pub mod Canonical
+pub mod Writing_blocks

@@ -1,11 +1,6 @@
-pub mod Keywords
-pub mod Symbols
-pub mod Pieces
-pub mod Syntax
-pub mod Reserved
-pub mod Ranges
-pub mod Reading
 pub mod Kinds
-pub mod Refusals
 pub mod Jobs
+pub mod Refusals
+pub mod Drafts
 pub mod Canon
+pub mod Printing

@@ -1,11 +1,14 @@
 ghost use Rattle.std.specs.Prelude.{◌≡◌};
 ghost use Rattle.job_tree.specs.Blocks.{steps_of};
+ghost use Rattle.job_tree.specs.Modest.{IsModest};
 ghost use Rattle.job_tree.specs.Names.{size_of};
 
+use job_checks::size_of;
 use job_tree::{Body, Name, Step};
 use std::marker::Model;
 
-/// A job that a text spells. A contract sees it as the job's tree.
+/// A job that a text spells. A contract sees it as the job's tree. Its numbers are in their ranges, and it has at most
+/// 100,000 step instances.
 #[derive(Drop)]
 pub struct Job {
     name: Name,
@@ -14,6 +17,7 @@ pub struct Job {
 
 impl Model for Job {
     ghost use Rattle.job_tree.specs.Tree.{Tree};
+    ghost use Rattle.job_tree.specs.Modest.{IsModest};
     ghost use Rattle.job_grammar.specs.Jobs.{tree_code};
 
     ghost Value = { Tree };
@@ -21,11 +25,14 @@ impl Model for Job {
     ghost coded = { tree_code };
 
     ghost view = { λ j. record { name = j.name; steps = j.steps } };
+
+    ghost invariant = { λ j. IsModest (record { name = j.name; steps = j.steps }) };
 }
 
 impl Job {
     // A job of that name, which does these steps.
     pub(crate) fn new(name: Name, steps: Body) -> Job
+        requires { IsModest (record { name = name; steps = steps }) }
         ensures { result ≡ record { name = name; steps = steps } }
     {
         Job { name, steps }
@@ -40,15 +47,17 @@ impl Job {
 
     /// The job's steps, in order.
     pub fn steps(&self) -> &[Step]
-        ensures { steps_of result.now ≡ self.now.steps }
+        ensures steps { steps_of result.now ≡ self.now.steps }
+        ensures modest { IsModest self.now }
     {
         self.steps.as_slice()
     }
 
-    /// How many step instances the job has: each step counts once.
+    /// How many step instances the job has: each step counts once, and a `start .. over K` counts K times with all that it
+    /// starts.
     pub fn size(&self) -> u64
         ensures { result ≡ size_of self.now.steps }
     {
-        self.steps().len() as u64
+        size_of(self.steps())
     }
 }

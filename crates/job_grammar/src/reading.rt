@@ -1,16 +1,15 @@
-ghost use Rattle.std.specs.Prelude.{◌≡◌, ◌≤◌, ℕ, List, length, take, drop, None, Ok, Err, IfOk, IfErr, OnOk, MatchResult, MatchOption};
+ghost use Rattle.std.specs.Prelude.{◌≡◌, ℕ, drop, Ok, Err, IfOk, IfErr, OnOk, MatchResult};
 ghost use Rattle.std.specs.List.{prefix_len};
 ghost use Rattle.job_tree.specs.Tree.{Tree};
 ghost use Rattle.job_grammar.specs.declared.fault.JobKind.{JobKind};
-ghost use Rattle.job_grammar.specs.Syntax.{fault_at, whole_job};
-ghost use Rattle.job_grammar.specs.Refusals.{is_ascii, HasTokens, AreTokensOf, AreOfSomeJob, IsReadTo, Passes, IsRefused, IsFair, Spells, AnswersUnlessMemory};
-ghost use Rattle.job_tokens.specs.Shapes.{shapes_of};
+ghost use Rattle.job_grammar.specs.Refusals.{is_ascii, IsReadTo, Passes, IsRefused, IsFair, IsOfSomeJob, Spells, AnswersUnlessMemory};
 
+use crate::draft::Draft;
 use crate::fault::{JobFault, JobKind};
 use crate::job::Job;
-use crate::{course, range, tree};
+use job_syntax::{Course, Role, depth_fault, follow, number_fault};
 use job_tokens::{Lexed, Token, lex};
-use std::alloc::{AllocError, Global};
+use std::alloc::Global;
 
 /// The most bytes of a job text.
 pub const MOST_BYTES: usize = 65_536;
@@ -33,15 +32,21 @@ pub fn read_job(alloc: Global, text: &[u8]) -> Result<Job, JobFault>
     read(alloc, text)
 }
 
-// The passes, one after the other.
+// The passes, one after the other. No tree is built before the depth of the blocks is known.
 fn read(alloc: Global, text: &[u8]) -> Result<Job, JobFault>
     ensures { MatchResult result (Spells text.now) (IsFair text.now) }
 {
     let body = check_bytes(text)?;
     let tokens = tokens_of(alloc, text, body)?;
     check_numbers(text, &tokens)?;
-    check_course(alloc, text, &tokens)?;
-    Ok(job_of(alloc, &tokens)?)
+    let roles = roles_of(alloc, text, &tokens)?;
+    check_depth(text, &tokens)?;
+    let draft = Draft::new(alloc, text, tokens, roles)?;
+    draft.check_given(alloc)?;
+    draft.check_cancels()?;
+    draft.check_reserved()?;
+    draft.check_size()?;
+    Ok(draft.into_job())
 }
 
 // The bytes behind the first line.
@@ -105,7 +110,7 @@ fn check_numbers(text: &[u8], tokens: &[Token]) -> Result<(), JobFault>
     ensures ok { OnOk result (IsReadTo 5 text.now tokens.now) }
     ensures err { IfErr result (IsFair text.now) }
 {
-    if let Some(at) = range::number_fault(tokens) {
+    if let Some(at) = number_fault(tokens) {
         return Err(JobFault {
             at,
             kind: JobKind::Number,
@@ -114,34 +119,32 @@ fn check_numbers(text: &[u8], tokens: &[Token]) -> Result<(), JobFault>
     Ok(())
 }
 
-fn check_course(alloc: Global, text: &[u8], tokens: &[Token]) -> Result<(), JobFault>
+// What each token is for, where the tokens are those of a job.
+fn roles_of(alloc: Global, text: &[u8], tokens: &[Token]) -> Result<Vec<Role>, JobFault>
     requires { IsReadTo 5 text.now tokens.now }
-    ensures ok { OnOk result (IsReadTo 11 text.now tokens.now × AreOfSomeJob tokens.now) }
+    ensures ok { IfOk result (λ roles. IsReadTo 6 text.now tokens.now × IsOfSomeJob tokens.now roles.items) }
     ensures err { IfErr result (IsFair text.now) }
 {
-    let course = course::follow(alloc, tokens, text.len())?;
-    if let Some(at) = course.fault {
+    let Course { fault, roles } = follow(alloc, tokens, text.len())?;
+    if let Some(at) = fault {
         return Err(JobFault {
             at,
             kind: JobKind::Syntax,
         });
     }
-    if let Some(at) = course.reserved {
+    Ok(roles)
+}
+
+fn check_depth(text: &[u8], tokens: &[Token]) -> Result<(), JobFault>
+    requires { IsReadTo 6 text.now tokens.now }
+    ensures ok { OnOk result (IsReadTo 7 text.now tokens.now) }
+    ensures err { IfErr result (IsFair text.now) }
+{
+    if let Some(at) = depth_fault(tokens) {
         return Err(JobFault {
             at,
-            kind: JobKind::Reserved,
+            kind: JobKind::Depth,
         });
     }
     Ok(())
-}
-
-// The job whose tokens these are.
-fn job_of(alloc: Global, tokens: &[Token]) -> Result<Job, AllocError>
-    requires { AreOfSomeJob tokens.now }
-    ensures { IfOk result (AreTokensOf tokens.now) }
-{
-    match tree::job_at(alloc, tokens)? {
-        Some(job) => Ok(job),
-        None => unreachable!(),
-    }
 }

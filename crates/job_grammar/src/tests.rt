@@ -1,5 +1,5 @@
 use super::*;
-use std::alloc::Global;
+use std::alloc::{AllocError, Global};
 use std::test::*;
 
 // The number of a refusal and its place, and two zeros for a job.
@@ -46,8 +46,40 @@ fn refusals(rt: HostRuntime) {
             28,
         ),
         (b"trio-job 1\njob main { start a { } }".as_slice(), 6, 22),
+        (b"trio-job 1\njob main { repeat 2 { } }".as_slice(), 6, 22),
         (b"trio-job 1\njob main { sleep".as_slice(), 6, 27),
         (b"trio-job 1\njob main { } }".as_slice(), 6, 24),
+    ];
+    for (text, number, at) in rows {
+        assert_eq!(rt; answer(rt.alloc(), text), (number, at));
+    }
+}
+
+#[test]
+fn refusals_of_names(rt: HostRuntime) {
+    let rows = [
+        (
+            b"trio-job 1\njob main { scope s { } scope s { } }".as_slice(),
+            8,
+            40,
+        ),
+        (
+            b"trio-job 1\njob main { nursery n { start main { } } }".as_slice(),
+            8,
+            40,
+        ),
+        (
+            b"trio-job 1\njob main { raise job; scope main { } }".as_slice(),
+            8,
+            39,
+        ),
+        (b"trio-job 1\njob main { cancel x; }".as_slice(), 9, 29),
+        (b"trio-job 1\njob main { cancel main; }".as_slice(), 9, 29),
+        (
+            b"trio-job 1\njob main { scope s { } cancel s; }".as_slice(),
+            9,
+            41,
+        ),
         (
             b"trio-job 1\njob main { raise Cancelled; }".as_slice(),
             10,
@@ -60,14 +92,59 @@ fn refusals(rt: HostRuntime) {
         ),
         (b"trio-job 1\njob over { raise raise; }".as_slice(), 10, 15),
         (
-            b"trio-job 1\njob main{sleep 5;find\"\\x00\\\\\";raise A;}".as_slice(),
-            0,
-            0,
+            b"trio-job 1\njob main { try { } except Cancelled { } }".as_slice(),
+            10,
+            37,
         ),
     ];
     for (text, number, at) in rows {
         assert_eq!(rt; answer(rt.alloc(), text), (number, at));
     }
+}
+
+#[test]
+fn too_large(rt: HostRuntime) {
+    let text =
+        b"trio-job 1\njob main { nursery n { start a over 64 { nursery m { start b over 64 { nursery q { start c over 64 { } } } } } } }".as_slice();
+    assert_eq!(rt; answer(rt.alloc(), text), (11, 0));
+}
+
+#[test]
+fn accepted(rt: HostRuntime) {
+    let rows = [
+        b"trio-job 1\njob main{sleep 5;find\"\\x00\\\\\";raise A;}".as_slice(),
+        b"trio-job 1\njob main { scope a { raise a; } }".as_slice(),
+        b"trio-job 1\njob main { try { } except TooSlow { } }".as_slice(),
+        b"trio-job 1\njob main { scope s { nursery n { start a { cancel s; cancel n; } } } }".as_slice(),
+    ];
+    for text in rows {
+        assert_eq!(rt; answer(rt.alloc(), text), (0, 0));
+    }
+}
+
+// A job of so many blocks in one another, each with these bytes in front and behind.
+fn nested(alloc: Global, depth: usize, front: &[u8], behind: &[u8]) -> Result<Vec<u8>, AllocError> {
+    let mut text = Vec::from_slice(alloc, b"trio-job 1\njob main {")?;
+    for _ in 0..depth {
+        text.extend_from_slice(front)?;
+    }
+    for _ in 0..depth {
+        text.extend_from_slice(behind)?;
+    }
+    text.extend_from_slice(b" }")?;
+    Ok(text)
+}
+
+#[test]
+fn depth(rt: HostRuntime) -> Result<(), Fail> {
+    let rows = [(31, 0, 0), (32, 7, 212), (5_000, 7, 212)];
+    for (depth, number, at) in rows {
+        let text = nested(rt.alloc(), depth, b" try {", b" } finally { }")?;
+        assert_eq!(rt; answer(rt.alloc(), &text), (number, at));
+    }
+    let scopes = nested(rt.alloc(), 32, b" scope s01 {", b" }")?;
+    assert_eq!(rt; answer(rt.alloc(), &scopes), (7, 404));
+    Ok(())
 }
 
 #[test]
@@ -107,6 +184,18 @@ fn canonical_texts(rt: HostRuntime) -> Result<(), Fail> {
             b"trio-job 1\n\tjob  m{sleep 0 ;raise B_2; find \"\\\"\\\\\\x41\\x0a\";}\r\n".as_slice(),
             b"trio-job 1\njob m{sleep 0;raise B_2;find\"\\\"\\\\A\\x0a\";}".as_slice(),
         ),
+        (
+            b"trio-job 1\njob m { scope s after 5 shield fail { checkpoint; } scope t at 7 { cancel t; head 2; longest; } }".as_slice(),
+            b"trio-job 1\njob m{scope s after 5 shield fail{checkpoint;}scope t at 7{cancel t;head 2;longest;}}".as_slice(),
+        ),
+        (
+            b"trio-job 1\njob m { nursery n { start p over 3 { pace 2; } start q { need \"x\" Gone; } } }".as_slice(),
+            b"trio-job 1\njob m{nursery n{start p over 3{pace 2;}start q{need\"x\"Gone;}}}".as_slice(),
+        ),
+        (
+            b"trio-job 1\njob m { try { raise A; } except A { forever; } finally { } try { } finally { } }".as_slice(),
+            b"trio-job 1\njob m{try{raise A;}except A{forever;}finally{}try{}finally{}}".as_slice(),
+        ),
     ];
     for (text, wanted) in rows {
         let job = read_job(rt.alloc(), text).ok().ok_or("a job")?;
@@ -118,12 +207,11 @@ fn canonical_texts(rt: HostRuntime) -> Result<(), Fail> {
 
 #[test]
 fn parts_of_a_job(rt: HostRuntime) -> Result<(), Fail> {
-    let job = read_job(rt.alloc(), b"trio-job 1\njob main { sleep 1; raise A; }")
-        .ok()
-        .ok_or("a job")?;
+    let text = b"trio-job 1\njob main { sleep 1; nursery n { start p over 3 { sleep 1; } } }";
+    let job = read_job(rt.alloc(), text).ok().ok_or("a job")?;
     assert_eq!(rt; job.name().bytes(), b"main".as_slice());
     assert_eq!(rt; job.steps().len(), 2);
-    assert_eq!(rt; job.size(), 2);
+    assert_eq!(rt; job.size(), 8);
     Ok(())
 }
 

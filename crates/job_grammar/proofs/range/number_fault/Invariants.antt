@@ -1,6 +1,0 @@
-use Rattle.std.proofs.Common.{◌≡◌, drop, None}
-use Rattle.job_grammar.specs.Ranges.{number_fault}
-use Rattle.job_grammar.proofs.range.number_fault.Given as goal
-
-abbrev pub invariant-loop-token : goal.invariant-loop-token
-invariant-loop-token l = number_fault l.before (drop l.token-index l.tokens) ≡ number_fault None l.tokens
