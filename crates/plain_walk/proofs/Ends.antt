@@ -5,7 +5,7 @@ use Rattle.std.proofs.lemmas.List.{length-take}
 use Rattle.std.proofs.Math.Nat.{mul-le-mul_right}
 use Rattle.std.specs.Prelude.{slice_range}
 use Rattle.job_tree.specs.Tree.{Step, sleep, checkpoint, forever, pace, find, head, longest, need, raise, cancel, scope, nursery, start, attempt, Steps, stop, step, Handled, unhandled, except, Cleaned, uncleaned, finally}
-use Rattle.all_steps.specs.Modest.{AreModest, IsModestStep, IsModestHandler, IsModestCleanup}
+use Rattle.job_tree.specs.Modest.{AreModest, IsModestStep, IsModestHandler, IsModestCleanup}
 use Rattle.job_tree.specs.Names.{size_of, size_in, handled_size, cleaned_size}
 use Rattle.buffer_parts.specs.Lines.{Range, Span, bytes_of}
 use Rattle.buffer_parts.proofs.JoinLemmas.{length-lines_from}

@@ -5,4 +5,4 @@ pub mod Walking
 pub mod Shows
 pub mod Steps
 pub mod Trying
-pub mod Root
+pub mod Listed

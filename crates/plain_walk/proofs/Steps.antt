@@ -3,15 +3,15 @@ use Rattle.std.proofs.Common.{◌≡◌, ℕ, zero, suc, ◌+◌, ◌*◌, ◌�
 use Rattle.std.proofs.lemmas.List.{append-nil}
 use Rattle.exc_groups.specs.Exceptions.{Label, Exc}
 use Rattle.job_tree.specs.Tree.{Step, Steps, stop, step, Handled}
-use Rattle.all_steps.specs.Blocks.{step_of, steps_of}
-use Rattle.all_steps.specs.Modest.{AreModest, IsModestHandler}
+use Rattle.job_tree.specs.Blocks.{step_of, steps_of}
+use Rattle.job_tree.specs.Modest.{AreModest, IsModestHandler}
 use Rattle.job_tree.specs.Names.{size_of, size_in, handled_size}
-use Rattle.all_steps.specs.declared.step.Step as held
+use Rattle.job_tree.specs.declared.step.Step as held
 use Rattle.std.specs.Option.{option_map, is_some}
 use Rattle.exc_groups.specs.Held.{exc_of}
 use Rattle.exc_groups.specs.declared.exc.Exc as held_exc
 use Rattle.cancel_scopes.specs.Sight.{Tick, earlier}
-use Rattle.all_steps.specs.Weigh.{weight_of, weight_in}
+use Rattle.job_tree.specs.Weigh.{weight_of, weight_in}
 use Rattle.plain_walk.specs.Logs.{seen_in}
 use Rattle.job_meaning.specs.Walk as meaning
 use Rattle.job_meaning.specs.Log.{Result, Member, Log, followed_by, nil}

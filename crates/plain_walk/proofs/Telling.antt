@@ -15,15 +15,15 @@ use Rattle.job_meaning.specs.Meaning.{Record, entries_of, records_of, entered_by
 use Rattle.job_meaning.specs.Shown.{Shown, Row, shown, shown_at, line_shown, row_of, Ending, ending_of}
 use Rattle.job_meaning.specs.Walk.{log_of_lines}
 use Rattle.job_meaning.proofs.Touched.{least_followed, deadline_followed}
-use Rattle.job_runner.specs.declared.entry.Entry as held
-use Rattle.job_runner.specs.declared.entry.Entry.TheVariants as entries
-use Rattle.job_runner.specs.declared.entry.Record as held_records
+use Rattle.task_records.specs.declared.entry.Entry as held
+use Rattle.task_records.specs.declared.entry.Entry.TheVariants as entries
+use Rattle.task_records.specs.declared.entry.Record as held_records
 use Rattle.plain_walk.specs.declared.log.Log.{Log}
 use Rattle.plain_walk.specs.declared.log.Sign.{Sign}
 use Rattle.plain_walk.specs.declared.log.Due.{Due}
-use Rattle.job_runner.specs.Records.{entry_of, row_in, ending_in}
-use Rattle.job_runner.specs.Walks.{IsSlice}
-use Rattle.job_runner.specs.Runs.{AreSlices}
+use Rattle.task_records.specs.Records.{entry_of, row_in, ending_in}
+use Rattle.task_records.specs.Records.{IsSlice}
+use Rattle.task_records.specs.Records.{AreSlices}
 use Rattle.plain_walk.specs.Logs.{Tells, seen_in, deadline_in}
 use Rattle.plain_walk.proofs.Followed.{entries_followed, records_followed, entered_followed, all_followed, next_earlier, seen_append, due_append}
 

@@ -8,9 +8,9 @@ use Rattle.job_meaning.specs.Shown.{shown, row_of}
 use Rattle.plain_walk.specs.declared.log.Log.{Log}
 use Rattle.plain_walk.specs.declared.log.Sign.{Sign}
 use Rattle.plain_walk.specs.declared.log.Due.{Due}
-use Rattle.job_runner.specs.Records.{entry_of, row_in}
-use Rattle.job_runner.specs.Walks.{IsSlice}
-use Rattle.job_runner.specs.Runs.{AreSlices}
+use Rattle.task_records.specs.Records.{entry_of, row_in}
+use Rattle.task_records.specs.Records.{IsSlice}
+use Rattle.task_records.specs.Records.{AreSlices}
 
 -- the tick from which the first of some cancellations of a label is seen
 abbrev pub seen_in : Label → List Sign → Tick

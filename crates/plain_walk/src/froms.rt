@@ -2,13 +2,13 @@ ghost use Rattle.std.specs.Prelude.{◌≡◌, List, IfOk, map};
 ghost use Rattle.exc_groups.specs.Exceptions.{Label as TreeLabel};
 ghost use Rattle.cancel_scopes.specs.Sight.{earlier};
 ghost use Rattle.plain_walk.specs.Froms.{from_in, froms_in};
-ghost use Rattle.job_runner.specs.Runs.{from_of};
+ghost use Rattle.task_records.specs.Records.{from_of};
 
 use crate::log::{Due, Sign, deadline_of, seen_from};
 use crate::stack::earlier;
 use exc_groups::Label;
-use job_runner::ScopeFrom;
 use std::alloc::{AllocError, Global};
+use task_records::ScopeFrom;
 
 /// From which tick each of these labels was cancelled, by all deadlines and cancellations of a run.
 pub fn froms_of(

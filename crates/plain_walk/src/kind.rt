@@ -4,12 +4,12 @@ ghost use Rattle.std.specs.Option.{option_map};
 ghost use Rattle.exc_groups.specs.Held.{exc_of};
 ghost use Rattle.job_meaning.specs.Shown.{shown_at};
 ghost use Rattle.plain_walk.specs.Kinds.{kind_of, left_of, fails_of};
-ghost use Rattle.job_runner.specs.Records.{entry_of};
-ghost use Rattle.job_runner.specs.Walks.{IsSlice};
+ghost use Rattle.task_records.specs.Records.{entry_of};
+ghost use Rattle.task_records.specs.Records.{IsSlice};
 
 use exc_groups::{Exc, Label, Match, holds_cancelled, split};
-use job_runner::Entry;
 use std::alloc::{AllocError, Global};
+use task_records::Entry;
 
 /// What a block is: a scope, which may be a `fail` scope, or a nursery.
 #[derive(Clone, Copy)]

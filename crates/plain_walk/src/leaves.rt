@@ -3,7 +3,7 @@ ghost use Rattle.buffer_parts.specs.Part.{buffer_of, range_of};
 ghost use Rattle.line_kernels.specs.Kernels.{found_in, head_of, longest_in, needed_in, count_in};
 ghost use Rattle.exc_groups.specs.Exceptions.{raised as raising};
 ghost use Rattle.job_meaning.specs.Walk.{sleeping, paced, showing, needing, raised_at, due, cancelling, label_on};
-ghost use Rattle.all_steps.specs.Modest.{IsModestDeadline};
+ghost use Rattle.job_tree.specs.Modest.{IsModestDeadline};
 ghost use Rattle.plain_walk.specs.Heres.{input_of, scopes_of};
 ghost use Rattle.plain_walk.specs.Walks.{IsWalked};
 

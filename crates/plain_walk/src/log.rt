@@ -7,15 +7,15 @@ ghost use Rattle.job_meaning.specs.Log.{nil, entry, sign, entered, task, followe
 ghost use Rattle.job_meaning.specs.Walk.{log_of_lines, left_as};
 ghost use Rattle.job_meaning.specs.Shown.{ending_of};
 ghost use Rattle.plain_walk.specs.Kinds.{kind_of};
-ghost use Rattle.job_runner.specs.Records.{ending_in};
+ghost use Rattle.task_records.specs.Records.{ending_in};
 ghost use Rattle.plain_walk.specs.Logs.{Tells, deadline_in, seen_in};
 
 use crate::kind::{Kind, entry_of_leaving};
 use crate::stack::{earlier, is_same_label};
 use buffer_parts::Line;
 use exc_groups::Label;
-use job_runner::{Entry, Outcome, Record};
 use std::alloc::{AllocError, Global};
+use task_records::{Entry, Outcome, Record};
 
 /// A cancellation of a scope or nursery, with the tick from which it is seen.
 #[derive(Drop)]
@@ -45,7 +45,7 @@ pub struct Log<'a> {
 
 impl<'a> Log<'a> {
     /// A log of nothing.
-    pub fn new(alloc: Global) -> Log<'a>
+    pub(crate) fn new(alloc: Global) -> Log<'a>
         ensures { (input : List ℕ) → Tells input result nil }
     {
         Log {
@@ -59,7 +59,7 @@ impl<'a> Log<'a> {
     }
 
     /// Appends what was done next.
-    pub fn append(&mut self, next: Log<'a>) -> Result<(), AllocError>
+    pub(crate) fn append(&mut self, next: Log<'a>) -> Result<(), AllocError>
         ensures { OnOk result ((input : List ℕ) (a b : meaning.Log) → Tells input self.old a → Tells input next.entry b → Tells input self.new (followed_by a b)) }
     {
         move_all(&mut self.entries, next.entries)?;
@@ -72,7 +72,7 @@ impl<'a> Log<'a> {
     }
 
     /// A log of having shown lines.
-    pub fn of_lines(alloc: Global, lines: &[Line<'a>]) -> Result<Log<'a>, AllocError>
+    pub(crate) fn of_lines(alloc: Global, lines: &[Line<'a>]) -> Result<Log<'a>, AllocError>
         ensures { IfOk result (λ log. (input : List ℕ) (spans : List Span) (t : ℕ) → AreLinesAt input spans lines.now → Tells input log (log_of_lines t spans)) }
     {
         let mut log = Log::new(alloc);
@@ -81,7 +81,7 @@ impl<'a> Log<'a> {
     }
 
     /// A log of having left a scope or nursery.
-    pub fn of_leaving(
+    pub(crate) fn of_leaving(
         alloc: Global,
         kind: Kind,
         label: Label,
@@ -97,7 +97,7 @@ impl<'a> Log<'a> {
     }
 
     /// A log of having cancelled a scope or nursery in a tick.
-    pub fn of_sign(alloc: Global, label: Label, tick: u64) -> Result<Log<'a>, AllocError>
+    pub(crate) fn of_sign(alloc: Global, label: Label, tick: u64) -> Result<Log<'a>, AllocError>
         requires { tick + 1 < 2 ^ 64 }
         ensures { IfOk result (λ log. (input : List ℕ) → Tells input log (sign label tick nil)) }
     {
@@ -110,7 +110,7 @@ impl<'a> Log<'a> {
     }
 
     /// A log of having entered a scope or nursery.
-    pub fn of_entering(
+    pub(crate) fn of_entering(
         alloc: Global,
         label: &Label,
         deadline: Option<u64>,
@@ -127,7 +127,7 @@ impl<'a> Log<'a> {
     }
 
     /// A log of having started a task, of which this is the log.
-    pub fn into_started(
+    pub(crate) fn into_started(
         self,
         alloc: Global,
         label: Label,

@@ -28,7 +28,7 @@ pub enum Stack<'s> {
 
 impl<'s> Stack<'s> {
     /// The earliest tick from which the stack is cancelled: up to and including the first shielded level.
-    pub fn sight(&self) -> Option<u64>
+    pub(crate) fn sight(&self) -> Option<u64>
         ensures { result ≡ sight (stack_of self.now) }
     {
         match self {
@@ -39,7 +39,7 @@ impl<'s> Stack<'s> {
     }
 
     /// The label of the innermost level.
-    pub fn home(&self) -> Option<&Label>
+    pub(crate) fn home(&self) -> Option<&Label>
         ensures { option_copied result ≡ home_of (stack_of self.now) }
     {
         match self {
@@ -49,7 +49,7 @@ impl<'s> Stack<'s> {
     }
 
     /// The label of the innermost level of that name.
-    pub fn label_on(&self, name: &Name) -> Option<&Label>
+    pub(crate) fn label_on(&self, name: &Name) -> Option<&Label>
         ensures { option_copied result ≡ label_on name.now (stack_of self.now) }
     {
         match self {
@@ -63,7 +63,7 @@ impl<'s> Stack<'s> {
 
     /// Whether a block inside this stack catches at its exit tick: it is itself cancelled by then, and no cancellation
     /// from outside is seen at its level.
-    pub fn catches(&self, from: Option<u64>, shield: bool, tick: u64) -> bool
+    pub(crate) fn catches(&self, from: Option<u64>, shield: bool, tick: u64) -> bool
         ensures { result ≡ catches from shield (stack_of self.now) tick }
     {
         is_reached(from, tick) && (shield || !is_reached(self.sight(), tick))

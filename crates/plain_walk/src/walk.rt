@@ -1,7 +1,7 @@
 ghost use Rattle.std.specs.Prelude.{◌≡◌, ◌+◌, ◌*◌, ◌<◌, ◌≤◌, ◌^◌, ℕ, Option, IfOk, ◌++◌, ◌∷◌, []};
 ghost use Rattle.buffer_parts.specs.Part.{buffer_of, range_of};
-ghost use Rattle.all_steps.specs.Blocks.{step_of, steps_of, handled_of, cleaned_of};
-ghost use Rattle.all_steps.specs.Modest.{AreModest, IsModestStep, IsModestHandler, IsModestCleanup};
+ghost use Rattle.job_tree.specs.Blocks.{step_of, steps_of, handled_of, cleaned_of};
+ghost use Rattle.job_tree.specs.Modest.{AreModest, IsModestStep, IsModestHandler, IsModestCleanup};
 ghost use Rattle.job_tree.specs.Names.{size_of, size_in, handled_size, cleaned_size};
 ghost use Rattle.exc_groups.specs.Exceptions.{Label as TreeLabel};
 ghost use Rattle.job_meaning.specs.Log as meaning;
@@ -15,10 +15,9 @@ use crate::kind::Kind;
 use crate::leaves::{cancel, due, found, head, longest, need, pace, raised};
 use crate::stack::{Level, Stack, earlier};
 use crate::walked::{Block, Walked};
-use all_steps::{Body, Handler, Step};
 use buffer_parts::Part;
 use exc_groups::{Label, Match, split};
-use job_tree::Name;
+use job_tree::{Body, Handler, Name, Step};
 use std::alloc::{AllocError, Global};
 
 /// The tick to which `forever` sleeps.

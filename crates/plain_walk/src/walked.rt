@@ -8,7 +8,7 @@ ghost use Rattle.job_meaning.specs.Walk.{done_at, raised_at, joined, sleeping, s
 ghost use Rattle.job_meaning.specs.Shown.{ending_of};
 ghost use Rattle.plain_walk.specs.Stacks.{stack_of};
 ghost use Rattle.plain_walk.specs.Kinds.{kind_of};
-ghost use Rattle.job_runner.specs.Records.{ending_in};
+ghost use Rattle.task_records.specs.Records.{ending_in};
 ghost use Rattle.plain_walk.specs.Logs.{seen_in};
 ghost use Rattle.plain_walk.specs.Walks.{IsWalked};
 
@@ -17,8 +17,8 @@ use crate::log::{Log, move_all, seen_from};
 use crate::stack::Stack;
 use buffer_parts::Line;
 use exc_groups::{Exc, Label, Parts, Whose, group};
-use job_runner::Outcome;
 use std::alloc::{AllocError, Global};
+use task_records::Outcome;
 
 /// What a walk came to: its end, its exception, what the children come to whose nursery is still open, and what was
 /// done.
@@ -51,28 +51,28 @@ impl<'a> Walked<'a> {
     }
 
     /// Whether it ended with an exception.
-    pub fn has_failed(&self) -> bool
+    pub(crate) fn has_failed(&self) -> bool
         ensures { result ≡ is_some self.now.exc }
     {
         self.exc.is_some()
     }
 
     /// A copy of its exception.
-    pub fn copy_exc(&self, alloc: Global) -> Result<Option<Exc>, AllocError>
+    pub(crate) fn copy_exc(&self, alloc: Global) -> Result<Option<Exc>, AllocError>
         ensures { IfOk result (λ copy. option_map exc_of copy ≡ option_map exc_of self.now.exc) }
     {
         copy_of(alloc, &self.exc)
     }
 
     /// The tick from which the first cancellation of a label is seen.
-    pub fn seen_from(&self, label: &Label) -> Option<u64>
+    pub(crate) fn seen_from(&self, label: &Label) -> Option<u64>
         ensures { result ≡ seen_in label.now self.now.log.signs.items }
     {
         seen_from(self.log.signs.as_slice(), label)
     }
 
     /// Nothing happened up to this tick.
-    pub fn done(alloc: Global, tick: u64) -> Walked<'a>
+    pub(crate) fn done(alloc: Global, tick: u64) -> Walked<'a>
         ensures { (input : List ℕ) → IsWalked input result (done_at tick) }
     {
         Walked {
@@ -85,7 +85,7 @@ impl<'a> Walked<'a> {
     }
 
     /// An exception in this tick.
-    pub fn raised(alloc: Global, exc: Exc, tick: u64) -> Walked<'a>
+    pub(crate) fn raised(alloc: Global, exc: Exc, tick: u64) -> Walked<'a>
         ensures { (input : List ℕ) → IsWalked input result (raised_at (exc_of exc) tick) }
     {
         Walked {
@@ -98,7 +98,7 @@ impl<'a> Walked<'a> {
     }
 
     /// A sleep of so many ticks from this tick on.
-    pub fn sleeping(alloc: Global, stack: &Stack<'_>, ticks: u64, tick: u64) -> Walked<'a>
+    pub(crate) fn sleeping(alloc: Global, stack: &Stack<'_>, ticks: u64, tick: u64) -> Walked<'a>
         requires { tick + ticks < 2 ^ 64 }
         ensures { (input : List ℕ) → IsWalked input result (sleeping (stack_of stack.now) ticks tick) }
     {
@@ -115,7 +115,11 @@ impl<'a> Walked<'a> {
     }
 
     /// Lines that are shown in this tick.
-    pub fn showing(alloc: Global, lines: &[Line<'a>], tick: u64) -> Result<Walked<'a>, AllocError>
+    pub(crate) fn showing(
+        alloc: Global,
+        lines: &[Line<'a>],
+        tick: u64,
+    ) -> Result<Walked<'a>, AllocError>
         ensures { IfOk result (λ w. (input : List ℕ) (spans : List Span) → AreLinesAt input spans lines.now → IsWalked input w (showing spans tick)) }
     {
         let mut walked = Walked::done(alloc, tick);
@@ -124,7 +128,7 @@ impl<'a> Walked<'a> {
     }
 
     /// A cancellation of the scope or nursery of that label in this tick.
-    pub fn cancelling(
+    pub(crate) fn cancelling(
         alloc: Global,
         label: Option<&Label>,
         tick: u64,
@@ -142,7 +146,7 @@ impl<'a> Walked<'a> {
     }
 
     /// Goes on with what came next.
-    pub fn join(self, next: Walked<'a>) -> Result<Walked<'a>, AllocError>
+    pub(crate) fn join(self, next: Walked<'a>) -> Result<Walked<'a>, AllocError>
         ensures { IfOk result (λ w. (input : List ℕ) (r q : meaning.Result) → IsWalked input self.entry r → IsWalked input next.entry q → IsWalked input w (joined r q)) }
     {
         let Walked {
@@ -170,7 +174,7 @@ impl<'a> Walked<'a> {
     }
 
     /// Goes on with a handler, behind which the rest of the split goes on.
-    pub fn handled(
+    pub(crate) fn handled(
         self,
         alloc: Global,
         next: Walked<'a>,
@@ -197,7 +201,7 @@ impl<'a> Walked<'a> {
     }
 
     /// Goes on with a cleanup, whose own exception takes the place of the earlier one.
-    pub fn cleaned(self, alloc: Global, next: Walked<'a>) -> Result<Walked<'a>, AllocError>
+    pub(crate) fn cleaned(self, alloc: Global, next: Walked<'a>) -> Result<Walked<'a>, AllocError>
         ensures { IfOk result (λ w. (input : List ℕ) (r q : meaning.Result) → IsWalked input self.entry r → IsWalked input next.entry q → IsWalked input w (cleaned_by r q)) }
     {
         let Walked {
@@ -219,7 +223,11 @@ impl<'a> Walked<'a> {
     }
 
     /// The walk of a member of a nursery: one that ends with an exception cancels it.
-    pub fn sign(mut self, alloc: Global, home: Option<&Label>) -> Result<Walked<'a>, AllocError>
+    pub(crate) fn sign(
+        mut self,
+        alloc: Global,
+        home: Option<&Label>,
+    ) -> Result<Walked<'a>, AllocError>
         requires { self.end + 1 < 2 ^ 64 }
         ensures { IfOk result (λ w. (input : List ℕ) (st : Scopes) (r : meaning.Result) → option_copied home.entry ≡ home_of st → IsWalked input self.entry r → IsWalked input w (signed st r)) }
     {
@@ -236,7 +244,7 @@ impl<'a> Walked<'a> {
     }
 
     /// The end of a nursery: that of its last member, with the exceptions of its body and its children as one group.
-    pub fn gather(self, alloc: Global, label: &Label) -> Result<Walked<'a>, AllocError>
+    pub(crate) fn gather(self, alloc: Global, label: &Label) -> Result<Walked<'a>, AllocError>
         ensures { IfOk result (λ w. (input : List ℕ) (r : meaning.Result) → IsWalked input self.entry r → IsWalked input w (gathered label.now r)) }
     {
         let Walked {
@@ -277,7 +285,7 @@ impl<'a> Walked<'a> {
     }
 
     /// The walk of a block that is left, where it may catch.
-    pub fn leave(
+    pub(crate) fn leave(
         self,
         alloc: Global,
         block: Block<'_>,

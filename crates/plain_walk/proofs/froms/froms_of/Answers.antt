@@ -4,9 +4,9 @@ use Rattle.std.proofs.lemmas.List.{map-append}
 use Rattle.cancel_scopes.specs.Sight.{Tick}
 use Rattle.exc_groups.specs.Exceptions.{Label}
 use Rattle.job_meaning.specs.Meaning.{From}
-use Rattle.job_runner.specs.Runs.{from_of}
+use Rattle.task_records.specs.Records.{from_of}
 use Rattle.plain_walk.specs.Froms.{froms_in}
-use Rattle.plain_walk.proofs.Root.{froms_more}
+use Rattle.plain_walk.proofs.Listed.{froms_more}
 use Rattle.plain_walk.proofs.froms.froms_of.Goals as goal
 
 pub labels-preserved : goal.labels-preserved

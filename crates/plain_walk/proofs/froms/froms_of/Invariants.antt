@@ -1,6 +1,6 @@
 use Rattle.std.proofs.Common.{◌≡◌, take}
 use Rattle.std.specs.Prelude.{map}
-use Rattle.job_runner.specs.Runs.{from_of}
+use Rattle.task_records.specs.Records.{from_of}
 use Rattle.plain_walk.specs.Froms.{froms_in}
 use Rattle.plain_walk.proofs.froms.froms_of.Given as goal
 

@@ -1,6 +1,6 @@
 use Rattle.std.proofs.Common.{◌≡◌, ℕ, refl, Some, None, add-one, List, [], drop, subst, sym, ap, ◌∙◌, arith}
-use Rattle.all_steps.specs.declared.step.Step.{Step}
-use Rattle.all_steps.specs.Blocks.{step_of, steps_of}
+use Rattle.job_tree.specs.declared.step.Step.{Step}
+use Rattle.job_tree.specs.Blocks.{step_of, steps_of}
 use Rattle.std.specs.Prelude.{IfOk}
 use Rattle.std.specs.Option.{option_map}
 use Rattle.std.proofs.lemmas.List.{drop_all}
@@ -10,7 +10,7 @@ use Rattle.cancel_scopes.specs.Sight.{Tick, earlier}
 use Rattle.exc_groups.specs.Exceptions.{Label}
 use Rattle.exc_groups.specs.Held.{exc_of}
 use Rattle.job_tree.specs.Names.{size_in}
-use Rattle.all_steps.specs.Blocks.{handled_of}
+use Rattle.job_tree.specs.Blocks.{handled_of}
 use Rattle.job_meaning.specs.Log.{Result}
 use Rattle.job_meaning.specs.Walk.{walk, cleaned, twice, within, each, label_over, block, catches}
 use Rattle.plain_walk.specs.Kinds.{kind_of}

@@ -1,6 +1,6 @@
 use Rattle.std.proofs.Common.{◌+◌, drop}
-use Rattle.all_steps.specs.Weigh.{weight_of, weight_in, handled_weight, cleaned_weight}
-use Rattle.all_steps.specs.Blocks.{step_of, steps_of, handled_of, cleaned_of}
+use Rattle.job_tree.specs.Weigh.{weight_of, weight_in, handled_weight, cleaned_weight}
+use Rattle.job_tree.specs.Blocks.{step_of, steps_of, handled_of, cleaned_of}
 use Rattle.job_meaning.specs.Walk.{each}
 use Rattle.plain_walk.specs.Heres.{here_of, scopes_of, input_of, started_over}
 use Rattle.plain_walk.specs.Walks.{IsWalked}
