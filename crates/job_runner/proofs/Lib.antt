@@ -1,3 +1,1 @@
-pub mod Plain
-pub mod AtSteps
-pub mod ShownLines
+pub mod Root

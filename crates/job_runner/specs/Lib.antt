@@ -1,4 +1,2 @@
 pub mod Settings
-pub mod Records
 pub mod Runs
-pub mod Walks

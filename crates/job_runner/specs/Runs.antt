@@ -1,12 +1,14 @@
 -- What clauses read of a run.
-use Rattle.std.specs.Prelude.{ℕ, List, map, All}
-use Rattle.job_meaning.specs.Meaning.{From}
-use Rattle.job_meaning.specs.Shown.{Row}
-use Rattle.job_runner.specs.declared.entry.Record.{Record}
-use Rattle.job_runner.specs.declared.entry.ScopeFrom.{ScopeFrom}
+use Rattle.std.specs.Prelude.{◌≡◌, ℕ, ◌<◌, List, map}
+use Rattle.job_tree.specs.Tree.{Tree}
+use Rattle.job_meaning.specs.Meaning.{From, meaning_end, meaning_froms}
+use Rattle.job_meaning.specs.Shown.{Row, meaning_rows}
+use Rattle.task_records.specs.declared.entry.Record.{Record}
+use Rattle.task_records.specs.declared.entry.ScopeFrom.{ScopeFrom}
+use Rattle.task_records.specs.Records.{row_in, from_of, AreSlices}
 use Rattle.job_runner.specs.declared.finished.Run.{Run}
-use Rattle.job_runner.specs.Records.{row_in}
-use Rattle.job_runner.specs.Walks.{IsSlice}
+use Rattle.job_runner.specs.declared.fault.RunFault.{RunFault}
+use Rattle.job_runner.specs.declared.fault.RunFault.TheVariants.{Limit, NoMemory}
 
 abbrev pub name_of : Run → List ℕ
 name_of run = run.name
@@ -21,13 +23,18 @@ rows_of run = map row_in (records_in run)
 abbrev pub froms_in : Run → List ScopeFrom
 froms_in run = run.froms.items
 
--- a scope or nursery with the tick from which it was cancelled
-abbrev pub from_of : ScopeFrom → From
-from_of f = record { label = f.label; seen = f.seen }
-
+-- the scopes and nurseries with the ticks from which they were cancelled
 abbrev pub scope_froms_of : Run → List From
 scope_froms_of run = map from_of (froms_in run)
 
--- every line of the records is the slice of the input at its place
-abbrev pub AreSlices : List ℕ → List Record → Type 0
-AreSlices input records = All (λ r. All (IsSlice input) r.entries.items) records
+-- the run of a job over an input is its meaning's
+pub record IsRun (job : Tree) (input : List ℕ) (run : Run) : Type 0 where
+  pub name : name_of run ≡ job.name
+  pub rows : rows_of run ≡ meaning_rows job input
+  pub slices : AreSlices input (records_in run)
+  pub froms : scope_froms_of run ≡ meaning_froms job input
+
+-- the limit is answered where the meaning ends later
+abbrev pub IsLate : Tree → List ℕ → ℕ → RunFault → Type 0
+IsLate job input limit (Limit l) = (l ≡ limit) × (limit < meaning_end job input)
+IsLate job input limit NoMemory = Unit {0}

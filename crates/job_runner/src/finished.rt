@@ -1,5 +1,5 @@
-use crate::entry::{Record, ScopeFrom};
 use job_tree::Name;
+use task_records::{Record, ScopeFrom};
 
 /// A finished run: the records of the job's meaning, the root's first.
 #[derive(Drop)]

@@ -1,24 +1,22 @@
-ghost use Rattle.std.specs.Prelude.{◌≡◌, ◌≤◌, ◌<◌, All, IfOk, IfErr, length};
-ghost use Rattle.job_meaning.specs.Meaning.{meaning_end, meaning_froms};
+ghost use Rattle.std.specs.Prelude.{◌≡◌, ◌≤◌, ℕ, List, IfOk, IfErr, length};
+ghost use Rattle.job_tree.specs.Tree.{Tree};
+ghost use Rattle.job_meaning.specs.Meaning.{meaning, meaning_end, meaning_froms};
 ghost use Rattle.job_meaning.specs.Shown.{meaning_rows};
-ghost use Rattle.job_meaning.specs.Shown.{ending_of};
-ghost use Rattle.exc_groups.specs.Held.{exc_of};
-ghost use Rattle.std.specs.Option.{option_map};
-ghost use Rattle.job_runner.specs.Records.{ending_in};
-ghost use Rattle.job_runner.specs.Walks.{IsLate};
-ghost use Rattle.job_runner.specs.Runs.{name_of, rows_of, records_in, scope_froms_of, AreSlices};
+ghost use Rattle.task_records.specs.Records.{AreSlices};
+ghost use Rattle.plain_walk.specs.Walks.{IsWalked};
+ghost use Rattle.job_runner.specs.Runs.{name_of, rows_of, records_in, scope_froms_of, IsRun, IsLate};
 
-use crate::entry::{Outcome, Record};
 use crate::fault::RunFault;
 use crate::finished::Run;
 use crate::gate::Gate;
 use crate::pick::Pick;
 use crate::settings::Settings;
-use crate::walk::walk_job;
 use buffer_parts::Part;
-use exc_groups::{Exc, Label};
+use exc_groups::Label;
 use job_grammar::Job;
-use std::alloc::Global;
+use job_tree::Name;
+use plain_walk::{Here, Log, Stack, Walked, froms_of, walk_steps};
+use std::alloc::{AllocError, Global};
 use std::thread::Threads;
 
 /// Runs a job over an input. The answer is that of the job's one-thread meaning, whatever the number of workers, the
@@ -42,26 +40,50 @@ pub fn run<'a, R: Threads + Sync, P: Pick, G: Gate + Sync>(
     ensures late { IfErr result (IsLate job.now input.now settings.limit) }
 {
     let (_rt, _picker, _gate) = (rt, picker, gate);
-    let walked = walk_job(alloc, job, Part::whole(input), settings.limit())?;
-    let record = Record {
-        label: Label::new(alloc, job.name()),
-        from_tick: 0,
-        to_tick: walked.end,
-        outcome: outcome_of(walked.exc),
-        entries: walked.entries,
-    };
-    let mut records = Vec::new(alloc);
-    records.push(record)?;
-    Ok(Run::new(job.name(), records, Vec::new(alloc)))
+    let walked = walk_job(alloc, job, input)?;
+    let limit = settings.limit();
+    if walked.end() > limit {
+        return Err(RunFault::Limit { limit });
+    }
+    let run = run_of(alloc, job.name(), walked)?;
+    Ok(run)
 }
 
-// How a task ended that ended with this exception.
-fn outcome_of(exc: Option<Exc>) -> Outcome
-    ensures { ending_in result ≡ ending_of (option_map exc_of exc) }
+// Walks a job's steps from tick 0 on the empty stack, over the whole input.
+fn walk_job<'a>(alloc: Global, job: &'a Job, input: &'a [u8]) -> Result<Walked<'a>, AllocError>
+    requires { length input.now ≤ 16777216 }
+    ensures { IfOk result (λ w. IsWalked input.now w (meaning job.now input.now)) }
 {
-    match exc {
-        None => Outcome::Done,
-        Some(Exc::Cancelled) => Outcome::Cancelled,
-        Some(other) => Outcome::Raised(other),
-    }
+    let label = Label::new(alloc, job.name());
+    let stack = Stack::Empty;
+    let here = Here {
+        alloc,
+        part: Part::whole(input),
+        task: &label,
+        stack: &stack,
+    };
+    let walked = walk_steps(job.steps(), here, 0)?;
+    Ok(walked)
+}
+
+// The run of a job of that name whose root's walk came to this: the root's record and the labels that it entered are
+// the first.
+fn run_of<'a>(alloc: Global, name: Name, walked: Walked<'a>) -> Result<Run<'a>, AllocError>
+    ensures { IfOk result (λ run. (job : Tree) (input : List ℕ) → name ≡ job.name → IsWalked input walked.entry (meaning job input) → IsRun job input run) }
+{
+    let Walked { log, .. } = walked.into_child(alloc, Label::new(alloc, name), 0)?;
+    let Log {
+        records,
+        entered_below,
+        dues,
+        signs,
+        ..
+    } = log;
+    let froms = froms_of(
+        alloc,
+        entered_below.as_slice(),
+        dues.as_slice(),
+        signs.as_slice(),
+    )?;
+    Ok(Run::new(name, records, froms))
 }

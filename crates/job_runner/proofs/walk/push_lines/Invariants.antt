@@ -1,7 +1,0 @@
-use Rattle.std.proofs.Common.{◌≡◌, ◌++◌, take}
-use Rattle.std.specs.Prelude.{map}
-use Rattle.job_runner.specs.declared.entry.Entry.TheVariants.{Line}
-use Rattle.job_runner.proofs.walk.push_lines.Given as goal
-
-abbrev pub invariant-lines : goal.invariant-lines
-invariant-lines l = l.entries.items ≡ l.fn.entries.items ++ map Line (take l.line-index l.lines)
