@@ -1,20 +1,12 @@
 ghost use Rattle.std.specs.Prelude.{◌≡◌, ℕ, ◌+◌, ◌-◌, ◌<◌, ◌≤◌, Option, List, length, take, IfOk, OnOk, OnErr, IfErr};
 ghost use Rattle.job_report.specs.Sending.{with_bytes};
 
-use std::error::Error;
-use std::fmt;
+use thiserror::Error;
 
 /// A writer failed, and took none of the bytes that it was given.
-#[derive(Clone, Copy, Debug, PartialEq, Eq)]
+#[derive(Clone, Copy, Debug, PartialEq, Eq, Error)]
+#[error("the writer failed")]
 pub struct PutFault;
-
-impl fmt::Display for PutFault {
-    fn fmt<W: fmt::Write>(&self, f: &mut fmt::Formatter<W>) -> fmt::Result {
-        write!(f, "the writer failed")
-    }
-}
-
-impl Error for PutFault {}
 
 /// A writer of bytes that counts its failures.
 pub trait Out {
@@ -40,20 +32,12 @@ pub trait Out {
 }
 
 /// A writer stopped a sending: `sent` bytes were taken before it failed.
-#[derive(Clone, Copy, Debug, PartialEq, Eq)]
+#[derive(Clone, Copy, Debug, PartialEq, Eq, Error)]
+#[error("the writer failed after {sent} bytes")]
 pub struct SendFault {
     /// How many bytes from the front were taken.
     pub sent: usize,
 }
-
-impl fmt::Display for SendFault {
-    fn fmt<W: fmt::Write>(&self, f: &mut fmt::Formatter<W>) -> fmt::Result {
-        let sent = self.sent;
-        write!(f, "the writer failed after {sent} bytes")
-    }
-}
-
-impl Error for SendFault {}
 
 /// Sends all bytes to a writer. It stops only where the writer fails, and takes no memory.
 pub fn send<W: Out>(bytes: &[u8], out: &mut W) -> Result<(), SendFault>

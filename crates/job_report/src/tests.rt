@@ -1,6 +1,6 @@
 use crate::escape::push_escaped;
 use crate::rows::push_rows;
-use crate::{MemOut, Out, SendFault, WriteOut, report, send};
+use crate::{MemOut, Out, PutFault, SendFault, WriteOut, report, send};
 use buffer_parts::Part;
 use exc_groups::{Exc, Label, Parts, Whose};
 use job_grammar::read_job;
@@ -241,4 +241,13 @@ fn sends_into_a_writer(rt: HostRuntime) {
         assert_eq!(rt; send(TEXT, &mut out), wanted);
         assert_eq!(rt; out.failures(), failures);
     }
+}
+
+#[test]
+fn texts_of_faults(rt: HostRuntime) -> Result<(), Fail> {
+    let put = PutFault.to_string(rt.alloc())?;
+    assert_eq!(rt; put.as_str(), "the writer failed");
+    let send = SendFault { sent: 10 }.to_string(rt.alloc())?;
+    assert_eq!(rt; send.as_str(), "the writer failed after 10 bytes");
+    Ok(())
 }
