@@ -5,6 +5,8 @@
 //! which that meaning names, and every line shown is the slice of the input at its stated place.
 #![tactic(auto)]
 
+#[cfg(test)]
+mod at_scale;
 mod checking;
 mod feed;
 mod lines;
@@ -13,6 +15,8 @@ mod serving;
 #[cfg(test)]
 mod tests;
 mod verdict;
+#[cfg(test)]
+mod worked;
 
 pub use checking::check;
 pub use feed::split_feed;

@@ -15,7 +15,7 @@ const TWO_LINES: &[u8] = b"error\nok\n";
 const FOUND: &str = "job main 0\ntask main 0 0 done\n  line 0+5 error\n";
 
 // What `serve` writes for the job `main` of these steps, with the limit 100.
-fn assert_serves<R: Abort + Threads + Sync + AllocGlobal>(
+pub fn assert_serves<R: Abort + Threads + Sync + AllocGlobal>(
     rt: &R,
     steps: &str,
     input: &[u8],
@@ -23,20 +23,22 @@ fn assert_serves<R: Abort + Threads + Sync + AllocGlobal>(
 ) -> Result<(), Fail> {
     assert!(rt; input.len() <= 16_777_216);
     let text = format!(in rt.alloc(); "trio-job 1\njob main {{ {steps} }}")?;
-    let settings = Settings::new(1, 100).expect(rt, "settings");
-    let mut out = MemOut::new(rt.alloc(), 65_536, 4_096, None)?;
-    let verdict = serve(
-        rt,
-        rt.alloc(),
-        text.as_bytes(),
-        input,
-        settings,
-        &mut Forward,
-        &NoGate,
-        &mut out,
-    );
-    assert!(rt; verdict.is_ok(), "{steps}");
-    assert_eq!(rt; out.taken(), expected.as_bytes(), "{steps}");
+    for workers in [1, 64] {
+        let settings = Settings::new(workers, 100).expect(rt, "settings");
+        let mut out = MemOut::new(rt.alloc(), 65_536, 4_096, None)?;
+        let verdict = serve(
+            rt,
+            rt.alloc(),
+            text.as_bytes(),
+            input,
+            settings,
+            &mut Forward,
+            &NoGate,
+            &mut out,
+        );
+        assert!(rt; verdict.is_ok(), "{steps}");
+        assert_eq!(rt; out.taken(), expected.as_bytes(), "{steps}");
+    }
     Ok(())
 }
 
@@ -55,6 +57,7 @@ fn reports_of_the_plain_steps(rt: HostRuntime) -> Result<(), Fail> {
             "job main 100\ntask main 0 100 done\n",
         ),
         ("sleep 101;", b"".as_slice(), "limit 100\n"),
+        ("forever;", b"".as_slice(), "limit 100\n"),
         (
             "find \"\\\\\"; find \"\\xff\";",
             b"\x00\\\n\xff".as_slice(),
@@ -73,6 +76,26 @@ fn refusals_are_told_by_a_line(rt: HostRuntime) -> Result<(), Fail> {
         (
             "trio-job 1\njob main { raise Cancelled; }",
             "refused J10 Reserved at 28\n",
+        ),
+        (
+            "trio-job 1\njob main { find \"a }",
+            "refused J4 Token at 27\n",
+        ),
+        (
+            "trio-job 1\njob main { nursery n { start p over 65 { } } }",
+            "refused J5 Number at 47\n",
+        ),
+        (
+            "trio-job 1\njob main { scope s { } scope s { } }",
+            "refused J8 Twice at 40\n",
+        ),
+        (
+            "trio-job 1\njob main { cancel x; }",
+            "refused J9 NotEnclosing at 29\n",
+        ),
+        (
+            "trio-job 1\njob main { nursery n { start a over 64 { nursery m { start b over 64 { nursery q { start c over 64 { } } } } } } }",
+            "refused J11 TooLarge at 0\n",
         ),
         ("trio-job 3\njob main { }", "refused J3 Version at 0\n"),
         ("", "refused J3 Version at 0\n"),
