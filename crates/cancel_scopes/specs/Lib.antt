@@ -1,1 +1,3 @@
 pub mod Sight
+pub mod Tree
+pub mod Kept

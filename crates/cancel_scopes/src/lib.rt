@@ -1,2 +1,15 @@
 //! Cancel scopes: shields, deadlines, and from which tick a task sees a cancellation.
+//!
+//! A `ScopeTree` holds the cancel scopes of a program as Trio nests them: each scope is opened inside a parent or
+//! outermost, with a shield or none and with a deadline or none, and may be cancelled at any time. It answers what a
+//! checkpoint asks, from which tick a task in a scope sees a cancellation, and which scope catches it on the way out.
+//! Time is a count of ticks, and a cancellation that is made in a tick is seen from the next one on.
 #![tactic(auto)]
+
+mod scope_id;
+#[cfg(test)]
+mod tests;
+mod tree;
+
+pub use scope_id::ScopeId;
+pub use tree::ScopeTree;

@@ -1,0 +1,56 @@
+-- A tree of cancel scopes as contracts see it: the stack of each open scope, innermost first. Labels are keys.
+use Rattle.std.specs.Prelude.{◌≡◌, ◌≢◌, ℕ, ◌+◌, Bool, false, not, ◌&&◌, ◌||◌, ◌==◌, if◌then◌else◌, List, [], ◌∷◌, map, Option, Some, None, IsSome, slice_index_or}
+use Rattle.std.specs.Option.{unwrap_or}
+use Rattle.std.specs.List.{All}
+use Rattle.cancel_scopes.specs.Sight.{Tick, Level, earlier, reached, seen}
+
+abbrev pub Stack : Type 0
+Stack = List (Level ℕ)
+
+-- what stands at each key from 0 on
+abbrev pub Tree : Type 0
+Tree = List (Option Stack)
+
+-- the stack of a key: none where the key is not open
+abbrev pub stack_of : Tree → ℕ → Option Stack
+stack_of tree key = slice_index_or tree key None
+
+abbrev pub IsOpen : Tree → ℕ → Type 0
+IsOpen tree key = IsSome (stack_of tree key)
+
+-- the scopes round a scope that is opened under this parent
+abbrev pub outer_of : Tree → Option ℕ → Stack
+outer_of tree None = []
+outer_of tree (Some parent) = unwrap_or (stack_of tree parent) []
+
+-- every key keeps its stack
+abbrev pub SameStacks : Tree → Tree → Type 0
+SameStacks old new = (key : ℕ) → stack_of new key ≡ stack_of old key
+
+-- every other key keeps its stack
+abbrev pub OthersKeep : Tree → Tree → ℕ → Type 0
+OthersKeep old new key = (other : ℕ) → other ≢ key → stack_of new other ≡ stack_of old other
+
+-- a level once the scope of that label is cancelled in a tick: from the next tick on, unless it was earlier
+abbrev pub level_cancelled : ℕ → ℕ → Level ℕ → Level ℕ
+level_cancelled id tick l = if l.label == id then record l { from = earlier l.from (Some (tick + 1)) } else l
+
+-- a stack once the scope of that label is cancelled in a tick
+abbrev pub cancelled : ℕ → ℕ → Stack → Stack
+cancelled id tick stack = map (level_cancelled id tick) stack
+
+-- The innermost scope of a stack catches its cancellation: it is itself cancelled, and no cancellation from outside
+-- is seen (Trio reference; this profile's own choice).
+abbrev pub catches : Stack → ℕ → Bool
+catches [] tick = false
+catches (l ∷ outer) tick = reached l.from tick && (l.shield || not (seen outer tick))
+
+-- from when the innermost scope of a stack is cancelled
+abbrev pub own_from : Stack → Tick
+own_from [] = None
+own_from (l ∷ outer) = l.from
+
+-- no other open scope has this one round it
+abbrev pub IsInnermost : Tree → ℕ → Type 0
+IsInnermost tree key =
+    (other : ℕ) (stack : Stack) → other ≢ key → stack_of tree other ≡ Some stack → All (λ l. l.label ≢ key) stack

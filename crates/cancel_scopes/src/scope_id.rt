@@ -1,0 +1,17 @@
+use std::marker::Model;
+
+/// An open scope of a tree, as `ScopeTree::open` gives it. Once the scope is closed, the tree may use the id again.
+#[derive(Clone, Copy, Debug, PartialEq, Eq)]
+pub struct ScopeId {
+    pub(crate) key: usize,
+}
+
+impl Model for ScopeId {
+    ghost use Rattle.std.specs.Prelude.{ℕ};
+
+    ghost Value = { ℕ };
+
+    ghost view = { λ id. id.key };
+
+    ghost inverse = { λ key. record { key = key } };
+}

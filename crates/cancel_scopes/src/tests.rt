@@ -1,0 +1,42 @@
+use crate::ScopeTree;
+use std::test::Fail;
+
+#[test]
+fn a_shield_hides_what_is_outside(rt: HostRuntime) -> Result<(), Fail> {
+    let mut tree = ScopeTree::new(rt.alloc());
+    let outer = tree.open(None, false, Some(3))?;
+    let inner = tree.open(Some(outer), true, None)?;
+    assert_eq!(rt; tree.seen_from(inner), None);
+    assert!(rt; !tree.seen(outer, 2));
+    assert!(rt; tree.seen(outer, 3));
+    tree.cancel(inner, 4);
+    assert_eq!(rt; tree.seen_from(inner), Some(5));
+    assert!(rt; tree.may_catch(inner, 5));
+    tree.cancel(outer, 1);
+    assert_eq!(rt; tree.seen_from(outer), Some(2));
+    Ok(())
+}
+
+#[test]
+fn the_outermost_of_two_catches(rt: HostRuntime) -> Result<(), Fail> {
+    let mut tree = ScopeTree::new(rt.alloc());
+    let outer = tree.open(None, false, Some(3))?;
+    let inner = tree.open(Some(outer), false, Some(3))?;
+    assert!(rt; !tree.may_catch(inner, 3));
+    assert!(rt; tree.may_catch(outer, 3));
+    Ok(())
+}
+
+#[test]
+fn closing_ends_an_id(rt: HostRuntime) -> Result<(), Fail> {
+    let mut tree = ScopeTree::new(rt.alloc());
+    let first = tree.open(None, false, Some(7))?;
+    assert!(rt; tree.is_open(first));
+    assert_eq!(rt; tree.close(first), Some(7));
+    assert!(rt; !tree.is_open(first));
+    let second = tree.open(None, false, None)?;
+    assert_eq!(rt; second, first);
+    assert!(rt; tree.is_open(first));
+    assert_eq!(rt; tree.close(second), None);
+    Ok(())
+}
