@@ -1,0 +1,2 @@
+pub mod TimerLemmas
+pub mod ClockLemmas

@@ -1,0 +1,75 @@
+-- What clauses see of the clock: its tick, its limit, and a map from the keys of tasks to the ticks at which their
+-- timers are due. No clause says how the clock keeps that map.
+use Rattle.std.specs.Prelude.{◌≡◌, ◌≢◌, ◌⊎◌, ℕ, ◌<◌, ◌≤◌, List, Option, Some, None}
+use Rattle.autojump_clock.specs.Timers.{due_in}
+use Rattle.autojump_clock.specs.declared.timers.Timer.{Timer}
+
+pub record Clock : Type 0 where
+  pub tick : ℕ
+  pub limit : ℕ
+  pub timers : List Timer
+
+-- the clock's tick
+abbrev pub now_of : Clock → ℕ
+now_of c = c.tick
+
+-- the last tick that the clock jumps to
+abbrev pub limit_of : Clock → ℕ
+limit_of c = c.limit
+
+-- the tick at which the timer of a task is due, if it has one
+abbrev pub due_of : Clock → ℕ → Option ℕ
+due_of c task = due_in c.timers task
+
+-- some task has a timer
+abbrev pub HasTimer : Clock → Type 0
+HasTimer c = (task : ℕ) × (due : ℕ) × (due_of c task ≡ Some due)
+
+-- each timer is due later than a tick
+abbrev pub AllLater : Clock → ℕ → Type 0
+AllLater c tick = (task due : ℕ) → due_of c task ≡ Some due → tick < due
+
+-- the clock's tick and limit stay
+pub record SameTime (old new : Clock) : Type 0 where
+  pub now : now_of new ≡ now_of old
+  pub limit : limit_of new ≡ limit_of old
+
+-- the task's timer is this now, and every other task keeps its own
+pub record Updates (old new : Clock) (task : ℕ) (timer : Option ℕ) : Type 0 where
+  pub changed : due_of new task ≡ timer
+  pub others : (other : ℕ) → other ≢ task → due_of new other ≡ due_of old other
+
+-- t is the next tick: the least of the ticks at which timers are due and of the next cancellation's
+pub record IsNext (c : Clock) (next_cancel : Option ℕ) (t : ℕ) : Type 0 where
+  pub is_one : (next_cancel ≡ Some t) ⊎ ((task : ℕ) × (due_of c task ≡ Some t))
+  pub by_cancel : (cancel : ℕ) → next_cancel ≡ Some cancel → t ≤ cancel
+  pub by_timers : (task due : ℕ) → due_of c task ≡ Some due → t ≤ due
+
+-- The clock jumped to t: it is the next tick and at most the limit. The timers and the limit stay.
+pub record JumpsTo (old : Clock) (next_cancel : Option ℕ) (t : ℕ) (new : Clock) : Type 0 where
+  pub next : IsNext old next_cancel t
+  pub within : t ≤ limit_of old
+  pub now : now_of new ≡ t
+  pub limit : limit_of new ≡ limit_of old
+  pub timers : (task : ℕ) → due_of new task ≡ due_of old task
+
+-- The clock met its limit: the next tick is later. Nothing changed.
+pub record MeetsLimit (old : Clock) (next_cancel : Option ℕ) (new : Clock) : Type 0 where
+  pub next : ℕ
+  pub is_next : IsNext old next_cancel next
+  pub late : limit_of old < next
+  pub unchanged : new ≡ old
+
+-- A due task was taken: no other task that is due has a lesser key. Its timer goes.
+pub record TakesDue (old : Clock) (task : ℕ) (new : Clock) : Type 0 where
+  pub due : ℕ
+  pub had : due_of old task ≡ Some due
+  pub is_due : due ≤ now_of old
+  pub first : (other tick : ℕ) → due_of old other ≡ Some tick → tick ≤ now_of old → task ≤ other
+  pub timers : Updates old new task None
+  pub time : SameTime old new
+
+-- no task is due, and nothing changed
+pub record NoneDue (old new : Clock) : Type 0 where
+  pub all_later : AllLater old (now_of old)
+  pub unchanged : new ≡ old

@@ -1,0 +1,115 @@
+ghost use Rattle.std.specs.Prelude.{◌≡◌, ℕ, ◌<◌, ◌≤◌, Some, None, OnOk, OnErr, MatchOption};
+
+use crate::task_id::TaskId;
+use crate::timers::{Timer, earlier, least_due, least_due_task, remove_task};
+use std::alloc::{AllocError, Global};
+use std::marker::Model;
+
+/// What the clock did once every task was blocked.
+#[derive(Clone, Copy, Debug, PartialEq, Eq)]
+pub enum Jump {
+    /// It jumped to that tick.
+    To(u64),
+    /// It stands, since the next tick is past its limit.
+    Limit,
+}
+
+/// A clock in whole ticks, with at most one timer a task. It moves by `jump` alone.
+#[derive(Drop)]
+pub struct MockClock {
+    now: u64,
+    limit: u64,
+    timers: Vec<Timer>,
+}
+
+impl Model for MockClock {
+    ghost use Rattle.autojump_clock.specs.Clock.{Clock};
+
+    ghost Value = { Clock };
+
+    ghost use Rattle.autojump_clock.specs.Timers.{Apart};
+
+    ghost view = { λ c. record { tick = c.now; limit = c.limit; timers = c.timers.items } };
+
+    ghost invariant = { λ c. Apart c.timers.items };
+}
+
+impl MockClock {
+    ghost use Rattle.autojump_clock.specs.Clock.{now_of, limit_of, due_of, HasTimer, AllLater, SameTime, Updates, TakesDue, NoneDue};
+    ghost use Rattle.autojump_clock.specs.Answers.{Jumps};
+
+    /// A clock at tick 0 that jumps to no tick past the limit. No task has a timer. Takes no memory.
+    pub fn new(alloc: Global, limit: u64) -> MockClock
+        ensures now { now_of result ≡ 0 }
+        ensures limit { limit_of result ≡ limit }
+        ensures timers { (task : ℕ) → due_of result task ≡ None }
+    {
+        MockClock {
+            now: 0,
+            limit,
+            timers: Vec::new(alloc),
+        }
+    }
+
+    /// The tick.
+    pub fn now(&self) -> u64
+        ensures { result ≡ now_of self.entry.now }
+    {
+        self.now
+    }
+
+    /// Gives the task a timer that is due at that later tick. On want of memory nothing changes.
+    pub fn sleep_until(&mut self, task: TaskId, due: u64) -> Result<(), AllocError>
+        requires awake { due_of self.old task ≡ None }
+        requires later { now_of self.old < due }
+        requires bounded { due < 2199023255552 }
+        ensures timers { OnOk result (Updates self.old self.new task (Some due)) }
+        ensures time { OnOk result (SameTime self.old self.new) }
+        ensures err { OnErr result (self.new ≡ self.old) }
+    {
+        self.timers.push(Timer {
+            task: task.key(),
+            due,
+        })?;
+        Ok(())
+    }
+
+    /// Takes the task's timer away, as where a cancellation wakes it. Takes no memory.
+    pub fn wake(&mut self, task: TaskId)
+        requires { (due : ℕ) × (due_of self.old task ≡ Some due) }
+        ensures timers { Updates self.old self.new task None }
+        ensures time { SameTime self.old self.new }
+    {
+        remove_task(&mut self.timers, task.key());
+    }
+
+    /// Jumps to the next tick, once every task is blocked: the least of the ticks at which timers are due and of the
+    /// next cancellation's. Stands where that is past the limit. Takes no memory.
+    pub fn jump(&mut self, next_cancel: Option<u64>) -> Jump
+        requires none_due { AllLater self.old (now_of self.old) }
+        requires some { HasTimer self.old }
+        requires later { (cancel : ℕ) → next_cancel ≡ Some cancel → now_of self.old < cancel }
+        requires bounded { limit_of self.old < 2199023255552 }
+        ensures { Jumps self.old next_cancel result self.new }
+    {
+        let due = least_due(self.timers.as_slice()).unwrap();
+        let next = earlier(due, next_cancel);
+        if next > self.limit {
+            return Jump::Limit;
+        }
+        self.now = next;
+        Jump::To(next)
+    }
+
+    /// Takes away the timer of the task of the least key among those that are due, and tells the task: none exactly
+    /// where no timer is due by now. Takes no memory.
+    pub fn take_due(&mut self) -> Option<TaskId>
+        ensures { MatchOption result (NoneDue self.old self.new) (λ task. TakesDue self.old task self.new) }
+    {
+        let Some(task) = least_due_task(self.timers.as_slice(), self.now) else {
+            return None;
+        };
+        remove_task(&mut self.timers, task);
+        Some(TaskId::of(task))
+    }
+}

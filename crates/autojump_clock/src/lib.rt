@@ -1,0 +1,15 @@
+//! The autojump clock of Trio's `trio.testing.MockClock` (rate 0, autojump threshold 0), in whole ticks.
+//!
+//! Time stands while a task can run; a task that sleeps has a timer, and once every task is blocked the scheduler
+//! jumps to the earliest timer or cancellation and wakes the tasks that are due, the least id first. Unlike Trio's
+//! clock it has a limit, past which it does not jump.
+#![tactic(auto)]
+
+mod clock;
+mod task_id;
+#[cfg(test)]
+mod tests;
+mod timers;
+
+pub use clock::{Jump, MockClock};
+pub use task_id::TaskId;
