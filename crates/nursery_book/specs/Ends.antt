@@ -1,0 +1,20 @@
+-- The endings that the code holds, as ends of members. No public clause cites this module.
+use Rattle.std.specs.Prelude.{Option, Some, None, List, filter_map}
+use Rattle.std.specs.Option.{option_map}
+use Rattle.exc_groups.specs.declared.exc.Exc.{Exc}
+use Rattle.exc_groups.specs.Held.{exc_of}
+use Rattle.nursery_book.specs.Nursery.{End}
+use Rattle.nursery_book.specs.declared.ending.Ending.{Ending}
+use Rattle.nursery_book.specs.declared.ending.Ending.TheVariants.{Running, Ended}
+
+abbrev pub end_of : Ending → End
+end_of Running = None
+end_of (Ended exc) = Some (option_map exc_of exc)
+
+-- a member's exception, as the code holds it
+abbrev pub exc_held : Ending → Option Exc
+exc_held Running = None
+exc_held (Ended exc) = exc
+
+abbrev pub excs_held : List Ending → List Exc
+excs_held es = filter_map exc_held es

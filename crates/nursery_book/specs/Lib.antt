@@ -1,0 +1,3 @@
+pub mod Nursery
+pub mod Ends
+pub mod Book

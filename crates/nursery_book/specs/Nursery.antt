@@ -1,0 +1,54 @@
+-- A nursery: its members, when it is over, and what it raises (Trio reference, nurseries; PEP 654).
+use Rattle.std.specs.Prelude.{ℕ, ◌++◌, Bool, ◌&&◌, Option, Some, None, is_some, List, [], ◌∷◌, slice_set}
+use Rattle.std.specs.List.{list_all}
+use Rattle.exc_groups.specs.Exceptions.{Label, Exc, by_nursery, parts_of, group_of}
+
+-- how a member stands: nothing while it runs, and then the exception that it ended with, if there was one
+abbrev pub End : Type 0
+End = Option (Option Exc)
+
+-- A nursery: its cancel scope, the task that waits for it, its label, and its members, the children in the order of
+-- their starts.
+pub record Nursery : Type 0 where
+  pub scope : ℕ
+  pub waiter : ℕ
+  pub label : Label
+  pub body : End
+  pub children : List End
+
+-- a nursery whose body runs, with no child
+abbrev pub opened : ℕ → ℕ → Label → Nursery
+opened scope waiter label = record { scope = scope; waiter = waiter; label = label; body = None; children = [] }
+
+-- one more child runs
+abbrev pub with_start : Nursery → Nursery
+with_start n = record n { children = n.children ++ None ∷ [] }
+
+-- the child at a place ended
+abbrev pub with_child : ℕ → Option Exc → Nursery → Nursery
+with_child place exc n = record n { children = slice_set n.children place (Some exc) }
+
+-- the body ended
+abbrev pub with_body : Option Exc → Nursery → Nursery
+with_body exc n = record n { body = Some exc }
+
+-- the body and every child ended
+abbrev pub is_settled : Nursery → Bool
+is_settled n = is_some n.body && list_all is_some n.children
+
+-- a member's exception, if it ended with one, in front of others
+abbrev pub with_exc : End → List Exc → List Exc
+with_exc None es = es
+with_exc (Some None) es = es
+with_exc (Some (Some e)) es = e ∷ es
+
+-- the exceptions of children, in the order of their starts
+abbrev pub excs_in : List End → List Exc
+excs_in [] = []
+excs_in (e ∷ es) = with_exc e (excs_in es)
+
+-- What a nursery raises: one group of its members' exceptions, the body's first and the children's in the order of
+-- their starts; nothing where no member ended with an exception. One exception is wrapped too (Trio reference, strict
+-- exception groups; the order is this profile's own choice).
+abbrev pub raised_by : Nursery → Option Exc
+raised_by n = group_of (by_nursery n.label) (parts_of (with_exc n.body (excs_in n.children)))

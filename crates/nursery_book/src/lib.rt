@@ -1,0 +1,16 @@
+//! Which members a nursery waits for, and the exception group that it raises (Trio nurseries, PEP 654).
+//!
+//! A `NurseryBook` holds the open nurseries of a program as Trio's `open_nursery` makes them: the members of a nursery
+//! are its body and the children started in it, and it ends with the last of them. Then it raises one group of what its
+//! members raised, the body's exception first and the children's in the order of their starts, and nothing where no
+//! member raised.
+#![tactic(auto)]
+
+mod book;
+mod ending;
+mod nursery_id;
+#[cfg(test)]
+mod tests;
+
+pub use book::NurseryBook;
+pub use nursery_id::{NurseryId, Place};

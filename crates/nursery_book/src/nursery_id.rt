@@ -1,0 +1,21 @@
+use std::marker::Model;
+
+/// A child's place among those of its nursery: how many were started before it.
+pub type Place = usize;
+
+/// An open nursery of a book, as `NurseryBook::open` gives it. A contract sees an id as a key. Once the nursery is
+/// closed, the book may use the id again.
+#[derive(Clone, Copy, Debug, PartialEq, Eq)]
+pub struct NurseryId {
+    pub(crate) key: usize,
+}
+
+impl Model for NurseryId {
+    ghost use Rattle.std.specs.Prelude.{ℕ};
+
+    ghost Value = { ℕ };
+
+    ghost view = { λ id. id.key };
+
+    ghost inverse = { λ key. record { key = key } };
+}
