@@ -5,7 +5,7 @@ use Rattle.std.specs.Option.{option_map}
 use Rattle.std.proofs.lemmas.Bool.{cases_eq, cases_lt, eq-eqb, cases_Bool, eqb-true}
 use Rattle.std.proofs.lemmas.List.{get_or-set_same, get_or-set_other, get_or_past}
 use Rattle.cancel_scopes.specs.Sight.{Tick, earlier}
-use Rattle.cancel_scopes.specs.Tree.{Stack, Tree, stack_of, cancelled, level_cancelled}
+use Rattle.cancel_scopes.specs.Tree.{Stack, Tree, stack_of, after_cancel, level_after_cancel}
 use Rattle.cancel_scopes.specs.Kept.{Find, level_of, onto, full, upward, stack_at, find_in, stacks, IsUnder, IsTree}
 use Rattle.cancel_scopes.proofs.StackLemmas.{stack_of-stacks}
 use Rattle.cancel_scopes.specs.declared.tree.Scope.{Scope}
@@ -18,7 +18,7 @@ from_cancelled false tick from = from
 abbrev pub scope_cancelled : ℕ → ℕ → ℕ → Scope → Scope
 scope_cancelled id tick key s = record s { from = from_cancelled (key == id) tick s.from }
 
-level_of-cancelled : (id tick key : ℕ) (s : Scope) → level_of key (scope_cancelled id tick key s) ≡ level_cancelled id tick (level_of key s)
+level_of-cancelled : (id tick key : ℕ) (s : Scope) → level_of key (scope_cancelled id tick key s) ≡ level_after_cancel id tick (level_of key s)
 level_of-cancelled id tick key s = by_test (key == id)
   where
     by_test : (b : Bool) → record { label = key; shield = s.shield; from = from_cancelled b tick s.from } ≡ (if b then record { label = key; shield = s.shield; from = earlier s.from (Some (tick + 1)) } else level_of key s)
@@ -28,23 +28,23 @@ level_of-cancelled id tick key s = by_test (key == id)
 abbrev pub Cancels : Find → Find → ℕ → ℕ → Type 0
 Cancels old new id tick = (key : ℕ) → new key ≡ option_map (scope_cancelled id tick key) (old key)
 
-onto-cancelled : (id tick key : ℕ) (o : Option Scope) (above later : Scope → Stack) → ((s : Scope) → later (scope_cancelled id tick key s) ≡ cancelled id tick (above s)) → onto key (option_map (scope_cancelled id tick key) o) later ≡ cancelled id tick (onto key o above)
+onto-cancelled : (id tick key : ℕ) (o : Option Scope) (above later : Scope → Stack) → ((s : Scope) → later (scope_cancelled id tick key s) ≡ after_cancel id tick (above s)) → onto key (option_map (scope_cancelled id tick key) o) later ≡ after_cancel id tick (onto key o above)
 onto-cancelled id tick key None above later h = refl
 onto-cancelled id tick key (Some s) above later h =
     let e = level_of-cancelled id tick key s in
     let f = h s in
     cc
 
-upward-cancelled : (old new : Find) (id tick : ℕ) → Cancels old new id tick → (n : ℕ) (o : Option ℕ) → upward new n o ≡ cancelled id tick (upward old n o)
+upward-cancelled : (old new : Find) (id tick : ℕ) → Cancels old new id tick → (n : ℕ) (o : Option ℕ) → upward new n o ≡ after_cancel id tick (upward old n o)
 upward-cancelled old new id tick h zero o = refl
 upward-cancelled old new id tick h (suc n) None = refl
 upward-cancelled old new id tick h (suc n) (Some key) =
     rw (h key) (onto-cancelled id tick key (old key) (λ s. upward old n s.parent) (λ s. upward new n s.parent) (λ s. upward-cancelled old new id tick h n s.parent))
 
-pub stack_at-cancelled : (old new : Find) (id tick : ℕ) → Cancels old new id tick → (key : ℕ) → stack_at new key ≡ option_map (cancelled id tick) (stack_at old key)
+pub stack_at-cancelled : (old new : Find) (id tick : ℕ) → Cancels old new id tick → (key : ℕ) → stack_at new key ≡ option_map (after_cancel id tick) (stack_at old key)
 stack_at-cancelled old new id tick h key = ap (option_map (full new key)) (h key) ∙ by_kept (old key)
   where
-    by_kept : (o : Option Scope) → option_map (full new key) (option_map (scope_cancelled id tick key) o) ≡ option_map (cancelled id tick) (option_map (full old key) o)
+    by_kept : (o : Option Scope) → option_map (full new key) (option_map (scope_cancelled id tick key) o) ≡ option_map (after_cancel id tick) (option_map (full old key) o)
     by_kept None = refl
     by_kept (Some s) =
         let e = level_of-cancelled id tick key s in
@@ -90,7 +90,7 @@ cancels-set slots id tick s from kept is key =
     by_kept None misses = refl
     by_kept (Some before) misses = rw misses refl
 
-pub tree_cancelled : (tree : Tree) (slots new : List (Option Scope)) (key id tick : ℕ) → stacks slots ≡ tree → key ≡ id → Cancels (find_in slots) (find_in new) key tick → (at : ℕ) → stack_of (stacks new) at ≡ option_map (cancelled id tick) (stack_of tree at)
+pub tree_cancelled : (tree : Tree) (slots new : List (Option Scope)) (key id tick : ℕ) → stacks slots ≡ tree → key ≡ id → Cancels (find_in slots) (find_in new) key tick → (at : ℕ) → stack_of (stacks new) at ≡ option_map (after_cancel id tick) (stack_of tree at)
 tree_cancelled tree slots new key id tick is same h at =
     rw (← is, ← same)
-    (stack_of-stacks new at ∙ stack_at-cancelled (find_in slots) (find_in new) key tick h at ∙ sym (ap (option_map (cancelled key tick)) (stack_of-stacks slots at)))
+    (stack_of-stacks new at ∙ stack_at-cancelled (find_in slots) (find_in new) key tick h at ∙ sym (ap (option_map (after_cancel key tick)) (stack_of-stacks slots at)))

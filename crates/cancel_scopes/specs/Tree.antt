@@ -32,12 +32,12 @@ abbrev pub OthersKeep : Tree → Tree → ℕ → Type 0
 OthersKeep old new key = (other : ℕ) → other ≢ key → stack_of new other ≡ stack_of old other
 
 -- a level once the scope of that label is cancelled in a tick: from the next tick on, unless it was earlier
-abbrev pub level_cancelled : ℕ → ℕ → Level ℕ → Level ℕ
-level_cancelled id tick l = if l.label == id then record l { from = earlier l.from (Some (tick + 1)) } else l
+abbrev pub level_after_cancel : ℕ → ℕ → Level ℕ → Level ℕ
+level_after_cancel id tick l = if l.label == id then record l { from = earlier l.from (Some (tick + 1)) } else l
 
 -- a stack once the scope of that label is cancelled in a tick
-abbrev pub cancelled : ℕ → ℕ → Stack → Stack
-cancelled id tick stack = map (level_cancelled id tick) stack
+abbrev pub after_cancel : ℕ → ℕ → Stack → Stack
+after_cancel id tick stack = map (level_after_cancel id tick) stack
 
 -- The innermost scope of a stack catches its cancellation: it is itself cancelled, and no cancellation from outside
 -- is seen (Trio reference; this profile's own choice).

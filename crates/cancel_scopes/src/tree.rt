@@ -1,7 +1,7 @@
 ghost use Rattle.std.specs.Prelude.{◌≡◌, ◌≢◌, ℕ, ◌+◌, ◌<◌, ◌^◌, ◌∷◌, Some, None, is_some, IsSome, IfOk, OnErr};
 ghost use Rattle.std.specs.Option.{ForSome, option_map};
 ghost use Rattle.cancel_scopes.specs.Sight.{earlier as lesser, reached as has_come, sight, seen as is_seen};
-ghost use Rattle.cancel_scopes.specs.Tree.{stack_of, IsOpen, outer_of, SameStacks, OthersKeep, cancelled, catches, own_from, IsInnermost};
+ghost use Rattle.cancel_scopes.specs.Tree.{stack_of, IsOpen, outer_of, SameStacks, OthersKeep, after_cancel, catches, own_from, IsInnermost};
 ghost use Rattle.cancel_scopes.specs.Kept.{IsTree, IsUnder, stack_at};
 ghost use Rattle.slab.specs.Slab.{get, ContainsKey};
 
@@ -61,7 +61,8 @@ impl ScopeTree {
         requires parent_open { ForSome parent (IsOpen self.old) }
         requires deadline { ForSome deadline (λ tick. tick < 2 ^ 41) }
         ensures fresh { IfOk result (λ id. stack_of self.old id ≡ None) }
-        ensures opened { IfOk result (λ id. stack_of self.new id ≡ Some (record { label = id; shield = shield; from = deadline } ∷ outer_of self.old parent)) }
+        ensures opened { IfOk result (λ id. stack_of self.new id ≡
+            Some (record { label = id; shield = shield; from = deadline } ∷ outer_of self.old parent)) }
         ensures others { IfOk result (OthersKeep self.old self.new) }
         ensures err { OnErr result (SameStacks self.old self.new) }
     {
@@ -83,7 +84,8 @@ impl ScopeTree {
     pub fn cancel(&mut self, id: ScopeId, tick: u64)
         requires id { IsOpen self.old id }
         requires tick { tick + 1 < 2 ^ 41 }
-        ensures { (key : ℕ) → stack_of self.new key ≡ option_map (cancelled id tick) (stack_of self.old key) }
+        ensures { (key : ℕ) →
+            stack_of self.new key ≡ option_map (after_cancel id tick) (stack_of self.old key) }
     {
         let scope = &mut self.scopes[id.key];
         scope.from = earlier(scope.from, Some(tick + 1));
