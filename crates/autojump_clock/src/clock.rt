@@ -1,4 +1,4 @@
-ghost use Rattle.std.specs.Prelude.{◌≡◌, ℕ, ◌<◌, ◌≤◌, Some, None, OnOk, OnErr, MatchOption};
+ghost use Rattle.std.specs.Prelude.{◌≡◌, ℕ, ◌<◌, ◌^◌, ◌≤◌, Some, None, OnOk, OnErr, IsSome, MatchOption};
 
 use crate::task_id::TaskId;
 use crate::timers::{Timer, earlier, least_due, least_due_task, remove_task};
@@ -17,7 +17,7 @@ pub enum Jump {
 /// A clock in whole ticks, with at most one timer a task. It moves by `jump` alone.
 #[derive(Drop)]
 pub struct MockClock {
-    now: u64,
+    tick: u64,
     limit: u64,
     timers: Vec<Timer>,
 }
@@ -29,7 +29,7 @@ impl Model for MockClock {
 
     ghost use Rattle.autojump_clock.specs.Timers.{Apart};
 
-    ghost view = { λ c. record { tick = c.now; limit = c.limit; timers = c.timers.items } };
+    ghost view = { λ c. record { tick = c.tick; limit = c.limit; timers = c.timers.items } };
 
     ghost invariant = { λ c. Apart c.timers.items };
 }
@@ -45,7 +45,7 @@ impl MockClock {
         ensures timers { (task : ℕ) → due_of result task ≡ None }
     {
         MockClock {
-            now: 0,
+            tick: 0,
             limit,
             timers: Vec::new(alloc),
         }
@@ -53,16 +53,16 @@ impl MockClock {
 
     /// The tick.
     pub fn now(&self) -> u64
-        ensures { result ≡ now_of self.entry.now }
+        ensures { result ≡ now_of self.now }
     {
-        self.now
+        self.tick
     }
 
     /// Gives the task a timer that is due at that later tick. On want of memory nothing changes.
     pub fn sleep_until(&mut self, task: TaskId, due: u64) -> Result<(), AllocError>
         requires awake { due_of self.old task ≡ None }
         requires later { now_of self.old < due }
-        requires bounded { due < 2199023255552 }
+        requires bounded { due < 2 ^ 41 }
         ensures timers { OnOk result (Updates self.old self.new task (Some due)) }
         ensures time { OnOk result (SameTime self.old self.new) }
         ensures err { OnErr result (self.new ≡ self.old) }
@@ -76,7 +76,7 @@ impl MockClock {
 
     /// Takes the task's timer away, as where a cancellation wakes it. Takes no memory.
     pub fn wake(&mut self, task: TaskId)
-        requires { (due : ℕ) × (due_of self.old task ≡ Some due) }
+        requires { IsSome (due_of self.old task) }
         ensures timers { Updates self.old self.new task None }
         ensures time { SameTime self.old self.new }
     {
@@ -89,7 +89,7 @@ impl MockClock {
         requires none_due { AllLater self.old (now_of self.old) }
         requires some { HasTimer self.old }
         requires later { (cancel : ℕ) → next_cancel ≡ Some cancel → now_of self.old < cancel }
-        requires bounded { limit_of self.old < 2199023255552 }
+        requires bounded { limit_of self.old < 2 ^ 41 }
         ensures { Jumps self.old next_cancel result self.new }
     {
         let due = least_due(self.timers.as_slice()).unwrap();
@@ -97,7 +97,7 @@ impl MockClock {
         if next > self.limit {
             return Jump::Limit;
         }
-        self.now = next;
+        self.tick = next;
         Jump::To(next)
     }
 
@@ -106,7 +106,7 @@ impl MockClock {
     pub fn take_due(&mut self) -> Option<TaskId>
         ensures { MatchOption result (NoneDue self.old self.new) (λ task. TakesDue self.old task self.new) }
     {
-        let Some(task) = least_due_task(self.timers.as_slice(), self.now) else {
+        let Some(task) = least_due_task(self.timers.as_slice(), self.tick) else {
             return None;
         };
         remove_task(&mut self.timers, task);

@@ -13,4 +13,4 @@ invariant_of-self-2 c =
 pub returns-clause-timers : goal.returns-clause-timers
 returns-clause-timers c =
     let none = ap (λ k. due_of k c.args.task) c.self.view_is ∙ c.requires.awake in
-    rw (c.in_ok-push.ensures.items, ← c.self.view_is, c.key.ensures) (Updates-push c.self.inside.now c.self.inside.limit c.args.task c.args.due c.self.inside.timers.items none)
+    rw (c.in_ok-push.ensures.items, ← c.self.view_is, c.key.ensures) (Updates-push c.self.inside.tick c.self.inside.limit c.args.task c.args.due c.self.inside.timers.items none)

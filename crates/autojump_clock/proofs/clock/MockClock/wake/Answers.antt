@@ -7,4 +7,4 @@ invariant_of-self c = rw c.remove_task.ensures (Apart-without _ _ c.self.invaria
 
 pub returns-clause-timers : goal.returns-clause-timers
 returns-clause-timers c =
-    rw (c.remove_task.ensures, ← c.self.view_is, c.key.ensures) (Updates-without c.self.inside.now c.self.inside.limit c.args.task c.self.inside.timers.items)
+    rw (c.remove_task.ensures, ← c.self.view_is, c.key.ensures) (Updates-without c.self.inside.tick c.self.inside.limit c.args.task c.self.inside.timers.items)
