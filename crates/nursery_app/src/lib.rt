@@ -8,18 +8,32 @@
 #[cfg(test)]
 mod at_scale;
 mod checking;
+mod command_line;
+mod expecting;
+mod explaining;
 mod feed;
 mod lines;
+mod orders;
+mod places;
 mod read;
+#[cfg(test)]
+mod refusal_tests;
+mod sentences;
 mod serving;
 #[cfg(test)]
 mod tests;
 mod verdict;
 #[cfg(test)]
+mod word_tests;
+mod words;
+#[cfg(test)]
 mod worked;
 
 pub use checking::check;
+pub use explaining::explain;
 pub use feed::split_feed;
+pub use orders::{Reverse, Turn};
 pub use read::{ReadFault, read_whole};
 pub use serving::serve;
 pub use verdict::{CheckVerdict, ServeFault, Verdict};
+pub use words::{Command, CommandFault, Order, read_command};

@@ -1,0 +1,127 @@
+ghost use Rattle.std.specs.Prelude.{◌≤◌, length};
+
+use crate::sources::{MOST_INPUT, read_feed, read_input, read_job_text};
+use crate::stop::Stop;
+use job_grammar::JobFault;
+use job_report::{WriteOut, send};
+use job_runner::{Forward, NoGate, Pick, Settings};
+use nursery_app::{
+    CheckVerdict, Order, Reverse, ServeFault, Turn, Verdict, check, explain, serve, split_feed,
+};
+use std::io;
+use std::rt::Files;
+use std::thread::Threads;
+
+/// The limit of a feed, in ticks.
+const FEED_LIMIT: u64 = 1_000_000;
+
+/// Serves standard input with the defaults, and gives the status.
+pub fn run_feed<R: Input + Print + Eprint + Threads + Sync + AllocGlobal>(
+    rt: &R,
+) -> Result<u8, Stop> {
+    let feed = read_feed(rt)?;
+    let (text, input) = split_feed(feed.as_slice());
+    if input.len() > MOST_INPUT {
+        return Err(Stop::TooLong);
+    }
+    let Some(settings) = Settings::new(1, FEED_LIMIT) else {
+        unreachable!()
+    };
+    run_text(rt, "standard input", text, input, settings, &mut Forward)
+}
+
+/// Runs a job file over an input file, and gives the status. The input is read first.
+pub fn run_job<R: Files + Input + Print + Eprint + Threads + Sync + AllocGlobal>(
+    rt: &R,
+    job: &str,
+    input: &str,
+    workers: usize,
+    limit: u64,
+    order: Order,
+) -> Result<u8, Stop>
+    requires some { 1 ≤ workers }
+    requires few { workers ≤ 64 }
+    requires limit { limit ≤ 4294967295 }
+{
+    let Some(settings) = Settings::new(workers, limit) else {
+        unreachable!()
+    };
+    let input = read_input(rt, input)?;
+    let text = read_job_text(rt, job)?;
+    let (text, input) = (text.as_slice(), input.as_slice());
+    match order {
+        Order::Forward => run_text(rt, job, text, input, settings, &mut Forward),
+        Order::Reverse => run_text(rt, job, text, input, settings, &mut Reverse),
+        Order::Turn => run_text(rt, job, text, input, settings, &mut Turn { calls: 0 }),
+    }
+}
+
+// Runs a job text over an input, and gives the status.
+fn run_text<R: Print + Eprint + Threads + Sync + AllocGlobal, P: Pick>(
+    rt: &R,
+    job: &str,
+    text: &[u8],
+    input: &[u8],
+    settings: Settings,
+    picker: &mut P,
+) -> Result<u8, Stop>
+    requires { length input.now ≤ 16777216 }
+{
+    let mut out = WriteOut::new(io::writer(rt));
+    match serve(
+        rt,
+        rt.alloc(),
+        text,
+        input,
+        settings,
+        picker,
+        &NoGate,
+        &mut out,
+    ) {
+        Ok(Verdict::Done) => Ok(0),
+        Ok(Verdict::Raised) => Ok(1),
+        Ok(Verdict::JobRefused(fault)) => Ok(tell_refusal(rt, job, text, fault)),
+        Ok(Verdict::Limit) => Ok(3),
+        Err(fault) => Err(serve_stop(fault)),
+    }
+}
+
+/// Writes the canonical text of a job file, and gives the status.
+pub fn check_job<R: Files + Input + Print + Eprint + AllocGlobal>(
+    rt: &R,
+    job: &str,
+) -> Result<u8, Stop> {
+    let text = read_job_text(rt, job)?;
+    let mut out = WriteOut::new(io::writer(rt));
+    match check(rt.alloc(), text.as_slice(), &mut out) {
+        Ok(CheckVerdict::Fine) => Ok(0),
+        Ok(CheckVerdict::JobRefused(fault)) => Ok(tell_refusal(rt, job, text.as_slice(), fault)),
+        Err(fault) => Err(serve_stop(fault)),
+    }
+}
+
+// Tells a refusal on standard error. Its line is on standard output already, so where memory or a write fails here
+// nothing more is told.
+fn tell_refusal<R: Eprint + AllocGlobal>(rt: &R, job: &str, text: &[u8], fault: JobFault) -> u8 {
+    if let Ok(told) = explain(rt.alloc(), job, text, fault) {
+        let _ = rt.eprint(told.as_str());
+    }
+    2
+}
+
+// How a fault in sending is told.
+fn serve_stop(fault: ServeFault) -> Stop {
+    match fault {
+        ServeFault::Send { .. } => Stop::Write,
+        ServeFault::NoMemory => Stop::NoMemory,
+    }
+}
+
+/// Writes a text that was asked for, and gives the status.
+pub fn show_help<R: Print>(rt: &R, text: &str) -> Result<u8, Stop> {
+    let mut out = WriteOut::new(io::writer(rt));
+    match send(text.as_bytes(), &mut out) {
+        Ok(()) => Ok(0),
+        Err(_) => Err(Stop::Write),
+    }
+}

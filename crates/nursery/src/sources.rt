@@ -1,0 +1,74 @@
+ghost use Rattle.std.specs.Prelude.{◌≤◌, IfOk, vec_len};
+
+use crate::stop::Stop;
+use nursery_app::{ReadFault, read_whole};
+use std::alloc::Global;
+use std::fs;
+use std::io::Read;
+use std::rt::Files;
+
+/// The most bytes of an input.
+pub const MOST_INPUT: usize = 16_777_216;
+
+/// The most bytes of a feed: a job text, the line between, and an input.
+const MOST_FEED: usize = 16_842_759;
+
+/// The most bytes that are read of a job file: one more than a job text may have, so that a longer one is refused.
+const MOST_JOB: usize = 65_537;
+
+/// The input of that name, or of standard input where the name is `-`.
+pub fn read_input<R: Files + Input + AllocGlobal>(rt: &R, name: &str) -> Result<Vec<u8>, Stop>
+    ensures { IfOk result (λ bytes. vec_len bytes ≤ 16777216) }
+{
+    let read = if name == "-" {
+        read_whole(rt.alloc(), &mut rt.reader(), MOST_INPUT)
+    } else {
+        match fs::open(rt, name) {
+            Ok(mut file) => read_whole(rt.alloc(), &mut file, MOST_INPUT),
+            Err(_) => Err(ReadFault::Device),
+        }
+    };
+    match read {
+        Ok(bytes) => Ok(bytes),
+        Err(fault) => Err(input_stop(fault)),
+    }
+}
+
+/// The feed on standard input.
+pub fn read_feed<R: Input + AllocGlobal>(rt: &R) -> Result<Vec<u8>, Stop> {
+    match read_whole(rt.alloc(), &mut rt.reader(), MOST_FEED) {
+        Ok(bytes) => Ok(bytes),
+        Err(fault) => Err(input_stop(fault)),
+    }
+}
+
+// How a fault in reading the input is told.
+fn input_stop(fault: ReadFault) -> Stop {
+    match fault {
+        ReadFault::TooLong => Stop::TooLong,
+        ReadFault::Device => Stop::InputFile,
+        ReadFault::NoMemory => Stop::NoMemory,
+    }
+}
+
+/// The job text of that name, or of standard input where the name is `-`, cut behind the first byte too many.
+pub fn read_job_text<R: Files + Input + AllocGlobal>(rt: &R, name: &str) -> Result<Vec<u8>, Stop> {
+    let read = if name == "-" {
+        read_front(rt.alloc(), rt.reader())
+    } else {
+        match fs::open(rt, name) {
+            Ok(file) => read_front(rt.alloc(), file),
+            Err(_) => Err(ReadFault::Device),
+        }
+    };
+    match read {
+        Ok(bytes) => Ok(bytes),
+        Err(ReadFault::NoMemory) => Err(Stop::NoMemory),
+        Err(_) => Err(Stop::JobFile),
+    }
+}
+
+// The first bytes of a reader, as many as a job text may have and one more.
+fn read_front<R: Read + Drop>(alloc: Global, reader: R) -> Result<Vec<u8>, ReadFault> {
+    read_whole(alloc, &mut reader.take(MOST_JOB as u64), MOST_JOB)
+}

@@ -1,0 +1,38 @@
+use thiserror::Error;
+
+/// Why the program has no verdict. It is printed as the user's line, with its newline.
+#[derive(Debug, Drop, Error)]
+pub enum Stop {
+    /// The command line was refused.
+    #[error("{text}")]
+    Words { text: String },
+    /// An argument is no text.
+    #[error("error: an argument is not UTF-8 text\n")]
+    NoText,
+    /// The job file cannot be opened or read.
+    #[error("cannot read the job file\n")]
+    JobFile,
+    /// The input file, or standard input, cannot be opened or read.
+    #[error("cannot read the input file\n")]
+    InputFile,
+    /// The input has more bytes than it may have.
+    #[error("input too long\n")]
+    TooLong,
+    /// Standard output took not all bytes.
+    #[error("cannot write\n")]
+    Write,
+    /// Memory was refused.
+    #[error("no memory\n")]
+    NoMemory,
+}
+
+impl Stop {
+    /// The program's status.
+    pub fn status(&self) -> u8 {
+        match self {
+            Stop::Words { .. } | Stop::NoText => 2,
+            Stop::JobFile | Stop::InputFile | Stop::TooLong | Stop::Write => 4,
+            Stop::NoMemory => 5,
+        }
+    }
+}

@@ -1,0 +1,16 @@
+-- What the grammar asks for where tokens leave it.
+use Rattle.std.specs.Prelude.{List, [], ◌∷◌, ◌++◌, Option, Some, None}
+use Rattle.job_tokens.specs.declared.token.Token.{Token}
+use Rattle.job_syntax.specs.declared.symbol.Symbol.{Symbol}
+use Rattle.job_syntax.specs.Symbols.{Rest, next}
+
+-- the symbol for which a token cannot stand, or what more does
+abbrev pub or_symbol : Rest → Symbol → (List Symbol → Option Symbol) → Option Symbol
+or_symbol None s others = Some s
+or_symbol (Some more) s others = others more
+
+-- the first symbol for which no token stands; none where tokens are left over, or all symbols stand
+abbrev pub expected_in : List Symbol → List Token → Option Symbol
+expected_in [] ts = None
+expected_in (s ∷ ss) [] = Some s
+expected_in (s ∷ ss) (t ∷ ts) = or_symbol (next s t.shape) s (λ more. expected_in (more ++ ss) ts)

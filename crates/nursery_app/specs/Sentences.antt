@@ -1,0 +1,58 @@
+-- What is wrong with a job text, in a sentence.
+use Rattle.std.specs.Prelude.{ℕ, ◌==◌, ◌&&◌, ◌||◌, nat_le, if◌then◌else◌, Bool, List, Option, Some, None, codes}
+use Rattle.job_syntax.specs.declared.symbol.Symbol.{Symbol}
+use Rattle.job_syntax.specs.declared.symbol.Symbol.TheVariants as symbol
+use Rattle.job_grammar.specs.declared.fault.JobKind.{JobKind}
+use Rattle.job_grammar.specs.declared.fault.JobKind.TheVariants.{TooLong, NotAscii, Version, Token, Number, Syntax, Depth, Twice, NotEnclosing, Reserved, TooLarge, NoMemory}
+
+abbrev pub is_digit : ℕ → Bool
+is_digit b = nat_le 48 b && nat_le b 57
+
+abbrev pub is_letter : ℕ → Bool
+is_letter b = (nat_le 65 b && nat_le b 90) || (nat_le 97 b && nat_le b 122)
+
+abbrev pub token_sentence : Option ℕ → List ℕ
+token_sentence None = codes "a word, a number, a string or one of `{`, `}` and `;` was expected"
+token_sentence (Some b) =
+    if b == 34 then codes "a string of 1 to 64 bytes was expected: printable, or `\\\"`, `\\\\` or `\\x` and two of 0-9a-f, and closed by a quote"
+    else if is_digit b then codes "a letter stands directly behind this number"
+    else if is_letter b then codes "this word has more than 32 bytes"
+    else codes "a word, a number, a string or one of `{`, `}` and `;` was expected"
+
+-- what the grammar asks for at a place; none where it asks for the text's end
+abbrev pub expected_sentence : Option Symbol → List ℕ
+expected_sentence None = codes "expected the text's end: nothing may follow the job's `}`"
+expected_sentence (Some symbol.Job) = codes "expected `job NAME { .. }`"
+expected_sentence (Some symbol.Steps) = codes "expected a step, as `sleep 1;`, or `}` (a `start` stands only right inside a nursery)"
+expected_sentence (Some symbol.Items) = codes "expected a step, as `sleep 1;`, a `start NAME { .. }` or `}`"
+expected_sentence (Some symbol.StepsTail) = codes "expected `except NAME { .. }` or `finally { .. }`"
+expected_sentence (Some symbol.ItemsTail) = codes "expected `except NAME { .. }` or `finally { .. }`"
+expected_sentence (Some symbol.StepsCleanup) = codes "expected `finally { .. }`, a step or `}`"
+expected_sentence (Some symbol.ItemsCleanup) = codes "expected `finally { .. }`, a step, a `start` or `}`"
+expected_sentence (Some symbol.Scope) = codes "expected `after N`, `at N`, `shield`, `fail` or `{`"
+expected_sentence (Some symbol.Shield) = codes "expected `shield`, `fail` or `{`"
+expected_sentence (Some symbol.Fail) = codes "expected `fail` or `{`"
+expected_sentence (Some symbol.Over) = codes "expected `over N` or `{`"
+expected_sentence (Some symbol.Given) = codes "expected a name"
+expected_sentence (Some symbol.Raised) = codes "expected the name of an exception"
+expected_sentence (Some symbol.Handled) = codes "expected the name of an exception"
+expected_sentence (Some symbol.Target) = codes "expected the name of a scope or nursery round it"
+expected_sentence (Some symbol.Number) = codes "expected a number"
+expected_sentence (Some symbol.Text) = codes "expected a string, as `\"error\"`"
+expected_sentence (Some symbol.Open) = codes "expected `{`"
+expected_sentence (Some symbol.Semicolon) = codes "expected `;`"
+
+-- what is wrong at a place with that byte; none is the text's end
+abbrev pub sentence_of : JobKind → Option ℕ → List ℕ
+sentence_of TooLong byte = codes "the job text has more than 65536 bytes"
+sentence_of NotAscii byte = codes "this byte is not ASCII"
+sentence_of Version byte = codes "a job text begins with the line `trio-job 1`"
+sentence_of Token byte = token_sentence byte
+sentence_of Number byte = codes "a number out of its range: `over` takes 1 to 64, `pace` 1 to 1000000, others 0 to 1000000000; no leading zero"
+sentence_of Syntax byte = codes "the job does not go on so"
+sentence_of Depth byte = codes "more than 32 blocks stand in one another"
+sentence_of Twice byte = codes "this name was given before: jobs, scopes, nurseries and starts need names of their own"
+sentence_of NotEnclosing byte = codes "no scope or nursery round this `cancel` has this name"
+sentence_of Reserved byte = codes "this name is reserved: no keyword, not `Cancelled`, and `TooSlow` only behind `except`"
+sentence_of TooLarge byte = codes "the job has more than 100000 steps, the copies that `over` makes counted"
+sentence_of NoMemory byte = codes "no memory"

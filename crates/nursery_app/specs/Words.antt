@@ -1,0 +1,18 @@
+-- What the words of a command line may ask for.
+use Rattle.std.specs.Prelude.{◌≤◌}
+use Rattle.nursery_app.specs.declared.words.Command.{Command}
+use Rattle.nursery_app.specs.declared.words.Command.TheVariants.{Feed, Run, Check, Help}
+
+-- the settings of a run lie in their ranges
+abbrev pub IsFit : Command → Type 0
+IsFit Feed = Unit {0}
+IsFit (Run job input workers order limit) = (1 ≤ workers) × (workers ≤ 64) × (limit ≤ 4294967295)
+IsFit (Check job) = Unit {0}
+IsFit (Help text) = Unit {0}
+
+-- some words asked for it: no feed, and settings in their ranges
+abbrev pub IsAsked : Command → Type 0
+IsAsked Feed = ⊥
+IsAsked (Run job input workers order limit) = (1 ≤ workers) × (workers ≤ 64) × (limit ≤ 4294967295)
+IsAsked (Check job) = Unit {0}
+IsAsked (Help text) = Unit {0}

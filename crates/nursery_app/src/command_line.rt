@@ -1,0 +1,122 @@
+use clap::{Arg, Command, value_parser};
+use std::alloc::{AllocError, Global};
+
+const ABOUT: &str =
+    "Runs a job of nurseries and cancel scopes over an input, and reports what each task did";
+
+const EXAMPLE: &str =
+    "With no words at all, nursery reads standard input: a job text, a line that is exactly `%input`,
+and the input.
+
+Example: `first.job` shows each line of its input that holds \"er\".
+
+    $ cat first.job
+    trio-job 1
+    job main {
+      find \"er\";
+    }
+    $ printf 'error\\nok\\n' > log.txt
+    $ nursery run first.job log.txt
+    job main 0
+    task main 0 0 done
+      line 0+5 error
+
+Exit status: 0 the job ended well, or `check` found a job; 1 it ended with an exception;
+2 the job or the command line was refused; 3 it ends later than the limit; 4 a file could not
+be read or written, or the input is too long; 5 no memory.";
+
+const RUN_EXAMPLE: &str =
+    "Example: the job `watch.job` waits at most 10 ticks, and shows the lines that hold \"ERROR\".
+
+    $ cat watch.job
+    trio-job 1
+    job watch {
+      scope limit after 10 { pace 2; find \"ERROR\"; }
+    }
+    $ printf 'start\\nERROR disk\\n' | nursery run watch.job - --limit 100
+    job watch 1
+    task watch 0 1 done
+      line 6+10 ERROR disk
+      scope limit 1 passed";
+
+const CHECK_EXAMPLE: &str = "Example:
+
+    $ cat wait.job
+    trio-job 1
+    job main { sleep }
+    $ nursery check wait.job
+    refused J6 Syntax at 28
+    wait.job:2:18: expected a number
+    job main { sleep }
+                     ^";
+
+// What reads the words behind the program's name.
+pub fn parser<'a>(alloc: Global) -> Result<Command<'a>, AllocError> {
+    Command::new(alloc, "nursery")
+        .no_binary_name(true)
+        .bin_name("nursery")?
+        .version("0.1.0")
+        .about(ABOUT)
+        .after_help(EXAMPLE)
+        .subcommand_required(true)
+        .subcommand(run_parser(alloc)?)?
+        .subcommand(check_parser(alloc)?)
+}
+
+// What reads the words behind `run`.
+fn run_parser<'a>(alloc: Global) -> Result<Command<'a>, AllocError> {
+    let input = Arg::new(alloc, "input")
+        .value_name("INPUT")
+        .help("The input file, or `-` for standard input")
+        .required(true);
+    Command::new(alloc, "run")
+        .about("Runs a job over an input and writes the report")
+        .after_help(RUN_EXAMPLE)
+        .arg(job_argument(alloc))?
+        .arg(input)?
+        .arg(workers_option(alloc))?
+        .arg(order_option(alloc))?
+        .arg(limit_option(alloc))
+}
+
+// What reads the words behind `check`.
+fn check_parser<'a>(alloc: Global) -> Result<Command<'a>, AllocError> {
+    Command::new(alloc, "check")
+        .about("Writes the canonical text of a job, or says where it is refused and why")
+        .after_help(CHECK_EXAMPLE)
+        .arg(job_argument(alloc))
+}
+
+fn job_argument<'a>(alloc: Global) -> Arg<'a> {
+    Arg::new(alloc, "job")
+        .value_name("JOB")
+        .help("The job file, or `-` for standard input")
+        .required(true)
+}
+
+fn workers_option<'a>(alloc: Global) -> Arg<'a> {
+    Arg::new(alloc, "workers")
+        .long("workers")
+        .value_name("N")
+        .help("The number of workers, 1 to 64; the report is the same for all")
+        .value_parser(value_parser!(usize).range(1..=64))
+        .default_value("1")
+}
+
+fn order_option<'a>(alloc: Global) -> Arg<'a> {
+    Arg::new(alloc, "order")
+        .long("order")
+        .value_name("ORDER")
+        .help("The order in which ready tasks have their turns; the report is the same for all")
+        .value_parser(["forward", "reverse", "turn"].as_slice())
+        .default_value("forward")
+}
+
+fn limit_option<'a>(alloc: Global) -> Arg<'a> {
+    Arg::new(alloc, "limit")
+        .long("limit")
+        .value_name("T")
+        .help("The last tick at which the job may end, at most 4294967295")
+        .value_parser(value_parser!(u64).range(0..=4_294_967_295))
+        .default_value("1000000")
+}

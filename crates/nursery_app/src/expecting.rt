@@ -1,0 +1,33 @@
+ghost use Rattle.std.specs.Prelude.{◌≡◌, IfOk};
+ghost use Rattle.job_syntax.specs.Syntax.{whole_job};
+ghost use Rattle.nursery_app.specs.Expecting.{expected_in};
+
+use job_grammar::FIRST_LINE;
+use job_syntax::Symbol;
+use job_tokens::{Token, lex};
+use std::alloc::{AllocError, Global};
+
+// What the grammar asks for where the tokens of a text leave it; none where it asks for the text's end.
+pub fn expected(alloc: Global, text: &[u8]) -> Result<Option<Symbol>, AllocError> {
+    let (_, body) = text.split_at(text.len().min(FIRST_LINE.len()));
+    let lexed = lex(alloc, body, text.len())?;
+    expected_at(alloc, lexed.tokens.as_slice())
+}
+
+// The same of tokens.
+fn expected_at(alloc: Global, tokens: &[Token]) -> Result<Option<Symbol>, AllocError>
+    ensures { IfOk result (λ symbol. symbol ≡ expected_in whole_job tokens.now) }
+{
+    let mut stack = Vec::new(alloc);
+    stack.push(Symbol::Job)?;
+    for token in tokens {
+        let Some(symbol) = stack.pop() else {
+            return Ok(None);
+        };
+        let Some(rest) = symbol.next(token.shape) else {
+            return Ok(Some(symbol));
+        };
+        stack.extend_from_slice(rest)?;
+    }
+    Ok(stack.pop())
+}

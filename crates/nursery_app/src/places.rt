@@ -1,0 +1,30 @@
+ghost use Rattle.std.specs.Prelude.{◌≡◌, ◌≤◌};
+ghost use Rattle.nursery_app.specs.Places.{line_of, column_of};
+
+// The line of a place, counted from 1.
+pub fn line_of(text: &[u8], at: usize) -> usize
+    ensures value { result ≡ line_of text.now at }
+    ensures from_one { 1 ≤ result }
+{
+    let (front, _) = text.split_at(at.min(text.len()));
+    let mut line = 1;
+    'bytes: for b in front {
+        if *b == b'\n' {
+            line += 1;
+        }
+    }
+    line
+}
+
+// The column of a place, in bytes, counted from 1.
+pub fn column_of(text: &[u8], at: usize) -> usize
+    ensures value { result ≡ column_of text.now at }
+    ensures from_one { 1 ≤ result }
+{
+    let (front, _) = text.split_at(at.min(text.len()));
+    let mut column = 1;
+    'bytes: for b in front {
+        column = if *b == b'\n' { 1 } else { column + 1 };
+    }
+    column
+}

@@ -1,0 +1,169 @@
+ghost use Rattle.std.specs.Prelude.{◌≡◌, [], Ok, IfOk};
+ghost use Rattle.nursery_app.specs.declared.words.Command.TheVariants.{Feed};
+ghost use Rattle.nursery_app.specs.Words.{IsFit, IsAsked};
+
+use crate::command_line::parser;
+use clap::ArgMatches;
+use clap::error::ErrorKind;
+use std::alloc::{AllocError, Global};
+use thiserror::Error;
+
+/// The order in which the ready tasks of a batch have their turns.
+#[derive(Clone, Copy, Debug, PartialEq, Eq)]
+pub enum Order {
+    /// The first of those left, always.
+    Forward,
+    /// The last of those left, always.
+    Reverse,
+    /// One after the other, by the number of picks so far.
+    Turn,
+}
+
+/// What the words behind the program's name ask for.
+#[derive(Debug, PartialEq, Eq, Drop)]
+pub enum Command {
+    /// No words: a feed on standard input.
+    Feed,
+    /// A job over an input, each named by its file, or `-` for standard input.
+    Run {
+        /// The job file.
+        job: String,
+        /// The input file.
+        input: String,
+        /// The number of workers, 1 to 64.
+        workers: usize,
+        /// The order of turns.
+        order: Order,
+        /// The last tick at which the job may end, at most 4,294,967,295.
+        limit: u64,
+    },
+    /// The canonical text of a job.
+    Check {
+        /// The job file, or `-` for standard input.
+        job: String,
+    },
+    /// A text that was asked for: help, or the version.
+    Help {
+        /// The text, with its last newline.
+        text: String,
+    },
+}
+
+/// Why words are no command.
+#[derive(Debug, PartialEq, Eq, Drop, Error)]
+pub enum CommandFault {
+    /// The words ask for nothing that the program does.
+    #[error("{text}")]
+    Refused {
+        /// What is wrong, for the user, with its last newline.
+        text: String,
+    },
+    /// Memory was refused.
+    #[error("no memory")]
+    NoMemory,
+}
+
+impl From<AllocError> for CommandFault {
+    fn from(_error: AllocError) -> CommandFault {
+        CommandFault::NoMemory
+    }
+}
+
+/// Reads the words behind the program's name.
+pub fn read_command(alloc: Global, words: &[String]) -> Result<Command, CommandFault>
+    ensures feed { words.now ≡ [] → result ≡ Ok Feed }
+    ensures only { result ≡ Ok Feed → words.now ≡ [] }
+    ensures fit { IfOk result IsFit }
+{
+    if words.is_empty() {
+        return Ok(Command::Feed);
+    }
+    asked(alloc, words)
+}
+
+// The command of some words.
+fn asked(alloc: Global, words: &[String]) -> Result<Command, CommandFault>
+    ensures { IfOk result IsAsked }
+{
+    match parser(alloc)?.try_get_matches_from(words) {
+        Ok(matches) => chosen(alloc, &matches),
+        Err(error) => unmatched(alloc, &error),
+    }
+}
+
+// The text that was asked for, or that says what is wrong.
+fn unmatched(alloc: Global, error: &clap::Error) -> Result<Command, CommandFault>
+    ensures { IfOk result IsAsked }
+{
+    match error.kind() {
+        ErrorKind::OutOfMemory => Err(CommandFault::NoMemory),
+        ErrorKind::DisplayHelp | ErrorKind::DisplayVersion => Ok(Command::Help {
+            text: error.to_string(alloc)?,
+        }),
+        _ => Err(CommandFault::Refused {
+            text: error.to_string(alloc)?,
+        }),
+    }
+}
+
+// The command of words that fit the parser.
+fn chosen(alloc: Global, matches: &ArgMatches<'_>) -> Result<Command, CommandFault>
+    ensures { IfOk result IsAsked }
+{
+    let Some((name, inner)) = matches.subcommand() else {
+        return refused(alloc, "error: name `run` or `check`\n");
+    };
+    let Some(job) = inner.get_str("job") else {
+        return refused(alloc, "error: name the job file\n");
+    };
+    if name == "run" {
+        return run_command(alloc, job, inner);
+    }
+    Ok(Command::Check {
+        job: String::from_str(alloc, job)?,
+    })
+}
+
+// The command `run` with its settings.
+fn run_command(alloc: Global, job: &str, matches: &ArgMatches<'_>) -> Result<Command, CommandFault>
+    ensures { IfOk result IsAsked }
+{
+    let Some(input) = matches.get_str("input") else {
+        return refused(alloc, "error: name the input file\n");
+    };
+    if job == "-" && input == "-" {
+        return refused(
+            alloc,
+            "error: JOB and INPUT cannot both be `-`: there is one standard input\n",
+        );
+    }
+    let workers = matches.get_one::<usize>("workers").unwrap_or(1);
+    let limit = matches.get_one::<u64>("limit").unwrap_or(1_000_000);
+    if workers < 1 || workers > 64 || limit > 4_294_967_295 {
+        return refused(alloc, "error: a setting is out of its range\n");
+    }
+    Ok(Command::Run {
+        job: String::from_str(alloc, job)?,
+        input: String::from_str(alloc, input)?,
+        workers,
+        order: order_named(matches.get_str("order")),
+        limit,
+    })
+}
+
+// The order of that name; forward where none is given.
+fn order_named(name: Option<&str>) -> Order {
+    match name {
+        Some("reverse") => Order::Reverse,
+        Some("turn") => Order::Turn,
+        _ => Order::Forward,
+    }
+}
+
+// The refusal with that text.
+fn refused(alloc: Global, text: &str) -> Result<Command, CommandFault>
+    ensures { IfOk result IsAsked }
+{
+    let text = String::from_str(alloc, text)?;
+    Err(CommandFault::Refused { text })
+}

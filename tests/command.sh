@@ -1,0 +1,250 @@
+#!/bin/sh
+# The command line on real files, by the program that the gate built: for each case standard output, standard error and
+# the status are compared.
+set -eu
+cd "$(dirname "$0")/.."
+nursery=$PWD/crates/nursery/out/nursery
+folder=$(mktemp -d)
+trap 'rm -rf "$folder"' EXIT
+cd "$folder"
+mkdir a_folder
+
+cases=0
+name=
+
+fail() {
+    echo "command.sh: $name: $1" >&2
+    exit 1
+}
+
+# Compares what a run wrote with what was wanted: standard output in `out`, standard error in `err`, the status in $1.
+compare() {
+    [ "$1" = "$2" ] || fail "status $1, wanted $2: $(cat err)"
+    printf "$3" | cmp -s - out || fail "standard output: $(cat out)"
+    printf "$4" | cmp -s - err || fail "standard error: $(cat err)"
+    cases=$((cases + 1))
+}
+
+# wants STATUS OUT ERR WORD..: runs the program on the words, with the file `in` as standard input; OUT and ERR are
+# formats of printf, so a `%` is written `%%`.
+wants() {
+    status=$1 out=$2 err=$3
+    shift 3
+    name="nursery $*"
+    got=0
+    "$nursery" "$@" < in > out 2> err || got=$?
+    compare "$got" "$status" "$out" "$err"
+}
+
+# shows WORD TEXT..: the last run's standard output ($1 is `out`) or standard error (`err`) holds each text.
+shows() {
+    file=$1
+    shift
+    for text in "$@"; do
+        grep -qF -- "$text" "$file" || fail "$file has no line with: $text"
+    done
+}
+
+# holds STATUS FILE TEXT..: runs the program on $words, and looks for texts in what it wrote.
+holds() {
+    status=$1 file=$2
+    shift 2
+    name="nursery $words"
+    got=0
+    # The words of these cases hold no spaces.
+    "$nursery" $words < in > out 2> err || got=$?
+    [ "$got" = "$status" ] || fail "status $got, wanted $status: $(cat err)"
+    if [ "$file" = out ]; then [ ! -s err ] || fail "standard error: $(cat err)"; fi
+    if [ "$file" = err ]; then [ ! -s out ] || fail "standard output: $(cat out)"; fi
+    shows "$file" "$@"
+    cases=$((cases + 1))
+}
+
+: > in
+printf 'trio-job 1\njob main {\n  find "er";\n}\n' > find.job
+printf 'trio-job 1\njob main { sleep 2; raise Boom; }\n' > raise.job
+printf 'trio-job 1\njob main { forever; }\n' > forever.job
+printf 'error\nok\n' > log.txt
+report='job main 0\ntask main 0 0 done\n  line 0+5 error\n'
+
+# ---- 0 and 1: a job that ended
+
+wants 0 "$report" '' run find.job log.txt
+for order in forward reverse turn; do
+    wants 0 "$report" '' run find.job log.txt --order "$order" --workers 64 --limit 0
+done
+wants 0 'job main 0\ntask main 0 0 done\n' '' run find.job /dev/null
+wants 1 'job main 2\ntask main 0 2 raised Boom(main@2)\n' '' run raise.job log.txt
+wants 0 'trio-job 1\njob main{find"er";}\n' '' check find.job
+
+# ---- standard input
+
+cp log.txt in
+wants 0 "$report" '' run find.job -
+cp find.job in
+wants 0 "$report" '' run - log.txt
+wants 0 'trio-job 1\njob main{find"er";}\n' '' check -
+{ cat find.job; echo %input; cat log.txt; } > in
+wants 0 "$report" ''
+{ cat raise.job; echo %input; } > in
+wants 1 'job main 2\ntask main 0 2 raised Boom(main@2)\n' ''
+: > in
+wants 2 'refused J3 Version at 0\n' 'standard input:1:1: a job text begins with the line `trio-job 1`\n\n^\n'
+
+# ---- 2: a refused job, told with its place
+
+# refuses TEXT LINE TOLD: the job text is refused by both commands, with that line and that text behind `bad.job:`.
+refuses() {
+    printf "$1" > bad.job
+    wants 2 "$2\n" "bad.job:$3\n" run bad.job log.txt
+    wants 2 "$2\n" "bad.job:$3\n" check bad.job
+}
+
+refuses 'trio-job 1\njob main { sleep }\n' 'refused J6 Syntax at 28' \
+    '2:18: expected a number\njob main { sleep }\n                 ^'
+refuses 'trio-job 1\njob main {\n  sleep 1\n}\n' 'refused J6 Syntax at 32' '4:1: expected `;`\n}\n^'
+refuses 'trio-job 1\njob main {\n\tfind "\303\244";\n}\n' 'refused J2 NotAscii at 29' \
+    '3:8: this byte is not ASCII\n find "??";\n       ^'
+refuses 'trio-job 2\n' 'refused J3 Version at 0' \
+    '1:1: a job text begins with the line `trio-job 1`\ntrio-job 2\n^'
+refuses 'trio-job 1\njob main { sleep 1s; }\n' 'refused J4 Token at 28' \
+    '2:18: a letter stands directly behind this number\njob main { sleep 1s; }\n                 ^'
+refuses 'trio-job 1\njob main { pace 0; }\n' 'refused J5 Number at 27' \
+    '2:17: a number out of its range: `over` takes 1 to 64, `pace` 1 to 1000000, others 0 to 1000000000; no leading zero\njob main { pace 0; }\n                ^'
+refuses 'trio-job 1\njob main { scope s { } scope s { } }\n' 'refused J8 Twice at 40' \
+    '2:30: this name was given before: jobs, scopes, nurseries and starts need names of their own\njob main { scope s { } scope s { } }\n                             ^'
+refuses 'trio-job 1\njob main { cancel x; }\n' 'refused J9 NotEnclosing at 29' \
+    '2:19: no scope or nursery round this `cancel` has this name\njob main { cancel x; }\n                  ^'
+refuses 'trio-job 1\njob main { raise Cancelled; }\n' 'refused J10 Reserved at 28' \
+    '2:18: this name is reserved: no keyword, not `Cancelled`, and `TooSlow` only behind `except`\njob main { raise Cancelled; }\n                 ^'
+nest=$(printf 'scope s%d { ' 1 2 3 4 5 6 7 8 9 10 11 12 13 14 15 16 17 18 19 20 21 22 23 24 25 26 27 28 29 30 31 32)
+printf 'trio-job 1\njob main { %s' "$nest" > bad.job
+for _ in 0 1 2 3 4 5 6 7 8 9 10 11 12 13 14 15 16 17 18 19 20 21 22 23 24 25 26 27 28 29 30 31 32; do printf '}' >> bad.job; done
+words='check bad.job'
+name="nursery $words"
+got=0
+"$nursery" check bad.job > out 2> err || got=$?
+[ "$got" = 2 ] || fail "status $got"
+shows out 'refused J7 Depth at '
+shows err ': more than 32 blocks stand in one another'
+cases=$((cases + 1))
+
+# A job text of one byte too many, and one without end.
+{ printf 'trio-job 1\njob main { }'; head -c 65600 /dev/zero | tr '\0' ' '; } > long.job
+head -c 65536 long.job > longest.job
+words='check longest.job'
+wants 0 'trio-job 1\njob main{}\n' '' check longest.job
+for job in long.job /dev/zero; do
+    name="nursery check $job"
+    got=0
+    "$nursery" check $job > out 2> err || got=$?
+    [ "$got" = 2 ] || fail "status $got"
+    printf 'refused J1 TooLong at 65536\n' | cmp -s - out || fail "standard output: $(cat out)"
+    shows err ': the job text has more than 65536 bytes'
+    cases=$((cases + 1))
+done
+
+# ---- 2: a refused command line
+
+words='run find.job log.txt --workers 0'; holds 2 err "'--workers <N>'" '1..=64'
+words='run find.job log.txt --workers 65'; holds 2 err "'--workers <N>'" '1..=64'
+words='run find.job log.txt --order up'; holds 2 err "'--order <ORDER>'" 'forward, reverse, turn'
+words='run find.job log.txt --limit 4294967296'; holds 2 err "'--limit <T>'" '4294967295'
+words='run find.job'; holds 2 err '<INPUT>' 'Usage: nursery run '
+words='run'; holds 2 err '<JOB>' '<INPUT>'
+words='check'; holds 2 err '<JOB>' 'Usage: nursery check '
+words='check find.job log.txt'; holds 2 err "'log.txt'"
+words='go'; holds 2 err "'go'" 'Usage: nursery '
+words='--fast'; holds 2 err "'--fast'"
+wants 2 '' 'error: JOB and INPUT cannot both be `-`: there is one standard input\n' run - -
+wants 2 '' 'error: an argument is not UTF-8 text\n' check "$(printf 'a\377b')"
+
+# ---- help and version
+
+wants 0 'nursery 0.1.0\n' '' --version
+words='--help'; holds 0 out 'Usage: nursery <COMMAND>' '  run ' '  check ' '$ nursery run first.job log.txt' '  line 0+5 error' 'Exit status'
+words='help'; holds 0 out 'Usage: nursery <COMMAND>'
+words='run --help'; holds 0 out 'Usage: nursery run [OPTIONS] <JOB> <INPUT>' '--workers <N>' '--order <ORDER>' '--limit <T>' '  line 6+10 ERROR disk'
+words='check --help'; holds 0 out 'Usage: nursery check <JOB>' 'expected a number'
+
+# The examples that help shows are true.
+printf 'trio-job 1\njob watch {\n  scope limit after 10 { pace 2; find "ERROR"; }\n}\n' > watch.job
+printf 'start\nERROR disk\n' > in
+wants 0 'job watch 1\ntask watch 0 1 done\n  line 6+10 ERROR disk\n  scope limit 1 passed\n' '' run watch.job - --limit 100
+"$nursery" run --help > help
+for line in 'job watch 1' 'task watch 0 1 done' '  line 6+10 ERROR disk' '  scope limit 1 passed'; do
+    grep -qxF "    $line" help || fail "help of run has no line: $line"
+done
+: > in
+
+# ---- 3: the limit
+
+wants 3 'limit 1\n' '' run raise.job log.txt --limit 1
+wants 3 'limit 1000000\n' '' run forever.job log.txt
+wants 3 'limit 4294967295\n' '' run forever.job log.txt --limit 4294967295
+
+# ---- 4: files that cannot be read, an input too long, an output that cannot be written
+
+wants 4 '' 'cannot read the job file\n' run no.job log.txt
+wants 4 '' 'cannot read the job file\n' check no.job
+wants 4 '' 'cannot read the input file\n' run find.job no.txt
+wants 4 '' 'cannot read the input file\n' run no.job no.txt
+wants 4 '' 'cannot read the job file\n' run a_folder log.txt
+wants 4 '' 'cannot read the job file\n' check a_folder
+wants 4 '' 'cannot read the input file\n' run find.job a_folder
+wants 4 '' 'cannot read the input file\n' run find.job ''
+cp find.job shut.job
+chmod 000 shut.job
+if ! cat shut.job > /dev/null 2>&1; then
+    wants 4 '' 'cannot read the job file\n' run shut.job log.txt
+    wants 4 '' 'cannot read the input file\n' run find.job shut.job
+fi
+name='nursery from a folder'
+got=0
+"$nursery" < a_folder > out 2> err || got=$?
+compare "$got" 4 '' 'cannot read the input file\n'
+
+head -c 16777216 /dev/zero > most.txt
+{ cat most.txt; printf x; } > over.txt
+wants 0 'job main 0\ntask main 0 0 done\n' '' run find.job most.txt
+wants 4 '' 'input too long\n' run find.job over.txt
+wants 4 '' 'input too long\n' run bad.job over.txt
+wants 4 '' 'input too long\n' run no.job over.txt
+wants 4 '' 'input too long\n' run find.job /dev/zero
+{ cat find.job; echo %input; cat over.txt; } > in
+wants 4 '' 'input too long\n'
+{ cat find.job; echo %input; cat most.txt; } > in
+wants 0 'job main 0\ntask main 0 0 done\n' ''
+rm over.txt most.txt
+: > in
+
+# full WORD..: standard output is a full disk.
+full() {
+    name="nursery $* on a full disk"
+    got=0
+    "$nursery" "$@" < in > /dev/full 2> err || got=$?
+    : > out
+    compare "$got" 4 '' 'cannot write\n'
+}
+if [ -c /dev/full ]; then
+    full run find.job log.txt
+    full run raise.job log.txt
+    full run bad.job log.txt
+    full run forever.job log.txt
+    full check find.job
+    full --help
+    full --version
+fi
+
+# Nobody reads the pipe any more: its reader has ended before the program begins, which waits for the file that says so.
+name='nursery into a closed pipe'
+{
+    while [ ! -e ended ]; do sleep 0.1; done
+    got=0
+    "$nursery" run find.job log.txt 2> err || got=$?
+    echo "$got" > got
+} | { exec < /dev/null; : > ended; }
+: > out
+compare "$(cat got)" 4 '' 'cannot write\n'
+
+echo "command.sh: $cases cases"
