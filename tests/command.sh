@@ -188,7 +188,7 @@ wants 3 'limit 4294967295\n' '' run forever.job log.txt --limit 4294967295
 wants 4 '' 'cannot read the job file\n' run no.job log.txt
 wants 4 '' 'cannot read the job file\n' check no.job
 wants 4 '' 'cannot read the input file\n' run find.job no.txt
-wants 4 '' 'cannot read the input file\n' run no.job no.txt
+wants 4 '' 'cannot read the job file\n' run no.job no.txt
 wants 4 '' 'cannot read the job file\n' run a_folder log.txt
 wants 4 '' 'cannot read the job file\n' check a_folder
 wants 4 '' 'cannot read the input file\n' run find.job a_folder

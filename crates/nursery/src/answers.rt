@@ -30,7 +30,8 @@ pub fn run_feed<R: Input + Print + Eprint + Threads + Sync + AllocGlobal>(
     run_text(rt, "standard input", text, input, settings, &mut Forward)
 }
 
-/// Runs a job file over an input file, and gives the status. The input is read first.
+/// Runs a job file over an input file, and gives the status. Both are read before anything is told: first a too long
+/// input, then a job file that cannot be read, then such an input.
 pub fn run_job<R: Files + Input + Print + Eprint + Threads + Sync + AllocGlobal>(
     rt: &R,
     job: &str,
@@ -46,8 +47,13 @@ pub fn run_job<R: Files + Input + Print + Eprint + Threads + Sync + AllocGlobal>
     let Some(settings) = Settings::new(workers, limit) else {
         unreachable!()
     };
-    let input = read_input(rt, input)?;
-    let text = read_job_text(rt, job)?;
+    let text = read_job_text(rt, job);
+    let input = read_input(rt, input);
+    if matches!(input, Err(Stop::TooLong)) {
+        return Err(Stop::TooLong);
+    }
+    let text = text?;
+    let input = input?;
     let (text, input) = (text.as_slice(), input.as_slice());
     match order {
         Order::Forward => run_text(rt, job, text, input, settings, &mut Forward),
