@@ -183,7 +183,7 @@ wants 3 'limit 1\n' '' run raise.job log.txt --limit 1
 wants 3 'limit 1000000\n' '' run forever.job log.txt
 wants 3 'limit 4294967295\n' '' run forever.job log.txt --limit 4294967295
 
-# ---- 4: files that cannot be read, an input too long, an output that cannot be written
+# ---- 4 and 5: files that cannot be read, an input too long, little memory, an output that cannot be written
 
 wants 4 '' 'cannot read the job file\n' run no.job log.txt
 wants 4 '' 'cannot read the job file\n' check no.job
@@ -207,6 +207,13 @@ compare "$got" 4 '' 'cannot read the input file\n'
 head -c 16777216 /dev/zero > most.txt
 { cat most.txt; printf x; } > over.txt
 wants 0 'job main 0\ntask main 0 0 done\n' '' run find.job most.txt
+# 5: the input alone fills the memory that there is.
+if (ulimit -v 16384) 2> /dev/null; then
+    name='nursery in little memory'
+    got=0
+    (ulimit -v 16384 && exec "$nursery" run find.job most.txt < in > out 2> err) || got=$?
+    compare "$got" 5 '' 'no memory\n'
+fi
 wants 4 '' 'input too long\n' run find.job over.txt
 wants 4 '' 'input too long\n' run bad.job over.txt
 wants 4 '' 'input too long\n' run no.job over.txt
