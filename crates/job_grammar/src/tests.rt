@@ -137,7 +137,7 @@ fn nested(alloc: Global, depth: usize, front: &[u8], behind: &[u8]) -> Result<Ve
 
 #[test]
 fn depth(rt: HostRuntime) -> Result<(), Fail> {
-    let rows = [(31, 0, 0), (32, 7, 212), (5_000, 7, 212)];
+    let rows = [(31, 0, 0), (32, 7, 212), (3_000, 7, 212)];
     for (depth, number, at) in rows {
         let text = nested(rt.alloc(), depth, b" try {", b" } finally { }")?;
         assert_eq!(rt; answer(rt.alloc(), &text), (number, at));
