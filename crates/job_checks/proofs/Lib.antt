@@ -1,2 +1,1 @@
-pub mod Weights
 pub mod ByShapes

@@ -1,11 +1,9 @@
 -- Tokens appended one after the other.
-use Rattle.std.proofs.Common.{◌≡◌, ℕ, zero, suc, ◌+◌, ◌<◌, ◌≤◌, List, [], ◌∷◌, ◌++◌, length, get_or, drop, refl, sym, ap, ◌∙◌, append_assoc, arith}
+use Rattle.std.proofs.Common.{◌≡◌, ℕ, ◌+◌, ◌<◌, ◌≤◌, List, [], ◌∷◌, ◌++◌, length, get_or, drop, refl, sym, ap, ◌∙◌, append_assoc}
 use Rattle.std.proofs.lemmas.List.{at_drop_more, drop_all}
 use Rattle.job_tree.specs.declared.step.Step.{Step}
-use Rattle.job_tree.specs.Tree.{Steps, stop}
-use Rattle.job_tree.specs.Tree as tree
+use Rattle.job_tree.specs.Tree.{stop}
 use Rattle.job_tree.specs.Blocks.{step_of, steps_of}
-use Rattle.job_tree.specs.Weigh.{weight_of, weight_in}
 use Rattle.job_tokens.specs.declared.token.Shape.{Shape}
 use Rattle.job_tokens.specs.declared.token.Shape.TheVariants as shape
 use Rattle.job_tokens.specs.declared.token.Mark.TheVariants as mark
@@ -37,12 +35,3 @@ pub closed : (whole : Print) (old now new : List Shape) (steps : List Step) (i :
 closed whole old now new steps i le so_far is = λ rest.
     so_far rest ∙ ap (λ (ss : List Step). now ++ shapes_in (steps_pieces (steps_of ss) rest)) (drop_all i steps le)
     ∙ pushed (steps_pieces stop) now new (shape.Mark mark.Close ∷ []) is (λ others. refl) rest
-
-weight_some : (ss : Steps) → 1 ≤ weight_of ss
-weight_some stop = omega arith
-weight_some (tree.step s ss) = omega (arith, weight_some ss)
-
-pub weight_at : (ss : List Step) (i : ℕ) (s : Step) → i < length ss → s ≡ get_or ss i s → weight_in (step_of s) + 1 ≤ weight_of (steps_of ss)
-weight_at [] i s lt is = absurd (omega arith)
-weight_at (x ∷ xs) zero s lt is = rw is (omega (arith, weight_some (steps_of xs)))
-weight_at (x ∷ xs) (suc i) s lt is = omega (arith, weight_at xs i s (omega arith) is)

@@ -11,7 +11,6 @@ use Rattle.std.specs.Option.{option_map, is_some}
 use Rattle.exc_groups.specs.Held.{exc_of}
 use Rattle.exc_groups.specs.declared.exc.Exc as held_exc
 use Rattle.cancel_scopes.specs.Sight.{Tick, earlier}
-use Rattle.job_tree.specs.Weigh.{weight_of, weight_in}
 use Rattle.plain_walk.specs.Logs.{seen_in}
 use Rattle.job_meaning.specs.Walk as meaning
 use Rattle.job_meaning.specs.Log.{Result, Member, Log, followed_by, nil}
@@ -152,13 +151,3 @@ walked_block input first second x kind label t d shield st inside from catching 
     subst (λ (y : Bool). IsWalked input x (meaning.leaving kind label t d (meaning.left_with y (inside from).exc) (inside from)))
     (catches_is ∙ ap (meaning.catches from shield st) k.end) (leave (inside from) k) in
     subst (λ (y : Tick). IsWalked input x (meaning.left_from kind label t d shield st y (inside y))) from_same left
-
--- a step weighs less than the block in which it stands
-weight_some : (ss : Steps) → 1 ≤ weight_of ss
-weight_some stop = omega arith
-weight_some (step s ss) = omega (arith, weight_some ss)
-
-pub weight_at : (ss : List held.Step) (i : ℕ) (s : held.Step) → i < length ss → s ≡ get_or ss i s → weight_in (step_of s) + 1 ≤ weight_of (steps_of ss)
-weight_at [] i s lt is = absurd (omega arith)
-weight_at (x ∷ xs) zero s lt is = rw is (omega (arith, weight_some (steps_of xs)))
-weight_at (x ∷ xs) (suc i) s lt is = omega (arith, weight_at xs i s (omega arith) is)

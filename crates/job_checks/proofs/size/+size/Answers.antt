@@ -3,7 +3,7 @@ use Rattle.std.proofs.lemmas.List.{drop_all}
 use Rattle.job_tree.specs.declared.step.Step.{Step}
 use Rattle.job_tree.specs.Blocks.{steps_of}
 use Rattle.job_tree.specs.Names.{size_of}
-use Rattle.job_checks.proofs.Weights.{weight_at}
+use Rattle.job_tree.proofs.Weights.{weight_at}
 use Rattle.job_checks.proofs.size.+size.Goals as goal
 
 pub size_of-size_in-more-requires : goal.size_of-size_in-more-requires

@@ -1,7 +1,8 @@
 use Rattle.std.proofs.Common.{arith}
 use Rattle.job_tree.specs.Blocks.{steps_of}
 use Rattle.job_syntax.specs.Pieces.{steps_pieces}
-use Rattle.job_grammar.proofs.Writing_blocks.{weight_at, closed}
+use Rattle.job_tree.proofs.Weights.{weight_at}
+use Rattle.job_grammar.proofs.Writing_blocks.{closed}
 use Rattle.job_grammar.proofs.writing.+writing.Goals as goal
 
 pub push_steps-push_step-requires : goal.push_steps-push_step-requires

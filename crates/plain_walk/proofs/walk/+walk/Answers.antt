@@ -17,7 +17,8 @@ use Rattle.plain_walk.specs.Kinds.{kind_of}
 use Rattle.plain_walk.specs.Heres.{HasRoom, here_of, input_of, scopes_of, inside, started, started_over}
 use Rattle.plain_walk.specs.Walks.{IsWalked}
 use Rattle.plain_walk.proofs.Trying.{walked_at, walked_in, same_tick, not_raised, not_wanted, is_wanted}
-use Rattle.plain_walk.proofs.Steps.{AtStep, at_start, at_item, at_stop, steps_failed, steps_next, ends_small, ends_handled, walked_block, weight_at, room_step, none_well}
+use Rattle.job_tree.proofs.Weights.{weight_at}
+use Rattle.plain_walk.proofs.Steps.{AtStep, at_start, at_item, at_stop, steps_failed, steps_next, ends_small, ends_handled, walked_block, room_step, none_well}
 use Rattle.plain_walk.proofs.walk.+walk.Goals as goal
 
 pub walk_block-returns-then-eq : goal.walk_block-returns-then-eq
