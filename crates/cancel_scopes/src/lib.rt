@@ -9,7 +9,9 @@
 mod scope_id;
 #[cfg(test)]
 mod tests;
+mod ticks;
 mod tree;
 
 pub use scope_id::ScopeId;
+pub use ticks::{earlier, reached};
 pub use tree::ScopeTree;

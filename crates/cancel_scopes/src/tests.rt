@@ -1,4 +1,4 @@
-use crate::ScopeTree;
+use crate::{ScopeTree, earlier, reached};
 use std::test::Fail;
 
 #[test]
@@ -39,4 +39,12 @@ fn closing_ends_an_id(rt: HostRuntime) -> Result<(), Fail> {
     assert!(rt; tree.is_open(first));
     assert_eq!(rt; tree.close(second), None);
     Ok(())
+}
+
+#[test]
+fn a_tick_may_never_come(rt: HostRuntime) {
+    assert_eq!(rt; earlier(Some(4), None), Some(4));
+    assert_eq!(rt; earlier(Some(4), Some(3)), Some(3));
+    assert!(rt; reached(Some(3), 3));
+    assert!(rt; !reached(None, 3));
 }

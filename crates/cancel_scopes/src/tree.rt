@@ -1,11 +1,12 @@
 ghost use Rattle.std.specs.Prelude.{◌≡◌, ◌≢◌, ℕ, ◌+◌, ◌<◌, ◌^◌, ◌∷◌, Some, None, is_some, IsSome, IfOk, OnErr};
 ghost use Rattle.std.specs.Option.{ForSome, option_map};
-ghost use Rattle.cancel_scopes.specs.Sight.{earlier as lesser, reached as has_come, sight, seen as is_seen};
+ghost use Rattle.cancel_scopes.specs.Sight.{sight, seen as is_seen};
 ghost use Rattle.cancel_scopes.specs.Tree.{stack_of, IsOpen, outer_of, SameStacks, OthersKeep, after_cancel, catches, own_from, IsInnermost};
 ghost use Rattle.cancel_scopes.specs.Kept.{IsTree, IsUnder, stack_at};
 ghost use Rattle.slab.specs.Slab.{get, ContainsKey};
 
 use crate::scope_id::ScopeId;
+use crate::ticks::{earlier, reached};
 use slab::Slab;
 use std::alloc::{AllocError, Global};
 use std::marker::Model;
@@ -135,27 +136,6 @@ impl ScopeTree {
         ensures from { ForSome (stack_of self.old id) (λ stack. result ≡ own_from stack) }
     {
         self.scopes.remove(id.key).from
-    }
-}
-
-// The earlier of two ticks, where none is never.
-fn earlier(first: Option<u64>, second: Option<u64>) -> Option<u64>
-    ensures { result ≡ lesser first second }
-{
-    match (first, second) {
-        (Some(first), Some(second)) => Some(if second < first { second } else { first }),
-        (Some(_), None) => first,
-        (None, _) => second,
-    }
-}
-
-// Whether a tick has come at another, where none is never.
-fn reached(from: Option<u64>, tick: u64) -> bool
-    ensures { result ≡ has_come from tick }
-{
-    match from {
-        Some(from) => from <= tick,
-        None => false,
     }
 }
 

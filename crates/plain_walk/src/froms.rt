@@ -5,7 +5,7 @@ ghost use Rattle.plain_walk.specs.Froms.{from_in, froms_in};
 ghost use Rattle.task_records.specs.Records.{from_of};
 
 use crate::log::{Due, Sign, deadline_of, seen_from};
-use crate::stack::earlier;
+use cancel_scopes::earlier;
 use exc_groups::Label;
 use std::alloc::{AllocError, Global};
 use task_records::ScopeFrom;

@@ -33,7 +33,7 @@ impl Kind {
 }
 
 /// The entry of a block that was left.
-pub fn entry_of_leaving<'a>(kind: Kind, label: Label, tick: u64, caught: bool) -> Entry<'a>
+pub(crate) fn entry_of_leaving<'a>(kind: Kind, label: Label, tick: u64, caught: bool) -> Entry<'a>
     ensures shown { (input : List ℕ) → entry_of result ≡ shown_at input tick (left_as (kind_of kind) label caught) }
     ensures slice { (input : List ℕ) → IsSlice input result }
 {
@@ -59,7 +59,7 @@ pub struct Left {
 }
 
 /// A block that catches takes every `Cancelled` leaf away, and lets the rest go on.
-pub fn left_with(alloc: Global, catches: bool, exc: Option<Exc>) -> Result<Left, AllocError>
+pub(crate) fn left_with(alloc: Global, catches: bool, exc: Option<Exc>) -> Result<Left, AllocError>
     ensures { IfOk result (λ left. left_of left ≡ left_with catches (option_map exc_of exc)) }
 {
     let Some(exc) = exc else {
@@ -80,7 +80,7 @@ pub fn left_with(alloc: Global, catches: bool, exc: Option<Exc>) -> Result<Left,
 }
 
 /// The exception behind a block: a `fail` scope that caught and has nothing left raises `TooSlow`.
-pub fn exc_after(
+pub(crate) fn exc_after(
     alloc: Global,
     kind: Kind,
     label: &Label,

@@ -15,7 +15,7 @@ use line_kernels::{Answer, Kernel, answer};
 use std::alloc::AllocError;
 
 /// A sleep for the lines of the part, so many in a tick.
-pub fn pace<'a>(here: Here<'a, '_>, per_tick: u64, tick: u64) -> Result<Walked<'a>, AllocError>
+pub(crate) fn pace<'a>(here: Here<'a, '_>, per_tick: u64, tick: u64) -> Result<Walked<'a>, AllocError>
     requires some { 1 ≤ per_tick }
     requires few { per_tick ≤ 1000000000 }
     requires small { length (input_of here) ≤ 16777216 }
@@ -41,7 +41,7 @@ fn line_count(here: Here<'_, '_>) -> Result<u64, AllocError>
 }
 
 /// The lines that contain a string.
-pub fn found<'a>(here: Here<'a, '_>, text: &'a Text, tick: u64) -> Result<Walked<'a>, AllocError>
+pub(crate) fn found<'a>(here: Here<'a, '_>, text: &'a Text, tick: u64) -> Result<Walked<'a>, AllocError>
     ensures { IfOk result (λ w. IsWalked (input_of here.entry) w
         (showing (found_in (input_of here.entry) text.now (range_of here.entry.part)) tick)) }
 {
@@ -53,7 +53,7 @@ pub fn found<'a>(here: Here<'a, '_>, text: &'a Text, tick: u64) -> Result<Walked
 }
 
 /// The first so many lines.
-pub fn head<'a>(here: Here<'a, '_>, count: u64, tick: u64) -> Result<Walked<'a>, AllocError>
+pub(crate) fn head<'a>(here: Here<'a, '_>, count: u64, tick: u64) -> Result<Walked<'a>, AllocError>
     ensures { IfOk result (λ w. IsWalked (input_of here.entry) w
         (showing (head_of (input_of here.entry) count (range_of here.entry.part)) tick)) }
 {
@@ -65,7 +65,7 @@ pub fn head<'a>(here: Here<'a, '_>, count: u64, tick: u64) -> Result<Walked<'a>,
 }
 
 /// The first of the longest lines.
-pub fn longest<'a>(here: Here<'a, '_>, tick: u64) -> Result<Walked<'a>, AllocError>
+pub(crate) fn longest<'a>(here: Here<'a, '_>, tick: u64) -> Result<Walked<'a>, AllocError>
     ensures { IfOk result (λ w. IsWalked (input_of here.entry) w
         (showing (longest_in (input_of here.entry) (range_of here.entry.part)) tick)) }
 {
@@ -77,7 +77,7 @@ pub fn longest<'a>(here: Here<'a, '_>, tick: u64) -> Result<Walked<'a>, AllocErr
 }
 
 /// The first line that contains a string, or an exception of that name where there is none.
-pub fn need<'a>(
+pub(crate) fn need<'a>(
     here: Here<'a, '_>,
     text: &'a Text,
     name: &Name,
@@ -95,7 +95,7 @@ pub fn need<'a>(
 }
 
 /// An exception of that name.
-pub fn raised<'a>(here: Here<'a, '_>, name: &Name, tick: u64) -> Result<Walked<'a>, AllocError>
+pub(crate) fn raised<'a>(here: Here<'a, '_>, name: &Name, tick: u64) -> Result<Walked<'a>, AllocError>
     ensures { IfOk result (λ w. IsWalked (input_of here.entry) w (raised_at (raising name.now here.entry.task.now tick) tick)) }
 {
     let exc = Exc::Raised {
@@ -107,7 +107,7 @@ pub fn raised<'a>(here: Here<'a, '_>, name: &Name, tick: u64) -> Result<Walked<'
 }
 
 /// A cancellation of the scope or nursery of that name that is round the task.
-pub fn cancel<'a>(here: Here<'a, '_>, name: &Name, tick: u64) -> Result<Walked<'a>, AllocError>
+pub(crate) fn cancel<'a>(here: Here<'a, '_>, name: &Name, tick: u64) -> Result<Walked<'a>, AllocError>
     requires { tick + 1 < 2 ^ 64 }
     ensures { IfOk result (λ w. IsWalked (input_of here.entry) w (cancelling (label_on name.now (scopes_of here.entry)) tick)) }
 {
@@ -117,7 +117,7 @@ pub fn cancel<'a>(here: Here<'a, '_>, name: &Name, tick: u64) -> Result<Walked<'
 }
 
 /// The tick of a deadline for a scope that is entered in a tick.
-pub fn due(deadline: Deadline, tick: u64) -> Option<u64>
+pub(crate) fn due(deadline: Deadline, tick: u64) -> Option<u64>
     requires modest { IsModestDeadline deadline }
     requires room { tick ≤ 4611686018427387904 }
     ensures { result ≡ due deadline tick }

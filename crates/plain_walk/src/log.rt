@@ -11,8 +11,9 @@ ghost use Rattle.task_records.specs.Records.{ending_in};
 ghost use Rattle.plain_walk.specs.Logs.{Tells, deadline_in, seen_in};
 
 use crate::kind::{Kind, entry_of_leaving};
-use crate::stack::{earlier, is_same_label};
+use crate::stack::is_same_label;
 use buffer_parts::Line;
+use cancel_scopes::earlier;
 use exc_groups::Label;
 use std::alloc::{AllocError, Global};
 use task_records::{Entry, Outcome, Record};
@@ -160,7 +161,7 @@ impl<'a> Log<'a> {
 }
 
 /// The tick from which the first cancellation of a label is seen.
-pub fn seen_from(signs: &[Sign], label: &Label) -> Option<u64>
+pub(crate) fn seen_from(signs: &[Sign], label: &Label) -> Option<u64>
     ensures { result ≡ seen_in label.now signs.now }
 {
     let mut seen = None;
@@ -182,7 +183,7 @@ fn seen_by(sign: &Sign, label: &Label) -> Option<u64>
 }
 
 /// The deadline with which a label was entered, where it was.
-pub fn deadline_of(dues: &[Due], label: &Label) -> Option<Option<u64>>
+pub(crate) fn deadline_of(dues: &[Due], label: &Label) -> Option<Option<u64>>
     ensures { result ≡ deadline_in label.now dues.now }
 {
     let mut rest = dues;
@@ -196,7 +197,7 @@ pub fn deadline_of(dues: &[Due], label: &Label) -> Option<Option<u64>>
 }
 
 /// Moves all of a list behind another.
-pub fn move_all<T: Drop>(to: &mut Vec<T>, mut from: Vec<T>) -> Result<(), AllocError>
+pub(crate) fn move_all<T: Drop>(to: &mut Vec<T>, mut from: Vec<T>) -> Result<(), AllocError>
     ensures { OnOk result (to.new.items ≡ to.old.items ++ from.items) }
 {
     to.append(&mut from)

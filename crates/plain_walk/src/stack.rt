@@ -1,11 +1,12 @@
 ghost use Rattle.std.specs.Prelude.{◌≡◌, Option, ◌&&◌};
 ghost use Rattle.std.specs.Option.{option_copied};
 ghost use Rattle.std.specs.Str.{bytes_eq};
-ghost use Rattle.cancel_scopes.specs.Sight.{sight, earlier, reached};
+ghost use Rattle.cancel_scopes.specs.Sight.{sight};
 ghost use Rattle.job_meaning.specs.Log.{same_label};
 ghost use Rattle.job_meaning.specs.Walk.{label_on, home_of, catches};
 ghost use Rattle.plain_walk.specs.Stacks.{stack_of};
 
+use cancel_scopes::{earlier, reached};
 use exc_groups::Label;
 use job_tree::Name;
 
@@ -66,33 +67,12 @@ impl<'s> Stack<'s> {
     pub(crate) fn catches(&self, from: Option<u64>, shield: bool, tick: u64) -> bool
         ensures { result ≡ catches from shield (stack_of self.now) tick }
     {
-        is_reached(from, tick) && (shield || !is_reached(self.sight(), tick))
-    }
-}
-
-// Whether a tick, if it ever comes, has come at another.
-fn is_reached(from: Option<u64>, tick: u64) -> bool
-    ensures { result ≡ reached from tick }
-{
-    match from {
-        None => false,
-        Some(from) => from <= tick,
-    }
-}
-
-/// The earlier of two ticks, each of which may never come.
-pub fn earlier(t: Option<u64>, u: Option<u64>) -> Option<u64>
-    ensures { result ≡ earlier t u }
-{
-    match (t, u) {
-        (None, _) => u,
-        (_, None) => t,
-        (Some(t), Some(u)) => Some(if u < t { u } else { t }),
+        reached(from, tick) && (shield || !reached(self.sight(), tick))
     }
 }
 
 /// Whether two labels are the same.
-pub fn is_same_label(a: &Label, b: &Label) -> bool
+pub(crate) fn is_same_label(a: &Label, b: &Label) -> bool
     ensures { result ≡ same_label a.now b.now }
 {
     is_same_name(&a.name(), &b.name()) && a.indices() == b.indices()

@@ -316,7 +316,7 @@ impl<'a> Walked<'a> {
 }
 
 /// How a task ended that ended with this exception.
-pub fn outcome_of(exc: Option<Exc>) -> Outcome
+pub(crate) fn outcome_of(exc: Option<Exc>) -> Outcome
     ensures { ending_in result ≡ ending_of (option_map exc_of exc) }
 {
     match exc {
@@ -327,7 +327,7 @@ pub fn outcome_of(exc: Option<Exc>) -> Outcome
 }
 
 /// An equal exception, if there is one.
-pub fn copy_of(alloc: Global, exc: &Option<Exc>) -> Result<Option<Exc>, AllocError>
+pub(crate) fn copy_of(alloc: Global, exc: &Option<Exc>) -> Result<Option<Exc>, AllocError>
     ensures { IfOk result (λ copy. option_map exc_of copy ≡ option_map exc_of exc.now) }
 {
     match exc {
