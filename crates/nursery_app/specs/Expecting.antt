@@ -1,8 +1,10 @@
 -- What the grammar asks for where tokens leave it.
-use Rattle.std.specs.Prelude.{List, [], ◌∷◌, ◌++◌, Option, Some, None}
+use Rattle.std.specs.Prelude.{◌≡◌, ℕ, List, [], ◌∷◌, ◌++◌, Option, Some, None}
 use Rattle.job_tokens.specs.declared.token.Token.{Token}
 use Rattle.job_syntax.specs.declared.symbol.Symbol.{Symbol}
 use Rattle.job_syntax.specs.Symbols.{Rest, next}
+use Rattle.job_syntax.specs.Syntax.{whole_job}
+use Rattle.job_grammar.specs.Refusals.{HasTokens}
 
 -- the symbol for which a token cannot stand, or what more does
 abbrev pub or_symbol : Rest → Symbol → (List Symbol → Option Symbol) → Option Symbol
@@ -14,3 +16,7 @@ abbrev pub expected_in : List Symbol → List Token → Option Symbol
 expected_in [] ts = None
 expected_in (s ∷ ss) [] = Some s
 expected_in (s ∷ ss) (t ∷ ts) = or_symbol (next s t.shape) s (λ more. expected_in (more ++ ss) ts)
+
+-- what the grammar asks for where the tokens of a text leave it, as far as tokens can be read
+abbrev pub IsExpected : List ℕ → Option Symbol → Type 0
+IsExpected text symbol = (tokens : List Token) × (fault : Option ℕ) × HasTokens text tokens fault × (symbol ≡ expected_in whole_job tokens)

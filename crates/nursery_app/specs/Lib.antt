@@ -6,3 +6,4 @@ pub mod Words
 pub mod Places
 pub mod Sentences
 pub mod Expecting
+pub mod Explaining

@@ -1,15 +1,10 @@
 -- What is wrong with a job text, in a sentence.
-use Rattle.std.specs.Prelude.{ℕ, ◌==◌, ◌&&◌, ◌||◌, nat_le, if◌then◌else◌, Bool, List, Option, Some, None, codes}
+use Rattle.std.specs.Prelude.{ℕ, ◌==◌, if◌then◌else◌, List, Option, Some, None, codes}
+use Rattle.job_tree.specs.Words.{is_digit, is_letter}
 use Rattle.job_syntax.specs.declared.symbol.Symbol.{Symbol}
 use Rattle.job_syntax.specs.declared.symbol.Symbol.TheVariants as symbol
 use Rattle.job_grammar.specs.declared.fault.JobKind.{JobKind}
 use Rattle.job_grammar.specs.declared.fault.JobKind.TheVariants.{TooLong, NotAscii, Version, Token, Number, Syntax, Depth, Twice, NotEnclosing, Reserved, TooLarge, NoMemory}
-
-abbrev pub is_digit : ℕ → Bool
-is_digit b = nat_le 48 b && nat_le b 57
-
-abbrev pub is_letter : ℕ → Bool
-is_letter b = (nat_le 65 b && nat_le b 90) || (nat_le 97 b && nat_le b 122)
 
 abbrev pub token_sentence : Option ℕ → List ℕ
 token_sentence None = codes "a word, a number, a string or one of `{`, `}` and `;` was expected"
@@ -42,17 +37,17 @@ expected_sentence (Some symbol.Text) = codes "expected a string, as `\"error\"`"
 expected_sentence (Some symbol.Open) = codes "expected `{`"
 expected_sentence (Some symbol.Semicolon) = codes "expected `;`"
 
--- what is wrong at a place with that byte; none is the text's end
-abbrev pub sentence_of : JobKind → Option ℕ → List ℕ
-sentence_of TooLong byte = codes "the job text has more than 65536 bytes"
-sentence_of NotAscii byte = codes "this byte is not ASCII"
-sentence_of Version byte = codes "a job text begins with the line `trio-job 1`"
-sentence_of Token byte = token_sentence byte
-sentence_of Number byte = codes "a number out of its range: `over` takes 1 to 64, `pace` 1 to 1000000, others 0 to 1000000000; no leading zero"
-sentence_of Syntax byte = codes "the job does not go on so"
-sentence_of Depth byte = codes "more than 32 blocks stand in one another"
-sentence_of Twice byte = codes "this name was given before: jobs, scopes, nurseries and starts need names of their own"
-sentence_of NotEnclosing byte = codes "no scope or nursery round this `cancel` has this name"
-sentence_of Reserved byte = codes "this name is reserved: no keyword, not `Cancelled`, and `TooSlow` only behind `except`"
-sentence_of TooLarge byte = codes "the job has more than 100000 steps, the copies that `over` makes counted"
-sentence_of NoMemory byte = codes "no memory"
+-- what is wrong at a place with that byte (none is the text's end), where the grammar asks for that
+abbrev pub sentence_of : JobKind → Option ℕ → Option Symbol → List ℕ
+sentence_of TooLong byte asked = codes "the job text has more than 65536 bytes"
+sentence_of NotAscii byte asked = codes "this byte is not ASCII"
+sentence_of Version byte asked = codes "a job text begins with the line `trio-job 1`"
+sentence_of Token byte asked = token_sentence byte
+sentence_of Number byte asked = codes "a number out of its range: `over` takes 1 to 64, `pace` 1 to 1000000, others 0 to 1000000000; no leading zero"
+sentence_of Syntax byte asked = expected_sentence asked
+sentence_of Depth byte asked = codes "more than 32 blocks stand in one another"
+sentence_of Twice byte asked = codes "this name was given before: jobs, scopes, nurseries and starts need names of their own"
+sentence_of NotEnclosing byte asked = codes "no scope or nursery round this `cancel` has this name"
+sentence_of Reserved byte asked = codes "this name is reserved: no keyword, not `Cancelled`, and `TooSlow` only behind `except`"
+sentence_of TooLarge byte asked = codes "the job has more than 100000 steps, the copies that `over` makes counted"
+sentence_of NoMemory byte asked = codes "no memory"

@@ -51,7 +51,7 @@ const CHECK_EXAMPLE: &str = "Example:
                      ^";
 
 // What reads the words behind the program's name.
-pub fn parser<'a>(alloc: Global) -> Result<Command<'a>, AllocError> {
+pub(crate) fn parser<'a>(alloc: Global) -> Result<Command<'a>, AllocError> {
     Command::new(alloc, "nursery")
         .no_binary_name(true)
         .bin_name("nursery")?

@@ -1,6 +1,6 @@
 ghost use Rattle.std.specs.Prelude.{◌≡◌, IfOk};
 ghost use Rattle.job_syntax.specs.Syntax.{whole_job};
-ghost use Rattle.nursery_app.specs.Expecting.{expected_in};
+ghost use Rattle.nursery_app.specs.Expecting.{expected_in, IsExpected};
 
 use job_grammar::FIRST_LINE;
 use job_syntax::Symbol;
@@ -8,8 +8,10 @@ use job_tokens::{Token, lex};
 use std::alloc::{AllocError, Global};
 
 // What the grammar asks for where the tokens of a text leave it; none where it asks for the text's end.
-pub fn expected(alloc: Global, text: &[u8]) -> Result<Option<Symbol>, AllocError> {
-    let (_, body) = text.split_at(text.len().min(FIRST_LINE.len()));
+pub(crate) fn expected(alloc: Global, text: &[u8]) -> Result<Option<Symbol>, AllocError>
+    ensures { IfOk result (IsExpected text.now) }
+{
+    let (_, body) = text.split_at(FIRST_LINE.len().min(text.len()));
     let lexed = lex(alloc, body, text.len())?;
     expected_at(alloc, lexed.tokens.as_slice())
 }

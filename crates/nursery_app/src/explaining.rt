@@ -1,7 +1,13 @@
+ghost use Rattle.std.specs.Prelude.{◌≡◌, ◌++◌, ◌<◌, ◌≤◌, length, take, map, replicate, codes, decimal, IfOk, OnOk};
+ghost use Rattle.std.specs.List.{before_first};
+ghost use Rattle.std.specs.String.{string_bytes};
+ghost use Rattle.nursery_app.specs.Explaining.{Tells, headed, shown_byte, is_newline, last_of, most_behind};
+
 use crate::expecting::expected;
 use crate::places::{column_of, line_of};
-use crate::sentences::{expected_sentence, sentence_of};
-use job_grammar::{JobFault, JobKind};
+use crate::sentences::sentence_of;
+use itoa::Buffer;
+use job_grammar::JobFault;
 use std::alloc::{AllocError, Global};
 
 // The most bytes of a line that are shown in front of a place, and from it on.
@@ -10,71 +16,113 @@ const MOST_BEFORE: usize = 60;
 const MOST_BEHIND: usize = 40;
 
 /// Tells a refusal to the user: `JOB:LINE:COLUMN: ` and a sentence, the line of the job text, and a caret under the
-/// place. Of a long line the part round the place is shown. A byte that is no printable ASCII is shown as `?`, and a
-/// tab or a carriage return as a space.
+/// place. Of a long line the 60 bytes in front of the place and the 40 from it on are shown. A byte that is no printable
+/// ASCII is shown as `?`, and a tab or a carriage return as a space. `job` is the name that the user gave the text.
 pub fn explain(
     alloc: Global,
     job: &str,
     text: &[u8],
     fault: JobFault,
-) -> Result<String, AllocError> {
+) -> Result<String, AllocError>
+    ensures { IfOk result (λ told. Tells job.now text.now fault (string_bytes told)) }
+{
     let line = line_of(text, fault.at);
     let column = column_of(text, fault.at);
-    let (front, behind) = text.split_at(fault.at.min(text.len()));
-    let sentence = told_by(alloc, text, fault, behind)?;
-    let mut told = format!(in alloc; "{job}:{line}:{column}: {sentence}\n")?;
-    let shown = (column - 1).min(MOST_BEFORE).min(front.len());
-    let (_, before) = front.split_at(front.len() - shown);
-    push_shown(&mut told, before)?;
-    push_line(&mut told, behind)?;
+    let asked = expected(alloc, text)?;
+    let (front, rest) = text.split_at(fault.at.min(text.len()));
+    let sentence = sentence_of(fault.kind, rest.first().copied(), asked);
+    let mut told = headed(alloc, job, line, column, sentence)?;
+    let shown = (column - 1).min(MOST_BEFORE);
+    push_shown(&mut told, last_bytes(front, shown))?;
+    push_shown(&mut told, first_line(first_bytes(rest)))?;
     told.push_str("\n")?;
     push_spaces(&mut told, shown)?;
     told.push_str("^\n")?;
     Ok(told)
 }
 
-// What was expected, or what is wrong, in a sentence.
-fn told_by(
+// The place and the sentence.
+fn headed(
     alloc: Global,
-    text: &[u8],
-    fault: JobFault,
-    behind: &[u8],
-) -> Result<&'static str, AllocError> {
-    if matches!(fault.kind, JobKind::Syntax) {
-        return Ok(expected_sentence(expected(alloc, text)?));
+    job: &str,
+    line: usize,
+    column: usize,
+    sentence: &str,
+) -> Result<String, AllocError>
+    ensures { IfOk result (λ told. string_bytes told ≡ headed job.now line column sentence.now) }
+{
+    let mut told = String::from_str(alloc, job)?;
+    push_place(&mut told, line)?;
+    push_place(&mut told, column)?;
+    told.push_str(": ")?;
+    told.push_str(sentence)?;
+    told.push_str("\n")?;
+    Ok(told)
+}
+
+// Appends a colon and a number.
+fn push_place(told: &mut String, n: usize) -> Result<(), AllocError>
+    ensures { OnOk result (string_bytes told.new ≡ string_bytes told.old ++ codes ":" ++ decimal n) }
+{
+    told.push_str(":")?;
+    let mut buffer = Buffer::new();
+    told.push_str(buffer.format(n as u64))
+}
+
+// The last so many bytes.
+fn last_bytes(bytes: &[u8], count: usize) -> &[u8]
+    requires { count ≤ length bytes.now }
+    ensures { result.now ≡ last_of count bytes.now }
+{
+    let (_, last) = bytes.split_at(bytes.len() - count);
+    last
+}
+
+// The first bytes, as many as are shown.
+fn first_bytes(bytes: &[u8]) -> &[u8]
+    ensures { result.now ≡ take most_behind bytes.now }
+{
+    let (first, _) = bytes.split_at(MOST_BEHIND.min(bytes.len()));
+    first
+}
+
+// The bytes in front of the first newline.
+fn first_line(bytes: &[u8]) -> &[u8]
+    ensures { result.now ≡ before_first is_newline bytes.now }
+{
+    'bytes: for (i, b) in bytes.iter().enumerate() {
+        if *b == b'\n' {
+            let (line, _) = bytes.split_at(i);
+            return line;
+        }
     }
-    Ok(sentence_of(fault.kind, behind.first().copied()))
+    bytes
 }
 
 // Appends bytes, each as one character.
-fn push_shown(told: &mut String, bytes: &[u8]) -> Result<(), AllocError> {
+fn push_shown(told: &mut String, bytes: &[u8]) -> Result<(), AllocError>
+    ensures { OnOk result (string_bytes told.new ≡ string_bytes told.old ++ map shown_byte bytes.now) }
+{
     'bytes: for b in bytes {
         told.push(shown_byte(*b))?;
     }
     Ok(())
 }
 
-// Appends the front of the bytes, up to a newline.
-fn push_line(told: &mut String, bytes: &[u8]) -> Result<(), AllocError> {
-    let (part, _) = bytes.split_at(bytes.len().min(MOST_BEHIND));
-    'bytes: for b in part {
-        if *b == b'\n' {
-            break;
-        }
-        told.push(shown_byte(*b))?;
-    }
-    Ok(())
-}
-
-fn push_spaces(told: &mut String, count: usize) -> Result<(), AllocError> {
-    'spaces: for _i in 0..count {
+fn push_spaces(told: &mut String, count: usize) -> Result<(), AllocError>
+    ensures { OnOk result (string_bytes told.new ≡ string_bytes told.old ++ replicate count 32) }
+{
+    'spaces: for _done in 0..count {
         told.push_str(" ")?;
     }
     Ok(())
 }
 
 // The character that stands for a byte.
-fn shown_byte(byte: u8) -> char {
+fn shown_byte(byte: u8) -> char
+    ensures value { result ≡ shown_byte byte }
+    ensures ascii { result < 128 }
+{
     match byte {
         b' '..=b'~' => byte as char,
         b'\t' | b'\r' => ' ',

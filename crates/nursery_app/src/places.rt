@@ -1,8 +1,8 @@
-ghost use Rattle.std.specs.Prelude.{◌≡◌, ◌≤◌};
+ghost use Rattle.std.specs.Prelude.{◌≡◌, ◌≤◌, ◌+◌, length, take};
 ghost use Rattle.nursery_app.specs.Places.{line_of, column_of};
 
 // The line of a place, counted from 1.
-pub fn line_of(text: &[u8], at: usize) -> usize
+pub(crate) fn line_of(text: &[u8], at: usize) -> usize
     ensures value { result ≡ line_of text.now at }
     ensures from_one { 1 ≤ result }
 {
@@ -17,9 +17,10 @@ pub fn line_of(text: &[u8], at: usize) -> usize
 }
 
 // The column of a place, in bytes, counted from 1.
-pub fn column_of(text: &[u8], at: usize) -> usize
+pub(crate) fn column_of(text: &[u8], at: usize) -> usize
     ensures value { result ≡ column_of text.now at }
     ensures from_one { 1 ≤ result }
+    ensures inside { result ≤ length (take at text.now) + 1 }
 {
     let (front, _) = text.split_at(at.min(text.len()));
     let mut column = 1;

@@ -4,9 +4,13 @@ ghost use Rattle.nursery_app.specs.Sentences.{sentence_of, token_sentence, expec
 use job_grammar::JobKind;
 use job_syntax::Symbol;
 
-// What is wrong at a place with that byte; none is the text's end.
-pub fn sentence_of(kind: JobKind, byte: Option<u8>) -> &'static str
-    ensures { result.now ≡ sentence_of kind byte }
+// What is wrong at a place with that byte (none is the text's end), where the grammar asks for that symbol.
+pub(crate) fn sentence_of(
+    kind: JobKind,
+    byte: Option<u8>,
+    asked: Option<Symbol>,
+) -> &'static str
+    ensures { result.now ≡ sentence_of kind byte asked }
 {
     match kind {
         JobKind::TooLong => "the job text has more than 65536 bytes",
@@ -16,7 +20,7 @@ pub fn sentence_of(kind: JobKind, byte: Option<u8>) -> &'static str
         JobKind::Number => {
             "a number out of its range: `over` takes 1 to 64, `pace` 1 to 1000000, others 0 to 1000000000; no leading zero"
         }
-        JobKind::Syntax => "the job does not go on so",
+        JobKind::Syntax => expected_sentence(asked),
         JobKind::Depth => "more than 32 blocks stand in one another",
         JobKind::Twice =>
             "this name was given before: jobs, scopes, nurseries and starts need names of their own",
@@ -44,7 +48,7 @@ fn token_sentence(byte: Option<u8>) -> &'static str
 }
 
 // What the grammar asks for at a place; none where it asks for the text's end.
-pub fn expected_sentence(symbol: Option<Symbol>) -> &'static str
+fn expected_sentence(symbol: Option<Symbol>) -> &'static str
     ensures { result.now ≡ expected_sentence symbol }
 {
     match symbol {
