@@ -6,7 +6,7 @@ use job_grammar::JobFault;
 use job_report::{WriteOut, send};
 use job_runner::{Forward, NoGate, Pick, Settings};
 use nursery_app::{
-    CheckVerdict, Order, Reverse, ServeFault, Turn, Verdict, check, explain, serve, split_feed,
+    CheckVerdict, Order, Reverse, Turn, Verdict, check, explain, serve, split_feed,
 };
 use std::io;
 use std::rt::Files;
@@ -74,7 +74,7 @@ fn run_text<R: Print + Eprint + Threads + Sync + AllocGlobal, P: Pick>(
     requires { length input.now ≤ 16777216 }
 {
     let mut out = WriteOut::new(io::writer(rt));
-    match serve(
+    let verdict = serve(
         rt,
         rt.alloc(),
         text,
@@ -83,13 +83,11 @@ fn run_text<R: Print + Eprint + Threads + Sync + AllocGlobal, P: Pick>(
         picker,
         &NoGate,
         &mut out,
-    ) {
-        Ok(Verdict::Done) => Ok(0),
-        Ok(Verdict::Raised) => Ok(1),
-        Ok(Verdict::JobRefused(fault)) => Ok(tell_refusal(rt, job, text, fault)),
-        Ok(Verdict::Limit) => Ok(3),
-        Err(fault) => Err(serve_stop(fault)),
+    )?;
+    if let Verdict::JobRefused(fault) = verdict {
+        tell_refusal(rt, job, text, fault);
     }
+    Ok(verdict.status())
 }
 
 /// Writes the canonical text of a job file, and gives the status.
@@ -99,27 +97,18 @@ pub fn check_job<R: Files + Input + Print + Eprint + AllocGlobal>(
 ) -> Result<u8, Stop> {
     let text = read_job_text(rt, job)?;
     let mut out = WriteOut::new(io::writer(rt));
-    match check(rt.alloc(), text.as_slice(), &mut out) {
-        Ok(CheckVerdict::Fine) => Ok(0),
-        Ok(CheckVerdict::JobRefused(fault)) => Ok(tell_refusal(rt, job, text.as_slice(), fault)),
-        Err(fault) => Err(serve_stop(fault)),
+    let verdict = check(rt.alloc(), text.as_slice(), &mut out)?;
+    if let CheckVerdict::JobRefused(fault) = verdict {
+        tell_refusal(rt, job, text.as_slice(), fault);
     }
+    Ok(verdict.status())
 }
 
 // Tells a refusal on standard error. Its line is on standard output already, so where memory or a write fails here
 // nothing more is told.
-fn tell_refusal<R: Eprint + AllocGlobal>(rt: &R, job: &str, text: &[u8], fault: JobFault) -> u8 {
+fn tell_refusal<R: Eprint + AllocGlobal>(rt: &R, job: &str, text: &[u8], fault: JobFault) {
     if let Ok(told) = explain(rt.alloc(), job, text, fault) {
         let _ = rt.eprint(told.as_str());
-    }
-    2
-}
-
-// How a fault in sending is told.
-fn serve_stop(fault: ServeFault) -> Stop {
-    match fault {
-        ServeFault::Send { .. } => Stop::Write,
-        ServeFault::NoMemory => Stop::NoMemory,
     }
 }
 

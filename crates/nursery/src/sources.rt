@@ -35,7 +35,9 @@ pub fn read_input<R: Files + Input + AllocGlobal>(rt: &R, name: &str) -> Result<
 }
 
 /// The feed on standard input.
-pub fn read_feed<R: Input + AllocGlobal>(rt: &R) -> Result<Vec<u8>, Stop> {
+pub fn read_feed<R: Input + AllocGlobal>(rt: &R) -> Result<Vec<u8>, Stop>
+    ensures { IfOk result (λ bytes. vec_len bytes ≤ 16842759) }
+{
     match read_whole(rt.alloc(), &mut rt.reader(), MOST_FEED) {
         Ok(bytes) => Ok(bytes),
         Err(fault) => Err(input_stop(fault)),
@@ -52,7 +54,9 @@ fn input_stop(fault: ReadFault) -> Stop {
 }
 
 /// The job text of that name, or of standard input where the name is `-`, cut behind the first byte too many.
-pub fn read_job_text<R: Files + Input + AllocGlobal>(rt: &R, name: &str) -> Result<Vec<u8>, Stop> {
+pub fn read_job_text<R: Files + Input + AllocGlobal>(rt: &R, name: &str) -> Result<Vec<u8>, Stop>
+    ensures { IfOk result (λ bytes. vec_len bytes ≤ 65537) }
+{
     let read = if name == "-" {
         read_front(rt.alloc(), rt.reader())
     } else {
@@ -69,6 +73,8 @@ pub fn read_job_text<R: Files + Input + AllocGlobal>(rt: &R, name: &str) -> Resu
 }
 
 // The first bytes of a reader, as many as a job text may have and one more.
-fn read_front<R: Read + Drop>(alloc: Global, reader: R) -> Result<Vec<u8>, ReadFault> {
+fn read_front<R: Read + Drop>(alloc: Global, reader: R) -> Result<Vec<u8>, ReadFault>
+    ensures { IfOk result (λ bytes. vec_len bytes ≤ 65537) }
+{
     read_whole(alloc, &mut reader.take(MOST_JOB as u64), MOST_JOB)
 }

@@ -1,3 +1,7 @@
+ghost use Rattle.std.specs.Prelude.{◌≡◌};
+ghost use Rattle.nursery.specs.Statuses.{status_of};
+
+use nursery_app::ServeFault;
 use thiserror::Error;
 
 /// Why the program has no verdict. It is printed as the user's line, with its newline.
@@ -27,12 +31,23 @@ pub enum Stop {
 }
 
 impl Stop {
-    /// The program's status.
-    pub fn status(&self) -> u8 {
+    /// The program's exit status.
+    pub fn status(&self) -> u8
+        ensures { result ≡ status_of self.now }
+    {
         match self {
             Stop::Words { .. } | Stop::NoText => 2,
             Stop::JobFile | Stop::InputFile | Stop::TooLong | Stop::Write => 4,
             Stop::NoMemory => 5,
+        }
+    }
+}
+
+impl From<ServeFault> for Stop {
+    fn from(fault: ServeFault) -> Stop {
+        match fault {
+            ServeFault::Send { .. } => Stop::Write,
+            ServeFault::NoMemory => Stop::NoMemory,
         }
     }
 }

@@ -7,3 +7,4 @@ pub mod Places
 pub mod Sentences
 pub mod Expecting
 pub mod Explaining
+pub mod Statuses

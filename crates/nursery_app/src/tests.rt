@@ -158,6 +158,14 @@ fn check_writes_the_canonical_text(rt: HostRuntime) -> Result<(), Fail> {
 }
 
 #[test]
+fn a_verdict_has_its_status(rt: HostRuntime) {
+    assert_eq!(rt; Verdict::Done.status(), 0);
+    assert_eq!(rt; Verdict::Raised.status(), 1);
+    assert_eq!(rt; Verdict::Limit.status(), 3);
+    assert_eq!(rt; CheckVerdict::Fine.status(), 0);
+}
+
+#[test]
 fn a_feed_is_cut_at_its_mark(rt: HostRuntime) {
     for (feed, job, input) in [
         (

@@ -1,3 +1,6 @@
+ghost use Rattle.std.specs.Prelude.{◌≡◌};
+ghost use Rattle.nursery_app.specs.Statuses.{status_of, check_status_of};
+
 use job_grammar::JobFault;
 use thiserror::Error;
 
@@ -14,6 +17,21 @@ pub enum Verdict {
     Limit,
 }
 
+impl Verdict {
+    /// The exit status of the program that wrote this: 0 where the job ended well, 1 where it raised, 2 where its text
+    /// was refused, 3 where it ends later than the limit.
+    pub fn status(self) -> u8
+        ensures { result ≡ status_of self }
+    {
+        match self {
+            Verdict::Done => 0,
+            Verdict::Raised => 1,
+            Verdict::JobRefused(_) => 2,
+            Verdict::Limit => 3,
+        }
+    }
+}
+
 /// What `check` wrote.
 #[derive(Clone, Copy, Debug)]
 pub enum CheckVerdict {
@@ -21,6 +39,18 @@ pub enum CheckVerdict {
     Fine,
     /// The refusal of the job text.
     JobRefused(JobFault),
+}
+
+impl CheckVerdict {
+    /// The exit status of the program that wrote this: 0 for a job, 2 for a refused text.
+    pub fn status(self) -> u8
+        ensures { result ≡ check_status_of self }
+    {
+        match self {
+            CheckVerdict::Fine => 0,
+            CheckVerdict::JobRefused(_) => 2,
+        }
+    }
 }
 
 /// Why not all bytes were sent.
