@@ -5,9 +5,7 @@ use crate::stop::Stop;
 use job_grammar::JobFault;
 use job_report::{WriteOut, send};
 use job_runner::{Forward, NoGate, Pick, Settings};
-use nursery_app::{
-    CheckVerdict, Order, Reverse, Turn, Verdict, check, explain, serve, split_feed,
-};
+use nursery_app::{CheckVerdict, Order, Reverse, Turn, Verdict, check, explain, serve, split_feed};
 use std::io;
 use std::rt::Files;
 use std::thread::Threads;

@@ -5,11 +5,7 @@ use job_grammar::JobKind;
 use job_syntax::Symbol;
 
 // What is wrong at a place with that byte (none is the text's end), where the grammar asks for that symbol.
-pub(crate) fn sentence_of(
-    kind: JobKind,
-    byte: Option<u8>,
-    asked: Option<Symbol>,
-) -> &'static str
+pub(crate) fn sentence_of(kind: JobKind, byte: Option<u8>, asked: Option<Symbol>) -> &'static str
     ensures { result.now ≡ sentence_of kind byte asked }
 {
     match kind {

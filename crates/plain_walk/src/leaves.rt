@@ -15,7 +15,11 @@ use line_kernels::{Answer, Kernel, answer};
 use std::alloc::AllocError;
 
 /// A sleep for the lines of the part, so many in a tick.
-pub(crate) fn pace<'a>(here: Here<'a, '_>, per_tick: u64, tick: u64) -> Result<Walked<'a>, AllocError>
+pub(crate) fn pace<'a>(
+    here: Here<'a, '_>,
+    per_tick: u64,
+    tick: u64,
+) -> Result<Walked<'a>, AllocError>
     requires some { 1 ≤ per_tick }
     requires few { per_tick ≤ 1000000000 }
     requires small { length (input_of here) ≤ 16777216 }
@@ -41,7 +45,11 @@ fn line_count(here: Here<'_, '_>) -> Result<u64, AllocError>
 }
 
 /// The lines that contain a string.
-pub(crate) fn found<'a>(here: Here<'a, '_>, text: &'a Text, tick: u64) -> Result<Walked<'a>, AllocError>
+pub(crate) fn found<'a>(
+    here: Here<'a, '_>,
+    text: &'a Text,
+    tick: u64,
+) -> Result<Walked<'a>, AllocError>
     ensures { IfOk result (λ w. IsWalked (input_of here.entry) w
         (showing (found_in (input_of here.entry) text.now (range_of here.entry.part)) tick)) }
 {
@@ -95,7 +103,11 @@ pub(crate) fn need<'a>(
 }
 
 /// An exception of that name.
-pub(crate) fn raised<'a>(here: Here<'a, '_>, name: &Name, tick: u64) -> Result<Walked<'a>, AllocError>
+pub(crate) fn raised<'a>(
+    here: Here<'a, '_>,
+    name: &Name,
+    tick: u64,
+) -> Result<Walked<'a>, AllocError>
     ensures { IfOk result (λ w. IsWalked (input_of here.entry) w (raised_at (raising name.now here.entry.task.now tick) tick)) }
 {
     let exc = Exc::Raised {
@@ -107,7 +119,11 @@ pub(crate) fn raised<'a>(here: Here<'a, '_>, name: &Name, tick: u64) -> Result<W
 }
 
 /// A cancellation of the scope or nursery of that name that is round the task.
-pub(crate) fn cancel<'a>(here: Here<'a, '_>, name: &Name, tick: u64) -> Result<Walked<'a>, AllocError>
+pub(crate) fn cancel<'a>(
+    here: Here<'a, '_>,
+    name: &Name,
+    tick: u64,
+) -> Result<Walked<'a>, AllocError>
     requires { tick + 1 < 2 ^ 64 }
     ensures { IfOk result (λ w. IsWalked (input_of here.entry) w (cancelling (label_on name.now (scopes_of here.entry)) tick)) }
 {

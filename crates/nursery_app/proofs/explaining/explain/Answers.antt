@@ -13,13 +13,15 @@ returns c =
     let width : c.min-shown.result ≡ width_before text at = width_is text at _ _ c.column_of-column.ensures.value c.min-shown.ensures in
     let front = before_is text _ _ at _ (cut_front text _ at _ c.split_at.ensures.front c.min.ensures) width c.last_bytes.ensures in
     let rest = cut_back text _ at _ c.split_at.ensures.back c.min.ensures in
-    let back = behind_is text _ _ _ at rest c.first_bytes.ensures c.first_line.ensures in
-    (c.in_ok-asked.asked, c.in_ok-asked.ensures,
-    pieces _ _ _ _ _ _ _ _ _ _ _ _ 
-    (c.in_ok-told.ensures ∙ headed_same c.args.job.now _ _ _ _ _ _ c.line_of-line.ensures.value c.column_of-column.ensures.value
-    (c.sentence_of-sentence.ensures ∙ ap (λ (x : Option ℕ). sentence_of c.args.fault.kind x c.in_ok-asked.asked) (c.copied.ensures ∙ c.first.ensures.value ∙ first_at text _ at rest)))
-    (c.in_ok-push_shown.ensures ∙ ap (λ (x : List ℕ). string_bytes c.in_ok-told.told ++ x) front)
-    (c.in_ok-push_shown-2.ensures ∙ ap (λ (x : List ℕ). string_bytes c.push_shown.new.told ++ x) back)
-    c.in_ok-push_str.ensures.bytes
-    (c.in_ok-push_spaces.ensures ∙ ap (λ (x : ℕ). string_bytes c.push_str.new.self ++ replicate x 32) width)
-    c.in_ok-push_str-2.ensures.bytes)
+    let back = behind_is text _ _ _ at rest c.first_bytes.ensures c.first_line.ensures in (
+      c.in_ok-asked.asked,
+      c.in_ok-asked.ensures,
+      pieces _ _ _ _ _ _ _ _ _ _ _ _
+          (c.in_ok-told.ensures ∙ headed_same c.args.job.now _ _ _ _ _ _ c.line_of-line.ensures.value c.column_of-column.ensures.value
+          (c.sentence_of-sentence.ensures ∙ ap (λ (x : Option ℕ). sentence_of c.args.fault.kind x c.in_ok-asked.asked) (c.copied.ensures ∙ c.first.ensures.value ∙ first_at text _ at rest)))
+          (c.in_ok-push_shown.ensures ∙ ap (λ (x : List ℕ). string_bytes c.in_ok-told.told ++ x) front)
+          (c.in_ok-push_shown-2.ensures ∙ ap (λ (x : List ℕ). string_bytes c.push_shown.new.told ++ x) back)
+          c.in_ok-push_str.ensures.bytes
+          (c.in_ok-push_spaces.ensures ∙ ap (λ (x : ℕ). string_bytes c.push_str.new.self ++ replicate x 32) width)
+          c.in_ok-push_str-2.ensures.bytes,
+    )
