@@ -1,8 +1,14 @@
--- The exit status of the program where it has no verdict.
-use Rattle.std.specs.Prelude.{ℕ}
+-- The exit status of the program.
+use Rattle.std.specs.Prelude.{◌≡◌, ℕ, List}
+use Rattle.nursery_app.specs.declared.verdict.Verdict.{Verdict}
+use Rattle.nursery_app.specs.declared.verdict.CheckVerdict.{CheckVerdict}
+use Rattle.nursery_app.specs.Verdict.{IsVerdict}
+use Rattle.nursery_app.specs.Checking.{IsCheck}
+use Rattle.nursery_app.specs.Statuses as verdicts
 use Rattle.nursery.specs.declared.stop.Stop.{Stop}
 use Rattle.nursery.specs.declared.stop.Stop.TheVariants.{Words, NoText, JobFile, InputFile, TooLong, Write, NoMemory}
 
+-- where there is no verdict
 abbrev pub status_of : Stop → ℕ
 status_of (Words text) = 2
 status_of NoText = 2
@@ -11,3 +17,13 @@ status_of InputFile = 4
 status_of TooLong = 4
 status_of Write = 4
 status_of NoMemory = 5
+
+-- the status is that of the verdict which the job's meaning has over the input
+abbrev pub TellsVerdict : List ℕ → List ℕ → ℕ → ℕ → Type 0
+TellsVerdict text input limit status =
+    (verdict : Verdict) × (bytes : List ℕ) × IsVerdict text input limit verdict bytes × (status ≡ verdicts.status_of verdict)
+
+-- the status is 0 where the text spells a job, and that of a refusal where it is refused
+abbrev pub TellsCheck : List ℕ → ℕ → Type 0
+TellsCheck text status =
+    (verdict : CheckVerdict) × (bytes : List ℕ) × IsCheck text verdict bytes × (status ≡ verdicts.check_status_of verdict)

@@ -1,4 +1,5 @@
-ghost use Rattle.std.specs.Prelude.{◌≤◌, length};
+ghost use Rattle.std.specs.Prelude.{◌≤◌, length, IfOk};
+ghost use Rattle.nursery.specs.Statuses.{TellsVerdict, TellsCheck};
 
 use crate::sources::{MOST_INPUT, read_feed, read_input, read_job_text};
 use crate::stop::Stop;
@@ -14,7 +15,7 @@ use std::thread::Threads;
 const FEED_LIMIT: u64 = 1_000_000;
 
 /// Serves standard input with the defaults, and gives the status.
-pub fn run_feed<R: Input + Print + Eprint + Threads + Sync + AllocGlobal>(
+pub(crate) fn run_feed<R: Input + Print + Eprint + Threads + Sync + AllocGlobal>(
     rt: &R,
 ) -> Result<u8, Stop> {
     let feed = read_feed(rt)?;
@@ -30,7 +31,7 @@ pub fn run_feed<R: Input + Print + Eprint + Threads + Sync + AllocGlobal>(
 
 /// Runs a job file over an input file, and gives the status. Both are read before anything is told: first a too long
 /// input, then a job file that cannot be read, then such an input.
-pub fn run_job<R: Files + Input + Print + Eprint + Threads + Sync + AllocGlobal>(
+pub(crate) fn run_job<R: Files + Input + Print + Eprint + Threads + Sync + AllocGlobal>(
     rt: &R,
     job: &str,
     input: &str,
@@ -70,6 +71,7 @@ fn run_text<R: Print + Eprint + Threads + Sync + AllocGlobal, P: Pick>(
     picker: &mut P,
 ) -> Result<u8, Stop>
     requires { length input.now ≤ 16777216 }
+    ensures { IfOk result (TellsVerdict text.now input.now settings.limit) }
 {
     let mut out = WriteOut::new(io::writer(rt));
     let verdict = serve(
@@ -89,15 +91,22 @@ fn run_text<R: Print + Eprint + Threads + Sync + AllocGlobal, P: Pick>(
 }
 
 /// Writes the canonical text of a job file, and gives the status.
-pub fn check_job<R: Files + Input + Print + Eprint + AllocGlobal>(
+pub(crate) fn check_job<R: Files + Input + Print + Eprint + AllocGlobal>(
     rt: &R,
     job: &str,
 ) -> Result<u8, Stop> {
     let text = read_job_text(rt, job)?;
+    check_text(rt, job, text.as_slice())
+}
+
+// Writes the canonical text of a job text, and gives the status.
+fn check_text<R: Print + Eprint + AllocGlobal>(rt: &R, job: &str, text: &[u8]) -> Result<u8, Stop>
+    ensures { IfOk result (TellsCheck text.now) }
+{
     let mut out = WriteOut::new(io::writer(rt));
-    let verdict = check(rt.alloc(), text.as_slice(), &mut out)?;
+    let verdict = check(rt.alloc(), text, &mut out)?;
     if let CheckVerdict::JobRefused(fault) = verdict {
-        tell_refusal(rt, job, text.as_slice(), fault);
+        tell_refusal(rt, job, text, fault);
     }
     Ok(verdict.status())
 }
@@ -111,7 +120,7 @@ fn tell_refusal<R: Eprint + AllocGlobal>(rt: &R, job: &str, text: &[u8], fault: 
 }
 
 /// Writes a text that was asked for, and gives the status.
-pub fn show_help<R: Print>(rt: &R, text: &str) -> Result<u8, Stop> {
+pub(crate) fn show_help<R: Print>(rt: &R, text: &str) -> Result<u8, Stop> {
     let mut out = WriteOut::new(io::writer(rt));
     match send(text.as_bytes(), &mut out) {
         Ok(()) => Ok(0),

@@ -8,7 +8,7 @@ use std::io::Read;
 use std::rt::Files;
 
 /// The most bytes of an input.
-pub const MOST_INPUT: usize = 16_777_216;
+pub(crate) const MOST_INPUT: usize = 16_777_216;
 
 /// The most bytes of a feed: a job text, the line between, and an input.
 const MOST_FEED: usize = 16_842_759;
@@ -17,7 +17,10 @@ const MOST_FEED: usize = 16_842_759;
 const MOST_JOB: usize = 65_537;
 
 /// The input of that name, or of standard input where the name is `-`.
-pub fn read_input<R: Files + Input + AllocGlobal>(rt: &R, name: &str) -> Result<Vec<u8>, Stop>
+pub(crate) fn read_input<R: Files + Input + AllocGlobal>(
+    rt: &R,
+    name: &str,
+) -> Result<Vec<u8>, Stop>
     ensures { IfOk result (λ bytes. vec_len bytes ≤ 16777216) }
 {
     let read = if name == "-" {
@@ -35,7 +38,7 @@ pub fn read_input<R: Files + Input + AllocGlobal>(rt: &R, name: &str) -> Result<
 }
 
 /// The feed on standard input.
-pub fn read_feed<R: Input + AllocGlobal>(rt: &R) -> Result<Vec<u8>, Stop>
+pub(crate) fn read_feed<R: Input + AllocGlobal>(rt: &R) -> Result<Vec<u8>, Stop>
     ensures { IfOk result (λ bytes. vec_len bytes ≤ 16842759) }
 {
     match read_whole(rt.alloc(), &mut rt.reader(), MOST_FEED) {
@@ -54,7 +57,10 @@ fn input_stop(fault: ReadFault) -> Stop {
 }
 
 /// The job text of that name, or of standard input where the name is `-`, cut behind the first byte too many.
-pub fn read_job_text<R: Files + Input + AllocGlobal>(rt: &R, name: &str) -> Result<Vec<u8>, Stop>
+pub(crate) fn read_job_text<R: Files + Input + AllocGlobal>(
+    rt: &R,
+    name: &str,
+) -> Result<Vec<u8>, Stop>
     ensures { IfOk result (λ bytes. vec_len bytes ≤ 65537) }
 {
     let read = if name == "-" {

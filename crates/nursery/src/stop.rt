@@ -32,7 +32,7 @@ pub enum Stop {
 
 impl Stop {
     /// The program's exit status.
-    pub fn status(&self) -> u8
+    pub(crate) fn status(&self) -> u8
         ensures { result ≡ status_of self.now }
     {
         match self {
