@@ -1,5 +1,5 @@
 -- Numbers in their ranges, from the tokens to the steps.
-use Rattle.std.proofs.Common.{◌≡◌, ℕ, ◌≤◌, nat_le, Bool, true, false, ◌&&◌, cond, List, [], ◌∷◌, Option, Some, None, refl, sym, subst, arith}
+use Rattle.std.proofs.Common.{◌≡◌, ℕ, ◌≤◌, nat_le, Bool, true, false, ◌&&◌, cond, List, [], ◌∷◌, Option, Some, None, refl, sym, subst}
 use Rattle.std.proofs.lemmas.Bool.{leb-true}
 use Rattle.job_tree.specs.declared.deadline.Deadline.{Deadline}
 use Rattle.job_tree.specs.declared.deadline.Deadline.TheVariants.{Never, After, At}
@@ -68,9 +68,9 @@ at_fit : (n : ℕ) → IsFit word.At n → n ≤ 1000000000
 unfolding keyword_of
 at_fit n e = (between 0 1000000000 n e).1
 
-pace_fit : (n : ℕ) → IsFit word.Pace n → (1 ≤ n) × (n ≤ 1000000000)
+pace_fit : (n : ℕ) → IsFit word.Pace n → (1 ≤ n) × (n ≤ 1000000)
 unfolding keyword_of
-pace_fit n e = let two = between 1 1000000 n e in (two.0, omega (arith, two.1))
+pace_fit n e = between 1 1000000 n e
 
 over_fit : (n : ℕ) → IsFit word.Over n → (1 ≤ n) × (n ≤ 64)
 unfolding keyword_of

@@ -30,7 +30,7 @@ abbrev mutual
   IsModestStep (sleep n) = n ≤ greatest
   IsModestStep checkpoint = Unit {0}
   IsModestStep forever = Unit {0}
-  IsModestStep (pace k) = (1 ≤ k) × (k ≤ greatest)
+  IsModestStep (pace k) = (1 ≤ k) × (k ≤ 1000000)
   IsModestStep (find text) = Unit {0}
   IsModestStep (head n) = n ≤ greatest
   IsModestStep longest = Unit {0}

@@ -1,4 +1,4 @@
--- The names that a job gives, its size and its depth.
+-- The names that a job gives, and its size.
 use Rattle.std.specs.Prelude.{ℕ, ◌+◌, ◌*◌, Option, Some, None, List, [], ◌∷◌, ◌++◌}
 use Rattle.std.specs.List.{IsDistinct}
 use Rattle.std.specs.Str.{bytes_eq}

@@ -169,7 +169,7 @@ mutual
   ends_step m checkpoint here st t h small = by_sleeping _ st _ t (omega arith)
   ends_step m forever here st t h small = by_sleeping _ st _ t (omega arith)
   ends_step m (pace k) here st t h small =
-      let modest : k ≤ 1000000000 = h.1 in
+      let modest : k ≤ 1000000 = h.1 in
       by_sleeping _ st _ t (omega (arith, count_le here.input here.part, paced_le (count_in here.input here.part) k))
   ends_step m (find text) here st t h small = by_showing _ _ t (omega arith)
   ends_step m (head n) here st t h small = by_showing _ _ t (omega arith)

@@ -21,7 +21,7 @@ pub(crate) fn pace<'a>(
     tick: u64,
 ) -> Result<Walked<'a>, AllocError>
     requires some { 1 ≤ per_tick }
-    requires few { per_tick ≤ 1000000000 }
+    requires few { per_tick ≤ 1000000 }
     requires small { length (input_of here) ≤ 16777216 }
     requires room { tick ≤ 4611686018427387904 }
     ensures { IfOk result (λ w. IsWalked (input_of here.entry) w
