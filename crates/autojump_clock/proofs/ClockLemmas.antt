@@ -4,11 +4,15 @@ use Rattle.std.proofs.lemmas.List.Elements.{All-contains}
 use Rattle.std.proofs.lemmas.Bool.{cases_lt}
 use Rattle.autojump_clock.specs.declared.timers.Timer.{Timer}
 use Rattle.autojump_clock.specs.Timers.{due_in, Apart, dues, earlier_of, least_due_from, without, IsLeast}
-use Rattle.autojump_clock.specs.Clock.{Clock, Updates, IsNext, TakesDue}
+use Rattle.autojump_clock.specs.Clock.{Clock, IsUnchanged, Updates, IsNext, TakesDue}
 use Rattle.autojump_clock.proofs.TimerLemmas.{due_in-push_same, due_in-push_other, due_in-without_same, due_in-without_other, due_among, due_has_task, at_most_task, some_least, least_has_due}
 
 abbrev pub clock : ℕ → ℕ → List Timer → Clock
 clock tick limit ts = record { tick = tick; limit = limit; timers = ts }
+
+-- a clock is unchanged from itself
+pub same_clock : (c : Clock) → IsUnchanged c c
+same_clock c = record { time = record { now = refl; limit = refl }; timers = λ task. refl }
 
 -- one more timer
 pub Updates-push : (tick limit task due : ℕ) (ts : List Timer) → due_in ts task ≡ None → Updates (clock tick limit ts) (clock tick limit (ts ++ record { task = task; due = due } ∷ [])) task (Some due)

@@ -34,6 +34,11 @@ pub record SameTime (old new : Clock) : Type 0 where
   pub now : now_of new ≡ now_of old
   pub limit : limit_of new ≡ limit_of old
 
+-- nothing changed: the tick, the limit and each task's timer stay
+pub record IsUnchanged (old new : Clock) : Type 0 where
+  pub time : SameTime old new
+  pub timers : (task : ℕ) → due_of new task ≡ due_of old task
+
 -- the task's timer is this now, and every other task keeps its own
 pub record Updates (old new : Clock) (task : ℕ) (timer : Option ℕ) : Type 0 where
   pub changed : due_of new task ≡ timer
@@ -58,7 +63,7 @@ pub record MeetsLimit (old : Clock) (next_cancel : Option ℕ) (new : Clock) : T
   pub next : ℕ
   pub is_next : IsNext old next_cancel next
   pub late : limit_of old < next
-  pub unchanged : new ≡ old
+  pub unchanged : IsUnchanged old new
 
 -- A due task was taken: no other task that is due has a lesser key. Its timer goes.
 pub record TakesDue (old : Clock) (task : ℕ) (new : Clock) : Type 0 where
@@ -72,4 +77,4 @@ pub record TakesDue (old : Clock) (task : ℕ) (new : Clock) : Type 0 where
 -- no task is due, and nothing changed
 pub record NoneDue (old new : Clock) : Type 0 where
   pub all_later : AllLater old (now_of old)
-  pub unchanged : new ≡ old
+  pub unchanged : IsUnchanged old new

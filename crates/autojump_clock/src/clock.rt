@@ -35,7 +35,7 @@ impl Model for MockClock {
 }
 
 impl MockClock {
-    ghost use Rattle.autojump_clock.specs.Clock.{now_of, limit_of, due_of, HasTimer, AllLater, SameTime, Updates, TakesDue, NoneDue};
+    ghost use Rattle.autojump_clock.specs.Clock.{now_of, limit_of, due_of, HasTimer, AllLater, SameTime, IsUnchanged, Updates, TakesDue, NoneDue};
     ghost use Rattle.autojump_clock.specs.Answers.{Jumps};
 
     /// A clock at tick 0 that jumps to no tick past the limit. No task has a timer. Takes no memory.
@@ -58,14 +58,15 @@ impl MockClock {
         self.tick
     }
 
-    /// Gives the task a timer that is due at that later tick. On want of memory nothing changes.
+    /// Gives the task a timer that is due at that later tick. On want of memory nothing changes. The caller sees to it that
+    /// the task has no timer yet, and that the tick is below 2 to the 41.
     pub fn sleep_until(&mut self, task: TaskId, due: u64) -> Result<(), AllocError>
         requires awake { due_of self.old task ≡ None }
         requires later { now_of self.old < due }
         requires bounded { due < 2 ^ 41 }
         ensures timers { OnOk result (Updates self.old self.new task (Some due)) }
         ensures time { OnOk result (SameTime self.old self.new) }
-        ensures err { OnErr result (self.new ≡ self.old) }
+        ensures err { OnErr result (IsUnchanged self.old self.new) }
     {
         self.timers.push(Timer {
             task: task.key(),
@@ -74,7 +75,7 @@ impl MockClock {
         Ok(())
     }
 
-    /// Takes the task's timer away, as where a cancellation wakes it. Takes no memory.
+    /// Takes the task's timer away, as where a cancellation wakes it. The caller sees to it that it has one. Takes no memory.
     pub fn wake(&mut self, task: TaskId)
         requires { IsSome (due_of self.old task) }
         ensures timers { Updates self.old self.new task None }
@@ -84,12 +85,12 @@ impl MockClock {
     }
 
     /// Jumps to the next tick, once every task is blocked: the least of the ticks at which timers are due and of the
-    /// next cancellation's. Stands where that is past the limit. Takes no memory.
+    /// next cancellation's. Stands where that is past the limit. The caller sees to it that no timer is due, that there is a
+    /// timer, and that the next cancellation is later than the tick. Takes no memory.
     pub fn jump(&mut self, next_cancel: Option<u64>) -> Jump
         requires none_due { AllLater self.old (now_of self.old) }
         requires some { HasTimer self.old }
         requires later { (cancel : ℕ) → next_cancel ≡ Some cancel → now_of self.old < cancel }
-        requires bounded { limit_of self.old < 2 ^ 41 }
         ensures { Jumps self.old next_cancel result self.new }
     {
         let due = least_due(self.timers.as_slice()).unwrap();
