@@ -1,4 +1,5 @@
-/// What a worker calls round each request that it computes, for tests that want to see workers at work.
+/// What a worker calls round each request that it computes, for tests that want to see workers at work. No thread is
+/// started yet, so nothing calls a gate.
 pub trait Gate {
     /// Called before request `i` is computed.
     fn before(&self, i: usize);

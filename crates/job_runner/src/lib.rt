@@ -15,7 +15,7 @@ mod settings;
 pub use fault::RunFault;
 pub use finished::Run;
 pub use gate::{Gate, NoGate};
-pub use pick::{Forward, Pick};
+pub use pick::{Forward, Pick, Reverse, Turn};
 pub use running::run;
 pub use settings::Settings;
 pub use task_records::{Entry, Outcome, Record, ScopeFrom};

@@ -21,7 +21,8 @@ use std::thread::Threads;
 
 /// Runs a job over an input. The answer is that of the job's one-thread meaning, whatever the number of workers, the
 /// order of picks and the gate: its records, or `Limit` exactly where the meaning ends later than the limit. Want of
-/// memory may stand in the place of either.
+/// memory may stand in the place of either. No thread is started yet: the job is computed on the calling thread, up to its
+/// end also where that is past the limit, and neither picker nor gate is called.
 pub fn run<'a, R: Threads + Sync, P: Pick, G: Gate + Sync>(
     rt: &R,
     alloc: Global,

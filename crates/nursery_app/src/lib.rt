@@ -13,7 +13,6 @@ mod expecting;
 mod explaining;
 mod feed;
 mod lines;
-mod orders;
 mod places;
 mod read;
 #[cfg(test)]
@@ -32,7 +31,7 @@ mod worked;
 pub use checking::check;
 pub use explaining::explain;
 pub use feed::split_feed;
-pub use orders::{Reverse, Turn};
+pub use job_runner::{Reverse, Turn};
 pub use read::{ReadFault, read_whole};
 pub use serving::serve;
 pub use verdict::{CheckVerdict, ServeFault, Verdict};
