@@ -89,7 +89,7 @@ wants 0 "$report" ''
 { cat raise.job; echo %input; } > in
 wants 1 'job main 2\ntask main 0 2 raised Boom(main@2)\n' ''
 : > in
-wants 2 'refused J3 Version at 0\n' 'standard input:1:1: a job text begins with the line `trio-job 1`\n\n^\n'
+wants 2 'refused J3 Version at 0\n' 'standard input:1:1: a job text begins with the line `trio-job 1`, ended by a newline alone\n\n^\n'
 
 # ---- 2: a refused job, told with its place
 
@@ -106,9 +106,11 @@ refuses 'trio-job 1\njob main {\n  sleep 1\n}\n' 'refused J6 Syntax at 32' '4:1:
 refuses 'trio-job 1\njob main {\n\tfind "\303\244";\n}\n' 'refused J2 NotAscii at 29' \
     '3:8: this byte is not ASCII\n find "??";\n       ^'
 refuses 'trio-job 2\n' 'refused J3 Version at 0' \
-    '1:1: a job text begins with the line `trio-job 1`\ntrio-job 2\n^'
+    '1:1: a job text begins with the line `trio-job 1`, ended by a newline alone\ntrio-job 2\n^'
+refuses 'trio-job 1\r\njob main { }\n' 'refused J3 Version at 0' \
+    '1:1: a job text begins with the line `trio-job 1`, ended by a newline alone\ntrio-job 1 \n^'
 refuses 'trio-job 1\njob main { sleep 1s; }\n' 'refused J4 Token at 28' \
-    '2:18: a letter stands directly behind this number\njob main { sleep 1s; }\n                 ^'
+    '2:18: a letter or `_` stands directly behind this number\njob main { sleep 1s; }\n                 ^'
 refuses 'trio-job 1\njob main { pace 0; }\n' 'refused J5 Number at 27' \
     '2:17: a number out of its range: `over` takes 1 to 64, `pace` 1 to 1000000, others 0 to 1000000000; no leading zero\njob main { pace 0; }\n                ^'
 refuses 'trio-job 1\njob main { scope s { } scope s { } }\n' 'refused J8 Twice at 40' \
@@ -199,6 +201,11 @@ if ! cat shut.job > /dev/null 2>&1; then
     wants 4 '' 'cannot read the job file\n' run shut.job log.txt
     wants 4 '' 'cannot read the input file\n' run find.job shut.job
 fi
+# A file that opens and cannot be read, whoever runs this.
+if [ -e /proc/self/mem ]; then
+    wants 4 '' 'cannot read the job file\n' check /proc/self/mem
+    wants 4 '' 'cannot read the input file\n' run find.job /proc/self/mem
+fi
 name='nursery from a folder'
 got=0
 "$nursery" < a_folder > out 2> err || got=$?
@@ -241,6 +248,13 @@ if [ -c /dev/full ]; then
     full check find.job
     full --help
     full --version
+    # Standard error is: the refusal stands on standard output already, and the status stays.
+    printf 'trio-job 1\njob main { sleep }\n' > wait.job
+    name='nursery check with standard error on a full disk'
+    got=0
+    "$nursery" check wait.job < in > out 2> /dev/full || got=$?
+    : > err
+    compare "$got" 2 'refused J6 Syntax at 28\n' ''
 fi
 
 # Nobody reads the pipe any more: its reader has ended before the program begins, which waits for the file that says so.

@@ -10,7 +10,7 @@ abbrev pub token_sentence : Option ℕ → List ℕ
 token_sentence None = codes "a word, a number, a string or one of `{`, `}` and `;` was expected"
 token_sentence (Some b) =
     if b == 34 then codes "a string of 1 to 64 bytes was expected: printable, or `\\\"`, `\\\\` or `\\x` and two of 0-9a-f, and closed by a quote"
-    else if is_digit b then codes "a letter stands directly behind this number"
+    else if is_digit b then codes "a letter or `_` stands directly behind this number"
     else if is_letter b then codes "this word has more than 32 bytes"
     else codes "a word, a number, a string or one of `{`, `}` and `;` was expected"
 
@@ -41,7 +41,7 @@ expected_sentence (Some symbol.Semicolon) = codes "expected `;`"
 abbrev pub sentence_of : JobKind → Option ℕ → Option Symbol → List ℕ
 sentence_of TooLong byte asked = codes "the job text has more than 65536 bytes"
 sentence_of NotAscii byte asked = codes "this byte is not ASCII"
-sentence_of Version byte asked = codes "a job text begins with the line `trio-job 1`"
+sentence_of Version byte asked = codes "a job text begins with the line `trio-job 1`, ended by a newline alone"
 sentence_of Token byte asked = token_sentence byte
 sentence_of Number byte asked = codes "a number out of its range: `over` takes 1 to 64, `pace` 1 to 1000000, others 0 to 1000000000; no leading zero"
 sentence_of Syntax byte asked = expected_sentence asked

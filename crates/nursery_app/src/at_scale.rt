@@ -82,6 +82,8 @@ fn every_byte_is_shown(rt: HostRuntime) -> Result<(), Fail> {
     assert!(rt; report.starts_with(first));
     // A text of 40 bytes for the ten before the newline, and one of 696 for the 245 behind it.
     assert_eq!(rt; report.len(), 30 + 12 + 40 + 1 + 14 + 696 + 1);
+    let (_, behind) = report.split_at(report.len().min(30 + 12 + 40));
+    assert!(rt; behind.starts_with(b"\n  line 11+245 \\x0b\\x0c"));
     Ok(())
 }
 

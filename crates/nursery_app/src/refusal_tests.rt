@@ -77,22 +77,26 @@ const EXPECTED: [Row; 12] = [
     ),
 ];
 
-const WRONG: [Row; 12] = [
+const WRONG: [Row; 13] = [
     (
         b"trio-job 1\njob a {\n\tfind \"\xc3\xa4\"; }",
         "f:3:8: this byte is not ASCII\n find \"??\"; }\n       ^\n",
     ),
     (
         b"job a { }",
-        "f:1:1: a job text begins with the line `trio-job 1`\njob a { }\n^\n",
+        "f:1:1: a job text begins with the line `trio-job 1`, ended by a newline alone\njob a { }\n^\n",
     ),
     (
         b"",
-        "f:1:1: a job text begins with the line `trio-job 1`\n\n^\n",
+        "f:1:1: a job text begins with the line `trio-job 1`, ended by a newline alone\n\n^\n",
     ),
     (
         b"trio-job 1\njob a { sleep 1s; }",
-        "f:2:15: a letter stands directly behind this number\njob a { sleep 1s; }\n              ^\n",
+        "f:2:15: a letter or `_` stands directly behind this number\njob a { sleep 1s; }\n              ^\n",
+    ),
+    (
+        b"trio-job 1\njob a { sleep 1_; }",
+        "f:2:15: a letter or `_` stands directly behind this number\njob a { sleep 1_; }\n              ^\n",
     ),
     (
         b"trio-job 1\njob a { find \"x; }",

@@ -11,7 +11,8 @@ pub(crate) fn sentence_of(kind: JobKind, byte: Option<u8>, asked: Option<Symbol>
     match kind {
         JobKind::TooLong => "the job text has more than 65536 bytes",
         JobKind::NotAscii => "this byte is not ASCII",
-        JobKind::Version => "a job text begins with the line `trio-job 1`",
+        JobKind::Version =>
+            "a job text begins with the line `trio-job 1`, ended by a newline alone",
         JobKind::Token => token_sentence(byte),
         JobKind::Number => {
             "a number out of its range: `over` takes 1 to 64, `pace` 1 to 1000000, others 0 to 1000000000; no leading zero"
@@ -37,7 +38,7 @@ fn token_sentence(byte: Option<u8>) -> &'static str
         Some(b'"') => {
             "a string of 1 to 64 bytes was expected: printable, or `\\\"`, `\\\\` or `\\x` and two of 0-9a-f, and closed by a quote"
         }
-        Some(b'0'..=b'9') => "a letter stands directly behind this number",
+        Some(b'0'..=b'9') => "a letter or `_` stands directly behind this number",
         Some(b'A'..=b'Z' | b'a'..=b'z') => "this word has more than 32 bytes",
         _ => "a word, a number, a string or one of `{`, `}` and `;` was expected",
     }

@@ -1,6 +1,9 @@
-use crate::{CheckVerdict, ReadFault, ServeFault, Verdict, check, read_whole, serve, split_feed};
+use crate::{
+    CheckVerdict, ReadFault, Reverse, ServeFault, Turn, Verdict, check, read_whole, serve,
+    split_feed,
+};
 use job_report::{MemOut, Out};
-use job_runner::{Forward, NoGate, Settings};
+use job_runner::{Forward, NoGate, Pick, Settings};
 use std::io;
 use std::io::Read;
 use std::process::Abort;
@@ -14,7 +17,7 @@ const TWO_LINES: &[u8] = b"error\nok\n";
 
 const FOUND: &str = "job main 0\ntask main 0 0 done\n  line 0+5 error\n";
 
-// What `serve` writes for the job `main` of these steps, with the limit 100.
+// What `serve` writes for the job `main` of these steps, with the limit 100, by 1 and 64 workers in each order of picks.
 pub fn assert_serves<R: Abort + Threads + Sync + AllocGlobal>(
     rt: &R,
     steps: &str,
@@ -25,20 +28,36 @@ pub fn assert_serves<R: Abort + Threads + Sync + AllocGlobal>(
     let text = format!(in rt.alloc(); "trio-job 1\njob main {{ {steps} }}")?;
     for workers in [1, 64] {
         let settings = Settings::new(workers, 100).expect(rt, "settings");
-        let mut out = MemOut::new(rt.alloc(), 65_536, 4_096, None)?;
-        let verdict = serve(
-            rt,
-            rt.alloc(),
-            text.as_bytes(),
-            input,
-            settings,
-            &mut Forward,
-            &NoGate,
-            &mut out,
-        );
-        assert!(rt; verdict.is_ok(), "{steps}");
-        assert_eq!(rt; out.taken(), expected.as_bytes(), "{steps}");
+        assert_writes(rt, &text, input, settings, &mut Forward, expected)?;
+        assert_writes(rt, &text, input, settings, &mut Reverse, expected)?;
+        assert_writes(rt, &text, input, settings, &mut Turn { calls: 0 }, expected)?;
     }
+    Ok(())
+}
+
+// What `serve` writes for a job text.
+fn assert_writes<R: Abort + Threads + Sync + AllocGlobal, P: Pick>(
+    rt: &R,
+    text: &str,
+    input: &[u8],
+    settings: Settings,
+    picker: &mut P,
+    expected: &str,
+) -> Result<(), Fail> {
+    assert!(rt; input.len() <= 16_777_216);
+    let mut out = MemOut::new(rt.alloc(), 65_536, 4_096, None)?;
+    let verdict = serve(
+        rt,
+        rt.alloc(),
+        text.as_bytes(),
+        input,
+        settings,
+        picker,
+        &NoGate,
+        &mut out,
+    );
+    assert!(rt; verdict.is_ok(), "{text}");
+    assert_eq!(rt; out.taken(), expected.as_bytes(), "{text}");
     Ok(())
 }
 
@@ -217,6 +236,8 @@ fn reading_whole(rt: HostRuntime) -> Result<(), Fail> {
         let mut reader = Piecewise { left, each, fails };
         let answer = read_whole(rt.alloc(), &mut reader, most).map(|bytes| bytes.len());
         assert_eq!(rt; answer, expected);
+        let reads = left.saturating_sub(reader.left);
+        assert!(rt; reads <= (most as u64).saturating_add(2));
     }
     Ok(())
 }
