@@ -2,6 +2,8 @@
 use Rattle.std.specs.Prelude.{◌≡◌, ℕ, List}
 use Rattle.nursery_app.specs.declared.verdict.Verdict.{Verdict}
 use Rattle.nursery_app.specs.declared.verdict.CheckVerdict.{CheckVerdict}
+use Rattle.nursery_app.specs.declared.verdict.ServeFault.{ServeFault}
+use Rattle.nursery_app.specs.declared.verdict.ServeFault.TheVariants as faults
 use Rattle.nursery_app.specs.Verdict.{IsVerdict}
 use Rattle.nursery_app.specs.Checking.{IsCheck}
 use Rattle.nursery_app.specs.Statuses as verdicts
@@ -17,6 +19,11 @@ status_of InputFile = 4
 status_of TooLong = 4
 status_of Write = 4
 status_of NoMemory = 5
+
+-- why there is no verdict where not all bytes were sent
+abbrev pub stop_of : ServeFault → Stop
+stop_of (faults.Send sent) = Write
+stop_of faults.NoMemory = NoMemory
 
 -- the status is that of the verdict which the job's meaning has over the input
 abbrev pub TellsVerdict : List ℕ → List ℕ → ℕ → ℕ → Type 0

@@ -44,6 +44,10 @@ impl Stop {
 }
 
 impl From<ServeFault> for Stop {
+    ghost use Rattle.nursery.specs.Statuses.{stop_of};
+
+    ghost from_gives = { λ fault stop. stop ≡ stop_of fault };
+
     fn from(fault: ServeFault) -> Stop {
         match fault {
             ServeFault::Send { .. } => Stop::Write,
