@@ -65,6 +65,7 @@ impl<'a> Lines<'a> {
     }
 
     /// Passes over the lines before a place of `text`, and takes the line that holds it, or that ends there.
+    /// The caller sees to it that the place lies inside `text`.
     pub fn line_at(&mut self, place: usize) -> Line<'a>
         requires { (range_left self.old).from + place < (range_left self.old).to }
         ensures { GoesToLine self.old place result self.new }

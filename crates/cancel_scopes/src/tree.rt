@@ -24,6 +24,9 @@ struct Scope {
 
 /// The cancel scopes that are open, each under its parent. A contract sees the stack of each: the scope itself, its
 /// parent, and so on to the outermost.
+///
+/// The caller sees to it that ids are open, that a scope is closed after those in it, and that deadlines and ticks (of
+/// `cancel` the tick after) are below 2 to the 41.
 #[derive(Drop)]
 pub struct ScopeTree {
     scopes: Slab<Scope>,

@@ -7,29 +7,32 @@ use thiserror::Error;
 /// Why a job text was refused, in the order in which it is looked for.
 #[derive(Clone, Copy, Debug, PartialEq, Eq)]
 pub enum JobKind {
-    /// The text has more than 65,536 bytes.
+    /// The text has more than 65,536 bytes. The place is 65536.
     TooLong,
-    /// A byte is above 127.
+    /// A byte is above 127. The place is that byte.
     NotAscii,
-    /// The text does not begin with the line of format 1.
+    /// The text does not begin with the line `trio-job 1`. The place is 0.
     Version,
-    /// From some byte on no token can be read.
+    /// A byte begins no token, a word has more than 32 bytes, a letter or `_` stands directly behind digits, or a string has
+    /// no or too many units, a wrong unit or no end. The place is the first byte of what is no token.
     Token,
-    /// A number has a leading zero or is out of its range.
+    /// A number has a leading zero or is out of its range: 1 to 64 behind `over`, 1 to 1,000,000 behind `pace`, and else 0 to
+    /// 1,000,000,000. The place is its first digit.
     Number,
-    /// The tokens are no text of the grammar.
+    /// The tokens are no text of the grammar. The place is the first token that no text of the grammar continues with, or
+    /// the text's length where the tokens end too early.
     Syntax,
-    /// A block is nested too deep.
+    /// A block stands at depth 33, the job's own block being depth 1. The place is its `{`.
     Depth,
-    /// A name was given before.
+    /// A job, scope, nursery or start has a name that was given before. The place is the later name.
     Twice,
-    /// A `cancel` names nothing round it.
+    /// A `cancel` names no scope or nursery round it. The place is that name.
     NotEnclosing,
-    /// A name is reserved.
+    /// A name is a keyword or `Cancelled`, or `TooSlow` anywhere but behind `except`. The place is that name.
     Reserved,
-    /// The job has too many step instances.
+    /// The job has more than 100,000 step instances, the copies that `over` makes counted. The place is 0.
     TooLarge,
-    /// A growth was refused.
+    /// A growth was refused. The place is 0.
     NoMemory,
 }
 

@@ -1,5 +1,8 @@
 //! What a job means: the definitions that every contract above cites, and the laws that hold of them. It does nothing
 //! at run time.
+//!
+//! The layer promises four laws of these definitions: monotone sight, the root, causality, and the settled table. It stands
+//! on the definitions of the tree, the input's parts, the kernels, the exceptions and the sight.
 #![tactic(auto)]
 
 mod laws;

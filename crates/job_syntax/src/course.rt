@@ -11,7 +11,7 @@ use std::alloc::{AllocError, Global};
 pub struct Course {
     /// Where the tokens leave the grammar.
     pub fault: Option<usize>,
-    /// What each token is for, up to where they leave it.
+    /// What each token is for, where the tokens do not leave the grammar; else of no meaning.
     pub roles: Vec<Role>,
 }
 

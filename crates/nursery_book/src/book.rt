@@ -11,6 +11,9 @@ use slab::Slab;
 use std::alloc::{AllocError, Global};
 
 /// The open nurseries of a program, each with its members.
+///
+/// The caller sees to it that ids are open, that children start only while the body runs, that each member ends once, and
+/// that a nursery is closed only when all its members ended.
 #[derive(Drop)]
 pub struct NurseryBook {
     alloc: Global,

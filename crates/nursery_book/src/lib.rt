@@ -4,6 +4,9 @@
 //! are its body and the children started in it, and it ends with the last of them. Then it raises one group of what its
 //! members raised, the body's exception first and the children's in the order of their starts, and nothing where no
 //! member raised.
+//!
+//! The layer promises that each call changes the nursery named alone, and that the group is in that order whatever the
+//! order in which members ended. It stands on the exceptions, the ids of scopes, and those of tasks.
 #![tactic(auto)]
 
 mod book;
