@@ -3,6 +3,7 @@ ghost use Rattle.job_tokens.specs.Lexing.{behind_blanks, token_at, Gives, Lexes}
 
 use crate::token::{Mark, Shape, Token};
 use crate::{number, run, string, word};
+use job_tree::{is_digit, is_letter};
 use std::alloc::{AllocError, Global};
 
 /// The tokens of a text, up to the first place from which no token can be read.
@@ -52,10 +53,10 @@ fn token_at(bytes: &[u8]) -> Option<(Shape, &[u8])>
     ensures shorter { IfSome result (λ x. length x.1.now < length bytes.now) }
 {
     let (first, rest) = bytes.split_first()?;
-    if run::is_letter(*first) {
+    if is_letter(*first) {
         return word::word_at(bytes);
     }
-    if run::is_digit(*first) {
+    if is_digit(*first) {
         return number::number_at(bytes);
     }
     match *first {

@@ -3,6 +3,7 @@ ghost use Rattle.job_tokens.specs.Lexing.{number_at, number_of, value_within, ha
 
 use crate::run;
 use crate::token::Shape;
+use job_tree::is_word_byte;
 
 /// The greatest number of a job text.
 pub const MOST: u64 = 1_000_000_000;
@@ -23,7 +24,7 @@ fn goes_on(bytes: &[u8]) -> bool
     ensures { result ≡ goes_on bytes.now }
 {
     match bytes.split_first() {
-        Some((first, _)) => run::is_word_byte(*first),
+        Some((first, _)) => is_word_byte(*first),
         None => false,
     }
 }

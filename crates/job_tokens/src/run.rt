@@ -1,28 +1,9 @@
 ghost use Rattle.std.specs.Prelude.{◌≡◌, ◌≤◌, length};
 ghost use Rattle.std.specs.List.{prefix_len};
-ghost use Rattle.job_tree.specs.Words.{is_letter, is_digit, is_word_byte};
+ghost use Rattle.job_tree.specs.Words.{is_digit, is_word_byte};
 ghost use Rattle.job_tokens.specs.Lexing.{is_blank};
 
-/// A letter, `A` to `Z` or `a` to `z`.
-pub fn is_letter(b: u8) -> bool
-    ensures { result ≡ is_letter b }
-{
-    (b'A' <= b && b <= b'Z') || (b'a' <= b && b <= b'z')
-}
-
-/// A digit, `0` to `9`.
-pub fn is_digit(b: u8) -> bool
-    ensures { result ≡ is_digit b }
-{
-    b'0' <= b && b <= b'9'
-}
-
-/// A byte of a word behind its first.
-pub fn is_word_byte(b: u8) -> bool
-    ensures { result ≡ is_word_byte b }
-{
-    is_letter(b) || is_digit(b) || b == b'_'
-}
+use job_tree::{is_digit, is_word_byte};
 
 /// A byte that may stand between tokens.
 pub fn is_blank(b: u8) -> bool

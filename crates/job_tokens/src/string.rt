@@ -1,9 +1,8 @@
 ghost use Rattle.std.specs.Prelude.{◌≡◌, ◌<◌, ◌≤◌, IfSome, length, take};
 ghost use Rattle.job_tokens.specs.Lexing.{Gives, hex_value, hex_at, escape_at, unit_at, behind_quote, units, string_at, is_plain};
 
-use crate::run;
 use crate::token::Shape;
-use job_tree::Text;
+use job_tree::{Text, is_digit};
 
 /// The string that the bytes behind a quote begin with.
 pub fn string_at(bytes: &[u8]) -> Option<(Shape, &[u8])>
@@ -97,7 +96,7 @@ fn hex_value(b: u8) -> Option<u8>
     ensures value { result ≡ hex_value b }
     ensures small { IfSome result (λ n. n < 16) }
 {
-    if run::is_digit(b) {
+    if is_digit(b) {
         return Some(b - b'0');
     }
     if b'a' <= b && b <= b'f' {

@@ -4,15 +4,17 @@
 //! its bytes, a block as the list of its steps (`specs/Tree.antt`). It stands on no other crate of the product.
 #![tactic(auto)]
 
-pub mod deadline;
+mod deadline;
 mod name;
 mod room;
 mod step;
 #[cfg(test)]
 mod tests;
 mod text;
+mod word;
 
 pub use deadline::Deadline;
 pub use name::Name;
 pub use step::{Body, Handler, Step};
 pub use text::Text;
+pub use word::{is_digit, is_letter, is_word_byte};

@@ -6,9 +6,10 @@ ghost use Rattle.std.specs.Cmp.{partial_equiv_from_equiv};
 ghost use Rattle.std.specs.Cmp.Lexicographic.{nat_list_eq_equiv};
 ghost use Rattle.std.specs.Cmp.Rules.{hashing};
 ghost use Rattle.std.proofs.Common.{rules};
-ghost use Rattle.job_tree.specs.Words.{is_word, starts_word, is_letter, is_word_byte};
+ghost use Rattle.job_tree.specs.Words.{is_word, starts_word, is_word_byte};
 
 use crate::room::padded;
+use crate::word::{is_letter, is_word_byte};
 use std::hash::{Hash, Hasher};
 use std::marker::Model;
 
@@ -93,7 +94,7 @@ fn starts_word_text(text: &[u8]) -> bool
     ensures { result ≡ starts_word text.now }
 {
     match text.split_first() {
-        Some((first, _)) => is_letter_byte(*first),
+        Some((first, _)) => is_letter(*first),
         None => false,
     }
 }
@@ -101,17 +102,5 @@ fn starts_word_text(text: &[u8]) -> bool
 fn are_word_bytes(text: &[u8]) -> bool
     ensures { result ≡ list_all is_word_byte text.now }
 {
-    text.iter().all(|b| is_part_of_word(*b))
-}
-
-fn is_letter_byte(b: u8) -> bool
-    ensures { result ≡ is_letter b }
-{
-    (b'A' <= b && b <= b'Z') || (b'a' <= b && b <= b'z')
-}
-
-fn is_part_of_word(b: u8) -> bool
-    ensures { result ≡ is_word_byte b }
-{
-    is_letter_byte(b) || (b'0' <= b && b <= b'9') || b == b'_'
+    text.iter().all(|b| is_word_byte(*b))
 }

@@ -1,4 +1,4 @@
-use crate::{Body, Name, Step, Text};
+use crate::{Body, Name, Step, Text, is_digit, is_letter, is_word_byte};
 use std::test::Fail;
 
 #[test]
@@ -14,6 +14,24 @@ fn words_are_names(rt: HostRuntime) {
     ];
     for (text, is_name) in rows {
         assert_eq!(rt; Name::new(text).is_some(), is_name, "at {text:?}");
+    }
+}
+
+#[test]
+fn bytes_of_words_are_told(rt: HostRuntime) {
+    let rows = [
+        (b'a', true, false, true),
+        (b'Z', true, false, true),
+        (b'0', false, true, true),
+        (b'_', false, false, true),
+        (b'[', false, false, false),
+        (b':', false, false, false),
+        (0xe4, false, false, false),
+    ];
+    for (byte, letter, digit, in_word) in rows {
+        assert_eq!(rt; is_letter(byte), letter, "at {byte}");
+        assert_eq!(rt; is_digit(byte), digit, "at {byte}");
+        assert_eq!(rt; is_word_byte(byte), in_word, "at {byte}");
     }
 }
 
