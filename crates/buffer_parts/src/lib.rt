@@ -6,11 +6,12 @@
 //! alone, and no call takes memory.
 #![tactic(auto)]
 
-pub mod laws;
-pub mod line;
-pub mod part;
+mod laws;
+mod line;
+mod part;
 #[cfg(test)]
 mod tests;
 
+pub use laws::{cuts_keep_bytes, cuts_keep_lines, cuts_meet};
 pub use line::{Line, Lines};
 pub use part::Part;

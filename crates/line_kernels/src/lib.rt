@@ -4,16 +4,16 @@
 //! each with its place and its bytes. It stands on `buffer_parts` and on `memchr`.
 #![tactic(auto)]
 
-pub mod answers;
+mod answers;
 mod contains;
 mod count;
 mod find;
 mod head;
-pub mod kernel;
-pub mod lines;
+mod kernel;
+mod lines;
 mod longest;
 mod need;
-pub mod request;
+mod request;
 #[cfg(test)]
 mod tests;
 
