@@ -1,5 +1,5 @@
 -- What a task sees of the cancel scopes round it (Trio reference, cancellation semantics).
-use Rattle.std.specs.Prelude.{ℕ, ◌+◌, Bool, false, Option, Some, None, List, [], ◌∷◌, nat_le, nat_lt, if◌then◌else◌}
+use Rattle.std.specs.Prelude.{ℕ, ◌+◌, Bool, false, not, ◌&&◌, ◌||◌, Option, Some, None, List, [], ◌∷◌, nat_le, nat_lt, if◌then◌else◌}
 
 -- a tick, or never
 abbrev pub Tick : Type 0
@@ -35,3 +35,8 @@ sight (l ∷ ls) = if l.shield then l.from else earlier l.from (sight ls)
 -- a cancellation is seen at a tick
 abbrev pub seen : {A : Type 0} → List (Level A) → ℕ → Bool
 seen stack t = reached (sight stack) t
+
+-- A scope catches at its exit tick where it is itself cancelled by then, and no cancellation from outside is seen at
+-- its level (Trio reference, `CancelScope`; that a seen outer scope wins is this profile's own choice).
+abbrev pub catches : {A : Type 0} → Tick → Bool → List (Level A) → ℕ → Bool
+catches from shield outer t = reached from t && (shield || not (seen outer t))

@@ -1,8 +1,9 @@
 -- A tree of cancel scopes as contracts see it: the stack of each open scope, innermost first. Labels are keys.
-use Rattle.std.specs.Prelude.{◌≡◌, ◌≢◌, ℕ, ◌+◌, Bool, false, not, ◌&&◌, ◌||◌, ◌==◌, if◌then◌else◌, List, [], ◌∷◌, map, Option, Some, None, IsSome, slice_index_or}
+use Rattle.std.specs.Prelude.{◌≡◌, ◌≢◌, ℕ, ◌+◌, Bool, false, ◌==◌, if◌then◌else◌, List, [], ◌∷◌, map, Option, Some, None, IsSome, slice_index_or}
 use Rattle.std.specs.Option.{unwrap_or}
 use Rattle.std.specs.List.{All}
-use Rattle.cancel_scopes.specs.Sight.{Tick, Level, earlier, reached, seen}
+use Rattle.cancel_scopes.specs.Sight.{Tick, Level, earlier}
+use Rattle.cancel_scopes.specs.Sight as sights
 
 abbrev pub Stack : Type 0
 Stack = List (Level ℕ)
@@ -39,11 +40,10 @@ level_after_cancel id tick l = if l.label == id then record l { from = earlier l
 abbrev pub after_cancel : ℕ → ℕ → Stack → Stack
 after_cancel id tick stack = map (level_after_cancel id tick) stack
 
--- The innermost scope of a stack catches its cancellation: it is itself cancelled, and no cancellation from outside
--- is seen (Trio reference; this profile's own choice).
+-- the innermost scope of a stack catches
 abbrev pub catches : Stack → ℕ → Bool
 catches [] tick = false
-catches (l ∷ outer) tick = reached l.from tick && (l.shield || not (seen outer tick))
+catches (l ∷ outer) tick = sights.catches l.from l.shield outer tick
 
 -- from when the innermost scope of a stack is cancelled
 abbrev pub own_from : Stack → Tick

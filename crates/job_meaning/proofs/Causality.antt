@@ -5,9 +5,9 @@ use Rattle.std.proofs.lemmas.Bool.Decides.{nat_tests}
 use Rattle.job_tree.specs.Tree.{Step, sleep, checkpoint, forever, pace, find, head, longest, need, raise, cancel, scope, nursery, start, attempt, Steps, stop, step, Handled, unhandled, except, Cleaned, uncleaned, finally}
 use Rattle.exc_groups.specs.Exceptions.{Label, Exc, cancelled, by_nursery, group_of, parts_of}
 use Rattle.exc_groups.specs.Split.{Wanted, keep, drop}
-use Rattle.cancel_scopes.specs.Sight.{Tick, sight, seen, reached}
+use Rattle.cancel_scopes.specs.Sight.{Tick, sight, seen, reached, catches}
 use Rattle.job_meaning.specs.Log.{Log, nil, entry, entered, followed_by, Member, Result}
-use Rattle.job_meaning.specs.Walk.{Stack, Mode, twice, by_table, Here, walk, walk_step, walk_handler, walk_cleanup, done_at, raised_at, joined, and_then, then_if, slept, sleeping, cancelling, label_on, Kind, from_of, block, left_from, left_with, left_as, exc_after, catches, within, signed, sign_if, home_of, latest, with_exc, excs_of, gathered, child, each, handled, handled_exc, handled_if, handler_exc, with_outcome, outcome_after, cleaned}
+use Rattle.job_meaning.specs.Walk.{Stack, Mode, twice, by_table, Here, walk, walk_step, walk_handler, walk_cleanup, done_at, raised_at, joined, and_then, then_if, slept, sleeping, cancelling, label_on, Kind, from_of, block, left_from, left_with, left_as, exc_after, within, signed, sign_if, home_of, latest, with_exc, excs_of, gathered, child, each, handled, handled_exc, handled_if, handler_exc, with_outcome, outcome_after, cleaned}
 use Rattle.job_meaning.specs.Before.{upto, Near, Agree, soon, later, known_members, clipped, exc_if, entered_if, task_if}
 use Rattle.job_meaning.specs.Laws.{NothingBeforeItsCause}
 use Rattle.job_meaning.proofs.Late.{Timed, Late, late, late_signed, late_gathered, latest_ends, child_ends, each_ends}

@@ -6,9 +6,9 @@ use Rattle.job_tree.specs.Tree.{Step, sleep, checkpoint, forever, pace, find, he
 use Rattle.buffer_parts.specs.Lines.{Span}
 use Rattle.exc_groups.specs.Exceptions.{Label, Exc, cancelled, hold_cancelled, parts_of, holds_cancelled, by_nursery}
 use Rattle.exc_groups.specs.Split.{Wanted, keep, drop}
-use Rattle.cancel_scopes.specs.Sight.{Tick, sight, seen, reached}
+use Rattle.cancel_scopes.specs.Sight.{Tick, sight, seen, reached, catches}
 use Rattle.job_meaning.specs.Log.{Member, Result}
-use Rattle.job_meaning.specs.Walk.{Stack, Mode, Here, walk, walk_step, walk_handler, walk_cleanup, done_at, raised_at, joined, and_then, then_if, slept, sleeping, showing, needing, cancelling, Kind, from_of, block, within, catches, left_with, exc_after, signed, latest, with_exc, excs_of, gathered, child, each, handled, handled_exc, handled_if, handler_exc, cleaned, outcome_after}
+use Rattle.job_meaning.specs.Walk.{Stack, Mode, Here, walk, walk_step, walk_handler, walk_cleanup, done_at, raised_at, joined, and_then, then_if, slept, sleeping, showing, needing, cancelling, Kind, from_of, block, within, left_with, exc_after, signed, latest, with_exc, excs_of, gathered, child, each, handled, handled_exc, handled_if, handler_exc, cleaned, outcome_after}
 use Rattle.job_meaning.specs.Meaning.{root_walk, root_here}
 use Rattle.job_meaning.specs.Laws.{some_cancelled, CancelledIsSeen, NoneReachesTheRoot}
 use Rattle.job_meaning.proofs.Ticks.{seen_cons, stays_seen}

@@ -5,9 +5,9 @@ use Rattle.job_tree.specs.Names.{names_of, names_in, handled_names, cleaned_name
 use Rattle.buffer_parts.specs.Cuts.{cut_of}
 use Rattle.exc_groups.specs.Exceptions.{Label, Exc}
 use Rattle.exc_groups.specs.Split.{Wanted, keep, drop}
-use Rattle.cancel_scopes.specs.Sight.{Tick}
+use Rattle.cancel_scopes.specs.Sight.{Tick, catches}
 use Rattle.job_meaning.specs.Log.{Log, nil, entry, followed_by, Result, least_sign, deadline_of, deadline_if, either, same_label, from_by, Table, table_of}
-use Rattle.job_meaning.specs.Walk.{Stack, Mode, twice, by_table, Here, walk, walk_step, walk_handler, walk_cleanup, joined, and_then, then_if, Kind, block, left_from, left_as, left_with, catches, within, signed, sign_if, home_of, gathered, child, each, handled, handled_exc, handled_if, handled_by, cleaned, cleaned_by, label_here, label_over, here_in}
+use Rattle.job_meaning.specs.Walk.{Stack, Mode, twice, by_table, Here, walk, walk_step, walk_handler, walk_cleanup, joined, and_then, then_if, Kind, block, left_from, left_as, left_with, within, signed, sign_if, home_of, gathered, child, each, handled, handled_exc, handled_if, handled_by, cleaned, cleaned_by, label_here, label_over, here_in}
 use Rattle.job_meaning.specs.Meaning.{meaning, meaning_table, root_walk, root_here}
 use Rattle.job_meaning.specs.Follow.{follow}
 use Rattle.job_meaning.specs.Before.{upto, clipped, Near}

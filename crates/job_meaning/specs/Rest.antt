@@ -3,9 +3,9 @@ use Rattle.std.specs.Prelude.{ℕ, zero, suc, ◌+◌, ◌*◌, Bool, Option, Li
 use Rattle.job_tree.specs.Tree.{Step, pace, Steps, Handled, Cleaned}
 use Rattle.job_tree.specs.Names.{size_of, handled_size, cleaned_size}
 use Rattle.exc_groups.specs.Exceptions.{Label, Exc}
-use Rattle.cancel_scopes.specs.Sight.{Tick, Level}
+use Rattle.cancel_scopes.specs.Sight.{Tick, Level, catches}
 use Rattle.job_meaning.specs.Log.{Entry, Log, nil, entry, sign, entered, task, followed_by, Member, Result}
-use Rattle.job_meaning.specs.Walk.{label_over, Stack, Mode, Here, walk, walk_step, walk_handler, walk_cleanup, done_at, and_then, sleeping, Kind, a_scope, a_nursery, left_as, Left, left_with, exc_after, catches, signed, gathered, handler_exc, outcome_after, with_outcome}
+use Rattle.job_meaning.specs.Walk.{label_over, Stack, Mode, Here, walk, walk_step, walk_handler, walk_cleanup, done_at, and_then, sleeping, Kind, a_scope, a_nursery, left_as, Left, left_with, exc_after, signed, gathered, handler_exc, outcome_after, with_outcome}
 
 -- What a task made so far, in order. The children that it started are numbered 0, 1, .. within it, and what they come
 -- to is told apart.

@@ -1,5 +1,5 @@
 -- The walk of a job's steps. It goes over the tree: there is no queue, no turn and no other task in it.
-use Rattle.std.specs.Prelude.{ℕ, zero, suc, ◌+◌, ◌-◌, ◌/◌, Bool, true, false, ◌&&◌, ◌||◌, not, Option, Some, None, List, [], ◌∷◌, ◌++◌, nat_le, max, if◌then◌else◌}
+use Rattle.std.specs.Prelude.{ℕ, zero, suc, ◌+◌, ◌-◌, ◌/◌, Bool, true, false, ◌&&◌, Option, Some, None, List, [], ◌∷◌, ◌++◌, nat_le, max, if◌then◌else◌}
 use Rattle.std.specs.Str.{bytes_eq}
 use Rattle.job_tree.specs.declared.deadline.Deadline.{Deadline}
 use Rattle.job_tree.specs.declared.deadline.Deadline.TheVariants.{Never, After, At}
@@ -9,7 +9,7 @@ use Rattle.buffer_parts.specs.Cuts.{cut_of}
 use Rattle.line_kernels.specs.Kernels.{found_in, head_of, longest_in, needed_in, count_in}
 use Rattle.exc_groups.specs.Exceptions.{Label, by_nursery, by_handler, Exc, cancelled, raised, too_slow, group, no_parts, part, parts_of, group_of, holds_cancelled}
 use Rattle.exc_groups.specs.Split.{Wanted, named, is_cancelled, keep, drop}
-use Rattle.cancel_scopes.specs.Sight.{Tick, reached, Level, sight, seen}
+use Rattle.cancel_scopes.specs.Sight.{Tick, Level, sight, catches}
 use Rattle.job_meaning.specs.Log.{Entry, line, scope_left, nursery_left, Log, nil, entry, sign, entered, task, followed_by, Member, Result, least_sign, from_by, Table}
 
 -- the tick to which `forever` sleeps
@@ -129,11 +129,6 @@ abbrev pub slow_if : Bool → Label → ℕ → Option Exc → Option Exc
 slow_if true label t None = Some (too_slow label t)
 slow_if true label t (Some e) = Some e
 slow_if false label t e = e
-
--- A block catches at its exit tick where it is itself cancelled by then, and no cancellation from outside is seen at
--- its level (Trio reference, `CancelScope`; that a seen outer scope wins is this profile's own choice).
-abbrev pub catches : Tick → Bool → Stack → ℕ → Bool
-catches from shield stack t = reached from t && (shield || not (seen stack t))
 
 -- what the block is: a scope, which may be a `fail` scope, or a nursery
 pub data Kind : Type 0 where

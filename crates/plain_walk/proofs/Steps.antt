@@ -13,6 +13,7 @@ use Rattle.exc_groups.specs.declared.exc.Exc as held_exc
 use Rattle.cancel_scopes.specs.Sight.{Tick, earlier}
 use Rattle.plain_walk.specs.Logs.{seen_in}
 use Rattle.job_meaning.specs.Walk as meaning
+use Rattle.cancel_scopes.specs.Sight as sights
 use Rattle.job_meaning.specs.Log.{Result, Member, Log, followed_by, nil}
 use Rattle.job_meaning.specs.Walk.{twice, walk, walk_step, walk_handler, and_then, then_if, joined, done_at}
 use Rattle.job_meaning.proofs.Finish.{followed_assoc}
@@ -142,12 +143,12 @@ ends_handled w x ss input here st t modest modest_handler small walked =
 
 -- a block is left with the from that its first walk gives
 pub walked_block : (input : List ℕ) (first second x : Walked) (kind : meaning.Kind) (label : Label) (t : ℕ) (d : Tick) (shield : Bool) (st : meaning.Stack) (inside : Tick → Result) (from : Tick) (catching : Bool) →
-    from ≡ earlier d (seen_in label first.log.signs.items) → IsWalked input first (inside d) → IsWalked input second (inside from) → catching ≡ meaning.catches from shield st second.end →
+    from ≡ earlier d (seen_in label first.log.signs.items) → IsWalked input first (inside d) → IsWalked input second (inside from) → catching ≡ sights.catches from shield st second.end →
     ((r : Result) → IsWalked input second r → IsWalked input x (meaning.leaving kind label t d (meaning.left_with catching r.exc) r)) → IsWalked input x (meaning.block twice kind label t d shield st inside)
 unfolding meaning.block
 walked_block input first second x kind label t d shield st inside from catching from_is h k catches_is leave =
     let from_same : from ≡ meaning.from_of twice label d inside = from_is ∙ ap (λ (y : Tick). earlier d y) (h.log.signs label) in
     let left : IsWalked input x (meaning.left_from kind label t d shield st from (inside from)) =
     subst (λ (y : Bool). IsWalked input x (meaning.leaving kind label t d (meaning.left_with y (inside from).exc) (inside from)))
-    (catches_is ∙ ap (meaning.catches from shield st) k.end) (leave (inside from) k) in
+    (catches_is ∙ ap (sights.catches from shield st) k.end) (leave (inside from) k) in
     subst (λ (y : Tick). IsWalked input x (meaning.left_from kind label t d shield st y (inside y))) from_same left

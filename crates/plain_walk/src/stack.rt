@@ -1,9 +1,8 @@
 ghost use Rattle.std.specs.Prelude.{◌≡◌, Option, ◌&&◌};
 ghost use Rattle.std.specs.Option.{option_copied};
-ghost use Rattle.std.specs.Str.{bytes_eq};
-ghost use Rattle.cancel_scopes.specs.Sight.{sight};
+ghost use Rattle.cancel_scopes.specs.Sight.{sight, catches};
 ghost use Rattle.job_meaning.specs.Log.{same_label};
-ghost use Rattle.job_meaning.specs.Walk.{label_on, home_of, catches};
+ghost use Rattle.job_meaning.specs.Walk.{label_on, home_of};
 ghost use Rattle.plain_walk.specs.Stacks.{stack_of};
 
 use cancel_scopes::{earlier, reached};
@@ -13,8 +12,11 @@ use job_tree::Name;
 /// A scope or nursery that is open: its label, whether it is shielded, and the tick from which it is cancelled.
 #[derive(Drop)]
 pub struct Level {
+    /// Its label.
     pub label: Label,
+    /// Whether it hides the cancellations from outside.
     pub shield: bool,
+    /// The tick from which it is cancelled: none is never.
     pub from: Option<u64>,
 }
 
@@ -55,9 +57,7 @@ impl<'s> Stack<'s> {
     {
         match self {
             Stack::Empty => None,
-            Stack::Within(level, _) if is_same_name(name, &level.label.name()) => {
-                Some(&level.label)
-            }
+            Stack::Within(level, _) if *name == level.label.name() => Some(&level.label),
             Stack::Within(_, outer) => outer.label_on(name),
         }
     }
@@ -75,12 +75,5 @@ impl<'s> Stack<'s> {
 pub(crate) fn is_same_label(a: &Label, b: &Label) -> bool
     ensures { result ≡ same_label a.now b.now }
 {
-    is_same_name(&a.name(), &b.name()) && a.indices() == b.indices()
-}
-
-// Whether two names are the same.
-fn is_same_name(a: &Name, b: &Name) -> bool
-    ensures { result ≡ bytes_eq a.now b.now }
-{
-    a.bytes() == b.bytes()
+    a.name() == b.name() && a.indices() == b.indices()
 }

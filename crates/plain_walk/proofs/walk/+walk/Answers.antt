@@ -6,13 +6,13 @@ use Rattle.std.specs.Option.{option_map}
 use Rattle.std.proofs.lemmas.List.{drop_all}
 use Rattle.buffer_parts.specs.Lines.{Range}
 use Rattle.buffer_parts.specs.Part.{range_of}
-use Rattle.cancel_scopes.specs.Sight.{Tick, earlier}
+use Rattle.cancel_scopes.specs.Sight.{Tick, earlier, catches}
 use Rattle.exc_groups.specs.Exceptions.{Label}
 use Rattle.exc_groups.specs.Held.{exc_of}
 use Rattle.job_tree.specs.Names.{size_in}
 use Rattle.job_tree.specs.Blocks.{handled_of}
 use Rattle.job_meaning.specs.Log.{Result}
-use Rattle.job_meaning.specs.Walk.{walk, cleaned, twice, within, each, label_over, block, catches}
+use Rattle.job_meaning.specs.Walk.{walk, cleaned, twice, within, each, label_over, block}
 use Rattle.plain_walk.specs.Kinds.{kind_of}
 use Rattle.plain_walk.specs.Heres.{HasRoom, here_of, input_of, scopes_of, inside, started, started_over}
 use Rattle.plain_walk.specs.Walks.{IsWalked}
