@@ -13,7 +13,7 @@ use Rattle.job_meaning.proofs.Touched.{earlier_never, either_nothing}
 use Rattle.plain_walk.specs.declared.walked.Walked.{Walked}
 use Rattle.plain_walk.specs.declared.log.Log.{Log}
 use Rattle.plain_walk.specs.declared.log.Sign.{Sign}
-use Rattle.plain_walk.specs.declared.log.Due.{Due}
+use Rattle.plain_walk.specs.declared.log.ScopeDeadline.{ScopeDeadline}
 use Rattle.task_records.specs.declared.entry.ScopeFrom.{ScopeFrom}
 use Rattle.job_runner.specs.declared.finished.Run.{Run}
 use Rattle.task_records.specs.Records.{row_in, from_of}
@@ -42,9 +42,9 @@ unfolding child
 root_told job input w r h = h.log
 
 -- the table of the root's own log
-from_is : (job : Tree) (input : List ℕ) (log : Log) (r : Result) (l : Label) → Tells input log (root_log job r) → from_in log.dues.items log.signs.items l ≡ table_of r.log l
+from_is : (job : Tree) (input : List ℕ) (log : Log) (r : Result) (l : Label) → Tells input log (root_log job r) → from_in log.deadlines.items log.signs.items l ≡ table_of r.log l
 from_is job input log r l h =
-    ap (λ (o : Option Tick). from_by_due o (seen_in l log.signs.items)) (h.dues l ∙ either_nothing (meaning.deadline_of l r.log))
+    ap (λ (o : Option Tick). from_by_due o (seen_in l log.signs.items)) (h.deadlines l ∙ either_nothing (meaning.deadline_of l r.log))
     ∙ ap (from_by_due (meaning.deadline_of l r.log)) (h.signs l ∙ ap next (earlier_never (least_sign l r.log)))
     ∙ by_due (meaning.deadline_of l r.log) (least_sign l r.log)
   where
@@ -52,26 +52,26 @@ from_is job input log r l h =
     by_due None s = refl
     by_due (Some d) s = refl
 
-froms_are : (job : Tree) (input : List ℕ) (log : Log) (r : Result) (ls : List Label) → Tells input log (root_log job r) → froms_in log.dues.items log.signs.items ls ≡ froms_by (table_of r.log) ls
+froms_are : (job : Tree) (input : List ℕ) (log : Log) (r : Result) (ls : List Label) → Tells input log (root_log job r) → froms_in log.deadlines.items log.signs.items ls ≡ froms_by (table_of r.log) ls
 froms_are job input log r [] h = refl
 froms_are job input log r (l ∷ ls) h =
-    ap (λ (t : Tick). record { label = l; seen = t } ∷ froms_in log.dues.items log.signs.items ls) (from_is job input log r l h)
+    ap (λ (t : Tick). record { label = l; seen = t } ∷ froms_in log.deadlines.items log.signs.items ls) (from_is job input log r l h)
     ∙ ap (λ (x : List From). record { label = l; seen = table_of r.log l } ∷ x) (froms_are job input log r ls h)
 
 -- the parts of a root's log are those of the run
-pub is_run : (job : Tree) (input : List ℕ) (w : Walked) (run : Run) (fs : List ScopeFrom) (ls : List Label) (dues : List Due) (signs : List Sign) →
+pub is_run : (job : Tree) (input : List ℕ) (w : Walked) (run : Run) (fs : List ScopeFrom) (ls : List Label) (deadlines : List ScopeDeadline) (signs : List Sign) →
     IsWalked input w (child (root_label job.name) 0 (meaning job input)) → name_of run ≡ job.name → records_in run ≡ w.log.records.items →
-    held_froms run ≡ fs → map from_of fs ≡ froms_in dues signs ls → ls ≡ w.log.entered_below.items → dues ≡ w.log.dues.items → signs ≡ w.log.signs.items → IsRun job input run
-is_run job input w run fs ls dues signs h name records held froms labels deadlines cancellations =
+    held_froms run ≡ fs → map from_of fs ≡ froms_in deadlines signs ls → ls ≡ w.log.entered_below.items → deadlines ≡ w.log.deadlines.items → signs ≡ w.log.signs.items → IsRun job input run
+is_run job input w run fs ls deadlines signs h name records held froms labels same_deadlines cancellations =
     let told = root_told job input w (meaning job input) h in
     record {
       name = name;
       rows = ap (map row_in) records ∙ told.rows;
       slices = rw records told.below_slices;
       froms = ap (map from_of) held ∙ froms
-          ∙ ap (λ (x : List Label). froms_in dues signs x) labels
-          ∙ ap (λ (x : List Due). froms_in x signs w.log.entered_below.items) deadlines
-          ∙ ap (λ (x : List Sign). froms_in w.log.dues.items x w.log.entered_below.items) cancellations
+          ∙ ap (λ (x : List Label). froms_in deadlines signs x) labels
+          ∙ ap (λ (x : List ScopeDeadline). froms_in x signs w.log.entered_below.items) same_deadlines
+          ∙ ap (λ (x : List Sign). froms_in w.log.deadlines.items x w.log.entered_below.items) cancellations
           ∙ froms_are job input w.log (meaning job input) w.log.entered_below.items told
           ∙ ap (froms_by (table_of (meaning job input).log)) told.below;
     }

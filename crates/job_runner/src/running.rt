@@ -76,14 +76,14 @@ fn run_of<'a>(alloc: Global, name: Name, walked: Walked<'a>) -> Result<Run<'a>, 
     let Log {
         records,
         entered_below,
-        dues,
+        deadlines,
         signs,
         ..
     } = log;
     let froms = froms_of(
         alloc,
         entered_below.as_slice(),
-        dues.as_slice(),
+        deadlines.as_slice(),
         signs.as_slice(),
     )?;
     Ok(Run::new(name, records, froms))

@@ -7,7 +7,7 @@ use Rattle.exc_groups.specs.Exceptions.{Label}
 use Rattle.job_meaning.specs.Log.{Log, nil, entry, sign, entered, task, followed_by, tick_if, same_label, either, deadline_if}
 use Rattle.job_meaning.specs.Meaning.{Noted, Record, entries_of, records_of, entered_by, all_entered}
 use Rattle.plain_walk.specs.declared.log.Sign.{Sign}
-use Rattle.plain_walk.specs.declared.log.Due.{Due}
+use Rattle.plain_walk.specs.declared.log.ScopeDeadline.{ScopeDeadline}
 use Rattle.plain_walk.specs.Logs.{seen_in, deadline_in}
 
 pub entries_followed : (a b : Log) → entries_of (followed_by a b) ≡ entries_of a ++ entries_of b
@@ -65,7 +65,7 @@ either_assoc : (a b c : Option Tick) → either (either a b) c ≡ either a (eit
 either_assoc None b c = refl
 either_assoc (Some d) b c = refl
 
-pub due_append : (l : Label) (a b : List Due) → deadline_in l (a ++ b) ≡ either (deadline_in l a) (deadline_in l b)
+pub due_append : (l : Label) (a b : List ScopeDeadline) → deadline_in l (a ++ b) ≡ either (deadline_in l a) (deadline_in l b)
 due_append l [] b = refl
 due_append l (d ∷ ds) b =
     ap (λ (x : Option Tick). either (deadline_if (same_label l d.label) d.deadline) x) (due_append l ds b)

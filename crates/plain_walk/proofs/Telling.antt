@@ -20,14 +20,14 @@ use Rattle.task_records.specs.declared.entry.Entry.TheVariants as entries
 use Rattle.task_records.specs.declared.entry.Record as held_records
 use Rattle.plain_walk.specs.declared.log.Log.{Log}
 use Rattle.plain_walk.specs.declared.log.Sign.{Sign}
-use Rattle.plain_walk.specs.declared.log.Due.{Due}
+use Rattle.plain_walk.specs.declared.log.ScopeDeadline.{ScopeDeadline}
 use Rattle.task_records.specs.Records.{entry_of, row_in, ending_in}
 use Rattle.task_records.specs.Records.{IsSlice}
 use Rattle.task_records.specs.Records.{AreSlices}
 use Rattle.plain_walk.specs.Logs.{Tells, seen_in, deadline_in}
 use Rattle.plain_walk.proofs.Followed.{entries_followed, records_followed, entered_followed, all_followed, next_earlier, seen_append, due_append}
 
-pub tells_nil : (input : List ℕ) (new : Log) → new.entries.items ≡ [] → new.records.items ≡ [] → new.entered.items ≡ [] → new.entered_below.items ≡ [] → new.signs.items ≡ [] → new.dues.items ≡ [] → Tells input new nil
+pub tells_nil : (input : List ℕ) (new : Log) → new.entries.items ≡ [] → new.records.items ≡ [] → new.entered.items ≡ [] → new.entered_below.items ≡ [] → new.signs.items ≡ [] → new.deadlines.items ≡ [] → Tells input new nil
 tells_nil input new e r n b s d =
     record {
       entries = ap (map entry_of) e;
@@ -35,7 +35,7 @@ tells_nil input new e r n b s d =
       entered = n;
       below = b;
       signs = λ l. ap (seen_in l) s;
-      dues = λ l. ap (deadline_in l) d;
+      deadlines = λ l. ap (deadline_in l) d;
       slices = rw e (All-nil (IsSlice input));
       below_slices = rw r (All-nil (λ (x : held_records.Record). All (IsSlice input) x.entries.items));
     }
@@ -43,7 +43,7 @@ tells_nil input new e r n b s d =
 pub tells_append : (input : List ℕ) (old next new : Log) (a b : meaning.Log) → Tells input old a → Tells input next b →
     new.entries.items ≡ old.entries.items ++ next.entries.items → new.records.items ≡ old.records.items ++ next.records.items →
     new.entered.items ≡ old.entered.items ++ next.entered.items → new.entered_below.items ≡ old.entered_below.items ++ next.entered_below.items →
-    new.signs.items ≡ old.signs.items ++ next.signs.items → new.dues.items ≡ old.dues.items ++ next.dues.items → Tells input new (followed_by a b)
+    new.signs.items ≡ old.signs.items ++ next.signs.items → new.deadlines.items ≡ old.deadlines.items ++ next.deadlines.items → Tells input new (followed_by a b)
 tells_append input old next_log new a b h k e r n u s d =
     record {
       entries =
@@ -67,10 +67,10 @@ tells_append input old next_log new a b h k e r n u s d =
           ∙ ap (λ (x : Tick). earlier x (seen_in l next_log.signs.items)) (h.signs l)
           ∙ ap (λ (x : Tick). earlier (next (least_sign l a)) x) (k.signs l)
           ∙ sym (next_earlier (least_sign l a) (least_sign l b)) ∙ ap next (sym (least_followed l a b));
-      dues = λ l.
-          ap (deadline_in l) d ∙ due_append l old.dues.items next_log.dues.items
-          ∙ ap (λ (x : Option Tick). either x (deadline_in l next_log.dues.items)) (h.dues l)
-          ∙ ap (λ (x : Option Tick). either (meaning.deadline_of l a) x) (k.dues l)
+      deadlines = λ l.
+          ap (deadline_in l) d ∙ due_append l old.deadlines.items next_log.deadlines.items
+          ∙ ap (λ (x : Option Tick). either x (deadline_in l next_log.deadlines.items)) (h.deadlines l)
+          ∙ ap (λ (x : Option Tick). either (meaning.deadline_of l a) x) (k.deadlines l)
           ∙ sym (deadline_followed l a b);
       slices = rw e (All-append (IsSlice input) old.entries.items next_log.entries.items h.slices k.slices);
       below_slices = rw r (All-append (λ (x : held_records.Record). All (IsSlice input) x.entries.items) old.records.items next_log.records.items h.below_slices k.below_slices);
@@ -103,7 +103,7 @@ tells_only input old new a es only h same e shows slices =
       entered = ap (λ (x : Log). x.entered.items) same ∙ h.entered ∙ sym only.1;
       below = ap (λ (x : Log). x.entered_below.items) same ∙ h.below ∙ sym only.2;
       signs = λ l. ap (λ (x : Log). seen_in l x.signs.items) same ∙ h.signs l ∙ ap next (sym (only.3 l));
-      dues = λ l. ap (λ (x : Log). deadline_in l x.dues.items) same ∙ h.dues l ∙ sym (only.4 l);
+      deadlines = λ l. ap (λ (x : Log). deadline_in l x.deadlines.items) same ∙ h.deadlines l ∙ sym (only.4 l);
       slices = rw e (All-append (IsSlice input) old.entries.items es h.slices slices);
       below_slices = subst (λ (x : Log). AreSlices input x.records.items) (sym same) h.below_slices;
     }
@@ -135,7 +135,7 @@ tells_sign input old new l t made h same s label_is seen_is =
           ∙ ap (λ (x : Label). earlier (tick_if (same_label m x) made.seen) None) label_is
           ∙ ap (λ (x : ℕ). earlier (tick_if (same_label m l) x) None) seen_is
           ∙ one (same_label m l);
-      dues = λ m. ap (λ (x : Log). deadline_in m x.dues.items) same ∙ h.dues m;
+      deadlines = λ m. ap (λ (x : Log). deadline_in m x.deadlines.items) same ∙ h.deadlines m;
       slices = subst (λ (x : Log). All (IsSlice input) x.entries.items) (sym same) h.slices;
       below_slices = subst (λ (x : Log). AreSlices input x.records.items) (sym same) h.below_slices;
     }
@@ -144,8 +144,8 @@ tells_sign input old new l t made h same s label_is seen_is =
     one true = refl
     one false = refl
 
-pub tells_entered : (input : List ℕ) (old new : Log) (l : Label) (t : ℕ) (d : Tick) (label : Label) (made : Due) → Tells input old nil → new ≡ record old { entered = new.entered; dues = new.dues } →
-    new.entered.items ≡ old.entered.items ++ label ∷ [] → new.dues.items ≡ old.dues.items ++ made ∷ [] →
+pub tells_entered : (input : List ℕ) (old new : Log) (l : Label) (t : ℕ) (d : Tick) (label : Label) (made : ScopeDeadline) → Tells input old nil → new ≡ record old { entered = new.entered; deadlines = new.deadlines } →
+    new.entered.items ≡ old.entered.items ++ label ∷ [] → new.deadlines.items ≡ old.deadlines.items ++ made ∷ [] →
     label ≡ l → made.label ≡ l → made.deadline ≡ d → Tells input new (entered l t d nil)
 tells_entered input old new l t d label made h same n u label_is made_is due_is =
     record {
@@ -154,9 +154,9 @@ tells_entered input old new l t d label made h same n u label_is made_is due_is 
       entered = n ∙ ap (λ (x : List Label). x ++ label ∷ []) h.entered ∙ ap (λ (x : Label). x ∷ []) label_is;
       below = ap (λ (x : Log). x.entered_below.items) same ∙ h.below;
       signs = λ m. ap (λ (x : Log). seen_in m x.signs.items) same ∙ h.signs m;
-      dues = λ m.
-          ap (deadline_in m) u ∙ due_append m old.dues.items (made ∷ [])
-          ∙ ap (λ (x : Option Tick). either x (deadline_in m (made ∷ []))) (h.dues m)
+      deadlines = λ m.
+          ap (deadline_in m) u ∙ due_append m old.deadlines.items (made ∷ [])
+          ∙ ap (λ (x : Option Tick). either x (deadline_in m (made ∷ []))) (h.deadlines m)
           ∙ ap (λ (x : Label). either (deadline_if (same_label m x) made.deadline) None) made_is
           ∙ ap (λ (x : Tick). either (deadline_if (same_label m l) x) None) due_is;
       slices = subst (λ (x : Log). All (IsSlice input) x.entries.items) (sym same) h.slices;
@@ -166,7 +166,7 @@ tells_entered input old new l t d label made h same n u label_is made_is due_is 
 -- a task whose own log is told
 pub tells_task : (input : List ℕ) (own new : Log) (l : Label) (s u : ℕ) (e : Option Exc) (log : meaning.Log) (made : held_records.Record) → Tells input own log →
     new.entries.items ≡ [] → new.records.items ≡ made ∷ own.records.items → new.entered.items ≡ [] → new.entered_below.items ≡ own.entered.items ++ own.entered_below.items →
-    new.signs.items ≡ own.signs.items → new.dues.items ≡ own.dues.items →
+    new.signs.items ≡ own.signs.items → new.deadlines.items ≡ own.deadlines.items →
     made.label ≡ l → made.from_tick ≡ s → made.to_tick ≡ u → ending_in made.outcome ≡ ending_of e → made.entries.items ≡ own.entries.items → Tells input new (task l s u e log nil)
 tells_task input own new l s u e log made h es rs ns bs ss ds label_is from_is to_is outcome_is entries_are =
     record {
@@ -180,7 +180,7 @@ tells_task input own new l s u e log made h es rs ns bs ss ds label_is from_is t
           bs ∙ ap (λ (x : List Label). x ++ own.entered_below.items) h.entered
           ∙ ap (λ (x : List Label). entered_by log ++ x) (h.below ∙ sym (append-nil (all_entered log)));
       signs = λ m. ap (seen_in m) ss ∙ h.signs m ∙ ap next (sym (never (least_sign m log)));
-      dues = λ m. ap (deadline_in m) ds ∙ h.dues m ∙ sym (nothing (meaning.deadline_of m log));
+      deadlines = λ m. ap (deadline_in m) ds ∙ h.deadlines m ∙ sym (nothing (meaning.deadline_of m log));
       slices = rw es (All-nil (IsSlice input));
       below_slices = rw rs (All-cons (λ (x : held_records.Record). All (IsSlice input) x.entries.items) made own.records.items (subst (λ (x : List held.Entry). All (IsSlice input) x) (sym entries_are) h.slices) h.below_slices);
     }

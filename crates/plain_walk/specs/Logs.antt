@@ -7,7 +7,7 @@ use Rattle.job_meaning.specs.Meaning.{entries_of, records_of, entered_by, all_en
 use Rattle.job_meaning.specs.Shown.{shown, row_of}
 use Rattle.plain_walk.specs.declared.log.Log.{Log}
 use Rattle.plain_walk.specs.declared.log.Sign.{Sign}
-use Rattle.plain_walk.specs.declared.log.Due.{Due}
+use Rattle.plain_walk.specs.declared.log.ScopeDeadline.{ScopeDeadline}
 use Rattle.task_records.specs.Records.{entry_of, row_in}
 use Rattle.task_records.specs.Records.{IsSlice}
 use Rattle.task_records.specs.Records.{AreSlices}
@@ -18,7 +18,7 @@ seen_in l [] = None
 seen_in l (s ∷ ss) = earlier (meaning.tick_if (meaning.same_label l s.label) s.seen) (seen_in l ss)
 
 -- the deadline with which a label was first entered
-abbrev pub deadline_in : Label → List Due → Option Tick
+abbrev pub deadline_in : Label → List ScopeDeadline → Option Tick
 deadline_in l [] = None
 deadline_in l (d ∷ ds) = meaning.either (meaning.deadline_if (meaning.same_label l d.label) d.deadline) (deadline_in l ds)
 
@@ -29,6 +29,6 @@ pub record Tells (input : List ℕ) (held : Log) (log : meaning.Log) : Type 0 wh
   pub entered : held.entered.items ≡ entered_by log
   pub below : held.entered_below.items ≡ all_entered log
   pub signs : (l : Label) → seen_in l held.signs.items ≡ next (meaning.least_sign l log)
-  pub dues : (l : Label) → deadline_in l held.dues.items ≡ meaning.deadline_of l log
+  pub deadlines : (l : Label) → deadline_in l held.deadlines.items ≡ meaning.deadline_of l log
   pub slices : All (IsSlice input) held.entries.items
   pub below_slices : AreSlices input held.records.items

@@ -7,8 +7,12 @@ use std::alloc::Global;
 /// is that of the task's label.
 #[derive(Clone, Copy)]
 pub struct Here<'a, 's> {
+    /// The allocator.
     pub alloc: Global,
+    /// The task's part of the input.
     pub part: Part<'a>,
+    /// The task's label.
     pub task: &'s Label,
+    /// The scopes and nurseries round it, those of its starters included.
     pub stack: &'s Stack<'s>,
 }

@@ -15,7 +15,10 @@ use task_records::Entry;
 #[derive(Clone, Copy)]
 pub enum Kind {
     /// A cancel scope. A `fail` scope raises `TooSlow` where it caught a cancellation and nothing is left.
-    Scope { fail: bool },
+    Scope {
+        /// Whether it is a `fail` scope.
+        fail: bool,
+    },
     /// A nursery.
     Nursery,
 }
@@ -54,7 +57,9 @@ pub(crate) fn entry_of_leaving<'a>(kind: Kind, label: Label, tick: u64, caught: 
 /// What leaving a block leaves of an exception, and whether a `Cancelled` was caught.
 #[derive(Drop)]
 pub struct Left {
+    /// Whether a `Cancelled` was caught.
     pub caught: bool,
+    /// The exception that goes on.
     pub exc: Option<Exc>,
 }
 

@@ -39,7 +39,7 @@ fn line_count(here: Here<'_, '_>) -> Result<u64, AllocError>
     ensures few { IfOk result (λ n. n ≤ 16777216) }
 {
     let Answer::Count(count) = answer(here.alloc, &Kernel::Count, here.part)? else {
-        return Ok(0);
+        unreachable!()
     };
     Ok(count)
 }
@@ -54,7 +54,7 @@ pub(crate) fn found<'a>(
         (showing (found_in (input_of here.entry) text.now (range_of here.entry.part)) tick)) }
 {
     let Answer::Lines(lines) = answer(here.alloc, &Kernel::Find(text.bytes()), here.part)? else {
-        return Ok(Walked::done(here.alloc, tick));
+        unreachable!()
     };
     let walked = Walked::showing(here.alloc, lines.as_slice(), tick)?;
     Ok(walked)
@@ -66,7 +66,7 @@ pub(crate) fn head<'a>(here: Here<'a, '_>, count: u64, tick: u64) -> Result<Walk
         (showing (head_of (input_of here.entry) count (range_of here.entry.part)) tick)) }
 {
     let Answer::Lines(lines) = answer(here.alloc, &Kernel::Head(count), here.part)? else {
-        return Ok(Walked::done(here.alloc, tick));
+        unreachable!()
     };
     let walked = Walked::showing(here.alloc, lines.as_slice(), tick)?;
     Ok(walked)
@@ -78,7 +78,7 @@ pub(crate) fn longest<'a>(here: Here<'a, '_>, tick: u64) -> Result<Walked<'a>, A
         (showing (longest_in (input_of here.entry) (range_of here.entry.part)) tick)) }
 {
     let Answer::Lines(lines) = answer(here.alloc, &Kernel::Longest, here.part)? else {
-        return Ok(Walked::done(here.alloc, tick));
+        unreachable!()
     };
     let walked = Walked::showing(here.alloc, lines.as_slice(), tick)?;
     Ok(walked)

@@ -18,7 +18,7 @@ mod walked;
 
 pub use froms::froms_of;
 pub use here::Here;
-pub use log::{Due, Log, Sign};
+pub use log::{Log, ScopeDeadline, Sign};
 pub use stack::{Level, Stack};
 pub use walk::walk_steps;
 pub use walked::Walked;

@@ -21,14 +21,18 @@ use task_records::{Entry, Outcome, Record};
 /// A cancellation of a scope or nursery, with the tick from which it is seen.
 #[derive(Drop)]
 pub struct Sign {
+    /// What was cancelled.
     pub label: Label,
+    /// The tick after the one in which it was cancelled.
     pub seen: u64,
 }
 
 /// A scope or nursery that was entered, with its deadline.
 #[derive(Drop)]
-pub struct Due {
+pub struct ScopeDeadline {
+    /// What was entered.
     pub label: Label,
+    /// The tick from which its deadline cancels it: none is never, as for every nursery.
     pub deadline: Option<u64>,
 }
 
@@ -36,12 +40,18 @@ pub struct Due {
 /// entered labels of the tasks that it started, and all cancellations and deadlines.
 #[derive(Drop)]
 pub struct Log<'a> {
+    /// What the task itself noted, in order.
     pub entries: Vec<Entry<'a>>,
+    /// A record for each task that it started, each followed by those that this one started.
     pub records: Vec<Record<'a>>,
+    /// The labels of the scopes and nurseries that the task itself entered, in order.
     pub entered: Vec<Label>,
+    /// Those that the tasks which it started entered, in the order of the records.
     pub entered_below: Vec<Label>,
+    /// All cancellations, in no promised order.
     pub signs: Vec<Sign>,
-    pub dues: Vec<Due>,
+    /// All scopes and nurseries that were entered, in no promised order.
+    pub deadlines: Vec<ScopeDeadline>,
 }
 
 impl<'a> Log<'a> {
@@ -55,7 +65,7 @@ impl<'a> Log<'a> {
             entered: Vec::new(alloc),
             entered_below: Vec::new(alloc),
             signs: Vec::new(alloc),
-            dues: Vec::new(alloc),
+            deadlines: Vec::new(alloc),
         }
     }
 
@@ -68,7 +78,7 @@ impl<'a> Log<'a> {
         move_all(&mut self.entered, next.entered)?;
         move_all(&mut self.entered_below, next.entered_below)?;
         move_all(&mut self.signs, next.signs)?;
-        move_all(&mut self.dues, next.dues)?;
+        move_all(&mut self.deadlines, next.deadlines)?;
         Ok(())
     }
 
@@ -120,7 +130,7 @@ impl<'a> Log<'a> {
     {
         let mut log = Log::new(alloc);
         log.entered.push(label.copy(alloc)?)?;
-        log.dues.push(Due {
+        log.deadlines.push(ScopeDeadline {
             label: label.copy(alloc)?,
             deadline,
         })?;
@@ -155,7 +165,7 @@ impl<'a> Log<'a> {
             entered: Vec::new(alloc),
             entered_below,
             signs: self.signs,
-            dues: self.dues,
+            deadlines: self.deadlines,
         })
     }
 }
@@ -183,13 +193,13 @@ fn seen_by(sign: &Sign, label: &Label) -> Option<u64>
 }
 
 /// The deadline with which a label was entered, where it was.
-pub(crate) fn deadline_of(dues: &[Due], label: &Label) -> Option<Option<u64>>
-    ensures { result ≡ deadline_in label.now dues.now }
+pub(crate) fn deadline_of(deadlines: &[ScopeDeadline], label: &Label) -> Option<Option<u64>>
+    ensures { result ≡ deadline_in label.now deadlines.now }
 {
-    let mut rest = dues;
-    'dues: while let Some((due, others)) = rest.split_first() {
-        if is_same_label(label, &due.label) {
-            return Some(due.deadline);
+    let mut rest = deadlines;
+    'deadlines: while let Some((scope, others)) = rest.split_first() {
+        if is_same_label(label, &scope.label) {
+            return Some(scope.deadline);
         }
         rest = others;
     }

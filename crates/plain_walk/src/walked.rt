@@ -24,21 +24,28 @@ use task_records::Outcome;
 /// done.
 #[derive(Drop)]
 pub struct Walked<'a> {
+    /// The tick in which it ended.
     pub end: u64,
+    /// The exception with which it ended: none where it ended well.
     pub exc: Option<Exc>,
     /// The last end of those children, 0 where there are none.
     pub open_until: u64,
     /// The exceptions of those children, in the order of their starts.
     pub open_excs: Vec<Exc>,
+    /// What was done.
     pub log: Log<'a>,
 }
 
 /// A block that is left: what it is, its label, and the tick and deadline with which it was entered.
 #[derive(Clone, Copy)]
 pub struct Block<'b> {
+    /// Whether it is a scope or a nursery.
     pub kind: Kind,
+    /// Its label.
     pub label: &'b Label,
+    /// The tick in which it was entered.
     pub entered: u64,
+    /// The tick from which its deadline cancels it: none is never.
     pub deadline: Option<u64>,
 }
 

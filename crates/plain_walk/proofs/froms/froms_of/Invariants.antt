@@ -5,4 +5,4 @@ use Rattle.plain_walk.specs.Froms.{froms_in}
 use Rattle.plain_walk.proofs.froms.froms_of.Given as goal
 
 abbrev pub invariant-labels : goal.invariant-labels
-invariant-labels l = map from_of l.froms.items ≡ froms_in l.dues l.signs (take l.label-index l.labels)
+invariant-labels l = map from_of l.froms.items ≡ froms_in l.deadlines l.signs (take l.label-index l.labels)
