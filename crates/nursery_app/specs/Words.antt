@@ -13,6 +13,4 @@ IsFit (Help text) = Unit {0}
 -- some words asked for it: no feed, and settings in their ranges
 abbrev pub IsAsked : Command → Type 0
 IsAsked Feed = ⊥
-IsAsked (Run job input workers order limit) = (1 ≤ workers) × (workers ≤ 64) × (limit ≤ 4294967295)
-IsAsked (Check job) = Unit {0}
-IsAsked (Help text) = Unit {0}
+IsAsked command = IsFit command
