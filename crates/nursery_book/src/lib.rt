@@ -6,7 +6,7 @@
 //! member raised.
 //!
 //! The layer promises that each call changes the nursery named alone, and that the group is in that order whatever the
-//! order in which members ended. It stands on the exceptions, the ids of scopes, and those of tasks.
+//! order in which members ended. It stands on the exceptions, the ids of scopes and of tasks, and `slab`.
 #![tactic(auto)]
 
 mod book;
