@@ -1,5 +1,6 @@
 ghost use Rattle.std.specs.Prelude.{◌≡◌, [], Ok, IfOk};
 ghost use Rattle.nursery_app.specs.declared.words.Command.TheVariants.{Feed};
+ghost use Rattle.nursery_app.specs.declared.words.CommandFault.TheVariants.{NoMemory};
 ghost use Rattle.nursery_app.specs.Words.{IsFit, IsAsked};
 
 use crate::command_line::parser;
@@ -64,6 +65,8 @@ pub enum CommandFault {
 }
 
 impl From<AllocError> for CommandFault {
+    ghost from_gives = { λ _ e. e ≡ NoMemory };
+
     fn from(_error: AllocError) -> CommandFault {
         CommandFault::NoMemory
     }
