@@ -142,7 +142,14 @@ fn depth(rt: HostRuntime) -> Result<(), Fail> {
         let text = nested(rt.alloc(), depth, b" try {", b" } finally { }")?;
         assert_eq!(rt; answer(rt.alloc(), &text), (number, at));
     }
-    let scopes = nested(rt.alloc(), 32, b" scope s01 {", b" }")?;
+    let mut scopes = Vec::from_slice(rt.alloc(), b"trio-job 1\njob main {")?;
+    for i in 1..33u64 {
+        let scope = format!(in rt.alloc(); " scope s{}{} {{", i / 10, i % 10)?;
+        scopes.extend_from_slice(scope.as_bytes())?;
+    }
+    for _ in 0..33u64 {
+        scopes.extend_from_slice(b" }")?;
+    }
     assert_eq!(rt; answer(rt.alloc(), &scopes), (7, 404));
     Ok(())
 }

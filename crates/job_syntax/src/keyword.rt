@@ -6,28 +6,51 @@ use job_tree::Name;
 /// The words that no job, task, scope, nursery or exception may have as its name.
 #[derive(Clone, Copy, PartialEq, Eq)]
 pub enum Keyword {
+    /// `job`. Begins a job.
     Job,
+    /// `sleep`. Sleeps so many ticks.
     Sleep,
+    /// `checkpoint`. Sees whether the task is cancelled.
     Checkpoint,
+    /// `forever`. Sleeps until the task is cancelled.
     Forever,
+    /// `pace`. Sleeps by the number of lines.
     Pace,
+    /// `find`. Shows the lines that contain a string.
     Find,
+    /// `head`. Shows the first lines.
     Head,
+    /// `longest`. Shows the first of the longest lines.
     Longest,
+    /// `need`. Shows a line, or raises.
     Need,
+    /// `raise`. Raises an exception.
     Raise,
+    /// `cancel`. Cancels a scope or nursery.
     Cancel,
+    /// `scope`. Opens a cancel scope.
     Scope,
+    /// `after`. A deadline so many ticks after the entry.
     After,
+    /// `at`. A deadline at a tick.
     At,
+    /// `shield`. Hides the cancellations from outside.
     Shield,
+    /// `fail`. Raises `TooSlow` where the scope caught a cancellation.
     Fail,
+    /// `nursery`. Opens a nursery.
     Nursery,
+    /// `start`. Starts a task.
     Start,
+    /// `over`. One task for each part.
     Over,
+    /// `try`. A block with a handler or a cleanup.
     Try,
+    /// `except`. A handler.
     Except,
+    /// `finally`. A cleanup.
     Finally,
+    /// `repeat`. Kept for a later format: it begins no step.
     Repeat,
 }
 

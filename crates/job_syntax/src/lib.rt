@@ -13,6 +13,8 @@ mod keyword;
 mod range;
 mod role;
 mod symbol;
+#[cfg(test)]
+mod tests;
 mod tree;
 
 pub use course::{Course, follow};

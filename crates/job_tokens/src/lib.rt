@@ -9,6 +9,8 @@ mod lexing;
 mod number;
 mod run;
 mod string;
+#[cfg(test)]
+mod tests;
 mod token;
 mod word;
 

@@ -2,6 +2,7 @@ use crate::{
     CheckVerdict, ReadFault, Reverse, ServeFault, Turn, Verdict, check, read_whole, serve,
     split_feed,
 };
+use job_grammar::{JobFault, JobKind};
 use job_report::{MemOut, Out};
 use job_runner::{Forward, NoGate, Pick, Settings};
 use std::io;
@@ -171,8 +172,43 @@ fn check_writes_the_canonical_text(rt: HostRuntime) -> Result<(), Fail> {
 
     let mut out = MemOut::new(rt.alloc(), 100, 100, None)?;
     let verdict = check(rt.alloc(), b"trio-job 1\njob main { sleep", &mut out);
-    assert!(rt; matches!(verdict, Ok(CheckVerdict::JobRefused(_))));
+    assert!(rt;
+        matches!(verdict, Ok(CheckVerdict::JobRefused(JobFault { at: 27, kind: JobKind::Syntax })))
+    );
     assert_eq!(rt; out.taken(), b"refused J6 Syntax at 27\n".as_slice());
+    Ok(())
+}
+
+// The status of what `serve` wrote for the job `main` of these steps, with the limit 100: 5 for a fault.
+fn status_of<R: Abort + Threads + Sync + AllocGlobal>(rt: &R, steps: &str) -> Result<u8, Fail> {
+    let text = format!(in rt.alloc(); "trio-job 1\njob main {{ {steps} }}")?;
+    let settings = Settings::new(1, 100).expect(rt, "settings");
+    let mut out = MemOut::new(rt.alloc(), 1_000, 1_000, None)?;
+    let verdict = serve(
+        rt,
+        rt.alloc(),
+        text.as_bytes(),
+        TWO_LINES,
+        settings,
+        &mut Forward,
+        &NoGate,
+        &mut out,
+    );
+    Ok(verdict.map_or(5, |verdict| verdict.status()))
+}
+
+#[test]
+fn serve_tells_how_the_job_ended(rt: HostRuntime) -> Result<(), Fail> {
+    for (steps, status) in [
+        (FIND_ER, 0),
+        ("sleep 100;", 0),
+        ("raise A;", 1),
+        ("cancel x;", 2),
+        ("sleep 101;", 3),
+        ("forever;", 3),
+    ] {
+        assert_eq!(rt; status_of(&rt, steps)?, status, "{steps}");
+    }
     Ok(())
 }
 
@@ -239,6 +275,18 @@ fn reading_whole(rt: HostRuntime) -> Result<(), Fail> {
         let reads = left.saturating_sub(reader.left);
         assert!(rt; reads <= (most as u64).saturating_add(2));
     }
+    Ok(())
+}
+
+#[test]
+fn reading_a_slice_whole(rt: HostRuntime) -> Result<(), Fail> {
+    let mut five = b"error".as_slice();
+    let bytes = read_whole(rt.alloc(), &mut five, 5).expect(&rt, "five bytes");
+    assert_eq!(rt; bytes.as_slice(), b"error".as_slice());
+    let one_too_many = vec![in rt.alloc(); b'x'; 16_777_217]?;
+    let mut all = one_too_many.as_slice();
+    let answer = read_whole(rt.alloc(), &mut all, 16_777_216).map(|bytes| bytes.len());
+    assert_eq!(rt; answer, Err(ReadFault::TooLong));
     Ok(())
 }
 

@@ -21,11 +21,12 @@ fn raised(alloc: Global, exc: &[u8], task: &[u8]) -> Result<Exc, Fail> {
 
 fn push_leaf(text: &mut Vec<u8>, exc: &Exc) -> Result<(), AllocError> {
     match exc {
-        Exc::Raised { name, task, .. } => {
+        Exc::Raised { name, task, tick } => {
             text.extend_from_slice(name.bytes())?;
-            text.push(b'@')?;
+            text.push(b'(')?;
             let task = task.name();
             text.extend_from_slice(task.bytes())?;
+            text.extend_from_slice(if *tick == 0 { b"@0)" } else { b"@?)" })?;
         }
         _ => text.push(b'?')?,
     }
@@ -74,7 +75,7 @@ fn group_of_children_that_end_out_of_order(rt: HostRuntime) -> Result<(), Fail> 
     let exc = book.close(id)?;
     assert_eq!(rt;
         text_of(alloc, exc.as_ref())?.as_slice(),
-        b"n:A@a;B@b;".as_slice()
+        b"n:A(a@0);B(b@0);".as_slice()
     );
     Ok(())
 }

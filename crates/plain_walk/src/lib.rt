@@ -13,6 +13,8 @@ mod kind;
 mod leaves;
 mod log;
 mod stack;
+#[cfg(test)]
+mod tests;
 mod walk;
 mod walked;
 
