@@ -13,6 +13,7 @@ mod kernel;
 mod lines;
 mod longest;
 mod need;
+mod newlines;
 mod request;
 #[cfg(test)]
 mod tests;

@@ -6,6 +6,10 @@ use std::test::Fail;
 /// Three lines of two, one and four bytes.
 const BUFFER: &[u8] = b"aa\nb\ncccc\n";
 
+/// Four lines of 32 bytes with their newlines, and 3 bytes more.
+const LONG: &[u8] =
+    b"-------------------------------\n-------------------------------\n-------------------------------\n-------------------------------\nend";
+
 /// An answer as text: its lines by place and length, or its count.
 fn shown(alloc: Global, kernel: Kernel<'_>, buffer: &[u8]) -> Result<String, AllocError> {
     let mut text = String::new(alloc);
@@ -28,6 +32,7 @@ fn kernels_answer_on_a_whole_buffer(rt: HostRuntime) -> Result<(), Fail> {
         (Kernel::Count, BUFFER, "3"),
         (Kernel::Count, b"", "0"),
         (Kernel::Count, b"\n\nlast", "3"),
+        (Kernel::Count, LONG, "5"),
         (Kernel::Need(b"zz"), BUFFER, "missing"),
         (Kernel::Need(b"b"), b"a\nab\nb\n", "[2+2]"),
         (Kernel::Need(b""), b"", "missing"),
@@ -49,5 +54,13 @@ fn kernels_answer_on_a_whole_buffer(rt: HostRuntime) -> Result<(), Fail> {
     for (kernel, buffer, expected) in rows {
         assert_eq!(rt; shown(rt.alloc(), kernel, buffer)?.as_str(), expected);
     }
+    Ok(())
+}
+
+#[test]
+fn more_newlines_are_counted_than_lanes_hold(rt: HostRuntime) -> Result<(), Fail> {
+    let newlines = vec![in rt.alloc(); b'\n'; 20000]?;
+    let count = shown(rt.alloc(), Kernel::Count, newlines.as_slice())?;
+    assert_eq!(rt; count.as_str(), "20000");
     Ok(())
 }

@@ -1,0 +1,80 @@
+ghost use Rattle.std.specs.Prelude.{◌≡◌, ◌+◌, ◌≤◌, ◌<◌, ◌==◌, if◌then◌else◌, length, map, slice_range, count_by};
+
+use std::simd::prelude::*;
+
+/// How many newlines there are.
+pub(crate) fn newline_count(bytes: &[u8]) -> u64
+    ensures { result ≡ count_by (λ b. b == 10) bytes.now }
+{
+    let mut count = 0;
+    let mut at = 0;
+    'runs: while 16320 <= bytes.len() - at {
+        count += u64::from(newlines_in_run(bytes, at));
+        at += 16320;
+    }
+    count + newlines_by_block(&bytes[at..])
+}
+
+/// The newlines among the 255 blocks of 64 bytes from a place on: a lane holds no more than 255.
+fn newlines_in_run(bytes: &[u8], at: usize) -> u16
+    requires { at + 16320 ≤ length bytes.now }
+    ensures { result ≡ count_by (λ b. b == 10) (slice_range bytes.now at (at + 16320)) }
+{
+    let mut lanes = u8x64::splat(0);
+    let mut seen = 0;
+    'blocks: while seen < 255 {
+        lanes = lanes.strict_add(newline_lanes(bytes, at + 64 * seen));
+        seen += 1;
+    }
+    lanes.cast::<u16>().strict_reduce_sum()
+}
+
+/// Of each of the 64 bytes from a place on, 1 where it is a newline.
+#[inline(always)]
+fn newline_lanes(bytes: &[u8], at: usize) -> u8x64
+    requires { at + 64 ≤ length bytes.now }
+    ensures { result ≡ map (λ b. if b == 10 then 1 else 0) (slice_range bytes.now at (at + 64)) }
+{
+    u8x64::from_slice(&bytes[at..])
+        .simd_eq(u8x64::splat(b'\n'))
+        .select(u8x64::splat(1), u8x64::splat(0))
+}
+
+/// The newlines of what is left behind the runs.
+fn newlines_by_block(bytes: &[u8]) -> u64
+    ensures { result ≡ count_by (λ b. b == 10) bytes.now }
+{
+    let mut count = 0;
+    let mut at = 0;
+    'blocks: while 64 <= bytes.len() - at {
+        count += u64::from(newlines_in_block(bytes, at));
+        at += 64;
+    }
+    count + newlines_one_by_one(&bytes[at..])
+}
+
+/// The newlines among the 64 bytes from a place on.
+#[inline(always)]
+fn newlines_in_block(bytes: &[u8], at: usize) -> u32
+    requires { at + 64 ≤ length bytes.now }
+    ensures { result ≡ count_by (λ b. b == 10) (slice_range bytes.now at (at + 64)) }
+{
+    u8x64::from_slice(&bytes[at..])
+        .simd_eq(u8x64::splat(b'\n'))
+        .to_bitmask()
+        .count_ones()
+}
+
+/// The newlines of a few bytes.
+fn newlines_one_by_one(bytes: &[u8]) -> u64
+    requires { length bytes.now < 64 }
+    ensures { result ≡ count_by (λ b. b == 10) bytes.now }
+{
+    let mut count = 0;
+    for byte in bytes {
+        if *byte == b'\n' {
+            count += 1;
+        }
+    }
+    count
+}
