@@ -173,7 +173,13 @@ fn check_writes_the_canonical_text(rt: HostRuntime) -> Result<(), Fail> {
     let mut out = MemOut::new(rt.alloc(), 100, 100, None)?;
     let verdict = check(rt.alloc(), b"trio-job 1\njob main { sleep", &mut out);
     assert!(rt;
-        matches!(verdict, Ok(CheckVerdict::JobRefused(JobFault { at: 27, kind: JobKind::Syntax })))
+        matches!(
+            verdict,
+            Ok(CheckVerdict::JobRefused(JobFault {
+                at: 27,
+                kind: JobKind::Syntax
+            }))
+        )
     );
     assert_eq!(rt; out.taken(), b"refused J6 Syntax at 27\n".as_slice());
     Ok(())
