@@ -4,3 +4,4 @@ pub mod CutLemmas
 pub mod SearchLemmas
 pub mod JoinLemmas
 pub mod SkipLemmas
+pub mod LongerLemmas

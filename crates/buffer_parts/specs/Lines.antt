@@ -1,5 +1,5 @@
 -- Ranges of a buffer, and their lines.
-use Rattle.std.specs.Prelude.{ℕ, ◌+◌, ◌==◌, if◌then◌else◌, List, [], ◌∷◌, slice_range}
+use Rattle.std.specs.Prelude.{ℕ, ◌+◌, ◌==◌, nat_lt, if◌then◌else◌, List, [], ◌∷◌, slice_range}
 
 -- the places of a buffer from one on, up to another that is left out
 pub record Range : Type 0 where
@@ -36,3 +36,8 @@ lines_from at (b ∷ bs) =
 -- the lines of a range, in order
 abbrev pub lines_of : List ℕ → Range → List Span
 lines_of buffer r = lines_from r.from (bytes_of buffer r)
+
+-- lines from the first on that has more than so many bytes
+abbrev pub from_longer : ℕ → List Span → List Span
+from_longer len [] = []
+from_longer len (l ∷ ls) = if nat_lt len l.len then l ∷ ls else from_longer len ls

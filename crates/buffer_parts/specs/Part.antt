@@ -1,6 +1,6 @@
 -- What clauses read of a part, of a line and of the lines that are left.
 use Rattle.std.specs.Prelude.{◌≡◌, ◌≢◌, ◌⊎◌, ◌<◌, ◌≤◌, ◌+◌, ℕ, List, [], ◌∷◌, ◌++◌, Option, length, slice_index, IfSome, MatchOption}
-use Rattle.buffer_parts.specs.Lines.{Range, Span, text_of, lines_of}
+use Rattle.buffer_parts.specs.Lines.{Range, Span, text_of, lines_of, from_longer}
 use Rattle.buffer_parts.specs.declared.part.Part.{Part}
 use Rattle.buffer_parts.specs.declared.line.Line.{Line}
 use Rattle.buffer_parts.specs.declared.line.Lines.{Lines}
@@ -37,6 +37,13 @@ lines_left lines = lines_of lines.buffer.now (record { from = lines.next; to = l
 -- one call gave the first of the lines that were left, as it stands in the buffer, or none where none was left
 pub record GivesLine (before : Lines) (given : Option Line) (after : Lines) : Type 0 where
   pub first : MatchOption given ((lines_left before ≡ []) × (lines_left after ≡ [])) (λ line. lines_left before ≡ span_of line ∷ lines_left after)
+  pub placed : IfSome given (IsLineOf (source_of before))
+  pub same_source : source_of after ≡ source_of before
+
+-- one call gave the first of the lines left that has more than so many bytes, and passed over those before it, or gave none
+-- where none has
+pub record GivesLonger (before : Lines) (len : ℕ) (given : Option Line) (after : Lines) : Type 0 where
+  pub first : MatchOption given ((from_longer len (lines_left before) ≡ []) × (lines_left after ≡ [])) (λ line. from_longer len (lines_left before) ≡ span_of line ∷ lines_left after)
   pub placed : IfSome given (IsLineOf (source_of before))
   pub same_source : source_of after ≡ source_of before
 

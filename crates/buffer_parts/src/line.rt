@@ -40,7 +40,7 @@ pub struct Lines<'a> {
 
 impl<'a> Lines<'a> {
     ghost use Rattle.buffer_parts.specs.Lines.{lines_of, bytes_of};
-    ghost use Rattle.buffer_parts.specs.Part.{source_of, lines_left, range_left, SkipsTo, GoesToLine};
+    ghost use Rattle.buffer_parts.specs.Part.{source_of, lines_left, range_left, SkipsTo, GoesToLine, GivesLonger};
 
     /// The lines of a range of a buffer.
     pub(crate) fn over(buffer: &'a [u8], start: usize, end: usize) -> Lines<'a>
@@ -72,6 +72,24 @@ impl<'a> Lines<'a> {
     {
         self.skip_to(place);
         self.next().unwrap()
+    }
+
+    /// Takes the first line that has more than `length` bytes, and passes over those before it. Where no line has, none
+    /// is left.
+    ///
+    /// A line of more bytes covers the next `length + 1`, so the last newline among them ends all the lines that need a
+    /// look: the fewer bytes are read, the longer the line must be.
+    pub fn next_longer_than(&mut self, length: usize) -> Option<Line<'a>>
+        ensures { GivesLonger self.old length result self.new }
+    {
+        'lines: while length < self.end - self.next {
+            match memrchr(b'\n', &self.buffer[self.next..=self.next + length]) {
+                Some(place) => self.next += place + 1,
+                None => return self.next(),
+            }
+        }
+        self.next = self.end;
+        None
     }
 
     /// Passes over the lines before the one that holds a place of `text`, or that ends there.

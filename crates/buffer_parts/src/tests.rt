@@ -59,3 +59,24 @@ fn lines_come_in_order(rt: HostRuntime) -> Result<(), Fail> {
     }
     Ok(())
 }
+
+#[test]
+fn longer_lines_come_one_by_one(rt: HostRuntime) {
+    let rows = [
+        (BUFFER, 0, Some((0, 2)), Some((3, 1))),
+        (BUFFER, 1, Some((0, 2)), Some((5, 4))),
+        (BUFFER, 2, Some((5, 4)), None),
+        (BUFFER, 4, None, None),
+        (b"a\n\nbb\nlast".as_slice(), 3, Some((6, 4)), None),
+        (b"a\n\nbb\nlast", 1, Some((3, 2)), Some((6, 4))),
+        (b"\n\n\n", 0, None, None),
+        (b"", 0, None, None),
+    ];
+    for (buffer, length, first, second) in rows {
+        let mut lines = Part::whole(buffer).lines();
+        for expected in [first, second] {
+            let line = lines.next_longer_than(length);
+            assert_eq!(rt; line.map(|line| (line.at(), line.text().len())), expected);
+        }
+    }
+}

@@ -10,15 +10,10 @@ pub(crate) fn longest_line<'a>(part: Part<'a>) -> Option<Line<'a>>
         (λ line. longest_in (buffer_of part.entry) (range_of part.entry) ≡ span_of line ∷ []) }
     ensures text { IfSome result (IsLineOf (buffer_of part.entry)) }
 {
-    let mut longest: Option<Line<'a>> = None;
-    for line in part.lines() {
-        let Some(before) = longest else {
-            longest = Some(line);
-            continue;
-        };
-        if before.text().len() < line.text().len() {
-            longest = Some(line);
-        }
+    let mut left = part.lines();
+    let mut longest = left.next()?;
+    'longer: while let Some(line) = left.next_longer_than(longest.text().len()) {
+        longest = line;
     }
-    longest
+    Some(longest)
 }

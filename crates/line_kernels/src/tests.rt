@@ -50,6 +50,8 @@ fn kernels_answer_on_a_whole_buffer(rt: HostRuntime) -> Result<(), Fail> {
         (Kernel::Longest, BUFFER, "[5+4]"),
         (Kernel::Longest, b"aa\nb\ncc\n", "[0+2]"),
         (Kernel::Longest, b"", ""),
+        (Kernel::Longest, b"\n\n", "[0+0]"),
+        (Kernel::Longest, b"a\nb\n\nccc\ndd\neee\nffff", "[16+4]"),
     ];
     for (kernel, buffer, expected) in rows {
         assert_eq!(rt; shown(rt.alloc(), kernel, buffer)?.as_str(), expected);

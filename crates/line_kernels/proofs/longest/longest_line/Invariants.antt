@@ -1,13 +1,14 @@
-use Rattle.std.proofs.Common.{◌≡◌}
-use Rattle.std.specs.Prelude.{IfSome}
-use Rattle.buffer_parts.specs.Part.{buffer_of, range_of, source_of, lines_left, IsLineOf}
+use Rattle.std.proofs.Common.{◌≡◌, ◌∷◌, length}
+use Rattle.buffer_parts.specs.Part.{buffer_of, range_of, source_of, lines_left, span_of, IsLineOf}
 use Rattle.line_kernels.specs.Kernels.{longest_in, longest_among}
-use Rattle.line_kernels.proofs.LongestLemmas.{with_best}
 use Rattle.line_kernels.proofs.longest.longest_line.Given as goal
 
-abbrev pub invariant-loop-line : goal.invariant-loop-line
-invariant-loop-line l = record {
-  source : source_of l.line-iterator ≡ buffer_of l.part;
-  best : longest_in (buffer_of l.part) (range_of l.part) ≡ longest_among (with_best l.longest (lines_left l.line-iterator));
-  text : IfSome l.longest (IsLineOf (buffer_of l.part));
+abbrev pub invariant-longer : goal.invariant-longer
+invariant-longer l = record {
+  source : source_of l.left ≡ buffer_of l.part;
+  best : longest_in (buffer_of l.part) (range_of l.part) ≡ longest_among (span_of l.longest ∷ lines_left l.left);
+  text : IsLineOf (buffer_of l.part) l.longest;
 }
+
+abbrev pub decreases-longer : goal.decreases-longer
+decreases-longer l = length (lines_left l.left)
