@@ -77,8 +77,8 @@ impl<'a> Lines<'a> {
     /// Takes the first line that has more than `length` bytes, and passes over those before it. Where no line has, none
     /// is left.
     ///
-    /// A line of more bytes covers the next `length + 1`, so the last newline among them ends all the lines that need a
-    /// look: the fewer bytes are read, the longer the line must be.
+    /// Such a line would cover the next `length + 1` bytes, so the lines up to the last newline among them are passed
+    /// over at once.
     pub fn next_longer_than(&mut self, length: usize) -> Option<Line<'a>>
         ensures { GivesLonger self.old length result self.new }
     {
