@@ -1,4 +1,3 @@
 pub mod Text
-pub mod Sending
 pub mod MemOuts
 pub mod WriteOuts

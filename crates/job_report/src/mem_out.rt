@@ -71,7 +71,7 @@ impl MemOut {
 }
 
 impl Out for MemOut {
-    ghost use Rattle.job_report.specs.Sending.{with_bytes};
+    ghost use Rattle.std.specs.Io.KnownBytes.{Appends, Keeps};
     ghost use Rattle.job_report.specs.MemOuts.{held_by, room_of, piece_of, puts_before_fault, puts_after, is_due, faults_of};
 
     ghost failed = { faults_of };
@@ -82,10 +82,10 @@ impl Out for MemOut {
         requires some { 0 < length bytes.now }
         requires countable { faults_of self.old < 18446744073709551615 }
         ensures part { IfOk result (λ n. (0 < n) × (n ≤ length bytes.now)) }
-        ensures taken { IfOk result (λ n. Some (held_by self.new) ≡ with_bytes (Some (held_by self.old)) (take n bytes.now)) }
+        ensures taken { IfOk result (λ n. Appends (Some (held_by self.old)) (Some (held_by self.new)) (take n bytes.now)) }
         ensures well { OnOk result (faults_of self.new ≡ faults_of self.old) }
         ensures fault { OnErr result (faults_of self.new ≡ faults_of self.old + 1) }
-        ensures none_taken { OnErr result (Some (held_by self.new) ≡ Some (held_by self.old)) }
+        ensures none_taken { OnErr result (Keeps (Some (held_by self.old)) (Some (held_by self.new))) }
         ensures most { IfOk result (λ n. n ≡ min (min (length bytes.now) (piece_of self.old)) (room_of self.old - length (held_by self.old))) }
         ensures fails { IsErr result ↔ IsTrue (is_due (puts_before_fault self.old) || nat_le (room_of self.old) (length (held_by self.old))) }
         ensures same_room { room_of self.new ≡ room_of self.old }

@@ -1,5 +1,5 @@
 ghost use Rattle.std.specs.Prelude.{◌≡◌, ℕ, ◌+◌, ◌-◌, ◌<◌, ◌≤◌, Option, List, length, take, IfOk, OnOk, OnErr, IfErr};
-ghost use Rattle.job_report.specs.Sending.{with_bytes};
+ghost use Rattle.std.specs.Io.KnownBytes.{Appends, Keeps};
 
 use thiserror::Error;
 
@@ -21,10 +21,10 @@ pub trait Out {
         requires some { 0 < length bytes.now }
         requires countable { failed self.old < 18446744073709551615 }
         ensures part { IfOk result (λ n. (0 < n) × (n ≤ length bytes.now)) }
-        ensures taken { IfOk result (λ n. contents self.new ≡ with_bytes (contents self.old) (take n bytes.now)) }
+        ensures taken { IfOk result (λ n. Appends (contents self.old) (contents self.new) (take n bytes.now)) }
         ensures well { OnOk result (failed self.new ≡ failed self.old) }
         ensures fault { OnErr result (failed self.new ≡ failed self.old + 1) }
-        ensures none_taken { OnErr result (contents self.new ≡ contents self.old) };
+        ensures none_taken { OnErr result (Keeps (contents self.old) (contents self.new)) };
 
     /// How many times the writer failed.
     fn failures(&self) -> u64
@@ -42,10 +42,10 @@ pub struct SendFault {
 /// Sends all bytes to a writer. It stops only where the writer fails, and takes no memory.
 pub fn send<W: Out>(bytes: &[u8], out: &mut W) -> Result<(), SendFault>
     requires { W.failed out.old < 18446744073709551615 }
-    ensures all { OnOk result (W.contents out.new ≡ with_bytes (W.contents out.old) bytes.now) }
+    ensures all { OnOk result (Appends (W.contents out.old) (W.contents out.new) bytes.now) }
     ensures well { OnOk result (W.failed out.new ≡ W.failed out.old) }
     ensures within { IfErr result (λ fault. fault.sent < length bytes.now) }
-    ensures front { IfErr result (λ fault. W.contents out.new ≡ with_bytes (W.contents out.old) (take fault.sent bytes.now)) }
+    ensures front { IfErr result (λ fault. Appends (W.contents out.old) (W.contents out.new) (take fault.sent bytes.now)) }
     ensures fault { OnErr result (W.failed out.new ≡ W.failed out.old + 1) }
 {
     let mut sent = 0;

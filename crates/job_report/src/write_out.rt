@@ -23,11 +23,11 @@ impl<W> WriteOut<W> {
 }
 
 impl<W: Write> Out for WriteOut<W> {
-    ghost use Rattle.job_report.specs.WriteOuts.{faults_of};
+    ghost use Rattle.job_report.specs.WriteOuts.{faults_of, writer_of};
 
     ghost failed = { faults_of };
 
-    ghost contents = { λ _. None };
+    ghost contents = { λ out. W.contents (writer_of out) };
 
     fn put(&mut self, bytes: &[u8]) -> Result<usize, PutFault> {
         match self.writer.write(bytes) {

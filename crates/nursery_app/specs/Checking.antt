@@ -3,7 +3,7 @@ use Rattle.std.specs.Prelude.{◌≡◌, ℕ, ◌<◌, Option, List, ◌++◌, l
 use Rattle.job_tree.specs.Tree.{Tree}
 use Rattle.job_grammar.specs.Refusals.{Spells, IsRefused}
 use Rattle.job_grammar.specs.Canon.{canon}
-use Rattle.job_report.specs.Sending.{with_bytes}
+use Rattle.std.specs.Io.KnownBytes.{Appends}
 use Rattle.nursery_app.specs.declared.verdict.CheckVerdict.{CheckVerdict}
 use Rattle.nursery_app.specs.declared.verdict.CheckVerdict.TheVariants.{Fine, JobRefused}
 use Rattle.nursery_app.specs.declared.verdict.ServeFault.{ServeFault}
@@ -16,9 +16,9 @@ IsCheck text Fine bytes = (job : Tree) × Spells text job × (bytes ≡ canon jo
 IsCheck text (JobRefused fault) bytes = IsRefused text fault.kind fault.at × (bytes ≡ refusal_line fault)
 
 abbrev pub IsCheckSent : List ℕ → Option (List ℕ) → Option (List ℕ) → CheckVerdict → Type 0
-IsCheckSent text before after verdict = (bytes : List ℕ) × IsCheck text verdict bytes × (after ≡ with_bytes before bytes)
+IsCheckSent text before after verdict = (bytes : List ℕ) × IsCheck text verdict bytes × Appends before after bytes
 
 abbrev pub IsCheckFault : List ℕ → Option (List ℕ) → Option (List ℕ) → ServeFault → Type 0
 IsCheckFault text before after (Send sent) =
-    (verdict : CheckVerdict) × (bytes : List ℕ) × IsCheck text verdict bytes × (sent < length bytes) × (after ≡ with_bytes before (take sent bytes))
+    (verdict : CheckVerdict) × (bytes : List ℕ) × IsCheck text verdict bytes × (sent < length bytes) × Appends before after (take sent bytes)
 IsCheckFault text before after NoMemory = after ≡ before

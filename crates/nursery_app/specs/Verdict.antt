@@ -8,7 +8,7 @@ use Rattle.job_grammar.specs.Refusals.{Spells, IsRefused}
 use Rattle.job_meaning.specs.Meaning.{meaning, meaning_end}
 use Rattle.job_meaning.specs.Shown.{Row, Ending, well, by_cancellation, with_exception, meaning_rows}
 use Rattle.job_report.specs.Text.{report_text}
-use Rattle.job_report.specs.Sending.{with_bytes}
+use Rattle.std.specs.Io.KnownBytes.{Appends}
 use Rattle.nursery_app.specs.declared.verdict.Verdict.{Verdict}
 use Rattle.nursery_app.specs.declared.verdict.Verdict.TheVariants.{Done, Raised, JobRefused, Limit}
 use Rattle.nursery_app.specs.declared.verdict.ServeFault.{ServeFault}
@@ -41,12 +41,12 @@ IsVerdict text input limit Limit bytes = (job : Tree) × Spells text job × (lim
 
 -- The verdict's bytes were sent, all of them.
 abbrev pub IsSent : List ℕ → List ℕ → ℕ → Option (List ℕ) → Option (List ℕ) → Verdict → Type 0
-IsSent text input limit before after verdict = (bytes : List ℕ) × IsVerdict text input limit verdict bytes × (after ≡ with_bytes before bytes)
+IsSent text input limit before after verdict = (bytes : List ℕ) × IsVerdict text input limit verdict bytes × Appends before after bytes
 
 -- The writer failed behind the first `sent` of the verdict's bytes; or memory was refused, and nothing was sent.
 abbrev pub IsServeFault : List ℕ → List ℕ → ℕ → Option (List ℕ) → Option (List ℕ) → ServeFault → Type 0
 IsServeFault text input limit before after (Send sent) =
-    (verdict : Verdict) × (bytes : List ℕ) × IsVerdict text input limit verdict bytes × (sent < length bytes) × (after ≡ with_bytes before (take sent bytes))
+    (verdict : Verdict) × (bytes : List ℕ) × IsVerdict text input limit verdict bytes × (sent < length bytes) × Appends before after (take sent bytes)
 IsServeFault text input limit before after NoMemory = after ≡ before
 
 -- the count of a writer's failures rises by one where a sending stops, and else stays
