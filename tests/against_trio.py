@@ -1,0 +1,402 @@
+#!/usr/bin/env python3
+"""Runs random jobs by nursery and by Trio itself, and compares the reports.
+
+    python3 tests/against_trio.py PROGRAM [JOBS [SEED]]
+
+PROGRAM is the built executable (crates/nursery/out/nursery behind `rt run`). It wants Python 3.11 and Trio 0.22 or later,
+and is no part of the gate. Each job is also run as a Trio program under MockClock: its scopes, shields, deadlines and levels
+of cancellation are Trio's, its splits of groups Python's. What the job language fixes otherwise (docs/RULES.md, "Differences
+from Trio") is put on top of them: a cancellation by `cancel` or by a member that failed sets the scope's deadline to the next
+tick, and waiting at a nursery's end is shielded.
+"""
+
+import contextlib
+import math
+import random
+import subprocess
+import sys
+
+import trio
+import trio.testing
+
+LIMIT = 1_000_000
+FOREVER = 2**40
+INPUT = b"error one\nok\nwarning: error\n\nlast line"
+NEEDLES = ["er", "ok", "absent", "l"]
+NAMES = ["A", "B", "C"]
+
+
+# ---- jobs at random ----
+
+
+class Jobs:
+    """Random jobs: nested lists of steps, each a tuple whose first part is its keyword."""
+
+    def __init__(self, seed):
+        self.random = random.Random(seed)
+        self.names = 0
+
+    def job(self):
+        self.names = 0
+        return self.block(5, [], 4)
+
+    def name(self, kind):
+        self.names += 1
+        return f"{kind}{self.names}"
+
+    def block(self, depth, around, most):
+        return [self.step(depth, around) for _ in range(self.random.randint(1, most))]
+
+    def step(self, depth, around):
+        pick = self.random.random()
+        if depth == 0 or pick < 0.3:
+            return self.leaf(around)
+        if pick < 0.5:
+            return self.scope(depth, around)
+        if pick < 0.75:
+            return self.nursery(depth, around)
+        return self.handled(depth, around)
+
+    def leaf(self, around):
+        r = self.random
+        pick = r.random()
+        if pick < 0.50:
+            return ("sleep", r.randint(0, 5))
+        if pick < 0.55:
+            return ("checkpoint",)
+        if pick < 0.58:
+            return ("forever",)
+        if pick < 0.62:
+            return ("pace", r.randint(1, 4))
+        if pick < 0.66:
+            return ("find", r.choice(NEEDLES))
+        if pick < 0.69:
+            return r.choice([("head", r.randint(0, 2)), ("longest",)])
+        if pick < 0.72:
+            return ("need", r.choice(NEEDLES), r.choice(NAMES))
+        if pick < 0.90 or not around:
+            return ("raise", r.choice(NAMES))
+        return ("cancel", r.choice(around))
+
+    def scope(self, depth, around):
+        r = self.random
+        name = self.name("s")
+        deadline = r.choice([None, None, ("after", r.randint(0, 6)), ("after", r.randint(0, 6)), ("at", r.randint(0, 9))])
+        body = self.block(depth - 1, around + [name], 3)
+        return ("scope", name, deadline, r.random() < 0.3, r.random() < 0.3, body)
+
+    def nursery(self, depth, around):
+        r = self.random
+        name = self.name("n")
+        items = []
+        for _ in range(r.randint(1, 5)):
+            if r.random() < 0.7:
+                over = r.choice([None, None, None, 1, 2, 3])
+                items.append(("start", self.name("t"), over, self.block(depth - 1, around + [name], 3)))
+            else:
+                items.append(self.step(depth - 1, around + [name]))
+        return ("nursery", name, items)
+
+    def handled(self, depth, around):
+        r = self.random
+        body = self.block(depth - 1, around, 3)
+        handler = (r.choice(NAMES + ["TooSlow"]), self.block(depth - 1, around, 2)) if r.random() < 0.7 else None
+        cleanup = self.block(depth - 1, around, 2) if handler is None or r.random() < 0.5 else None
+        return ("try", body, handler, cleanup)
+
+
+def text_of_block(steps):
+    return "{ " + "".join(text_of(step) + " " for step in steps) + "}"
+
+
+def text_of(step):
+    match step:
+        case ("scope", name, deadline, shield, fail, body):
+            words = ["scope", name]
+            if deadline:
+                words += [deadline[0], str(deadline[1])]
+            words += ["shield"] * shield + ["fail"] * fail
+            return " ".join(words) + " " + text_of_block(body)
+        case ("nursery", name, items):
+            return f"nursery {name} " + text_of_block(items)
+        case ("start", name, over, body):
+            return f"start {name} " + (f"over {over} " if over else "") + text_of_block(body)
+        case ("try", body, handler, cleanup):
+            text = "try " + text_of_block(body)
+            if handler is not None:
+                text += f" except {handler[0]} " + text_of_block(handler[1])
+            if cleanup is not None:
+                text += " finally " + text_of_block(cleanup)
+            return text
+        case ("find", needle):
+            return f'find "{needle}";'
+        case ("need", needle, name):
+            return f'need "{needle}" {name};'
+        case _:
+            return " ".join(str(word) for word in step) + ";"
+
+
+# ---- the same job in Trio ----
+
+
+class Named(Exception):
+    """A raised name, or a TooSlow."""
+
+    def __init__(self, name, label, tick):
+        super().__init__(name)
+        self.name, self.label, self.tick = name, label, tick
+
+
+def text_of_exc(exc):
+    if isinstance(exc, trio.Cancelled):
+        return "Cancelled"
+    if isinstance(exc, BaseExceptionGroup):
+        return f"{exc.message}[" + ", ".join(text_of_exc(part) for part in exc.exceptions) + "]"
+    if isinstance(exc, Named):
+        return f"{exc.name}({exc.label}@{exc.tick})"
+    raise exc
+
+
+def split(exc, name):
+    """Leaves of that name, and the others."""
+
+    def matches(leaf):
+        return isinstance(leaf, Named) and leaf.name == name
+
+    if isinstance(exc, BaseExceptionGroup):
+        return exc.split(matches)
+    return (exc, None) if matches(exc) else (None, exc)
+
+
+def now():
+    return int(trio.current_time())
+
+
+class Task:
+    """One task: its record, and what its steps see."""
+
+    def __init__(self, label, indices, part):
+        self.label, self.indices, self.part = label, indices, part
+        self.entries, self.children = [], []
+        self.start = self.end = now()
+        self.exc = None
+        self.ended = trio.Event()
+
+    def label_of(self, name):
+        return ".".join([name, *map(str, self.indices)])
+
+    def lines(self):
+        at, end = self.part
+        while at < end:
+            stop = INPUT.find(b"\n", at, end)
+            stop = end if stop < 0 else stop
+            yield at, INPUT[at:stop]
+            at = stop + 1
+
+    def show(self, lines):
+        for at, line in lines:
+            self.entries.append(f"line {at}+{len(line)} {line.decode()}")
+
+    async def run(self, steps, scopes, failed):
+        self.start = now()
+        try:
+            await self.block(steps, scopes)
+        except BaseException as exc:
+            self.exc = exc
+            failed()
+        self.end = now()
+        self.ended.set()
+
+    async def block(self, steps, scopes):
+        for step in steps:
+            await self.step(step, scopes)
+
+    async def step(self, step, scopes):
+        match step:
+            case ("sleep", ticks):
+                await trio.sleep(ticks)
+            case ("checkpoint",):
+                await trio.lowlevel.checkpoint()
+            case ("forever",):
+                await trio.sleep_until(max(FOREVER, now()))
+            case ("pace", lines):
+                await trio.sleep(math.ceil(len(list(self.lines())) / lines))
+            case ("find", needle):
+                self.show([l for l in self.lines() if needle.encode() in l[1]])
+            case ("head", count):
+                self.show(list(self.lines())[:count])
+            case ("longest",):
+                self.show([max(self.lines(), key=lambda l: len(l[1]))] if list(self.lines()) else [])
+            case ("need", needle, name):
+                found = [l for l in self.lines() if needle.encode() in l[1]]
+                if not found:
+                    raise Named(name, self.label, now())
+                self.show(found[:1])
+            case ("raise", name):
+                raise Named(name, self.label, now())
+            case ("cancel", name):
+                lower(scopes[name])
+            case ("scope", name, deadline, shield, fail, body):
+                await self.scope(name, deadline, shield, fail, body, scopes)
+            case ("nursery", name, items):
+                await self.nursery(name, items, scopes)
+            case ("try", body, handler, cleanup):
+                await self.handled(body, handler, cleanup, scopes)
+
+    async def scope(self, name, deadline, shield, fail, body, scopes):
+        label = self.label_of(name)
+        scope = trio.CancelScope(deadline=math.inf, shield=shield)
+        if deadline:
+            scope.deadline = deadline[1] + (now() if deadline[0] == "after" else 0)
+        try:
+            with scope:
+                await self.block(body, {**scopes, name: scope})
+        finally:
+            self.entries.append(f"scope {label} {now()} {'caught' if scope.cancelled_caught else 'passed'}")
+        if fail and scope.cancelled_caught:
+            raise Named("TooSlow", label, now())
+
+    async def nursery(self, name, items, scopes):
+        label = self.label_of(name)
+        own = trio.CancelScope()
+        try:
+            with own:
+                await self.members(label, items, {**scopes, name: own}, own)
+        finally:
+            self.entries.append(f"nursery {label} {now()} {'caught' if own.cancelled_caught else 'passed'}")
+
+    async def members(self, label, items, scopes, own):
+        started, excs = [], []
+        with unheard():
+            async with trio.open_nursery() as spawner:
+                try:
+                    for item in items:
+                        if item[0] != "start":
+                            await self.step(item, scopes)
+                            continue
+                        for child in self.children_of(item):
+                            started.append(child)
+                            spawner.start_soon(child.run, item[3], scopes, lambda: lower(own))
+                except BaseException as exc:
+                    excs.append(exc)
+                    lower(own)
+                with trio.CancelScope(shield=True):
+                    for child in started:
+                        await child.ended.wait()
+        excs += [child.exc for child in started if child.exc is not None]
+        if excs:
+            raise BaseExceptionGroup(label, excs)
+
+    def children_of(self, item):
+        _, name, over, _ = item
+        if over is None:
+            children = [Task(self.label_of(name), self.indices, self.part)]
+        else:
+            cuts = cuts_of(self.part, over)
+            children = [Task(f"{self.label_of(name)}.{i}", [*self.indices, i], cuts[i]) for i in range(over)]
+        self.children += children
+        return children
+
+    async def handled(self, body, handler, cleanup, scopes):
+        try:
+            try:
+                await self.block(body, scopes)
+            except BaseException as exc:
+                if handler is None:
+                    raise
+                matched, rest = split(exc, handler[0])
+                if matched is None:
+                    raise
+                await self.handler(handler[1], rest, scopes)
+        finally:
+            if cleanup is not None:
+                await self.block(cleanup, scopes)
+
+    async def handler(self, steps, rest, scopes):
+        try:
+            await self.block(steps, scopes)
+        except BaseException as exc:
+            if rest is None:
+                raise
+            raise BaseExceptionGroup("*", [exc, rest])
+        if rest is not None:
+            raise rest
+
+    def report(self):
+        if self.exc is None:
+            outcome = "done"
+        elif isinstance(self.exc, trio.Cancelled):
+            outcome = "cancelled"
+        else:
+            outcome = "raised " + text_of_exc(self.exc)
+        yield f"task {self.label} {self.start} {self.end} {outcome}"
+        yield from ("  " + entry for entry in self.entries)
+        for child in self.children:
+            yield from child.report()
+
+
+@contextlib.contextmanager
+def unheard():
+    """Waiting at the end of a nursery is no cancel point: up to Trio 0.22 it was one."""
+    try:
+        yield
+    except* trio.Cancelled:
+        pass
+
+
+def lower(scope):
+    """A cancellation is seen from the next tick on."""
+    scope.deadline = min(scope.deadline, now() + 1)
+
+
+def cuts_of(part, k):
+    start, end = part
+
+    def point(i):
+        if i in (0, k):
+            return (start, end)[i == k]
+        place = start + i * (end - start) // k
+        while place < end and place > 0 and INPUT[place - 1] != 10:
+            place += 1
+        return place
+
+    return [(point(i), point(i + 1)) for i in range(k)]
+
+
+def by_trio(steps):
+    async def main():
+        root = Task("main", [], (0, len(INPUT)))
+        await root.run(steps, {}, lambda: None)
+        return root
+
+    clock = trio.testing.MockClock(rate=0, autojump_threshold=0)
+    root = trio.run(main, clock=clock, strict_exception_groups=True)
+    if root.end > LIMIT:
+        return f"limit {LIMIT}\n"
+    return "\n".join([f"job main {root.end}", *root.report()]) + "\n"
+
+
+def by_nursery(program, text):
+    feed = text.encode() + b"\n%input\n" + INPUT
+    run = subprocess.run([program], input=feed, capture_output=True)
+    return run.stdout.decode()
+
+
+def main():
+    program = sys.argv[1]
+    jobs = int(sys.argv[2]) if len(sys.argv) > 2 else 1000
+    seed = int(sys.argv[3]) if len(sys.argv) > 3 else 1
+    differ = 0
+    for i in range(jobs):
+        steps = Jobs(seed * 1_000_000 + i).job()
+        text = "trio-job 1\njob main " + text_of_block(steps)
+        ours, theirs = by_nursery(program, text), by_trio(steps)
+        if ours != theirs:
+            differ += 1
+            print(f"job {i} differs:\n{text}\n-- nursery\n{ours}-- Trio\n{theirs}")
+    print(f"{jobs} jobs, {differ} differ")
+    return 1 if differ else 0
+
+
+if __name__ == "__main__":
+    sys.exit(main())
