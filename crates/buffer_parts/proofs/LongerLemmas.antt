@@ -3,7 +3,7 @@ use Rattle.std.proofs.Common.{◌≡◌, ℕ, zero, suc, ◌+◌, ◌-◌, ◌<�
 use Rattle.std.proofs.lemmas.Bool.{lt-ltb, le-ltb, eq-eqb, eqb-true, cases_Bool, cases_lt}
 use Rattle.memchr.specs.Find.{IsLastByte, is_byte}
 use Rattle.buffer_parts.specs.Lines.{Span, lines_from, begun_at, lines_of, from_longer}
-use Rattle.buffer_parts.specs.Part.{GivesLine, GivesLonger, IsLineOf, span_of, lines_left, source_of}
+use Rattle.buffer_parts.specs.Part.{GivesLine, GivesLonger, IsLineOf, span_of, lines_left, range_left, source_of}
 use Rattle.buffer_parts.specs.declared.line.Line.{Line}
 use Rattle.buffer_parts.specs.declared.line.Lines.{Lines}
 use Rattle.buffer_parts.proofs.RangeLemmas.{length-slice_range, get_or-slice_range}
@@ -113,15 +113,17 @@ longer-line s t n line more missed gives =
     ap (from_longer n) gives.first ∙ from_longer-first n l (lines_left t) longer
 
 -- so what the call gives then is the first longer line of those that were left before
-pub longer-given : (old s t : Lines) (n : ℕ) (given : Option Line) → source_of s ≡ source_of old → from_longer n (lines_left old) ≡ from_longer n (lines_left s) → n < s.end - s.next
+pub longer-given : (old s t : Lines) (n : ℕ) (given : Option Line) → source_of s ≡ source_of old → (range_left s).to ≡ (range_left old).to → from_longer n (lines_left old) ≡ from_longer n (lines_left s) → n < s.end - s.next
     → IsLastByte (is_byte 10) (slice_range (source_of s) s.next (s.next + n + 1)) None → GivesLine s given t → GivesLonger old n given t
-longer-given old s t n None source passed more missed gives = record {
+longer-given old s t n None source ends passed more missed gives = record {
   first = (passed ∙ ap (from_longer n) gives.first.0, gives.first.1);
   placed = tt;
   same_source = gives.same_source ∙ source;
+  same_end = gives.same_end ∙ ends;
 }
-longer-given old s t n (Some line) source passed more missed gives = record {
+longer-given old s t n (Some line) source ends passed more missed gives = record {
   first = passed ∙ longer-line s t n line more missed gives;
   placed = subst (λ b. IsLineOf b line) source gives.placed;
   same_source = gives.same_source ∙ source;
+  same_end = gives.same_end ∙ ends;
 }

@@ -121,4 +121,5 @@ goes_to_line s t u place line below skips gives =
       ends = ends;
       placed = subst (λ x. IsLineOf x line) skips.same_source gives.placed;
       same_source = gives.same_source ∙ skips.same_source;
+      same_end = gives.same_end ∙ skips.same_end;
     }

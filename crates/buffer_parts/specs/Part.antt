@@ -30,15 +30,20 @@ pub record IsLineOf (buffer : List ℕ) (line : Line) : Type 0 where
 abbrev pub source_of : Lines → List ℕ
 source_of lines = lines.buffer.now
 
+-- the places that are still to come
+abbrev pub range_left : Lines → Range
+range_left lines = record { from = lines.next; to = lines.end }
+
 -- the lines that are still to come
 abbrev pub lines_left : Lines → List Span
-lines_left lines = lines_of lines.buffer.now (record { from = lines.next; to = lines.end })
+lines_left lines = lines_of (source_of lines) (range_left lines)
 
 -- one call gave the first of the lines that were left, as it stands in the buffer, or none where none was left
 pub record GivesLine (before : Lines) (given : Option Line) (after : Lines) : Type 0 where
   pub first : MatchOption given ((lines_left before ≡ []) × (lines_left after ≡ [])) (λ line. lines_left before ≡ span_of line ∷ lines_left after)
   pub placed : IfSome given (IsLineOf (source_of before))
   pub same_source : source_of after ≡ source_of before
+  pub same_end : (range_left after).to ≡ (range_left before).to
 
 -- one call gave the first of the lines left that has more than so many bytes, and passed over those before it, or gave none
 -- where none has
@@ -46,10 +51,7 @@ pub record GivesLonger (before : Lines) (len : ℕ) (given : Option Line) (after
   pub first : MatchOption given ((from_longer len (lines_left before) ≡ []) × (lines_left after ≡ [])) (λ line. from_longer len (lines_left before) ≡ span_of line ∷ lines_left after)
   pub placed : IfSome given (IsLineOf (source_of before))
   pub same_source : source_of after ≡ source_of before
-
--- the places that are still to come
-abbrev pub range_left : Lines → Range
-range_left lines = record { from = lines.next; to = lines.end }
+  pub same_end : (range_left after).to ≡ (range_left before).to
 
 -- the lines before the one that holds a place of what was left, counted from its start, were passed over
 pub record SkipsTo (before : Lines) (place : ℕ) (after : Lines) : Type 0 where
@@ -71,3 +73,4 @@ pub record GoesToLine (before : Lines) (place : ℕ) (line : Line) (after : Line
   pub ends : ((span_of line).at + (span_of line).len ≡ (range_left before).to) ⊎ (slice_index (source_of before) ((span_of line).at + (span_of line).len) ≡ 10)
   pub placed : IsLineOf (source_of before) line
   pub same_source : source_of after ≡ source_of before
+  pub same_end : (range_left after).to ≡ (range_left before).to

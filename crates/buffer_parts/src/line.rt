@@ -47,6 +47,7 @@ impl<'a> Lines<'a> {
         requires ordered { start ≤ end }
         requires within { end ≤ length buffer.now }
         ensures source { source_of result ≡ buffer.now }
+        ensures range { range_left result ≡ record { from = start; to = end } }
         ensures lines { lines_left result ≡ lines_of buffer.now (record { from = start; to = end }) }
         ensures count { length (lines_left result) + start ≤ end }
     {
@@ -88,7 +89,7 @@ impl<'a> Lines<'a> {
                 None => return self.next(),
             }
         }
-        self.next = self.end;
+        self.next = self.end; // no line of the rest is longer
         None
     }
 

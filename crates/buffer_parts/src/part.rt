@@ -18,7 +18,7 @@ pub struct Part<'a> {
 impl<'a> Part<'a> {
     ghost use Rattle.buffer_parts.specs.Lines.{Range, bytes_of, lines_of};
     ghost use Rattle.buffer_parts.specs.Cuts.{next_start, cut_point, cut_of};
-    ghost use Rattle.buffer_parts.specs.Part.{buffer_of, range_of, source_of, lines_left};
+    ghost use Rattle.buffer_parts.specs.Part.{buffer_of, range_of, source_of, range_left, lines_left};
 
     /// The whole of a buffer.
     pub fn whole(buffer: &'a [u8]) -> Part<'a>
@@ -111,6 +111,7 @@ impl<'a> Part<'a> {
     /// The part's lines, in order.
     pub fn lines(self) -> Lines<'a>
         ensures source { source_of result ≡ buffer_of self.entry }
+        ensures range { range_left result ≡ range_of self.entry }
         ensures lines { lines_left result ≡ lines_of (buffer_of self.entry) (range_of self.entry) }
         ensures count { length (lines_left result) + (range_of self.entry).from ≤ (range_of self.entry).to }
     {

@@ -13,7 +13,7 @@ pub trait Out {
     /// The failures so far.
     ghost failed: { Self → ℕ };
 
-    /// The bytes taken so far, where the type tells.
+    /// The bytes that the writer holds, where they are known.
     ghost contents: { Self → Option (List ℕ) };
 
     /// Takes some bytes from the front, at least one, and says how many; or fails, takes none, and counts the failure.

@@ -17,6 +17,7 @@ returns-in-Some-clause-steps c =
       first = found.1 ∙ ap (λ n. span s.next n ∷ lines_of s.buffer.now (range (s.next + k + 1) s.end)) (sym len);
       placed = record { within = omega arith; text = text ∙ ap (λ n. slice_range s.buffer.now s.next (s.next + n)) (sym len) };
       same_source = refl;
+      same_end = refl;
     }
 
 pub returns-in-Some-clause-goes : goal.returns-in-Some-clause-goes
@@ -35,4 +36,5 @@ returns-in-None-clause-steps c =
       first = lines_of-last s.buffer.now s.next s.end s.within (omega arith) c.in-None.ensures ∙ ap (λ n. span s.next n ∷ lines_of s.buffer.now (range s.end s.end)) (sym len);
       placed = record { within = omega arith; text = ap (slice_range s.buffer.now s.next) (sym (ap (λ n. s.next + n) len ∙ end)) };
       same_source = refl;
+      same_end = refl;
     }
