@@ -1,0 +1,4 @@
+pub mod TotalLemmas
+pub mod RuleLemmas
+pub mod StepLemmas
+pub mod GatherLemmas

@@ -1,0 +1,28 @@
+-- What clauses say of claims and passes.
+use Rattle.std.specs.Prelude.{◌≡◌, ℕ, List, [], Bool, nat_lt}
+use Rattle.claim_word.specs.declared.batch.Claims.{Claims}
+use Rattle.claim_word.specs.declared.worker.Pass.{Pass}
+
+-- how many requests there are
+abbrev pub requests_of : Claims → ℕ
+requests_of claims = claims.requests
+
+-- how many passes were made
+abbrev pub passes_of : Claims → ℕ
+passes_of claims = claims.word.shared.key.passes
+
+-- the numbers that a pass drew, the first one first
+abbrev pub drawn_by : Pass → List ℕ
+drawn_by pass = pass.seat.me.0.drawn
+
+-- whether a pass was told that no request is left
+abbrev pub was_told : Pass → Bool
+was_told pass = nat_lt 0 pass.seat.me.0.nones
+
+-- The pass is one of those that were made with these claims: it is of their table, stands for one pass, and knows the
+-- number of requests.
+pub record IsPassOf (claims : Claims) (pass : Pass) : Type 0 where
+  pub table : pass.seat.table_id ≡ claims.word.shared.table_id
+  pub slots : pass.seat.me.1 ≡ []
+  pub one : pass.seat.me.0.parts ≡ 1
+  pub requests : pass.seat.me.0.most ≡ requests_of claims
