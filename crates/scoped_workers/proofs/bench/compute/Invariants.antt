@@ -1,0 +1,9 @@
+use Rattle.std.proofs.Common.{◌≡◌, length}
+use Rattle.scoped_workers.proofs.SlotLemmas.{ComputedBelow}
+use Rattle.scoped_workers.proofs.bench.compute.Given as goal
+
+abbrev pub invariant-loop-i : goal.invariant-loop-i
+invariant-loop-i g l = record {
+  count : length l.row ≡ length l.initial.row;
+  done : ComputedBelow l.i l.first l.requests l.row;
+}

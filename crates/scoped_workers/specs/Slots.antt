@@ -1,0 +1,47 @@
+-- What a slot holds once its request was computed, and the answers to a list of requests.
+use Rattle.std.specs.Prelude.{◌≡◌, ◌≢◌, ℕ, ◌+◌, ◌<◌, List, length, slice_index_or}
+use Rattle.line_kernels.specs.declared.request.Request.{Request}
+use Rattle.line_kernels.specs.declared.answers.Answer.{Answer}
+use Rattle.line_kernels.specs.Answers.{IsAnswer}
+use Rattle.scoped_workers.specs.declared.slot.Slot.{Slot}
+use Rattle.scoped_workers.specs.declared.slot.Content.{Content}
+use Rattle.scoped_workers.specs.declared.slot.Content.TheVariants.{Empty, Done, NoMemory}
+
+-- the answer to a request is that of its kernel on its part
+abbrev pub Answers : Request → Answer → Type 0
+Answers request answer = IsAnswer request.kernel request.part answer
+
+-- the answer to a request, or nothing where memory was refused
+abbrev pub Computes : Request → Content → Type 0
+Computes request Empty = ⊥
+Computes request (Done answer) = Answers request answer
+Computes request NoMemory = Unit {0}
+
+-- what stands in the slot of a request that was computed
+abbrev pub IsComputed : Request → Slot → Type 0
+IsComputed request slot = Computes request slot.content
+
+-- the slots hold what the requests from a number on came to
+abbrev pub AreComputedFrom : ℕ → List Request → List Slot → Type 0
+AreComputedFrom first requests row = (i : ℕ) (q : Request) (s : Slot) → i < length row → IsComputed (slice_index_or requests (first + i) q) (slice_index_or row i s)
+
+-- the slot of each request holds what that request came to
+abbrev pub AreComputed : List Request → List Slot → Type 0
+AreComputed requests row = AreComputedFrom 0 requests row
+
+-- the answer at each place is that of the request there
+pub record AreAnswers (requests : List Request) (answers : List Answer) : Type 0 where
+  pub count : length answers ≡ length requests
+  pub each : (i : ℕ) (q : Request) (a : Answer) → i < length requests → Answers (slice_index_or requests i q) (slice_index_or answers i a)
+
+-- an empty slot
+abbrev pub empty : Slot
+empty = record { content = Empty }
+
+-- the slot of an answer
+abbrev pub done : Answer → Slot
+done answer = record { content = Done answer }
+
+-- something was put into the slot
+abbrev pub IsFilled : Slot → Type 0
+IsFilled slot = slot.content ≢ Empty

@@ -1,0 +1,100 @@
+ghost use Rattle.std.specs.Prelude.{◌≡◌, ◌+◌, ◌<◌, ◌≤◌, length, take, drop, slice_set};
+ghost use Rattle.scoped_workers.specs.Slots.{IsComputed, AreComputedFrom};
+
+use crate::gate::{Gate, NoGate};
+use crate::slot::{Content, Slot};
+use line_kernels::{Request, answer};
+use std::alloc::Global;
+
+/// Requests, and a row of slots lent for their answers: slot `i` is for request `i`.
+#[derive(Drop)]
+pub struct Bench<'b, 'a> {
+    requests: &'b [Request<'a>],
+    row: &'b mut [Slot<'a>],
+    ghost paired: { length requests.now ≡ length row.now },
+}
+
+impl<'b, 'a> Bench<'b, 'a> {
+    ghost use Rattle.scoped_workers.specs.Slots.{AreComputed};
+    ghost use Rattle.scoped_workers.specs.Bench.{requests_of, row_of};
+
+    /// Pairs request `i` with slot `i`. The caller sees to it that there are as many of both.
+    pub fn new(requests: &'b [Request<'a>], row: &'b mut [Slot<'a>]) -> Bench<'b, 'a>
+        requires { length requests.now ≡ length row.old }
+        ensures requests { requests_of result ≡ requests.now }
+        ensures row { row_of result ≡ row.old }
+        ensures same_row { result.row.ghost_name ≡ row.entry.ghost_name }
+    {
+        Bench { requests, row }
+    }
+
+    /// Puts a slot's content at a place. The caller sees to it that the place is below the number of slots.
+    pub fn put(&mut self, i: usize, slot: Slot<'a>)
+        requires { i < length (row_of self.old) }
+        ensures requests { requests_of self.new ≡ requests_of self.old }
+        ensures row { row_of self.new ≡ slice_set (row_of self.old) i slot.entry }
+        ensures same_row { self.new.row.ghost_name ≡ self.old.row.ghost_name }
+    {
+        self.row[i] = slot;
+    }
+
+    /// The first `n` requests with their slots, and the others with theirs. The caller sees to it that there are as many.
+    pub fn cut(self, n: usize) -> (Bench<'b, 'a>, Bench<'b, 'a>)
+        requires { n ≤ length (row_of self) }
+        ensures first { (requests_of result.0 ≡ take n (requests_of self.entry)) × (row_of result.0 ≡ take n (row_of self.entry)) }
+        ensures rest { (requests_of result.1 ≡ drop n (requests_of self.entry)) × (row_of result.1 ≡ drop n (row_of self.entry)) }
+    {
+        let Bench { requests, row } = self;
+        let (first_requests, other_requests) = requests.split_at(n);
+        let (first_row, other_row) = row.split_at_mut(n);
+        (
+            Bench {
+                requests: first_requests,
+                row: first_row,
+            },
+            Bench {
+                requests: other_requests,
+                row: other_row,
+            },
+        )
+    }
+
+    /// Computes each request in turn, into the slot of its number.
+    pub fn fill(self, alloc: Global)
+        ensures count { length self.exit.1.0.now ≡ length (requests_of self.entry) }
+        ensures computed { AreComputed (requests_of self.entry) self.exit.1.0.now }
+    {
+        let Bench { requests, row } = self;
+        compute(alloc, requests, 0, row, &NoGate);
+    }
+}
+
+/// Computes requests in turn, each into its slot, with the gate round it. The first slot is for the request of that number.
+pub(crate) fn compute<'a, G: Gate>(
+    alloc: Global,
+    requests: &[Request<'a>],
+    first: usize,
+    row: &mut [Slot<'a>],
+    gate: &G,
+)
+    requires { first + length row.old ≤ length requests.now }
+    ensures count { length row.new ≡ length row.old }
+    ensures computed { AreComputedFrom first requests.now row.new }
+{
+    for i in 0..row.len() {
+        gate.before(first + i);
+        row[i] = computed(alloc, &requests[first + i]);
+        gate.after(first + i);
+    }
+}
+
+/// The slot of a request that was computed.
+fn computed<'a>(alloc: Global, request: &Request<'a>) -> Slot<'a>
+    ensures { IsComputed request.now result }
+{
+    let content = match answer(alloc, &request.kernel, request.part) {
+        Ok(answer) => Content::Done(answer),
+        Err(_) => Content::NoMemory,
+    };
+    Slot { content }
+}

@@ -1,0 +1,17 @@
+//! Worker threads that compute the requests of a batch.
+//!
+//! The layer promises that `work` answers each request as its kernel does (`line_kernels`), in the order of the requests,
+//! for every number of workers and every gate. It stands on `line_kernels` and on the scoped threads of std.
+#![tactic(auto)]
+
+mod bench;
+mod gate;
+mod slot;
+#[cfg(test)]
+mod tests;
+mod working;
+
+pub use bench::Bench;
+pub use gate::{Gate, NoGate};
+pub use slot::{Content, Slot};
+pub use working::work;
