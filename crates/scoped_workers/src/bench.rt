@@ -59,7 +59,7 @@ impl<'b, 'a> Bench<'b, 'a> {
         )
     }
 
-    /// Computes each request in turn, into the slot of its number.
+    /// Computes each request in turn. Its slot then has its answer, or `NoMemory` where memory was refused.
     pub fn fill(self, alloc: Global)
         ensures count { length self.exit.1.0.now ≡ length (requests_of self.entry) }
         ensures computed { AreComputed (requests_of self.entry) self.exit.1.0.now }

@@ -97,6 +97,7 @@ fn a_bench_takes_what_is_put(rt: HostRuntime) -> Result<(), Fail> {
 struct Both {
     begun: [AtomicU64; 2],
     missed: AtomicU64,
+    ended: AtomicU64,
 }
 
 impl Gate for Both {
@@ -109,7 +110,9 @@ impl Gate for Both {
         }
     }
 
-    fn after(&self, _i: usize) {}
+    fn after(&self, _i: usize) {
+        self.ended.fetch_add(1, Ordering::SeqCst);
+    }
 }
 
 impl Both {
@@ -131,6 +134,7 @@ fn two_workers_compute_at_once(rt: HostRuntime) -> Result<(), Fail> {
     let gate = Both {
         begun: [AtomicU64::new(0), AtomicU64::new(0)],
         missed: AtomicU64::new(0),
+        ended: AtomicU64::new(0),
     };
     let answers = work(&rt, rt.alloc(), 2, &counts(BUFFER)[..2], &gate)?;
     let text = shown(rt.alloc(), answers.as_slice())?;
@@ -139,5 +143,6 @@ fn two_workers_compute_at_once(rt: HostRuntime) -> Result<(), Fail> {
         assert_eq!(rt; begun.load(Ordering::SeqCst), 1);
     }
     assert_eq!(rt; gate.missed.load(Ordering::SeqCst), 0);
+    assert_eq!(rt; gate.ended.load(Ordering::SeqCst), 2);
     Ok(())
 }

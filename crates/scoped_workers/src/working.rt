@@ -13,7 +13,8 @@ use std::thread::Threads;
 /// round each request, by the worker that computes it.
 ///
 /// A request for which memory is refused makes the whole answer that, after all workers were joined. Where a thread
-/// cannot be started another does its work.
+/// cannot be started another does its work. The caller sees to it that there are 1 to 64 workers and at most 2,000,000
+/// requests.
 pub fn work<'a, R: Threads + Sync, G: Gate + Sync>(
     rt: &R,
     alloc: Global,
