@@ -7,9 +7,10 @@ use Rattle.buffer_parts.specs.Cuts.{cut_of}
 use Rattle.exc_groups.specs.Exceptions.{Label, Exc}
 use Rattle.exc_groups.specs.Split.{Wanted, named, keep, drop}
 use Rattle.cancel_scopes.specs.Sight.{Level}
+use Rattle.job_meaning.proofs.Clips.{followed_nil}
 use Rattle.job_meaning.specs.Log.{Log, nil, entry, sign, entered, task, followed_by, Member, Result, Table}
 use Rattle.job_meaning.specs.Walk.{Stack, Mode, by_table, Here, walk, walk_step, walk_handler, walk_cleanup, done_at, joined, and_then, then_if, block, due, within, Kind, signed, gathered, child, handled, handled_exc, handled_if, cleaned, with_outcome, handler_exc, outcome_after, sign_if, a_scope, a_nursery, label_here, label_over, each, here_in}
-use Rattle.job_meaning.specs.Rest.{Event, noted, signs, enters, starts, fill, numbered, starts_over, Telling, told_members, Frame, steps_left, in_scope, in_nursery, in_wait, in_try, in_handler, in_cleanup, block_left, with_children, body_ended, finish, rest_comes_to, rest_at_start}
+use Rattle.job_meaning.specs.Rest.{Event, noted, signs, enters, starts, fill, numbered, starts_over, Telling, told_members, Frame, steps_left, in_scope, in_nursery, in_try, in_handler, in_cleanup, inside, block_left, with_children, waited, finish, rest_comes_to, rest_at_start}
 
 pub followed_assoc : (a b c : Log) → followed_by (followed_by a b) c ≡ followed_by a (followed_by b c)
 followed_assoc nil b c = refl
@@ -71,8 +72,8 @@ pub finish_after : (fs : List Frame) (a : Log) (m : Mode) (told : Telling) (here
 unfolding finish gathered
 finish_after [] a m told here st r = after_signed a st r
 finish_after (steps_left ss ∷ fs) a m told here st r =
-    ap (λ (x : Result). finish m told fs here st x) (after_and_then a r (λ u. walk m ss here st u))
-    ∙ finish_after fs a m told here st (and_then r (λ u. walk m ss here st u))
+    ap (λ (x : Result). finish m told fs here st x) (after_and_then a r (λ u. walk m ss (inside fs here) st u))
+    ∙ finish_after fs a m told here st (and_then r (λ u. walk m ss (inside fs here) st u))
 finish_after (in_scope fail ∷ fs) a m told here [] r = finish_after fs a m told here [] r
 finish_after (in_scope fail ∷ fs) a m told here (l ∷ outer) r =
     ap (λ (x : Result). finish m told fs here outer x) (after_block_left a (a_scope fail) l outer r) ∙ finish_after fs a m told here outer _
@@ -81,16 +82,12 @@ finish_after (in_nursery children ∷ fs) a m told here (l ∷ outer) r =
     ap (λ (x : Result). finish m told fs here outer (block_left a_nursery l outer (gathered l.label (with_children (told_members told children) x)))) (after_signed a (l ∷ outer) r)
     ∙ (ap (λ (x : Result). finish m told fs here outer x) (after_block_left a a_nursery l outer (gathered l.label (with_children (told_members told children) (signed (l ∷ outer) r))))
     ∙ finish_after fs a m told here outer _)
-finish_after (in_wait children t e ∷ fs) a m told here [] r = finish_after fs a m told here [] r
-finish_after (in_wait children t e ∷ fs) a m told here (l ∷ outer) r =
-    ap (λ (x : Result). finish m told fs here outer x) (after_block_left a a_nursery l outer (gathered l.label (body_ended (told_members told children) t e r.log)))
-    ∙ finish_after fs a m told here outer _
 finish_after (in_try handler cleanup ∷ fs) a m told here st r =
-    ap (λ (x : Result). finish m told fs here st (walk_cleanup m cleanup here st x)) (after_handler a m handler here st r)
-    ∙ (ap (λ (x : Result). finish m told fs here st x) (after_cleanup a m cleanup here st (walk_handler m handler here st r))
+    ap (λ (x : Result). finish m told fs here st (walk_cleanup m cleanup (inside fs here) st x)) (after_handler a m handler (inside fs here) st r)
+    ∙ (ap (λ (x : Result). finish m told fs here st x) (after_cleanup a m cleanup (inside fs here) st (walk_handler m handler (inside fs here) st r))
     ∙ finish_after fs a m told here st _)
 finish_after (in_handler rest cleanup ∷ fs) a m told here st r =
-    ap (λ (x : Result). finish m told fs here st x) (after_cleanup a m cleanup here st (with_outcome (handler_exc r.exc rest) r))
+    ap (λ (x : Result). finish m told fs here st x) (after_cleanup a m cleanup (inside fs here) st (with_outcome (handler_exc r.exc rest) r))
     ∙ finish_after fs a m told here st _
 finish_after (in_cleanup outcome ∷ fs) a m told here st r = finish_after fs a m told here st _
 
@@ -106,7 +103,7 @@ finish_stop fs m told here st t = refl
 
 -- a step that opens no frame
 pub finish_step : (fs : List Frame) (m : Mode) (told : Telling) (s : Step) (ss : Steps) (here : Here) (st : Stack) (t : ℕ) →
-    finish m told (steps_left (step s ss) ∷ fs) here st (done_at t) ≡ finish m told (steps_left ss ∷ fs) here st (walk_step m s here st t)
+    finish m told (steps_left (step s ss) ∷ fs) here st (done_at t) ≡ finish m told (steps_left ss ∷ fs) here st (walk_step m s (inside fs here) st t)
 unfolding finish and_then walk
 finish_step fs m told s ss here st t = refl
 
@@ -119,22 +116,22 @@ finish_raised fs m told ss here st r e = refl
 -- a scope is entered
 pub finish_scope : (fs : List Frame) (table : Table) (told : Telling) (name : List ℕ) (d : Deadline) (shield fail : Bool) (body ss : Steps) (here : Here) (st : Stack) (t : ℕ) →
     finish (by_table table) told (steps_left (step (scope name d shield fail body) ss) ∷ fs) here st (done_at t)
-    ≡ after (entered (label_here name here) t (due d t) nil)
-    (finish (by_table table) told (steps_left body ∷ in_scope fail ∷ steps_left ss ∷ fs) here (within (label_here name here) shield (table (label_here name here)) st) (done_at t))
+    ≡ after (entered (label_here name (inside fs here)) t (due d t) nil)
+    (finish (by_table table) told (steps_left body ∷ in_scope fail ∷ steps_left ss ∷ fs) here (within (label_here name (inside fs here)) shield (table (label_here name (inside fs here))) st) (done_at t))
 unfolding finish and_then walk block
 finish_scope fs table told name d shield fail body ss here st t =
-    finish_after (steps_left body ∷ in_scope fail ∷ steps_left ss ∷ fs) (entered (label_here name here) t (due d t) nil) (by_table table) told here
-    (within (label_here name here) shield (table (label_here name here)) st) (done_at t)
+    finish_after (steps_left body ∷ in_scope fail ∷ steps_left ss ∷ fs) (entered (label_here name (inside fs here)) t (due d t) nil) (by_table table) told here
+    (within (label_here name (inside fs here)) shield (table (label_here name (inside fs here))) st) (done_at t)
 
 -- a nursery is entered
 pub finish_nursery : (fs : List Frame) (table : Table) (told : Telling) (name : List ℕ) (d : Deadline) (shield : Bool) (body ss : Steps) (here : Here) (st : Stack) (t : ℕ) →
     finish (by_table table) told (steps_left (step (nursery name d shield body) ss) ∷ fs) here st (done_at t)
-    ≡ after (entered (label_here name here) t (due d t) nil)
-    (finish (by_table table) told (steps_left body ∷ in_nursery [] ∷ steps_left ss ∷ fs) here (within (label_here name here) shield (table (label_here name here)) st) (done_at t))
+    ≡ after (entered (label_here name (inside fs here)) t (due d t) nil)
+    (finish (by_table table) told (steps_left body ∷ in_nursery [] ∷ steps_left ss ∷ fs) here (within (label_here name (inside fs here)) shield (table (label_here name (inside fs here))) st) (done_at t))
 unfolding finish and_then walk block gathered signed
 finish_nursery fs table told name d shield body ss here st t =
-    finish_after (steps_left body ∷ in_nursery [] ∷ steps_left ss ∷ fs) (entered (label_here name here) t (due d t) nil) (by_table table) told here
-    (within (label_here name here) shield (table (label_here name here)) st) (done_at t)
+    finish_after (steps_left body ∷ in_nursery [] ∷ steps_left ss ∷ fs) (entered (label_here name (inside fs here)) t (due d t) nil) (by_table table) told here
+    (within (label_here name (inside fs here)) shield (table (label_here name (inside fs here))) st) (done_at t)
 
 -- a `try` is entered
 pub finish_try : (fs : List Frame) (m : Mode) (told : Telling) (body : Steps) (handler : Handled) (cleanup : Cleaned) (ss : Steps) (here : Here) (st : Stack) (t : ℕ) →
@@ -149,7 +146,7 @@ pub finish_handler : (fs : List Frame) (m : Mode) (told : Telling) (name : List 
     ≡ finish m told (steps_left body ∷ in_handler (drop (named name) e) cleanup ∷ fs) here st (record r { exc = None })
 unfolding finish and_then walk handled
 finish_handler fs m told name body cleanup here st r e x k =
-    ap (λ (o : Option Exc). finish m told fs here st (walk_cleanup m cleanup here st (handled_if o (drop (named name) e) (record r { exc = Some e }) (λ u. walk m body here st u)))) k
+    ap (λ (o : Option Exc). finish m told fs here st (walk_cleanup m cleanup (inside fs here) st (handled_if o (drop (named name) e) (record r { exc = Some e }) (λ u. walk m body (inside fs here) st u)))) k
 
 -- and where it has none, or there is no exception, it is passed by
 pub finish_unhandled : (fs : List Frame) (m : Mode) (told : Telling) (name : List ℕ) (body : Steps) (cleanup : Cleaned) (here : Here) (st : Stack) (r : Result) (e : Exc) → keep (named name) e ≡ None →
@@ -157,7 +154,7 @@ pub finish_unhandled : (fs : List Frame) (m : Mode) (told : Telling) (name : Lis
     ≡ finish m told (in_try unhandled cleanup ∷ fs) here st (record r { exc = Some e })
 unfolding finish walk handled
 finish_unhandled fs m told name body cleanup here st r e k =
-    ap (λ (o : Option Exc). finish m told fs here st (walk_cleanup m cleanup here st (handled_if o (drop (named name) e) (record r { exc = Some e }) (λ u. walk m body here st u)))) k
+    ap (λ (o : Option Exc). finish m told fs here st (walk_cleanup m cleanup (inside fs here) st (handled_if o (drop (named name) e) (record r { exc = Some e }) (λ u. walk m body (inside fs here) st u)))) k
 
 pub finish_no_handler : (fs : List Frame) (m : Mode) (told : Telling) (handler : Handled) (cleanup : Cleaned) (here : Here) (st : Stack) (r : Result) →
     finish m told (in_try handler cleanup ∷ fs) here st (record r { exc = None }) ≡ finish m told (in_try unhandled cleanup ∷ fs) here st (record r { exc = None })
@@ -194,20 +191,16 @@ pub finish_leave : (fs : List Frame) (m : Mode) (told : Telling) (fail : Bool) (
 unfolding finish
 finish_leave fs m told fail here l outer r = refl
 
--- the body of a nursery has ended, and the wait begins
-pub finish_wait : (fs : List Frame) (m : Mode) (told : Telling) (children : List ℕ) (here : Here) (l : Level Label) (outer : Stack) (t : ℕ) (e : Option Exc) (a : Log) →
-    finish m told (in_nursery children ∷ fs) here (l ∷ outer) (body_ended [] t e a)
-    ≡ finish m told (in_wait children t e ∷ fs) here (l ∷ outer) (signed (l ∷ outer) (body_ended [] t e a))
-unfolding finish signed
-finish_wait fs m told children here l outer t e a =
-    ap (λ (ms : List Member). finish m told fs here outer (block_left a_nursery l outer (gathered l.label (body_ended ms t e (followed_by a (sign_if e (Some l.label) t)))))) (append-nil (told_members told children))
-
--- a nursery is left, once its last member has ended
-pub finish_settled : (fs : List Frame) (m : Mode) (told : Telling) (children : List ℕ) (t : ℕ) (e : Option Exc) (here : Here) (l : Level Label) (outer : Stack) (r : Result) →
-    finish m told (in_wait children t e ∷ fs) here (l ∷ outer) r
-    ≡ finish m told fs here outer (block_left a_nursery l outer (gathered l.label (body_ended (told_members told children) t e r.log)))
-unfolding finish
-finish_settled fs m told children t e here l outer r = refl
+-- the body of a nursery has ended, and the wait begins: with the sign of a body that failed before it
+pub finish_wait : (fs : List Frame) (m : Mode) (told : Telling) (children : List ℕ) (here : Here) (l : Level Label) (outer : Stack) (t : ℕ) (e : Option Exc) →
+    finish m told (in_nursery children ∷ fs) here (l ∷ outer) (record { end = t; exc = e; members = []; log = nil })
+    ≡ after (sign_if e (Some l.label) t) (finish m told fs here outer (waited (told_members told children) t e l outer))
+unfolding finish signed gathered
+finish_wait fs m told children here l outer t e =
+    ap (λ (ms : List Member). finish m told fs here outer (block_left a_nursery l outer (gathered l.label (record { end = t; exc = e; members = ms; log = sign_if e (Some l.label) t })))) (append-nil (told_members told children))
+    ∙ (ap (λ (x : Log). finish m told fs here outer (block_left a_nursery l outer (gathered l.label (record { end = t; exc = e; members = told_members told children; log = x })))) (sym (followed_nil (sign_if e (Some l.label) t)))
+    ∙ (ap (λ (x : Result). finish m told fs here outer x) (after_block_left (sign_if e (Some l.label) t) a_nursery l outer (gathered l.label (record { end = t; exc = e; members = told_members told children; log = nil })))
+    ∙ finish_after fs (sign_if e (Some l.label) t) m told here outer (waited (told_members told children) t e l outer)))
 
 told_append : (told : Telling) (is js : List ℕ) → told_members told (is ++ js) ≡ told_members told is ++ told_members told js
 told_append told [] js = refl
@@ -231,22 +224,23 @@ pub finish_started : (fs : List Frame) (m : Mode) (told : Telling) (ss : Steps) 
     ≡ after a (finish m told (steps_left ss ∷ in_nursery (children ++ more) ∷ fs) here (l ∷ outer) (done_at t))
 unfolding finish and_then
 finish_started fs m told ss children more here l outer t a =
-    sym (finish_children fs m told children more here l outer (after a (walk m ss here (l ∷ outer) t)))
-    ∙ finish_after (in_nursery (children ++ more) ∷ fs) a m told here (l ∷ outer) (walk m ss here (l ∷ outer) t)
+    sym (finish_children fs m told children more here l outer (after a (walk m ss (inside fs here) (l ∷ outer) t)))
+    ∙ finish_after (in_nursery (children ++ more) ∷ fs) a m told here (l ∷ outer) (walk m ss (inside fs here) (l ∷ outer) t)
 
 -- a child is started
 pub finish_start : (fs : List Frame) (m : Mode) (told : Telling) (i : ℕ) (name : List ℕ) (body ss : Steps) (children : List ℕ) (here : Here) (l : Level Label) (outer : Stack) (t : ℕ) →
-    told i ≡ signed (l ∷ outer) (walk m body (here_in (label_here name here) here.part here) (l ∷ outer) t) →
+    told i ≡ signed (l ∷ outer) (walk m body (here_in (label_here name (inside fs here)) here.part here) (l ∷ outer) t) →
     finish m told (steps_left (step (start name None body) ss) ∷ in_nursery children ∷ fs) here (l ∷ outer) (done_at t)
-    ≡ after (fill told (starts i (label_here name here) t ∷ []))
+    ≡ after (fill told (starts i (label_here name (inside fs here)) t ∷ []))
     (finish m told (steps_left ss ∷ in_nursery (children ++ i ∷ []) ∷ fs) here (l ∷ outer) (done_at t))
 unfolding walk child
 finish_start fs m told i name body ss children here l outer t e =
     finish_step (in_nursery children ∷ fs) m told (start name None body) ss here (l ∷ outer) t
-    ∙ (ap (λ (r : Result). finish m told (steps_left ss ∷ in_nursery children ∷ fs) here (l ∷ outer) (child (label_here name here) t r)) (sym e)
-    ∙ finish_started fs m told ss children (i ∷ []) here l outer t (fill told (starts i (label_here name here) t ∷ [])))
+    ∙ (ap (λ (r : Result). finish m told (steps_left ss ∷ in_nursery children ∷ fs) here (l ∷ outer) (child (label_here name (inside fs here)) t r)) (sym e)
+    ∙ finish_started fs m told ss children (i ∷ []) here l outer t (fill told (starts i (label_here name (inside fs here)) t ∷ [])))
 
-fill_append : (told : Telling) (es others : List Event) → fill told (es ++ others) ≡ followed_by (fill told es) (fill told others)
+-- what was made, and more
+pub fill_append : (told : Telling) (es others : List Event) → fill told (es ++ others) ≡ followed_by (fill told es) (fill told others)
 fill_append told [] others = refl
 fill_append told (noted t e ∷ es) others = ap (λ (x : Log). entry t e x) (fill_append told es others)
 fill_append told (signs l t ∷ es) others = ap (λ (x : Log). sign l t x) (fill_append told es others)
@@ -271,13 +265,13 @@ each_started told name here t first (suc k) go h =
 
 -- the children of a `start .. over` are started
 pub finish_start_over : (fs : List Frame) (m : Mode) (told : Telling) (first k : ℕ) (name : List ℕ) (body ss : Steps) (children : List ℕ) (here : Here) (l : Level Label) (outer : Stack) (t : ℕ) →
-    ((i : ℕ) → i < k → told (first + i) ≡ signed (l ∷ outer) (walk m body (here_in (label_over name here i) (cut_of here.input here.part k i) here) (l ∷ outer) t)) →
+    ((i : ℕ) → i < k → told (first + i) ≡ signed (l ∷ outer) (walk m body (here_in (label_over name (inside fs here) i) (cut_of here.input here.part k i) here) (l ∷ outer) t)) →
     finish m told (steps_left (step (start name (Some k) body) ss) ∷ in_nursery children ∷ fs) here (l ∷ outer) (done_at t)
-    ≡ after (fill told (starts_over name here t first k))
+    ≡ after (fill told (starts_over name (inside fs here) t first k))
     (finish m told (steps_left ss ∷ in_nursery (children ++ numbered first k) ∷ fs) here (l ∷ outer) (done_at t))
 unfolding walk
 finish_start_over fs m told first k name body ss children here l outer t h =
     finish_step (in_nursery children ∷ fs) m told (start name (Some k) body) ss here (l ∷ outer) t
     ∙ (ap (λ (r : Result). finish m told (steps_left ss ∷ in_nursery children ∷ fs) here (l ∷ outer) r)
-    (each_started told name here t first k (λ i. signed (l ∷ outer) (walk m body (here_in (label_over name here i) (cut_of here.input here.part k i) here) (l ∷ outer) t)) h)
-    ∙ finish_started fs m told ss children (numbered first k) here l outer t (fill told (starts_over name here t first k)))
+    (each_started told name (inside fs here) t first k (λ i. signed (l ∷ outer) (walk m body (here_in (label_over name (inside fs here) i) (cut_of here.input here.part k i) here) (l ∷ outer) t)) h)
+    ∙ finish_started fs m told ss children (numbered first k) here l outer t (fill told (starts_over name (inside fs here) t first k)))

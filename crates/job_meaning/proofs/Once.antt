@@ -8,7 +8,7 @@ use Rattle.buffer_parts.specs.Cuts.{cut_of}
 use Rattle.exc_groups.specs.Exceptions.{Label, Exc, cancelled}
 use Rattle.exc_groups.specs.Split.{Wanted, keep, drop}
 use Rattle.cancel_scopes.specs.Sight.{Tick, sight}
-use Rattle.job_meaning.specs.Log.{Log, nil, entry, sign, entered, task, followed_by, Result, same_label}
+use Rattle.job_meaning.specs.Log.{Log, nil, entry, sign, entered, task, followed_by, Result, same_label, times_entered}
 use Rattle.job_meaning.specs.Walk.{Stack, Mode, Here, walk, walk_step, walk_handler, walk_cleanup, done_at, raised_at, joined, and_then, then_if, slept, sleeping, log_of_lines, showing, needing, sign_of, cancelling, Kind, from_of, block, left_from, within, signed, sign_if, home_of, gathered, child, each, handled, handled_exc, handled_if, cleaned, label_here, label_over, here_in}
 use Rattle.job_meaning.specs.Meaning.{root_walk, root_here}
 use Rattle.job_meaning.proofs.Distinct.{Distinct, distinct_left, distinct_right, distinct_apart, distinct_by_bytes, same_label_equal, Belongs, behind_other}
@@ -229,14 +229,6 @@ mutual
   unique_cleanup m (finally body) here st r names h distinct k =
       unique_cleaned r _ k (λ u. unique m body here st u (distinct_right names (names_of body) distinct))
       (λ u. differ_by_names st names (names_of body) here.path r _ distinct h (tidy m body here st u))
-
--- how often a label is entered in a log
-abbrev pub times_entered : Label → Log → ℕ
-times_entered l nil = 0
-times_entered l (entry t e rest) = times_entered l rest
-times_entered l (sign m t rest) = times_entered l rest
-times_entered l (entered m t d rest) = (if same_label l m then 1 else 0) + times_entered l rest
-times_entered l (task m s u e own rest) = times_entered l own + times_entered l rest
 
 pub times_none : (l : Label) (a : Log) → (Enters l a → ⊥) → times_entered l a ≡ 0
 times_none l nil h = refl

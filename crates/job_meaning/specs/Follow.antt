@@ -1,11 +1,10 @@
 -- Following a table, and when a table is settled.
-use Rattle.std.specs.Prelude.{◌≡◌, ℕ, false, ◌⊎◌, List, [], ◌∷◌}
+use Rattle.std.specs.Prelude.{◌≡◌, ℕ, List}
 use Rattle.job_tree.specs.Tree.{Tree}
 use Rattle.exc_groups.specs.Exceptions.{Label}
-use Rattle.cancel_scopes.specs.Sight.{Tick, reached}
 use Rattle.job_meaning.specs.Log.{Result, Table, table_of}
 use Rattle.job_meaning.specs.Walk.{by_table}
-use Rattle.job_meaning.specs.Meaning.{root_walk, From}
+use Rattle.job_meaning.specs.Meaning.{root_walk}
 
 -- the walk of a job in which every from is read from a table
 unfoldable pub follow : Table → Tree → List ℕ → Result
@@ -14,12 +13,3 @@ follow table job input = root_walk (by_table table) job input
 -- a table is settled where it is the table of following it
 abbrev pub IsSettled : Table → Tree → List ℕ → Type 0
 IsSettled table job input = (l : Label) → table l ≡ table_of (follow table job input).log l
-
--- two ticks are equal, or both are still to come
-abbrev pub SameBy : ℕ → Tick → Tick → Type 0
-SameBy t a b = (a ≡ b) ⊎ ((reached a t ≡ false) × (reached b t ≡ false))
-
--- a table agrees with kept froms at a tick
-abbrev pub AgreesAt : ℕ → Table → List From → Type 0
-AgreesAt t table [] = Unit {0}
-AgreesAt t table (f ∷ fs) = SameBy t (table f.label) f.seen × AgreesAt t table fs

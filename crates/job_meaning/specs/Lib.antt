@@ -9,4 +9,5 @@ pub mod ExamplesNurseries
 pub mod ExamplesLines
 pub mod Before
 pub mod Laws
+pub mod Asking
 pub mod Rest

@@ -1,5 +1,5 @@
 -- What a walk comes to: its end, its exception, and the log of what was done on the way.
-use Rattle.std.specs.Prelude.{ℕ, Bool, true, false, ◌&&◌, Option, Some, None, List}
+use Rattle.std.specs.Prelude.{ℕ, ◌+◌, Bool, true, false, ◌&&◌, if◌then◌else◌, Option, Some, None, List}
 use Rattle.std.specs.Str.{bytes_eq}
 use Rattle.buffer_parts.specs.Lines.{Span}
 use Rattle.exc_groups.specs.Exceptions.{Label, Exc}
@@ -90,3 +90,11 @@ entered_from (Some deadline) signed = from_by deadline signed
 -- and never for every other
 abbrev pub table_of : Log → Table
 table_of log l = entered_from (deadline_of l log) (least_sign l log)
+
+-- how often a label is entered in a log
+abbrev pub times_entered : Label → Log → ℕ
+times_entered l nil = 0
+times_entered l (entry t e rest) = times_entered l rest
+times_entered l (sign m t rest) = times_entered l rest
+times_entered l (entered m t d rest) = (if same_label l m then 1 else 0) + times_entered l rest
+times_entered l (task m s u e own rest) = times_entered l own + times_entered l rest

@@ -1,11 +1,12 @@
 -- A task that stopped on its way: what it made so far, what is left of it, what that comes to, and how much it is.
 use Rattle.std.specs.Prelude.{ℕ, zero, suc, ◌+◌, ◌*◌, Bool, Option, List, [], ◌∷◌, ◌++◌}
-use Rattle.job_tree.specs.Tree.{Step, pace, Steps, Handled, Cleaned}
+use Rattle.job_tree.specs.Tree.{Steps, Handled, Cleaned}
 use Rattle.job_tree.specs.Names.{size_of, handled_size, cleaned_size}
 use Rattle.exc_groups.specs.Exceptions.{Label, Exc}
 use Rattle.cancel_scopes.specs.Sight.{Tick, Level, catches}
 use Rattle.job_meaning.specs.Log.{Entry, Log, nil, entry, sign, entered, task, followed_by, Member, Result}
-use Rattle.job_meaning.specs.Walk.{label_over, Stack, Mode, Here, walk, walk_step, walk_handler, walk_cleanup, done_at, and_then, sleeping, Kind, a_scope, a_nursery, left_as, Left, left_with, exc_after, signed, gathered, handler_exc, outcome_after, with_outcome}
+use Rattle.job_meaning.specs.Walk.{label_over, Stack, Mode, Here, walk, walk_handler, walk_cleanup, done_at, and_then, sleeping, Kind, a_scope, a_nursery, left_as, Left, left_with, exc_after, signed, gathered, handler_exc, outcome_after, with_outcome}
+use Rattle.job_meaning.specs.Asking.{Kernel, answer_of, Purpose, shows, needs, paces, answered}
 
 -- What a task made so far, in order. The children that it started are numbered 0, 1, .. within it, and what they come
 -- to is told apart.
@@ -51,8 +52,6 @@ pub data Frame : Type 0 where
   in_scope : (fail : Bool) → Frame
   -- the body of a nursery, with the children started so far
   in_nursery : (children : List ℕ) → Frame
-  -- a nursery whose body ended, with its children
-  in_wait : (children : List ℕ) → (ended : ℕ) → (exc : Option Exc) → Frame
   -- the body of a `try`
   in_try : (handler : Handled) → (cleanup : Cleaned) → Frame
   -- a handler, with the rest of the split
@@ -60,16 +59,31 @@ pub data Frame : Type 0 where
   -- a cleanup, with the earlier outcome
   in_cleanup : (outcome : Option Exc) → Frame
 
+-- The path of indices inside these frames, on the path of their task. It is read from the frames, so that a frame that is
+-- left gives back the path of what is round it; no kind of frame adds an index yet.
+abbrev pub path_in : List Frame → List ℕ → List ℕ
+path_in [] path = path
+path_in (steps_left ss ∷ fs) path = path_in fs path
+path_in (in_scope fail ∷ fs) path = path_in fs path
+path_in (in_nursery children ∷ fs) path = path_in fs path
+path_in (in_try handler cleanup ∷ fs) path = path_in fs path
+path_in (in_handler rest cleanup ∷ fs) path = path_in fs path
+path_in (in_cleanup outcome ∷ fs) path = path_in fs path
+
+-- where a task is inside these frames
+abbrev pub inside : List Frame → Here → Here
+inside fs here = record here { path = path_in fs here.path }
+
 -- where a task stopped
 pub data Stopped : Type 0 where
   -- it was started, and nothing of it was begun
   to_begin : Stopped
-  -- it asked for the kernel of this step
-  asking : (asked : Step) → Stopped
+  -- it asked for a kernel's answer
+  asking : (kernel : Kernel) → (purpose : Purpose) → Stopped
   -- it sleeps so many ticks since this one
   asleep : (ticks since : ℕ) → Stopped
-  -- it waits for the last member of a nursery
-  awaiting : Stopped
+  -- it waits for these children of a nursery, its innermost place, whose body ended in this tick and so
+  awaiting : (children : List ℕ) → (ended : ℕ) → (exc : Option Exc) → Stopped
   -- it ended
   at_end : (end : ℕ) → (exc : Option Exc) → Stopped
 
@@ -95,47 +109,39 @@ block_left kind level outer r = leaving_log kind level.label (left_with (catches
 abbrev pub with_children : List Member → Result → Result
 with_children ms r = record r { members = ms ++ r.members }
 
--- a nursery whose body ended, before what comes after it
-abbrev pub body_ended : List Member → ℕ → Option Exc → Log → Result
-body_ended ms ended exc log = record { end = ended; exc = exc; members = ms; log = log }
-
 -- What a task comes to that has come to a result so far, and has these frames left on this stack. With no frame left
 -- it signs for its home nursery, if it ends with an exception.
 unfoldable pub finish : Mode → Telling → List Frame → Here → Stack → Result → Result
 finish m told [] here st r = signed st r
-finish m told (steps_left ss ∷ fs) here st r = finish m told fs here st (and_then r (λ u. walk m ss here st u))
+finish m told (steps_left ss ∷ fs) here st r = finish m told fs here st (and_then r (λ u. walk m ss (inside fs here) st u))
 finish m told (in_scope fail ∷ fs) here [] r = finish m told fs here [] r
 finish m told (in_scope fail ∷ fs) here (l ∷ outer) r = finish m told fs here outer (block_left (a_scope fail) l outer r)
 finish m told (in_nursery children ∷ fs) here [] r = finish m told fs here [] r
 finish m told (in_nursery children ∷ fs) here (l ∷ outer) r =
     finish m told fs here outer
     (block_left a_nursery l outer (gathered l.label (with_children (told_members told children) (signed (l ∷ outer) r))))
-finish m told (in_wait children ended exc ∷ fs) here [] r = finish m told fs here [] r
-finish m told (in_wait children ended exc ∷ fs) here (l ∷ outer) r =
-    finish m told fs here outer
-    (block_left a_nursery l outer (gathered l.label (body_ended (told_members told children) ended exc r.log)))
 finish m told (in_try handler cleanup ∷ fs) here st r =
-    finish m told fs here st (walk_cleanup m cleanup here st (walk_handler m handler here st r))
+    finish m told fs here st (walk_cleanup m cleanup (inside fs here) st (walk_handler m handler (inside fs here) st r))
 finish m told (in_handler rest cleanup ∷ fs) here st r =
-    finish m told fs here st (walk_cleanup m cleanup here st (with_outcome (handler_exc r.exc rest) r))
+    finish m told fs here st (walk_cleanup m cleanup (inside fs here) st (with_outcome (handler_exc r.exc rest) r))
 finish m told (in_cleanup outcome ∷ fs) here st r =
     finish m told fs here st (with_outcome (outcome_after outcome r.exc) r)
 
--- what comes of a stop in tick t: of a kernel in the same tick, of a sleep when it is due or cancelled
-abbrev pub outcome_of : Mode → Stopped → Here → Stack → ℕ → Result
-outcome_of m to_begin here st t = done_at t
-outcome_of m (asking s) here st t = walk_step m s here st t
-outcome_of m (asleep n since) here st t = sleeping st n since
-outcome_of m awaiting here st t = done_at t
-outcome_of m (at_end u e) here st t = record { end = u; exc = e; members = []; log = nil }
+-- a nursery whose body ended in tick u so, once its children have ended too
+abbrev pub waited : List Member → ℕ → Option Exc → Level Label → Stack → Result
+waited ms u exc l outer = block_left a_nursery l outer (gathered l.label (record { end = u; exc = exc; members = ms; log = nil }))
 
--- a task that ended has nothing left
+-- What is left of a task that stopped in tick t comes to this, on its stack. An answer comes in the same tick, a sleep ends
+-- when it is due or cancelled, a wait with the last child; and a task that ended has nothing left.
 abbrev pub finished_from : Mode → Telling → Stopped → List Frame → Here → Stack → ℕ → Result
-finished_from m told (at_end u e) fs here st t = outcome_of m (at_end u e) here st t
-finished_from m told to_begin fs here st t = finish m told fs here st (outcome_of m to_begin here st t)
-finished_from m told (asking s) fs here st t = finish m told fs here st (outcome_of m (asking s) here st t)
-finished_from m told (asleep n since) fs here st t = finish m told fs here st (outcome_of m (asleep n since) here st t)
-finished_from m told awaiting fs here st t = finish m told fs here st (outcome_of m awaiting here st t)
+finished_from m told to_begin fs here st t = finish m told fs here st (done_at t)
+finished_from m told (asking kernel purpose) fs here st t =
+    finish m told fs here st (answered (answer_of kernel here) purpose here st t)
+finished_from m told (asleep n since) fs here st t = finish m told fs here st (sleeping st n since)
+finished_from m told (awaiting children u exc) fs here [] t = finish m told fs here [] (done_at t)
+finished_from m told (awaiting children u exc) fs here (l ∷ outer) t =
+    finish m told fs here outer (waited (told_members told children) u exc l outer)
+finished_from m told (at_end u e) fs here st t = record { end = u; exc = e; members = []; log = nil }
 
 -- what is left of a task comes to this, on its stack in tick t
 abbrev pub rest_comes_to : Mode → Telling → Rest → Here → Stack → ℕ → Result
@@ -157,7 +163,6 @@ abbrev pub frame_weight : Frame → ℕ
 frame_weight (steps_left ss) = 2 * size_of ss
 frame_weight (in_scope fail) = 0
 frame_weight (in_nursery children) = 1
-frame_weight (in_wait children ended exc) = 1
 frame_weight (in_try handler cleanup) = 2 * (handled_size handler + cleaned_size cleanup)
 frame_weight (in_handler rest cleanup) = 2 * cleaned_size cleanup
 frame_weight (in_cleanup outcome) = 0
@@ -166,16 +171,17 @@ abbrev pub frames_weight : List Frame → ℕ
 frames_weight [] = 0
 frames_weight (f ∷ fs) = frame_weight f + frames_weight fs
 
--- a `pace` asks for a count and then sleeps
-abbrev pub asking_weight : Step → ℕ
-asking_weight (pace k) = 2
-asking_weight _ = 1
+-- who asks for a count goes on to sleep
+abbrev pub asking_weight : Purpose → ℕ
+asking_weight shows = 1
+asking_weight (needs name) = 1
+asking_weight (paces k) = 2
 
 abbrev pub stop_weight : Stopped → ℕ
 stop_weight to_begin = 1
-stop_weight (asking s) = asking_weight s
+stop_weight (asking kernel purpose) = asking_weight purpose
 stop_weight (asleep n since) = 1
-stop_weight awaiting = 0
+stop_weight (awaiting children ended exc) = 1
 stop_weight (at_end u e) = 0
 
 abbrev pub rest_weight : Rest → ℕ

@@ -1,5 +1,6 @@
 pub mod Tree
 pub mod Names
+pub mod Starting
 pub mod Words
 pub mod TreeCode
 pub mod Modest

@@ -1,0 +1,58 @@
+-- What a task asks of the lines of its part, what it is answered, and what it does with the answer.
+use Rattle.std.specs.Prelude.{ℕ, Option, Some, None, List, [], ◌∷◌}
+use Rattle.buffer_parts.specs.Lines.{Span}
+use Rattle.line_kernels.specs.Kernels.{found_in, head_of, longest_in, needed_in, count_in}
+use Rattle.exc_groups.specs.Exceptions.{raised}
+use Rattle.job_meaning.specs.Log.{Result}
+use Rattle.job_meaning.specs.Walk.{Stack, Here, done_at, raised_at, paced, showing, sleeping}
+
+-- a kernel, to run on a task's part
+pub data Kernel : Type 0 where
+  find : (text : List ℕ) → Kernel
+  head : (most : ℕ) → Kernel
+  longest : Kernel
+  need : (text : List ℕ) → Kernel
+  count : Kernel
+
+-- what a kernel answers: lines, that there is no such line, or how many lines there are
+pub data Answer : Type 0 where
+  lines : (shown : List Span) → Answer
+  missing : Answer
+  counted : (total : ℕ) → Answer
+
+abbrev pub one_line : Option Span → Answer
+one_line None = missing
+one_line (Some l) = lines (l ∷ [])
+
+-- the answer on the part of a task
+abbrev pub answer_of : Kernel → Here → Answer
+answer_of (find text) here = lines (found_in here.input text here.part)
+answer_of (head most) here = lines (head_of here.input most here.part)
+answer_of longest here = lines (longest_in here.input here.part)
+answer_of (need text) here = one_line (needed_in here.input text here.part)
+answer_of count here = counted (count_in here.input here.part)
+
+-- what a task does with the answer: it shows the lines; it raises where there is none; it sleeps by the count
+pub data Purpose : Type 0 where
+  shows : Purpose
+  needs : (name : List ℕ) → Purpose
+  paces : (per_tick : ℕ) → Purpose
+
+-- a kernel is asked for a purpose: lines to show, a line that is needed, or a count to sleep by
+abbrev pub Suits : Kernel → Purpose → Type 0
+Suits (find text) shows = Unit {0}
+Suits (head most) shows = Unit {0}
+Suits longest shows = Unit {0}
+Suits (need text) (needs name) = Unit {0}
+Suits count (paces k) = Unit {0}
+Suits _ _ = ⊥
+
+-- what comes of an answer in tick t
+abbrev pub answered : Answer → Purpose → Here → Stack → ℕ → Result
+answered (lines ls) purpose here st t = showing ls t
+answered missing (needs name) here st t = raised_at (raised name here.task t) t
+answered missing shows here st t = done_at t
+answered missing (paces k) here st t = done_at t
+answered (counted n) (paces k) here st t = sleeping st (paced n k) t
+answered (counted n) shows here st t = done_at t
+answered (counted n) (needs name) here st t = done_at t

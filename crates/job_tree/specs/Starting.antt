@@ -1,0 +1,37 @@
+-- Where a `start` may stand: directly in the body of a nursery.
+use Rattle.std.specs.Prelude.{Bool, true, false, IsTrue}
+use Rattle.job_tree.specs.Tree.{Step, sleep, checkpoint, forever, pace, find, head, longest, need, raise, cancel, scope, nursery, start, attempt, Steps, stop, step, Handled, unhandled, except, Cleaned, uncleaned, finally, Tree}
+
+-- each `start` of a block stands directly in a nursery's body: whether the block is one is said first
+abbrev mutual
+  pub StartsIn : (nursery_body : Bool) → Steps → Type 0
+  StartsIn body stop = Unit {0}
+  StartsIn body (step s ss) = StartsAt body s × StartsIn body ss
+
+  pub StartsAt : Bool → Step → Type 0
+  StartsAt body (sleep n) = Unit {0}
+  StartsAt body checkpoint = Unit {0}
+  StartsAt body forever = Unit {0}
+  StartsAt body (pace k) = Unit {0}
+  StartsAt body (find text) = Unit {0}
+  StartsAt body (head n) = Unit {0}
+  StartsAt body longest = Unit {0}
+  StartsAt body (need text name) = Unit {0}
+  StartsAt body (raise name) = Unit {0}
+  StartsAt body (cancel name) = Unit {0}
+  StartsAt body (scope name deadline shield fail ss) = StartsIn false ss
+  StartsAt body (nursery name deadline shield ss) = StartsIn true ss
+  StartsAt body (start name over ss) = IsTrue body × StartsIn false ss
+  StartsAt body (attempt ss handler cleanup) = StartsIn false ss × HandlerStarts handler × CleanupStarts cleanup
+
+  pub HandlerStarts : Handled → Type 0
+  HandlerStarts unhandled = Unit {0}
+  HandlerStarts (except name ss) = StartsIn false ss
+
+  pub CleanupStarts : Cleaned → Type 0
+  CleanupStarts uncleaned = Unit {0}
+  CleanupStarts (finally ss) = StartsIn false ss
+
+-- a job's own block is no nursery's body
+abbrev pub StartsInNurseries : Tree → Type 0
+StartsInNurseries job = StartsIn false job.steps
