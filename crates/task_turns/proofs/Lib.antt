@@ -1,0 +1,12 @@
+pub mod Agreeing
+pub mod Keeps
+pub mod Events
+pub mod Cases
+pub mod Froms
+pub mod Kids
+pub mod Houses
+pub mod Turns
+pub mod Waking
+pub mod Ends
+pub mod Whole
+pub mod Arms

@@ -1,0 +1,47 @@
+-- How many steps a turn takes at most, by the frames that are left.
+use Rattle.std.specs.Prelude.{ℕ, ◌+◌, List, [], ◌∷◌}
+use Rattle.job_tree.specs.Tree.{Step, sleep, checkpoint, forever, pace, find, head, longest, need, raise, cancel, scope, nursery, start, attempt, Steps, stop, step, Handled, unhandled, except, Cleaned, uncleaned, finally}
+use Rattle.job_meaning.specs.Rest.{Frame, steps_left, in_scope, in_nursery, in_try, in_handler, in_cleanup}
+
+-- steps of a turn, for the steps of a block, and for its end; children take their own turns
+abbrev mutual
+  pub turn_length : Steps → ℕ
+  turn_length stop = 1
+  turn_length (step s ss) = step_length s + turn_length ss
+
+  pub step_length : Step → ℕ
+  step_length (sleep n) = 1
+  step_length checkpoint = 1
+  step_length forever = 1
+  step_length (pace k) = 1
+  step_length (find text) = 1
+  step_length (head n) = 1
+  step_length longest = 1
+  step_length (need text name) = 1
+  step_length (raise name) = 1
+  step_length (cancel name) = 1
+  step_length (scope name deadline shield fail body) = 2 + turn_length body
+  step_length (nursery name deadline shield body) = 2 + turn_length body
+  step_length (start name over body) = 1
+  step_length (attempt body handler cleanup) = 2 + turn_length body + (handler_length handler + cleanup_length cleanup)
+
+  pub handler_length : Handled → ℕ
+  handler_length unhandled = 0
+  handler_length (except name body) = 2 + turn_length body
+
+  pub cleanup_length : Cleaned → ℕ
+  cleanup_length uncleaned = 0
+  cleanup_length (finally body) = 1 + turn_length body
+
+abbrev pub frame_length : Frame → ℕ
+frame_length (steps_left ss) = turn_length ss
+frame_length (in_scope fail) = 1
+frame_length (in_nursery children) = 1
+frame_length (in_try handler cleanup) = 1 + handler_length handler + cleanup_length cleanup
+frame_length (in_handler rest cleanup) = 2 + cleanup_length cleanup
+frame_length (in_cleanup outcome) = 1
+
+-- steps until a task with these frames has none left
+abbrev pub frames_length : List Frame → ℕ
+frames_length [] = 0
+frames_length (f ∷ fs) = frame_length f + frames_length fs

@@ -1,0 +1,48 @@
+-- The laws of steps and turns. Each is the contract of a function that does nothing.
+use Rattle.std.specs.Prelude.{◌≡◌, ℕ, ◌<◌, ◌≤◌, Some, List, ◌++◌}
+use Rattle.exc_groups.specs.Exceptions.{Label}
+use Rattle.cancel_scopes.specs.Sight.{Tick}
+use Rattle.job_meaning.specs.Log.{Table, from_by}
+use Rattle.job_meaning.specs.Walk.{by_table, Here}
+use Rattle.job_meaning.specs.Rest.{Event, Telling, Stopped, Rest, rest_comes_to, task_comes_to}
+use Rattle.task_turns.specs.Midway.{Place, stack_at, Midway, Move}
+use Rattle.task_turns.specs.Steps.{froms_after, step_of}
+use Rattle.task_turns.specs.Placed.{Placed, PlacedStop}
+use Rattle.task_turns.specs.Wakes.{Wake, wake_of, turn_from, WakesBy, CanWake}
+use Rattle.task_turns.specs.Turned.{AgreesOn, AgreesIn, AllTold, Known, MadeAt, made_sign, EntersIn, EntersOnceWith, IsSome, Goes, TurnsOver}
+use Rattle.task_turns.specs.Bound.{frames_length}
+
+-- each step keeps the promise
+abbrev pub EachStepGoes : Type 0
+EachStepGoes = (t : ℕ) (here : Here) (froms : Table) (m : Midway) → Placed m.frames m.places → Goes t here froms m (step_of froms t here m)
+
+-- each turn keeps it, from the wake to the next stop, and comes to a stop
+abbrev pub EachTurnKeeps : Type 0
+EachTurnKeeps =
+    (n u t : ℕ) (here : Here) (froms : Table) (w : Wake) (rest : Rest) (ps : List Place) (count : ℕ) → CanWake w rest.stopped → PlacedStop rest.stopped rest.frames ps →
+    TurnsOver u t here froms w rest ps count (turn_from n froms t here w rest.stopped rest.frames ps count)
+
+abbrev pub EachTurnStops : Type 0
+EachTurnStops =
+    (n t : ℕ) (here : Here) (froms : Table) (w : Wake) (rest : Rest) (ps : List Place) (count : ℕ) →
+    frames_length (wake_of froms t here w rest.stopped rest.frames ps).frames < n → IsSome (turn_from n froms t here w rest.stopped rest.frames ps count).stopped
+
+-- A turn that keeps the promise leaves what the task comes to as it was: with what it made before, its stop and its frames
+-- before the turn, as with what it has made, its stop and its frames after it.
+abbrev pub TaskComesToTheSame : Type 0
+TaskComesToTheSame =
+    (u t : ℕ) (here : Here) (froms : Table) (w : Wake) (rest : Rest) (ps : List Place) (count : ℕ) (o : Move) (made : List Event) (s : Stopped) →
+    TurnsOver u t here froms w rest ps count o → o.stopped ≡ Some s → (table : Table) (told : Telling) → WakesBy table told here u t w rest.stopped ps →
+    AgreesOn t table froms ps → AgreesIn t table (rest_comes_to (by_table table) told rest here (stack_at table ps) u).log → AllTold t table told o.begun →
+    task_comes_to (by_table table) told made rest here (stack_at table ps) u
+    ≡ task_comes_to (by_table table) told (made ++ o.made) (record { stopped = s; frames = o.frames }) here (stack_at table o.places) t
+
+-- a from is lowered by just the signs made for its label, where the label was not entered
+abbrev pub FromsAreLowered : Type 0
+FromsAreLowered = (es : List Event) (froms : Table) (l : Label) → (EntersIn l es → ⊥) → froms_after froms es l ≡ from_by (froms l) (made_sign l es)
+
+-- and that of a label that was entered once, and was none of those before, from its deadline
+abbrev pub FromsAreOpened : Type 0
+FromsAreOpened =
+    (t : ℕ) (es : List Event) (ls : List Label) (froms : Table) (l : Label) (d : Tick) → MadeAt t ls es → (Known l ls → ⊥) → EntersOnceWith l d es →
+    froms_after froms es l ≡ from_by d (made_sign l es)

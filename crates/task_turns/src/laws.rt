@@ -1,0 +1,31 @@
+//! The laws of steps and turns. Each function does nothing: its contract is the law.
+
+ghost use Rattle.task_turns.specs.Laws.{
+  EachStepGoes,
+  EachTurnKeeps,
+  EachTurnStops,
+  FromsAreLowered,
+  FromsAreOpened,
+  TaskComesToTheSame,
+};
+
+/// One step of a task, by its innermost frame: for each table that agrees with the world's froms, what is left of the
+/// task comes to the events of the step and then to what is left after it. The events are of this tick, signs are for
+/// labels round the task, the children begun are numbered on, and the weight becomes no more.
+pub fn law_step()
+    ensures { EachStepGoes }
+{}
+
+/// A whole turn, from the wake to the next stop: it keeps the same promise, with less weight than before, and it ends.
+/// So the task comes to the same after it as before.
+pub fn law_turn()
+    ensures keeps { EachTurnKeeps }
+    ensures stops { EachTurnStops }
+    ensures same { TaskComesToTheSame }
+{}
+
+/// The froms after a turn: each is lowered by just the signs made, and that of a label entered in it from its deadline.
+pub fn law_froms()
+    ensures lowered { FromsAreLowered }
+    ensures opened { FromsAreOpened }
+{}
