@@ -106,8 +106,7 @@ impl ScopeTree {
 
     /// Whether a task in this scope sees a cancellation at a tick.
     pub fn seen(&self, id: ScopeId, tick: u64) -> bool
-        requires id { IsOpen self.now id }
-        requires tick { tick < 2 ^ 41 }
+        requires { IsOpen self.now id }
         ensures { ForSome (stack_of self.now id) (λ stack. result ≡ is_seen stack tick) }
     {
         reached(self.seen_from(id), tick)
@@ -116,8 +115,7 @@ impl ScopeTree {
     /// Whether this scope catches a cancellation that leaves it at a tick: it is itself cancelled by then, and sees
     /// none from outside.
     pub fn may_catch(&self, id: ScopeId, tick: u64) -> bool
-        requires id { IsOpen self.now id }
-        requires tick { tick < 2 ^ 41 }
+        requires { IsOpen self.now id }
         ensures { ForSome (stack_of self.now id) (λ stack. result ≡ catches stack tick) }
     {
         let scope = &self.scopes[id.key];

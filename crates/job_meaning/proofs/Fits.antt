@@ -6,7 +6,7 @@ use Rattle.job_meaning.specs.Log.{Log, followed_by, Result, least_sign, deadline
 use Rattle.job_meaning.specs.Walk.{Stack}
 use Rattle.job_meaning.specs.Before.{upto}
 use Rattle.job_meaning.proofs.Clips.{upto_earlier, upto_most}
-use Rattle.job_meaning.proofs.Touched.{Enters, Signs, deadline_followed, least_followed, deadline_entered, no_deadline, no_sign, earlier_never}
+use Rattle.job_meaning.proofs.Touched.{Gives, Signs, deadline_followed, least_followed, deadline_entered, no_deadline, no_sign, earlier_never}
 use Rattle.job_meaning.proofs.Distinct.{OnStack}
 use Rattle.job_meaning.proofs.Tidy.{Tidy}
 
@@ -20,9 +20,9 @@ fits_own a = record { each_label = λ l d e. ap (λ (o : Option Tick). entered_f
 
 -- two logs in which no label of the one is entered or signed in the other
 pub record Apart (a b : Log) : Type 0 where
-  pub unsigned_after : (l : Label) → Enters l a → Signs l b → ⊥
-  pub entered_once : (l : Label) → Enters l a → Enters l b → ⊥
-  pub unsigned_before : (l : Label) → Enters l b → Signs l a → ⊥
+  pub unsigned_after : (l : Label) → Gives l a → Signs l b → ⊥
+  pub entered_once : (l : Label) → Gives l a → Gives l b → ⊥
+  pub unsigned_before : (l : Label) → Gives l b → Signs l a → ⊥
 
 -- a table that fits one log after another fits both
 pub fits_first : (table : Table) (a b : Log) → Apart a b → Fits table (followed_by a b) → Fits table a
@@ -46,7 +46,7 @@ fits_second table a b h f = record { each_label = own }
     own : (l : Label) (d : Tick) → deadline_of l b ≡ Some d → table l ≡ from_by d (least_sign l b)
     own l d e = f.each_label l d found ∙ ap (λ (s : Tick). from_by d s) signs_same
       where
-        there : Enters l b
+        there : Gives l b
         there = deadline_entered l b d e
 
         not_here : deadline_of l a ≡ None
@@ -66,18 +66,18 @@ pub apart_tidy : (st : Stack) (P Q : Label → Type 0) (r q : Result) → Tidy s
     ((l : Label) → P l → Q l → ⊥) → ((l : Label) → OnStack l st → P l → ⊥) → ((l : Label) → OnStack l st → Q l → ⊥) → Apart r.log q.log
 apart_tidy st P Q r q h k differ first second =
     record {
-      unsigned_after = λ l e s. later l (h.enters l e) (k.signs l s);
-      entered_once = λ l e i. differ l (h.enters l e) (k.enters l i);
-      unsigned_before = λ l e s. before l (k.enters l e) (h.signs l s);
+      unsigned_after = λ l e s. later l (h.gives l e) (k.signs l s);
+      entered_once = λ l e i. differ l (h.gives l e) (k.gives l i);
+      unsigned_before = λ l e s. before l (k.gives l e) (h.signs l s);
     }
   where
-    later : (l : Label) → P l → OnStack l st ⊎ Enters l q.log → ⊥
+    later : (l : Label) → P l → OnStack l st ⊎ Gives l q.log → ⊥
     later l p (inl o) = first l o p
-    later l p (inr e) = differ l p (k.enters l e)
+    later l p (inr e) = differ l p (k.gives l e)
 
-    before : (l : Label) → Q l → OnStack l st ⊎ Enters l r.log → ⊥
+    before : (l : Label) → Q l → OnStack l st ⊎ Gives l r.log → ⊥
     before l p (inl o) = second l o p
-    before l p (inr e) = differ l (h.enters l e) p
+    before l p (inr e) = differ l (h.gives l e) p
 
 -- Where two walks of a block agree as far as its froms do, its first sign is the same in both: that of the walk with its
 -- deadline as the from, and that of the walk with the from that follows.

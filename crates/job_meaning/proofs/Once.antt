@@ -1,4 +1,4 @@
--- Where names are given once, no label of a scope or nursery is entered twice. It holds in both modes.
+-- Where names are given once, no label of a scope, nursery or task is given twice. It holds in both modes.
 use Rattle.std.proofs.Common.{◌≡◌, ℕ, zero, suc, ◌+◌, ◌<◌, ◌≤◌, Bool, true, false, Option, Some, None, List, [], ◌∷◌, ◌++◌, refl, subst, ◌⊎◌, inl, inr, arith, nat_le, if◌then◌else◌}
 use Rattle.std.proofs.lemmas.Bool.{cases_lt}
 use Rattle.job_tree.specs.Tree.{Step, sleep, checkpoint, forever, pace, find, head, longest, need, raise, cancel, scope, nursery, start, attempt, Steps, stop, step, Handled, unhandled, except, Cleaned, uncleaned, finally, Tree}
@@ -8,45 +8,54 @@ use Rattle.buffer_parts.specs.Cuts.{cut_of}
 use Rattle.exc_groups.specs.Exceptions.{Label, Exc, cancelled}
 use Rattle.exc_groups.specs.Split.{Wanted, keep, drop}
 use Rattle.cancel_scopes.specs.Sight.{Tick, sight}
-use Rattle.job_meaning.specs.Log.{Log, nil, entry, sign, entered, task, followed_by, Result, same_label, times_entered}
+use Rattle.job_meaning.specs.Log.{Log, nil, entry, sign, entered, task, followed_by, Result, same_label, times_entered, times_given}
 use Rattle.job_meaning.specs.Walk.{Stack, Mode, Here, walk, walk_step, walk_handler, walk_cleanup, done_at, raised_at, joined, and_then, then_if, slept, sleeping, log_of_lines, showing, needing, sign_of, cancelling, Kind, from_of, block, left_from, within, signed, sign_if, home_of, gathered, child, each, handled, handled_exc, handled_if, cleaned, label_here, label_over, here_in}
-use Rattle.job_meaning.specs.Meaning.{root_walk, root_here}
+use Rattle.job_meaning.specs.Meaning.{root_walk, root_here, root_label, root_log}
 use Rattle.job_meaning.proofs.Distinct.{Distinct, distinct_left, distinct_right, distinct_apart, distinct_by_bytes, same_label_equal, Belongs, behind_other}
-use Rattle.job_meaning.proofs.Touched.{Enters, enters_followed}
-use Rattle.job_meaning.proofs.Tidy.{Tidy, tidy, tidy_step, tidy_handler, tidy_in, tidy_each, tidy_child, tidy_signed, tidy_gathered, enters_home}
+use Rattle.job_meaning.proofs.Touched.{Gives, gives_followed}
+use Rattle.job_meaning.proofs.Tidy.{Tidy, tidy, tidy_step, tidy_handler, tidy_in, tidy_each, tidy_signed, tidy_gathered, tidy_over, gives_home}
 
--- no label is entered twice in a log
-abbrev pub EntersOnce : Log → Type 0
-EntersOnce nil = Unit {0}
-EntersOnce (entry t e rest) = EntersOnce rest
-EntersOnce (sign l t rest) = EntersOnce rest
-EntersOnce (entered l t d rest) = (Enters l rest → ⊥) × EntersOnce rest
-EntersOnce (task m s u e own rest) = EntersOnce own × EntersOnce rest × ((l : Label) → Enters l own → Enters l rest → ⊥)
+-- no label is given twice in a log
+abbrev pub GivesOnce : Log → Type 0
+GivesOnce nil = Unit {0}
+GivesOnce (entry t e rest) = GivesOnce rest
+GivesOnce (sign l t rest) = GivesOnce rest
+GivesOnce (entered l t d rest) = (Gives l rest → ⊥) × GivesOnce rest
+GivesOnce (task m s u e own rest) =
+    (Gives m own ⊎ Gives m rest → ⊥) × GivesOnce own × GivesOnce rest × ((l : Label) → Gives l own → Gives l rest → ⊥)
 
-pub once_followed : (a b : Log) → EntersOnce a → EntersOnce b → ((l : Label) → Enters l a → Enters l b → ⊥) → EntersOnce (followed_by a b)
+pub once_followed : (a b : Log) → GivesOnce a → GivesOnce b → ((l : Label) → Gives l a → Gives l b → ⊥) → GivesOnce (followed_by a b)
 once_followed nil b h k differ = k
 once_followed (entry t e rest) b h k differ = once_followed rest b h k differ
 once_followed (sign l t rest) b h k differ = once_followed rest b h k differ
-once_followed (entered l t d rest) b h k differ = (λ i. neither (enters_followed l rest b i), once_followed rest b h.1 k (λ m i. differ m (inr i)))
+once_followed (entered l t d rest) b h k differ = (λ i. neither (gives_followed l rest b i), once_followed rest b h.1 k (λ m i. differ m (inr i)))
   where
-    neither : Enters l rest ⊎ Enters l b → ⊥
+    neither : Gives l rest ⊎ Gives l b → ⊥
     neither (inl i) = h.0 i
     neither (inr i) = differ l (inl refl) i
 once_followed (task m s u e own rest) b h k differ =
-    (h.0, once_followed rest b h.1 k (λ l i. differ l (inr i)), λ l i j. neither l i (enters_followed l rest b j))
+    (none, h.1, once_followed rest b h.2 k (λ l i. differ l (inr (inr i))), λ l i j. neither l i (gives_followed l rest b j))
   where
-    neither : (l : Label) → Enters l own → Enters l rest ⊎ Enters l b → ⊥
-    neither l i (inl j) = h.2 l i j
-    neither l i (inr j) = differ l (inl i) j
+    neither : (l : Label) → Gives l own → Gives l rest ⊎ Gives l b → ⊥
+    neither l i (inl j) = h.3 l i j
+    neither l i (inr j) = differ l (inr (inl i)) j
 
--- the log of a walk enters no label twice
+    behind : Gives m rest ⊎ Gives m b → ⊥
+    behind (inl j) = h.0 (inr j)
+    behind (inr j) = differ m (inl refl) j
+
+    none : Gives m own ⊎ Gives m (followed_by rest b) → ⊥
+    none (inl i) = h.0 (inl i)
+    none (inr j) = behind (gives_followed m rest b j)
+
+-- the log of a walk gives no label twice
 pub record Unique (r : Result) : Type 0 where
-  pub once : EntersOnce r.log
+  pub once : GivesOnce r.log
 
-unique_joined : (r q : Result) → Unique r → Unique q → ((l : Label) → Enters l r.log → Enters l q.log → ⊥) → Unique (joined r q)
+unique_joined : (r q : Result) → Unique r → Unique q → ((l : Label) → Gives l r.log → Gives l q.log → ⊥) → Unique (joined r q)
 unique_joined r q h k differ = record { once = once_followed r.log q.log h.once k.once differ }
 
-unique_and_then : (r : Result) (go : ℕ → Result) → Unique r → ((u : ℕ) → Unique (go u)) → ((u : ℕ) (l : Label) → Enters l r.log → Enters l (go u).log → ⊥) → Unique (and_then r go)
+unique_and_then : (r : Result) (go : ℕ → Result) → Unique r → ((u : ℕ) → Unique (go u)) → ((u : ℕ) (l : Label) → Gives l r.log → Gives l (go u).log → ⊥) → Unique (and_then r go)
 unfolding and_then
 unique_and_then r go h k differ = by_exc r.exc
   where
@@ -70,7 +79,7 @@ unique_sleeping st n t = by_sight (sight st)
         by_now false true = record { once = tt }
         by_now false false = record { once = tt }
 
-once_lines : (ls : List Span) (t : ℕ) → EntersOnce (log_of_lines t ls)
+once_lines : (ls : List Span) (t : ℕ) → GivesOnce (log_of_lines t ls)
 once_lines [] t = tt
 once_lines (l ∷ ls) t = once_lines ls t
 
@@ -83,7 +92,7 @@ unfolding needing
 unique_needing (Some l) name label t = unique_showing (l ∷ []) t
 unique_needing None name label t = record { once = tt }
 
-once_sign : (o : Option Label) (t : ℕ) → EntersOnce (sign_of o t)
+once_sign : (o : Option Label) (t : ℕ) → GivesOnce (sign_of o t)
 once_sign None t = tt
 once_sign (Some l) t = tt
 
@@ -92,24 +101,24 @@ unfolding cancelling
 unique_cancelling o t = record { once = once_sign o t }
 
 unique_block : (m : Mode) (kind : Kind) (label : Label) (t : ℕ) (d : Tick) (shield : Bool) (st : Stack) (inside : Tick → Result) →
-    ((f : Tick) → Unique (inside f)) → ((f : Tick) → Enters label (inside f).log → ⊥) → Unique (block m kind label t d shield st inside)
+    ((f : Tick) → Unique (inside f)) → ((f : Tick) → Gives label (inside f).log → ⊥) → Unique (block m kind label t d shield st inside)
 unfolding block
 unique_block m kind label t d shield st inside h own = at_from (from_of m label d inside)
   where
     at_from : (f : Tick) → Unique (left_from kind label t d shield st f (inside f))
     at_from f =
-        record { once = (λ i. not_there (enters_followed label (inside f).log _ i), once_followed (inside f).log _ (h f).once tt (λ l i j. j)) }
+        record { once = (λ i. not_there (gives_followed label (inside f).log _ i), once_followed (inside f).log _ (h f).once tt (λ l i j. j)) }
       where
-        not_there : Enters label (inside f).log ⊎ ⊥ → ⊥
+        not_there : Gives label (inside f).log ⊎ ⊥ → ⊥
         not_there (inl i) = own f i
         not_there (inr i) = i
 
 unique_signed : (st : Stack) (r : Result) → Unique r → Unique (signed st r)
 unfolding signed
 unique_signed st r h =
-    record { once = once_followed r.log (sign_if r.exc (home_of st) r.end) h.once (once_home r.exc) (λ l i j. enters_home st r.exc r.end l j) }
+    record { once = once_followed r.log (sign_if r.exc (home_of st) r.end) h.once (once_home r.exc) (λ l i j. gives_home st r.exc r.end l j) }
   where
-    once_home : (o : Option Exc) → EntersOnce (sign_if o (home_of st) r.end)
+    once_home : (o : Option Exc) → GivesOnce (sign_if o (home_of st) r.end)
     once_home None = tt
     once_home (Some e) = once_sign (home_of st) r.end
 
@@ -117,9 +126,13 @@ unique_gathered : (label : Label) (r : Result) → Unique r → Unique (gathered
 unfolding gathered
 unique_gathered label r h = record { once = h.once }
 
-unique_child : (label : Label) (t : ℕ) (r : Result) → Unique r → Unique (child label t r)
+unique_child : (label : Label) (t : ℕ) (r : Result) → (Gives label r.log → ⊥) → Unique r → Unique (child label t r)
 unfolding child
-unique_child label t r h = record { once = (h.once, tt, λ l i j. j) }
+unique_child label t r own h = record { once = (none, h.once, tt, λ l i j. j) }
+  where
+    none : Gives label r.log ⊎ ⊥ → ⊥
+    none (inl i) = own i
+    none (inr j) = j
 
 unique_each : (st : Stack) (names : List (List ℕ)) (path : List ℕ) (k : ℕ) (go : ℕ → Result) (t : ℕ) →
     ((i : ℕ) → Tidy st (Belongs names (path ++ i ∷ [])) (go i)) → ((i : ℕ) → Unique (go i)) → Unique (each k go t)
@@ -135,13 +148,13 @@ unique_each st names path (suc n) go t h k = unique_joined (each n go t) (go n) 
     earlier_ones : Tidy st Before (each n go t)
     earlier_ones = tidy_each st Before n go t (λ i lt. tidy_in st (Belongs names (path ++ i ∷ [])) Before (go i) (before i lt) (h i))
 
-    differ : (l : Label) → Enters l (each n go t).log → Enters l (go n).log → ⊥
-    differ l i j = apart (earlier_ones.enters l i) ((h n).enters l j)
+    differ : (l : Label) → Gives l (each n go t).log → Gives l (go n).log → ⊥
+    differ l i j = apart (earlier_ones.gives l i) ((h n).gives l j)
       where
         apart : Before l → Belongs names (path ++ n ∷ []) l → ⊥
         apart b c = behind_other names names path b.0 n l b.1 b.2 c
 
-unique_handled : (wanted : Wanted) (r : Result) (go : ℕ → Result) → Unique r → ((u : ℕ) → Unique (go u)) → ((u : ℕ) (l : Label) → Enters l r.log → Enters l (go u).log → ⊥) → Unique (handled wanted r go)
+unique_handled : (wanted : Wanted) (r : Result) (go : ℕ → Result) → Unique r → ((u : ℕ) → Unique (go u)) → ((u : ℕ) (l : Label) → Gives l r.log → Gives l (go u).log → ⊥) → Unique (handled wanted r go)
 unfolding handled
 unique_handled wanted r go h k differ = by_exc r.exc
   where
@@ -156,16 +169,16 @@ unique_handled wanted r go h k differ = by_exc r.exc
     by_exc None = h
     by_exc (Some e) = by_match (keep wanted e) (drop wanted e)
 
-unique_cleaned : (r : Result) (go : ℕ → Result) → Unique r → ((u : ℕ) → Unique (go u)) → ((u : ℕ) (l : Label) → Enters l r.log → Enters l (go u).log → ⊥) → Unique (cleaned r go)
+unique_cleaned : (r : Result) (go : ℕ → Result) → Unique r → ((u : ℕ) → Unique (go u)) → ((u : ℕ) (l : Label) → Gives l r.log → Gives l (go u).log → ⊥) → Unique (cleaned r go)
 unfolding cleaned
 unique_cleaned r go h k differ =
     let both : Unique (joined r (go r.end)) = unique_joined r (go r.end) h (k r.end) (differ r.end) in
     record { once = both.once }
 
--- two blocks whose names are given once enter no label in common
+-- two blocks whose names are given once give no label in common
 differ_by_names : (st : Stack) (a b : List (List ℕ)) (path : List ℕ) (r q : Result) → Distinct (a ++ b) → Tidy st (Belongs a path) r → Tidy st (Belongs b path) q →
-    (l : Label) → Enters l r.log → Enters l q.log → ⊥
-differ_by_names st a b path r q distinct h k l i j = apart (h.enters l i) (k.enters l j)
+    (l : Label) → Gives l r.log → Gives l q.log → ⊥
+differ_by_names st a b path r q distinct h k l i j = apart (h.gives l i) (k.gives l j)
   where
     apart : Belongs a path l → Belongs b path l → ⊥
     apart x y = distinct_apart a b distinct l.name x.named y.named
@@ -173,7 +186,7 @@ differ_by_names st a b path r q distinct h k l i j = apart (h.enters l i) (k.ent
 mutual
   unfolding walk
 
-  -- a walk of a block whose names are given once enters no label twice
+  -- a walk of a block whose names are given once gives no label twice
   pub unique : (m : Mode) (b : Steps) (here : Here) (st : Stack) (t : ℕ) → Distinct (names_of b) → Unique (walk m b here st t)
   unique m stop here st t distinct = unique_done t
   unique m (step s ss) here st t distinct =
@@ -196,18 +209,23 @@ mutual
   unique_step m (scope name d shield fail body) here st t distinct =
       unique_block m _ (label_here name here) t _ shield st _
       (λ f. unique m body here _ t distinct.1)
-      (λ f i. distinct.0 ((tidy m body here (within (label_here name here) shield f st) t).enters _ i).named)
+      (λ f i. distinct.0 ((tidy m body here (within (label_here name here) shield f st) t).gives _ i).named)
   unique_step m (nursery name d shield body) here st t distinct =
       unique_block m _ (label_here name here) t _ shield st _
       (λ f. unique_gathered _ _ (unique_signed _ _ (unique m body here _ t distinct.1)))
       (λ f i. distinct.0
       ((tidy_gathered (within (label_here name here) shield f st) (Belongs (names_of body) here.path) (label_here name here) _
-      (tidy_signed (within (label_here name here) shield f st) _ _ (tidy m body here (within (label_here name here) shield f st) t))).enters _ i).named)
-  unique_step m (start name None body) here st t distinct = unique_child _ t _ (unique_signed st _ (unique m body _ st t distinct.1))
+      (tidy_signed (within (label_here name here) shield f st) _ _ (tidy m body here (within (label_here name here) shield f st) t))).gives _ i).named)
+  unique_step m (start name None body) here st t distinct =
+      unique_child _ t _
+      (λ i. distinct.0 ((tidy_signed st _ _ (tidy m body (here_in (label_here name here) here.part here) st t)).gives _ i).named)
+      (unique_signed st _ (unique m body _ st t distinct.1))
   unique_step m (start name (Some k) body) here st t distinct =
-      unique_each st (names_of body) here.path k _ t
-      (λ i. tidy_child st _ (label_over name here i) t _ (tidy_signed st _ _ (tidy m body (here_in (label_over name here i) (cut_of here.input here.part k i) here) st t)))
-      (λ i. unique_child _ t _ (unique_signed st _ (unique m body _ st t distinct.1)))
+      unique_each st (name ∷ names_of body) here.path k _ t
+      (λ i. tidy_over m name body here (cut_of here.input here.part k i) i st t)
+      (λ i. unique_child _ t _
+      (λ j. distinct.0 ((tidy_signed st _ _ (tidy m body (here_in (label_over name here i) (cut_of here.input here.part k i) here) st t)).gives _ j).named)
+      (unique_signed st _ (unique m body _ st t distinct.1)))
   unique_step m (attempt body handler cleanup) here st t distinct =
       unique_cleanup m cleanup here st _ (names_of body ++ handled_names handler)
       (tidy_handler m handler here st _ (names_of body) (tidy m body here st t)) distinct
@@ -230,56 +248,100 @@ mutual
       unique_cleaned r _ k (λ u. unique m body here st u (distinct_right names (names_of body) distinct))
       (λ u. differ_by_names st names (names_of body) here.path r _ distinct h (tidy m body here st u))
 
-pub times_none : (l : Label) (a : Log) → (Enters l a → ⊥) → times_entered l a ≡ 0
+-- a label that is not given is given no time
+times_none : (l : Label) (a : Log) → (Gives l a → ⊥) → times_given l a ≡ 0
 times_none l nil h = refl
 times_none l (entry t e rest) h = times_none l rest h
 times_none l (sign m t rest) h = times_none l rest h
 times_none l (entered m t d rest) h = by_test (same_label l m) refl (times_none l rest (λ i. h (inr i)))
   where
-    by_test : (b : Bool) → same_label l m ≡ b → times_entered l rest ≡ 0 → (if b then 1 else 0) + times_entered l rest ≡ 0
+    by_test : (b : Bool) → same_label l m ≡ b → times_given l rest ≡ 0 → (if b then 1 else 0) + times_given l rest ≡ 0
     by_test true e k = absurd (h (inl (same_label_equal l m e)))
     by_test false e k = omega arith
 times_none l (task m s u e own rest) h =
-    let a = times_none l own (λ i. h (inl i)) in
-    let b = times_none l rest (λ i. h (inr i)) in
-    omega arith
+    by_test (same_label l m) refl (times_none l own (λ i. h (inr (inl i)))) (times_none l rest (λ i. h (inr (inr i))))
+  where
+    by_test : (b : Bool) → same_label l m ≡ b → times_given l own ≡ 0 → times_given l rest ≡ 0 →
+        (if b then 1 else 0) + (times_given l own + times_given l rest) ≡ 0
+    by_test true e i j = absurd (h (inl (same_label_equal l m e)))
+    by_test false e i j = omega arith
 
--- a label that is entered some time is entered
-times_some : (l : Label) (a : Log) → 0 < times_entered l a → Enters l a
+-- a label that is given some time is given
+times_some : (l : Label) (a : Log) → 0 < times_given l a → Gives l a
 times_some l nil h = absurd (omega arith)
 times_some l (entry t e rest) h = times_some l rest h
 times_some l (sign m t rest) h = times_some l rest h
 times_some l (entered m t d rest) h = by_test (same_label l m) refl h (times_some l rest)
   where
-    by_test : (b : Bool) → same_label l m ≡ b → 0 < (if b then 1 else 0) + times_entered l rest → (0 < times_entered l rest → Enters l rest) → (l ≡ m) ⊎ Enters l rest
+    by_test : (b : Bool) → same_label l m ≡ b → 0 < (if b then 1 else 0) + times_given l rest → (0 < times_given l rest → Gives l rest) →
+        (l ≡ m) ⊎ Gives l rest
     by_test true e k others = inl (same_label_equal l m e)
     by_test false e k others = inr (others (omega arith))
-times_some l (task m s u e own rest) h = by_own (cases_lt 0 (times_entered l own)) h (times_some l own) (times_some l rest)
+times_some l (task m s u e own rest) h = by_test (same_label l m) refl h (times_some l own) (times_some l rest)
   where
-    by_own : (0 < times_entered l own) ⊎ (times_entered l own ≤ 0) → 0 < times_entered l own + times_entered l rest →
-        (0 < times_entered l own → Enters l own) → (0 < times_entered l rest → Enters l rest) → Enters l own ⊎ Enters l rest
+    by_own : (0 < times_given l own) ⊎ (times_given l own ≤ 0) → 0 < times_given l own + times_given l rest →
+        (0 < times_given l own → Gives l own) → (0 < times_given l rest → Gives l rest) → Gives l own ⊎ Gives l rest
     by_own (inl there) k inner others = inl (inner there)
     by_own (inr none) k inner others = inr (others (omega arith))
 
--- in a log that enters none twice each is entered at most once
-pub times_once : (l : Label) (a : Log) → EntersOnce a → times_entered l a ≤ 1
+    by_test : (b : Bool) → same_label l m ≡ b → 0 < (if b then 1 else 0) + (times_given l own + times_given l rest) →
+        (0 < times_given l own → Gives l own) → (0 < times_given l rest → Gives l rest) → (l ≡ m) ⊎ (Gives l own ⊎ Gives l rest)
+    by_test true e k inner others = inl (same_label_equal l m e)
+    by_test false e k inner others = inr (by_own (cases_lt 0 (times_given l own)) (omega arith) inner others)
+
+-- in a log that gives none twice each is given at most once
+pub times_once : (l : Label) (a : Log) → GivesOnce a → times_given l a ≤ 1
 times_once l nil h = omega arith
 times_once l (entry t e rest) h = times_once l rest h
 times_once l (sign m t rest) h = times_once l rest h
 times_once l (entered m t d rest) h = by_test (same_label l m) refl (times_once l rest h.1)
   where
-    none_after : l ≡ m → times_entered l rest ≡ 0
-    none_after e = times_none l rest (λ i. h.0 (subst (λ (x : Label). Enters x rest) e i))
+    none_after : l ≡ m → times_given l rest ≡ 0
+    none_after e = times_none l rest (λ i. h.0 (subst (λ (x : Label). Gives x rest) e i))
 
-    by_test : (b : Bool) → same_label l m ≡ b → times_entered l rest ≤ 1 → (if b then 1 else 0) + times_entered l rest ≤ 1
+    by_test : (b : Bool) → same_label l m ≡ b → times_given l rest ≤ 1 → (if b then 1 else 0) + times_given l rest ≤ 1
     by_test true e k = let n = none_after (same_label_equal l m e) in omega arith
     by_test false e k = omega arith
-times_once l (task m s u e own rest) h = by_own (cases_lt 0 (times_entered l own)) (times_once l own h.0) (times_once l rest h.1)
+times_once l (task m s u e own rest) h = by_test (same_label l m) refl (times_once l own h.1) (times_once l rest h.2)
   where
-    by_own : (0 < times_entered l own) ⊎ (times_entered l own ≤ 0) → times_entered l own ≤ 1 → times_entered l rest ≤ 1 → times_entered l own + times_entered l rest ≤ 1
-    by_own (inl there) i j = let n = times_none l rest (λ k. h.2 l (times_some l own there) k) in omega arith
+    none_own : l ≡ m → times_given l own ≡ 0
+    none_own e = times_none l own (λ i. h.0 (inl (subst (λ (x : Label). Gives x own) e i)))
+
+    none_rest : l ≡ m → times_given l rest ≡ 0
+    none_rest e = times_none l rest (λ i. h.0 (inr (subst (λ (x : Label). Gives x rest) e i)))
+
+    by_own : (0 < times_given l own) ⊎ (times_given l own ≤ 0) → times_given l own ≤ 1 → times_given l rest ≤ 1 → times_given l own + times_given l rest ≤ 1
+    by_own (inl there) i j = let n = times_none l rest (λ k. h.3 l (times_some l own there) k) in omega arith
     by_own (inr none) i j = omega arith
 
--- no label is entered twice in a walk of a job whose names are given once
-pub job_enters_once : (m : Mode) (job : Tree) (input : List ℕ) → GivesNamesOnce job → EntersOnce (root_walk m job input).log
-job_enters_once m job input once = (unique m job.steps (root_here job input) [] 0 (distinct_by_bytes (job.name ∷ names_of job.steps) once).1).once
+    by_test : (b : Bool) → same_label l m ≡ b → times_given l own ≤ 1 → times_given l rest ≤ 1 →
+        (if b then 1 else 0) + (times_given l own + times_given l rest) ≤ 1
+    by_test true e i j = let n = none_own (same_label_equal l m e) in let k = none_rest (same_label_equal l m e) in omega arith
+    by_test false e i j = let k = by_own (cases_lt 0 (times_given l own)) i j in omega arith
+
+-- a label is entered no more often than it is given
+entered_given : (l : Label) (a : Log) → times_entered l a ≤ times_given l a
+entered_given l nil = omega arith
+entered_given l (entry t e rest) = entered_given l rest
+entered_given l (sign m t rest) = entered_given l rest
+entered_given l (entered m t d rest) = let h = entered_given l rest in omega arith
+entered_given l (task m s u e own rest) = let h = entered_given l own in let k = entered_given l rest in omega arith
+
+-- so no label of a scope or nursery is entered twice either
+pub enters_once : (l : Label) (a : Log) → GivesOnce a → times_entered l a ≤ 1
+enters_once l a h = let i = entered_given l a in let j = times_once l a h in omega arith
+
+-- no label is given twice in a walk of a job whose names are given once
+pub job_gives_once : (m : Mode) (job : Tree) (input : List ℕ) → GivesNamesOnce job → GivesOnce (root_walk m job input).log
+job_gives_once m job input once = (unique m job.steps (root_here job input) [] 0 (distinct_by_bytes (job.name ∷ names_of job.steps) once).1).once
+
+-- nor with the root, whose label is the job's name
+pub labels_once : (m : Mode) (job : Tree) (input : List ℕ) → GivesNamesOnce job → (l : Label) → times_given l (root_log job (root_walk m job input)) ≤ 1
+labels_once m job input once l = times_once l (root_log job (root_walk m job input)) (none, job_gives_once m job input once, tt, λ n i j. j)
+  where
+    distinct : Distinct (job.name ∷ names_of job.steps)
+    distinct = distinct_by_bytes (job.name ∷ names_of job.steps) once
+
+    none : Gives (root_label job.name) (root_walk m job input).log ⊎ ⊥ → ⊥
+    none (inl i) = distinct.0 ((tidy m job.steps (root_here job input) [] 0).gives (root_label job.name) i).named
+    none (inr j) = j

@@ -16,8 +16,8 @@ use Rattle.job_meaning.proofs.Late.{Late, late, late_signed, late_gathered}
 use Rattle.job_meaning.proofs.Clips.{least_near}
 use Rattle.job_meaning.proofs.Causality.{agree, agree_logs, agree_signed, agree_gathered, near_within}
 use Rattle.job_meaning.proofs.Distinct.{Among, among_left, among_right, Distinct, distinct_left, distinct_right, distinct_apart, distinct_by_bytes, same_label_itself, same_label_equal, Belongs, behind_other, OnStack, Fresh, fresh_in}
-use Rattle.job_meaning.proofs.Touched.{Enters, least_followed, deadline_followed, deadline_entered, either_nothing, earlier_never}
-use Rattle.job_meaning.proofs.Tidy.{Tidy, tidy, tidy_step, tidy_handler, tidy_in, tidy_each, tidy_child, tidy_signed, tidy_gathered, signs_home, enters_home}
+use Rattle.job_meaning.proofs.Touched.{Gives, least_followed, deadline_followed, deadline_entered, either_nothing, earlier_never}
+use Rattle.job_meaning.proofs.Tidy.{Tidy, tidy, tidy_step, tidy_handler, tidy_in, tidy_each, tidy_signed, tidy_gathered, tidy_over, signs_home, gives_home}
 use Rattle.job_meaning.proofs.Fits.{Fits, fits_own, fits_first, fits_second, Apart, apart_tidy, same_first_sign}
 
 -- one after another: the first walk is the same, and then the second
@@ -37,7 +37,7 @@ settled_and_then table r q go go' h k apart f =
     ap (λ (x : Result). then_if x.exc x go') (h (fits_then table r go apart r.exc f)) ∙ same_then table r go go' apart k r.exc f
 
 module _ (table : Table) (kind : Kind) (label : Label) (t : ℕ) (d : Tick) (shield : Bool) (st : Stack) (inside inside' : Tick → Result)
-    (own : (f : Tick) → Enters label (inside f).log → ⊥) where
+    (own : (f : Tick) → Gives label (inside f).log → ⊥) where
   -- the log of a block behind the entering of its label
   abbrev inner_log : Tick → Log
   inner_log f = followed_by (inside f).log (entry (inside f).end (left_as kind label (left_with (catches f shield st (inside f).end) (inside f).exc).caught) nil)
@@ -56,7 +56,7 @@ module _ (table : Table) (kind : Kind) (label : Label) (t : ℕ) (d : Tick) (shi
           rest = deadline_followed l (inside f).log _ ∙ (either_nothing (deadline_of l (inside f).log) ∙ e)
 
           found : (b : Bool) → same_label l label ≡ b → either (deadline_if b d) (deadline_of l (inner_log f)) ≡ Some x
-          found true i = absurd (own f (subst (λ (m : Label). Enters m (inside f).log) (same_label_equal l label i) (deadline_entered l (inside f).log x e)))
+          found true i = absurd (own f (subst (λ (m : Label). Gives m (inside f).log) (same_label_equal l label i) (deadline_entered l (inside f).log x e)))
           found false i = rest
 
   fits_label : (f : Tick) → Fits table (left_from kind label t d shield st f (inside f)).log → table label ≡ from_by d (least_sign label (inside f).log)
@@ -83,9 +83,9 @@ module _ (table : Table) (kind : Kind) (label : Label) (t : ℕ) (d : Tick) (shi
 home_apart : (st : Stack) (P : Label → Type 0) (r : Result) → Tidy st P r → ((l : Label) → OnStack l st → P l → ⊥) → Apart r.log (sign_if r.exc (home_of st) r.end)
 home_apart st P r h fresh =
     record {
-      unsigned_after = λ l e s. fresh l (signs_home st r.exc r.end l s) (h.enters l e);
-      entered_once = λ l e i. enters_home st r.exc r.end l i;
-      unsigned_before = λ l i s. enters_home st r.exc r.end l i;
+      unsigned_after = λ l e s. fresh l (signs_home st r.exc r.end l s) (h.gives l e);
+      entered_once = λ l e i. gives_home st r.exc r.end l i;
+      unsigned_before = λ l i s. gives_home st r.exc r.end l i;
     }
 
 settled_signed : (table : Table) (st : Stack) (P : Label → Type 0) (r q : Result) → Tidy st P r → ((l : Label) → OnStack l st → P l → ⊥) →
@@ -239,7 +239,7 @@ mutual
   settled_step table (cancel name) here st t distinct fresh f = refl
   settled_step table (scope name d shield fail body) here st t distinct fresh f =
       settled_block table _ (label_here name here) t _ shield st _ _
-      (λ g e. not_inside name (names_of body) here here.path distinct ((tidy twice body here _ t).enters _ e))
+      (λ g e. not_inside name (names_of body) here here.path distinct ((tidy twice body here _ t).gives _ e))
       (λ g. late twice body here _ t)
       (λ c g k e. agree_logs (agree c twice body here _ _ t (near_within c (label_here name here) shield g k st st e (near_same c st))))
       (λ g h. settled table body here _ t distinct.1 (fresh_within name (names_of body) here shield g st distinct fresh) h)
@@ -247,7 +247,7 @@ mutual
   settled_step table (nursery name d shield body) here st t distinct fresh f =
       settled_block table _ (label_here name here) t _ shield st _ _
       (λ g e. not_inside name (names_of body) here here.path distinct
-      ((tidy_nursery body (label_here name here) here (within (label_here name here) shield g st) t).enters _ e))
+      ((tidy_nursery body (label_here name here) here (within (label_here name here) shield g st) t).gives _ e))
       (λ g. late_nursery body (label_here name here) here (within (label_here name here) shield g st) t)
       (λ c g k e. agree_nursery c body (label_here name here) here (within (label_here name here) shield g st) (within (label_here name here) shield k st) t
       (near_within c (label_here name here) shield g k st st e (near_same c st)))
@@ -265,9 +265,8 @@ mutual
       (λ g. settled table body _ st t distinct.1 (fresh_in st (names_of body) (name ∷ names_of body) (λ n i. inr i) fresh) g))
       f
   settled_step table (start name (Some k) body) here st t distinct fresh f =
-      settled_each table st (names_of body) here.path k _ _ t
-      (fresh_in st (names_of body) (name ∷ names_of body) (λ n i. inr i) fresh)
-      (λ i. tidy_child st _ (label_over name here i) t _ (tidy_signed st _ _ (tidy twice body (here_in (label_over name here i) (cut_of here.input here.part k i) here) st t)))
+      settled_each table st (name ∷ names_of body) here.path k _ _ t fresh
+      (λ i. tidy_over twice name body here (cut_of here.input here.part k i) i st t)
       (λ i g. settled_child table (label_over name here i) t _ _
       (settled_signed table st (Belongs (names_of body) (here.path ++ i ∷ [])) _ _ (tidy twice body (here_in (label_over name here i) (cut_of here.input here.part k i) here) st t)
       (λ l o b. fresh.none l o (inr b.named))

@@ -5,54 +5,54 @@ use Rattle.std.proofs.lemmas.List.{append-nil}
 use Rattle.std.specs.Str.{bytes_eq}
 use Rattle.job_tree.specs.Tree.{Step, sleep, checkpoint, forever, pace, find, head, longest, need, raise, cancel, scope, nursery, start, attempt, Steps, stop, step, Handled, unhandled, except, Cleaned, uncleaned, finally}
 use Rattle.job_tree.specs.Names.{names_of, names_in, handled_names, cleaned_names}
-use Rattle.buffer_parts.specs.Lines.{Span}
+use Rattle.buffer_parts.specs.Lines.{Range, Span}
 use Rattle.exc_groups.specs.Exceptions.{Label, Exc, cancelled}
 use Rattle.exc_groups.specs.Split.{Wanted, keep, drop}
 use Rattle.cancel_scopes.specs.Sight.{Tick, sight, catches}
 use Rattle.job_meaning.specs.Log.{Log, nil, entry, followed_by, Result}
-use Rattle.job_meaning.specs.Walk.{Stack, Mode, Here, walk, walk_step, walk_handler, walk_cleanup, done_at, raised_at, joined, and_then, then_if, slept, sleeping, log_of_lines, showing, needing, label_on, label_if, sign_of, cancelling, Kind, from_of, block, left_from, left_as, left_with, within, signed, sign_if, home_of, gathered, child, each, handled, handled_exc, handled_if, cleaned, label_here}
+use Rattle.job_meaning.specs.Walk.{Stack, Mode, Here, walk, walk_step, walk_handler, walk_cleanup, done_at, raised_at, joined, and_then, then_if, slept, sleeping, log_of_lines, showing, needing, label_on, label_if, sign_of, cancelling, Kind, from_of, block, left_from, left_as, left_with, within, signed, sign_if, home_of, gathered, child, each, handled, handled_exc, handled_if, cleaned, label_here, label_over, here_in}
 use Rattle.job_meaning.proofs.Distinct.{among_left, among_right, Belongs, belongs_in, belongs_behind, OnStack}
-use Rattle.job_meaning.proofs.Touched.{Enters, Signs, enters_followed, enters_first, enters_second, signs_followed}
+use Rattle.job_meaning.proofs.Touched.{Gives, Signs, gives_followed, gives_first, gives_second, signs_followed}
 
--- a walk on a stack enters only labels that belong to it, and signs only those and labels of the stack
+-- a walk on a stack gives only labels that belong to it, and signs only those and labels of the stack
 pub record Tidy (st : Stack) (Own : Label → Type 0) (r : Result) : Type 0 where
-  pub enters : (l : Label) → Enters l r.log → Own l
-  pub signs : (l : Label) → Signs l r.log → OnStack l st ⊎ Enters l r.log
+  pub gives : (l : Label) → Gives l r.log → Own l
+  pub signs : (l : Label) → Signs l r.log → OnStack l st ⊎ Gives l r.log
 
 pub tidy_in : (st : Stack) (P Q : Label → Type 0) (r : Result) → ((l : Label) → P l → Q l) → Tidy st P r → Tidy st Q r
-tidy_in st P Q r f h = record { enters = λ l e. f l (h.enters l e); signs = h.signs }
+tidy_in st P Q r f h = record { gives = λ l e. f l (h.gives l e); signs = h.signs }
 
 -- a log with no entered label and no sign
 record Plain (a : Log) : Type 0 where
-  none : (l : Label) → Enters l a → ⊥
+  none : (l : Label) → Gives l a → ⊥
   unsigned : (l : Label) → Signs l a → ⊥
 
 plain_nil : Plain nil
 plain_nil = record { none = λ l h. h; unsigned = λ l h. h }
 
 tidy_plain : (st : Stack) (P : Label → Type 0) (r : Result) → Plain r.log → Tidy st P r
-tidy_plain st P r h = record { enters = λ l e. absurd (h.none l e); signs = λ l e. absurd (h.unsigned l e) }
+tidy_plain st P r h = record { gives = λ l e. absurd (h.none l e); signs = λ l e. absurd (h.unsigned l e) }
 
 pub tidy_joined : (st : Stack) (P : Label → Type 0) (r q : Result) → Tidy st P r → Tidy st P q → Tidy st P (joined r q)
 tidy_joined st P r q h k =
     record {
-      enters = λ l e. own l (enters_followed l r.log q.log e);
+      gives = λ l e. own l (gives_followed l r.log q.log e);
       signs = λ l e. seen_to l (signs_followed l r.log q.log e);
     }
   where
-    own : (l : Label) → Enters l r.log ⊎ Enters l q.log → P l
-    own l (inl e) = h.enters l e
-    own l (inr e) = k.enters l e
+    own : (l : Label) → Gives l r.log ⊎ Gives l q.log → P l
+    own l (inl e) = h.gives l e
+    own l (inr e) = k.gives l e
 
-    first : (l : Label) → OnStack l st ⊎ Enters l r.log → OnStack l st ⊎ Enters l (followed_by r.log q.log)
+    first : (l : Label) → OnStack l st ⊎ Gives l r.log → OnStack l st ⊎ Gives l (followed_by r.log q.log)
     first l (inl o) = inl o
-    first l (inr e) = inr (enters_first l r.log q.log e)
+    first l (inr e) = inr (gives_first l r.log q.log e)
 
-    second : (l : Label) → OnStack l st ⊎ Enters l q.log → OnStack l st ⊎ Enters l (followed_by r.log q.log)
+    second : (l : Label) → OnStack l st ⊎ Gives l q.log → OnStack l st ⊎ Gives l (followed_by r.log q.log)
     second l (inl o) = inl o
-    second l (inr e) = inr (enters_second l r.log q.log e)
+    second l (inr e) = inr (gives_second l r.log q.log e)
 
-    seen_to : (l : Label) → Signs l r.log ⊎ Signs l q.log → OnStack l st ⊎ Enters l (followed_by r.log q.log)
+    seen_to : (l : Label) → Signs l r.log ⊎ Signs l q.log → OnStack l st ⊎ Gives l (followed_by r.log q.log)
     seen_to l (inl e) = first l (h.signs l e)
     seen_to l (inr e) = second l (k.signs l e)
 
@@ -83,7 +83,7 @@ tidy_sleeping st P n t = by_sight (sight st)
         by_now false true = tidy_raised st P cancelled from
         by_now false false = tidy_done st P (t + n)
 
-no_enters_lines : (l : Label) (t : ℕ) (ls : List Span) → Enters l (log_of_lines t ls) → ⊥
+no_enters_lines : (l : Label) (t : ℕ) (ls : List Span) → Gives l (log_of_lines t ls) → ⊥
 no_enters_lines l t [] h = h
 no_enters_lines l t (s ∷ ss) h = no_enters_lines l t ss h
 
@@ -124,7 +124,7 @@ sign_on st None t h l s = absurd s
 sign_on st (Some m) t h l (inl e) = subst (λ (x : Label). OnStack x st) (sym e) h
 sign_on st (Some m) t h l (inr s) = absurd s
 
-no_enters_sign : (o : Option Label) (t : ℕ) (l : Label) → Enters l (sign_of o t) → ⊥
+no_enters_sign : (o : Option Label) (t : ℕ) (l : Label) → Gives l (sign_of o t) → ⊥
 no_enters_sign None t l h = h
 no_enters_sign (Some m) t l h = h
 
@@ -132,7 +132,7 @@ pub tidy_cancelling : (st : Stack) (P : Label → Type 0) (name : List ℕ) (t :
 unfolding cancelling
 tidy_cancelling st P name t =
     record {
-      enters = λ l e. absurd (no_enters_sign (label_on name st) t l e);
+      gives = λ l e. absurd (no_enters_sign (label_on name st) t l e);
       signs = λ l e. inl (sign_on st (label_on name st) t (found_on name st) l e);
     }
 
@@ -142,25 +142,25 @@ unfolding block
 tidy_block m kind label t d shield st P inside p h = at_from (from_of m label d inside)
   where
     at_from : (f : Tick) → Tidy st P (left_from kind label t d shield st f (inside f))
-    at_from f = record { enters = own; signs = λ l e. seen_to l (signs_followed l (inside f).log _ e) }
+    at_from f = record { gives = own; signs = λ l e. seen_to l (signs_followed l (inside f).log _ e) }
       where
         end_log : Log
         end_log = entry (inside f).end (left_as kind label (left_with (catches f shield st (inside f).end) (inside f).exc).caught) nil
 
-        behind : (l : Label) → Enters l (inside f).log ⊎ ⊥ → P l
-        behind l (inl e) = (h f).enters l e
+        behind : (l : Label) → Gives l (inside f).log ⊎ ⊥ → P l
+        behind l (inl e) = (h f).gives l e
         behind l (inr e) = absurd e
 
-        own : (l : Label) → (l ≡ label) ⊎ Enters l (followed_by (inside f).log end_log) → P l
+        own : (l : Label) → (l ≡ label) ⊎ Gives l (followed_by (inside f).log end_log) → P l
         own l (inl e) = subst P (sym e) p
-        own l (inr e) = behind l (enters_followed l (inside f).log end_log e)
+        own l (inr e) = behind l (gives_followed l (inside f).log end_log e)
 
-        by_place : (l : Label) → ((l ≡ label) ⊎ OnStack l st) ⊎ Enters l (inside f).log → OnStack l st ⊎ ((l ≡ label) ⊎ Enters l (followed_by (inside f).log end_log))
+        by_place : (l : Label) → ((l ≡ label) ⊎ OnStack l st) ⊎ Gives l (inside f).log → OnStack l st ⊎ ((l ≡ label) ⊎ Gives l (followed_by (inside f).log end_log))
         by_place l (inl (inl e)) = inr (inl e)
         by_place l (inl (inr o)) = inl o
-        by_place l (inr e) = inr (inr (enters_first l (inside f).log end_log e))
+        by_place l (inr e) = inr (inr (gives_first l (inside f).log end_log e))
 
-        seen_to : (l : Label) → Signs l (inside f).log ⊎ ⊥ → OnStack l st ⊎ ((l ≡ label) ⊎ Enters l (followed_by (inside f).log end_log))
+        seen_to : (l : Label) → Signs l (inside f).log ⊎ ⊥ → OnStack l st ⊎ ((l ≡ label) ⊎ Gives l (followed_by (inside f).log end_log))
         seen_to l (inl e) = by_place l ((h f).signs l e)
         seen_to l (inr e) = absurd e
 
@@ -169,47 +169,48 @@ pub signs_home : (st : Stack) (o : Option Exc) (t : ℕ) (l : Label) → Signs l
 signs_home st None t l s = absurd s
 signs_home st (Some e) t l s = sign_on st (home_of st) t (home_on st) l s
 
-pub enters_home : (st : Stack) (o : Option Exc) (t : ℕ) (l : Label) → Enters l (sign_if o (home_of st) t) → ⊥
-enters_home st None t l s = s
-enters_home st (Some e) t l s = no_enters_sign (home_of st) t l s
+pub gives_home : (st : Stack) (o : Option Exc) (t : ℕ) (l : Label) → Gives l (sign_if o (home_of st) t) → ⊥
+gives_home st None t l s = s
+gives_home st (Some e) t l s = no_enters_sign (home_of st) t l s
 
 pub tidy_signed : (st : Stack) (P : Label → Type 0) (r : Result) → Tidy st P r → Tidy st P (signed st r)
 unfolding signed
 tidy_signed st P r h =
     record {
-      enters = λ l e. own l (enters_followed l r.log (sign_if r.exc (home_of st) r.end) e);
+      gives = λ l e. own l (gives_followed l r.log (sign_if r.exc (home_of st) r.end) e);
       signs = λ l e. seen_to l (signs_followed l r.log (sign_if r.exc (home_of st) r.end) e);
     }
   where
-    own : (l : Label) → Enters l r.log ⊎ Enters l (sign_if r.exc (home_of st) r.end) → P l
-    own l (inl e) = h.enters l e
-    own l (inr e) = absurd (enters_home st r.exc r.end l e)
+    own : (l : Label) → Gives l r.log ⊎ Gives l (sign_if r.exc (home_of st) r.end) → P l
+    own l (inl e) = h.gives l e
+    own l (inr e) = absurd (gives_home st r.exc r.end l e)
 
-    first : (l : Label) → OnStack l st ⊎ Enters l r.log → OnStack l st ⊎ Enters l (followed_by r.log (sign_if r.exc (home_of st) r.end))
+    first : (l : Label) → OnStack l st ⊎ Gives l r.log → OnStack l st ⊎ Gives l (followed_by r.log (sign_if r.exc (home_of st) r.end))
     first l (inl o) = inl o
-    first l (inr e) = inr (enters_first l r.log _ e)
+    first l (inr e) = inr (gives_first l r.log _ e)
 
-    seen_to : (l : Label) → Signs l r.log ⊎ Signs l (sign_if r.exc (home_of st) r.end) → OnStack l st ⊎ Enters l (followed_by r.log (sign_if r.exc (home_of st) r.end))
+    seen_to : (l : Label) → Signs l r.log ⊎ Signs l (sign_if r.exc (home_of st) r.end) → OnStack l st ⊎ Gives l (followed_by r.log (sign_if r.exc (home_of st) r.end))
     seen_to l (inl e) = first l (h.signs l e)
     seen_to l (inr e) = inl (signs_home st r.exc r.end l e)
 
 pub tidy_gathered : (st : Stack) (P : Label → Type 0) (label : Label) (r : Result) → Tidy st P r → Tidy st P (gathered label r)
 unfolding gathered
-tidy_gathered st P label r h = record { enters = h.enters; signs = h.signs }
+tidy_gathered st P label r h = record { gives = h.gives; signs = h.signs }
 
-pub tidy_child : (st : Stack) (P : Label → Type 0) (label : Label) (t : ℕ) (r : Result) → Tidy st P r → Tidy st P (child label t r)
+pub tidy_child : (st : Stack) (P : Label → Type 0) (label : Label) (t : ℕ) (r : Result) → P label → Tidy st P r → Tidy st P (child label t r)
 unfolding child
-tidy_child st P label t r h = record { enters = own; signs = seen_to }
+tidy_child st P label t r p h = record { gives = own; signs = seen_to }
   where
-    own : (l : Label) → Enters l r.log ⊎ ⊥ → P l
-    own l (inl e) = h.enters l e
-    own l (inr e) = absurd e
+    own : (l : Label) → (l ≡ label) ⊎ (Gives l r.log ⊎ ⊥) → P l
+    own l (inl e) = subst P (sym e) p
+    own l (inr (inl e)) = h.gives l e
+    own l (inr (inr e)) = absurd e
 
-    first : (l : Label) → OnStack l st ⊎ Enters l r.log → OnStack l st ⊎ (Enters l r.log ⊎ ⊥)
+    first : (l : Label) → OnStack l st ⊎ Gives l r.log → OnStack l st ⊎ ((l ≡ label) ⊎ (Gives l r.log ⊎ ⊥))
     first l (inl o) = inl o
-    first l (inr e) = inr (inl e)
+    first l (inr e) = inr (inr (inl e))
 
-    seen_to : (l : Label) → Signs l r.log ⊎ ⊥ → OnStack l st ⊎ (Enters l r.log ⊎ ⊥)
+    seen_to : (l : Label) → Signs l r.log ⊎ ⊥ → OnStack l st ⊎ ((l ≡ label) ⊎ (Gives l r.log ⊎ ⊥))
     seen_to l (inl e) = first l (h.signs l e)
     seen_to l (inr e) = absurd e
 
@@ -229,7 +230,7 @@ tidy_handled st P wanted r go h k = by_exc r.exc
 
     by_match : (o rest : Option Exc) → Tidy st P (handled_if o rest r go)
     by_match None rest = h
-    by_match (Some e) rest = record { enters = both.enters; signs = both.signs }
+    by_match (Some e) rest = record { gives = both.gives; signs = both.signs }
 
     by_exc : (o : Option Exc) → Tidy st P (handled_exc o wanted r go)
     by_exc None = h
@@ -239,11 +240,15 @@ pub tidy_cleaned : (st : Stack) (P : Label → Type 0) (r : Result) (go : ℕ �
 unfolding cleaned
 tidy_cleaned st P r go h k =
     let both : Tidy st P (joined r (go r.end)) = tidy_joined st P r (go r.end) h (k r.end) in
-    record { enters = both.enters; signs = both.signs }
+    record { gives = both.gives; signs = both.signs }
 
 -- a label that is entered here belongs to its block
 pub belongs_here : (name : List ℕ) (names : List (List ℕ)) (here : Here) → Belongs (name ∷ names) here.path (label_here name here)
 belongs_here name names here = record { named = inl refl; beyond = []; extends = sym (append-nil here.path) }
+
+-- so does that of a child of a `start .. over`, behind its index
+pub belongs_over : (name : List ℕ) (names : List (List ℕ)) (here : Here) (i : ℕ) → Belongs (name ∷ names) (here.path ++ i ∷ []) (label_over name here i)
+belongs_over name names here i = record { named = inl refl; beyond = []; extends = sym (append-nil (here.path ++ i ∷ [])) }
 
 -- what belongs to a part belongs to the whole
 pub in_left : (a b : List (List ℕ)) (path : List ℕ) (l : Label) → Belongs a path l → Belongs (a ++ b) path l
@@ -284,11 +289,12 @@ mutual
       tidy_block m _ _ t _ shield st _ _ (belongs_here name (names_of body) here)
       (λ f. tidy_in _ _ _ _ (in_body name (names_of body) here.path) (tidy_gathered _ _ _ _ (tidy_signed _ _ _ (tidy m body here _ t))))
   tidy_step m (start name None body) here st t =
-      tidy_in st _ _ _ (in_body name (names_of body) here.path) (tidy_child st _ _ t _ (tidy_signed st _ _ (tidy m body _ st t)))
+      tidy_child st _ _ t _ (belongs_here name (names_of body) here)
+      (tidy_in st _ _ _ (in_body name (names_of body) here.path) (tidy_signed st _ _ (tidy m body _ st t)))
   tidy_step m (start name (Some k) body) here st t =
-      tidy_each st _ k _ t (λ i lt. tidy_in st _ _ _
-      (λ l h. in_body name (names_of body) here.path l (belongs_behind (names_of body) here.path i l h))
-      (tidy_child st _ _ t _ (tidy_signed st _ _ (tidy m body _ st t))))
+      tidy_each st _ k _ t (λ i lt. tidy_in st _ _ _ (belongs_behind (name ∷ names_of body) here.path i)
+      (tidy_child st _ _ t _ (belongs_over name (names_of body) here i)
+      (tidy_in st _ _ _ (in_body name (names_of body) (here.path ++ i ∷ [])) (tidy_signed st _ _ (tidy m body _ st t)))))
   tidy_step m (attempt body handler cleanup) here st t =
       tidy_cleanup m cleanup here st _ (names_of body ++ handled_names handler)
       (tidy_handler m handler here st _ (names_of body) (tidy m body here st t))
@@ -306,3 +312,11 @@ mutual
   tidy_cleanup m (finally body) here st r names h =
       tidy_cleaned st _ r _ (tidy_in st _ _ _ (in_left names (names_of body) here.path) h)
       (λ u. tidy_in st _ _ _ (in_right names (names_of body) here.path) (tidy m body here st u))
+
+-- a child of a `start .. over` gives only labels behind its index
+pub tidy_over : (m : Mode) (name : List ℕ) (body : Steps) (here : Here) (lent : Range) (i : ℕ) (st : Stack) (t : ℕ) →
+    Tidy st (Belongs (name ∷ names_of body) (here.path ++ i ∷ []))
+    (child (label_over name here i) t (signed st (walk m body (here_in (label_over name here i) lent here) st t)))
+tidy_over m name body here lent i st t =
+    tidy_child st _ (label_over name here i) t _ (belongs_over name (names_of body) here i)
+    (tidy_in st _ _ _ (in_body name (names_of body) (here.path ++ i ∷ [])) (tidy_signed st _ _ (tidy m body (here_in (label_over name here i) lent here) st t)))

@@ -1,4 +1,4 @@
--- Which labels a log enters and signs, and what its deadlines and first signs are then.
+-- Which labels a log gives and signs, and what its deadlines and first signs are then.
 use Rattle.std.proofs.Common.{◌≡◌, ℕ, Bool, true, false, Option, Some, None, refl, ap, ◌∙◌, ◌⊎◌, inl, inr, nat_lt, if◌then◌else◌, arith}
 use Rattle.std.proofs.lemmas.Bool.Decides.{nat_tests}
 use Rattle.exc_groups.specs.Exceptions.{Label}
@@ -6,13 +6,13 @@ use Rattle.cancel_scopes.specs.Sight.{Tick, earlier}
 use Rattle.job_meaning.specs.Log.{Log, nil, entry, sign, entered, task, followed_by, least_sign, tick_if, deadline_of, deadline_if, either, same_label}
 use Rattle.job_meaning.proofs.Distinct.{same_label_equal}
 
--- the label is entered in the log
-abbrev pub Enters : Label → Log → Type 0
-Enters l nil = ⊥
-Enters l (entry t e rest) = Enters l rest
-Enters l (sign m t rest) = Enters l rest
-Enters l (entered m t d rest) = (l ≡ m) ⊎ Enters l rest
-Enters l (task m s u e own rest) = Enters l own ⊎ Enters l rest
+-- the label is given in the log: to a scope or nursery that is entered, or to a task that is started
+abbrev pub Gives : Label → Log → Type 0
+Gives l nil = ⊥
+Gives l (entry t e rest) = Gives l rest
+Gives l (sign m t rest) = Gives l rest
+Gives l (entered m t d rest) = (l ≡ m) ⊎ Gives l rest
+Gives l (task m s u e own rest) = (l ≡ m) ⊎ (Gives l own ⊎ Gives l rest)
 
 -- there is a sign for the label in the log
 abbrev pub Signs : Label → Log → Type 0
@@ -22,38 +22,40 @@ Signs l (sign m t rest) = (l ≡ m) ⊎ Signs l rest
 Signs l (entered m t d rest) = Signs l rest
 Signs l (task m s u e own rest) = Signs l own ⊎ Signs l rest
 
-pub enters_followed : (l : Label) (a b : Log) → Enters l (followed_by a b) → Enters l a ⊎ Enters l b
-enters_followed l nil b h = inr h
-enters_followed l (entry t e rest) b h = enters_followed l rest b h
-enters_followed l (sign m t rest) b h = enters_followed l rest b h
-enters_followed l (entered m t d rest) b (inl e) = inl (inl e)
-enters_followed l (entered m t d rest) b (inr h) = behind (enters_followed l rest b h)
+pub gives_followed : (l : Label) (a b : Log) → Gives l (followed_by a b) → Gives l a ⊎ Gives l b
+gives_followed l nil b h = inr h
+gives_followed l (entry t e rest) b h = gives_followed l rest b h
+gives_followed l (sign m t rest) b h = gives_followed l rest b h
+gives_followed l (entered m t d rest) b (inl e) = inl (inl e)
+gives_followed l (entered m t d rest) b (inr h) = behind (gives_followed l rest b h)
   where
-    behind : Enters l rest ⊎ Enters l b → ((l ≡ m) ⊎ Enters l rest) ⊎ Enters l b
+    behind : Gives l rest ⊎ Gives l b → ((l ≡ m) ⊎ Gives l rest) ⊎ Gives l b
     behind (inl k) = inl (inr k)
     behind (inr k) = inr k
-enters_followed l (task m s u e own rest) b (inl h) = inl (inl h)
-enters_followed l (task m s u e own rest) b (inr h) = behind (enters_followed l rest b h)
+gives_followed l (task m s u e own rest) b (inl e') = inl (inl e')
+gives_followed l (task m s u e own rest) b (inr (inl h)) = inl (inr (inl h))
+gives_followed l (task m s u e own rest) b (inr (inr h)) = behind (gives_followed l rest b h)
   where
-    behind : Enters l rest ⊎ Enters l b → (Enters l own ⊎ Enters l rest) ⊎ Enters l b
-    behind (inl k) = inl (inr k)
+    behind : Gives l rest ⊎ Gives l b → ((l ≡ m) ⊎ (Gives l own ⊎ Gives l rest)) ⊎ Gives l b
+    behind (inl k) = inl (inr (inr k))
     behind (inr k) = inr k
 
-pub enters_first : (l : Label) (a b : Log) → Enters l a → Enters l (followed_by a b)
-enters_first l nil b h = absurd h
-enters_first l (entry t e rest) b h = enters_first l rest b h
-enters_first l (sign m t rest) b h = enters_first l rest b h
-enters_first l (entered m t d rest) b (inl e) = inl e
-enters_first l (entered m t d rest) b (inr h) = inr (enters_first l rest b h)
-enters_first l (task m s u e own rest) b (inl h) = inl h
-enters_first l (task m s u e own rest) b (inr h) = inr (enters_first l rest b h)
+pub gives_first : (l : Label) (a b : Log) → Gives l a → Gives l (followed_by a b)
+gives_first l nil b h = absurd h
+gives_first l (entry t e rest) b h = gives_first l rest b h
+gives_first l (sign m t rest) b h = gives_first l rest b h
+gives_first l (entered m t d rest) b (inl e) = inl e
+gives_first l (entered m t d rest) b (inr h) = inr (gives_first l rest b h)
+gives_first l (task m s u e own rest) b (inl h) = inl h
+gives_first l (task m s u e own rest) b (inr (inl h)) = inr (inl h)
+gives_first l (task m s u e own rest) b (inr (inr h)) = inr (inr (gives_first l rest b h))
 
-pub enters_second : (l : Label) (a b : Log) → Enters l b → Enters l (followed_by a b)
-enters_second l nil b h = h
-enters_second l (entry t e rest) b h = enters_second l rest b h
-enters_second l (sign m t rest) b h = enters_second l rest b h
-enters_second l (entered m t d rest) b h = inr (enters_second l rest b h)
-enters_second l (task m s u e own rest) b h = inr (enters_second l rest b h)
+pub gives_second : (l : Label) (a b : Log) → Gives l b → Gives l (followed_by a b)
+gives_second l nil b h = h
+gives_second l (entry t e rest) b h = gives_second l rest b h
+gives_second l (sign m t rest) b h = gives_second l rest b h
+gives_second l (entered m t d rest) b h = inr (gives_second l rest b h)
+gives_second l (task m s u e own rest) b h = inr (inr (gives_second l rest b h))
 
 pub signs_followed : (l : Label) (a b : Log) → Signs l (followed_by a b) → Signs l a ⊎ Signs l b
 signs_followed l nil b h = inr h
@@ -119,23 +121,23 @@ least_followed l (task m s u e own rest) b =
     ∙ earlier_assoc (least_sign l own) (least_sign l rest) (least_sign l b)
 
 -- a deadline is that of a label which was entered
-pub deadline_entered : (l : Label) (a : Log) (d : Tick) → deadline_of l a ≡ Some d → Enters l a
+pub deadline_entered : (l : Label) (a : Log) (d : Tick) → deadline_of l a ≡ Some d → Gives l a
 deadline_entered l nil d h = cc
 deadline_entered l (entry t e rest) d h = deadline_entered l rest d h
 deadline_entered l (sign m t rest) d h = deadline_entered l rest d h
 deadline_entered l (entered m t x rest) d h = by_test (same_label l m) refl h (deadline_entered l rest d)
   where
-    by_test : (b : Bool) → same_label l m ≡ b → either (deadline_if b x) (deadline_of l rest) ≡ Some d → (deadline_of l rest ≡ Some d → Enters l rest) → (l ≡ m) ⊎ Enters l rest
+    by_test : (b : Bool) → same_label l m ≡ b → either (deadline_if b x) (deadline_of l rest) ≡ Some d → (deadline_of l rest ≡ Some d → Gives l rest) → (l ≡ m) ⊎ Gives l rest
     by_test true e k others = inl (same_label_equal l m e)
     by_test false e k others = inr (others k)
 deadline_entered l (task m s u e own rest) d h = by_own (deadline_of l own) refl h (deadline_entered l own d) (deadline_entered l rest d)
   where
-    by_own : (o : Option Tick) → deadline_of l own ≡ o → either o (deadline_of l rest) ≡ Some d → (deadline_of l own ≡ Some d → Enters l own) → (deadline_of l rest ≡ Some d → Enters l rest) → Enters l own ⊎ Enters l rest
-    by_own None e k inner others = inr (others k)
-    by_own (Some x) e k inner others = inl (inner (e ∙ k))
+    by_own : (o : Option Tick) → deadline_of l own ≡ o → either o (deadline_of l rest) ≡ Some d → (deadline_of l own ≡ Some d → Gives l own) → (deadline_of l rest ≡ Some d → Gives l rest) → (l ≡ m) ⊎ (Gives l own ⊎ Gives l rest)
+    by_own None e k inner others = inr (inr (others k))
+    by_own (Some x) e k inner others = inr (inl (inner (e ∙ k)))
 
--- a label that is not entered has no deadline there, and one that is not signed no sign
-pub no_deadline : (l : Label) (a : Log) → (Enters l a → ⊥) → deadline_of l a ≡ None
+-- a label that is not given has no deadline there, and one that is not signed no sign
+pub no_deadline : (l : Label) (a : Log) → (Gives l a → ⊥) → deadline_of l a ≡ None
 no_deadline l a h = by_deadline (deadline_of l a) refl
   where
     by_deadline : (o : Option Tick) → deadline_of l a ≡ o → o ≡ None

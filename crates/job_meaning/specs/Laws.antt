@@ -2,10 +2,11 @@
 use Rattle.std.specs.Prelude.{◌≡◌, ℕ, ◌≤◌, Bool, false, IsTrue, Option, Some, None, List, [], ◌∷◌}
 use Rattle.job_tree.specs.Tree.{Steps, Tree}
 use Rattle.job_tree.specs.Names.{GivesNamesOnce}
-use Rattle.exc_groups.specs.Exceptions.{Exc, holds_cancelled}
+use Rattle.exc_groups.specs.Exceptions.{Label, Exc, holds_cancelled}
 use Rattle.cancel_scopes.specs.Sight.{Tick, seen}
 use Rattle.job_meaning.specs.Walk.{Stack, Mode, Here, walk}
-use Rattle.job_meaning.specs.Meaning.{root_walk, meaning, meaning_table}
+use Rattle.job_meaning.specs.Log.{times_given}
+use Rattle.job_meaning.specs.Meaning.{root_walk, root_log, meaning, meaning_table}
 use Rattle.job_meaning.specs.Follow.{follow, IsSettled}
 use Rattle.job_meaning.specs.Before.{Near, Agree}
 
@@ -61,3 +62,8 @@ FollowingIsMeaning =
 -- so that table is settled
 abbrev pub TableIsSettled : Type 0
 TableIsSettled = (job : Tree) (input : List ℕ) → GivesNamesOnce job → IsSettled (meaning_table job input) job input
+
+-- where names are given once, no label of a scope, a nursery or a task is given twice: by the meaning, and by any table
+abbrev pub LabelsAreGivenOnce : Type 0
+LabelsAreGivenOnce =
+    (mode : Mode) (job : Tree) (input : List ℕ) → GivesNamesOnce job → (l : Label) → times_given l (root_log job (root_walk mode job input)) ≤ 1

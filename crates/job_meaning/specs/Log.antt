@@ -98,3 +98,11 @@ times_entered l (entry t e rest) = times_entered l rest
 times_entered l (sign m t rest) = times_entered l rest
 times_entered l (entered m t d rest) = (if same_label l m then 1 else 0) + times_entered l rest
 times_entered l (task m s u e own rest) = times_entered l own + times_entered l rest
+
+-- how often a label is given in a log: to a scope or nursery that is entered, or to a task that is started
+abbrev pub times_given : Label → Log → ℕ
+times_given l nil = 0
+times_given l (entry t e rest) = times_given l rest
+times_given l (sign m t rest) = times_given l rest
+times_given l (entered m t d rest) = (if same_label l m then 1 else 0) + times_given l rest
+times_given l (task m s u e own rest) = (if same_label l m then 1 else 0) + (times_given l own + times_given l rest)

@@ -3,6 +3,7 @@
 ghost use Rattle.job_meaning.specs.Laws.{
   CancelledIsSeen,
   FollowingIsMeaning,
+  LabelsAreGivenOnce,
   LoweringShows,
   NoneReachesTheRoot,
   NothingBeforeItsCause,
@@ -37,4 +38,10 @@ pub fn law_causality()
 pub fn law_settled_table()
     ensures follow { FollowingIsMeaning }
     ensures settled { TableIsSettled }
+{}
+
+/// Each label of a run is given once: to one scope, one nursery or one task, the root's own included. It holds of the
+/// meaning and of following any table, where names are given once.
+pub fn law_labels()
+    ensures { LabelsAreGivenOnce }
 {}

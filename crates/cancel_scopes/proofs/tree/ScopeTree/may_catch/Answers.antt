@@ -6,7 +6,7 @@ use Rattle.cancel_scopes.proofs.tree.ScopeTree.may_catch.Goals as goal
 
 pub index-scope-requires : goal.index-scope-requires
 index-scope-requires c =
-    kept_where_open c.args.self.now c.self.inside.scopes.slots c.id.inside.key c.args.id c.self.view_is c.id.view_is c.requires.id
+    kept_where_open c.args.self.now c.self.inside.scopes.slots c.id.inside.key c.args.id c.self.view_is c.id.view_is c.requires
 
 pub returns-then-not-reached : goal.returns-then-not-reached
 returns-then-not-reached c stack is =
@@ -14,8 +14,8 @@ returns-then-not-reached c stack is =
     (stack_is c.args.self.now c.self.inside.scopes.slots c.id.inside.key c.args.id c.index-scope.result.now stack c.self.view_is c.id.view_is c.index-scope.ensures is)
     (sym c.reached.ensures ∙ c.if-not-reached.true)
 
-pub seen-requires-clause-id : goal.seen-requires-clause-id
-seen-requires-clause-id c =
+pub seen-requires : goal.seen-requires
+seen-requires c =
     rw (stack_round c.args.self.now c.self.inside.scopes.slots c.id.inside.key c.in-Some.parent c.index-scope.result.now c.self.view_is c.self.invariant c.index-scope.ensures c.in-Some.is) refl
 
 pub returns-then-scope : goal.returns-then-scope
