@@ -27,7 +27,7 @@ pub record Case (t : ℕ) (froms : Table) (weight_before : ℕ) (home ps : List 
   pub places : AllKnown o.places (known_after (labels_of ps) o.made)
   pub starts_made : Starts count o.made o.begun
   pub begun_in : BegunIn (known_after (labels_of ps) o.made) o.begun
-  pub stops : StopsAt t (froms_after froms o.made) o.stopped o.places o.made
+  pub stops : StopsAt t (froms_after froms o.made) o.stopped o.places
   pub weight : weight_of_stop o.stopped + frames_weight o.frames + weight_of_begun o.begun ≤ weight_before
 
 -- a label that is found among places is one of theirs
@@ -307,7 +307,7 @@ frames_case t froms here [] ps exc count p =
       places = still_known ps (signs_home exc ps t);
       starts_made = home_start exc ps t count;
       begun_in = tt;
-      stops = (refl, ([], refl));
+      stops = refl;
       weight = omega arith;
     }
 frames_case t froms here (steps_left ss ∷ fs) ps exc count p = steps_case t froms here ss fs ps exc count p.0 p.1
@@ -322,7 +322,7 @@ frames_case t froms here (in_nursery children ∷ fs) (q ∷ ps) exc count p =
       places = still_known (q ∷ ps) (signs_home exc (q ∷ ps) t);
       starts_made = home_start exc (q ∷ ps) t count;
       begun_in = tt;
-      stops = (refl, ([], refl));
+      stops = refl;
       weight = omega arith;
     }
 frames_case t froms here (in_try handler cleanup ∷ fs) ps exc count p = try_case t froms handler cleanup fs ps exc count p.0 p.1 p.2

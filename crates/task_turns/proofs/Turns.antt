@@ -8,7 +8,7 @@ use Rattle.job_meaning.proofs.Finish.{followed_assoc, fill_append}
 use Rattle.task_turns.specs.Midway.{Place, Midway, Move, moved, unmoved, then_move, behind, left_of, left_after, stop_comes_to}
 use Rattle.task_turns.specs.Steps.{froms_after, step_of, turn_of}
 use Rattle.task_turns.specs.Placed.{Placed, PlacedAfter, home_after, KidsAfter, HasChildAfter, AllHoused}
-use Rattle.task_turns.specs.Turned.{AgreesOn, AgreesIn, AllTold, Known, labels_of, AllKnown, known_after, EndsWith, StopsAt, BegunIn, Turned, Goes}
+use Rattle.task_turns.specs.Turned.{AgreesOn, AgreesIn, AllTold, Known, labels_of, AllKnown, known_after, StopsAt, BegunIn, Turned, Goes}
 use Rattle.task_turns.proofs.Keeps.{told_first, told_second, step_keeps}
 use Rattle.task_turns.proofs.Events.{known_append, known_grows, place_known, all_own, all_grow, known_stays, made_append, made_grows, begun_append, begun_grow, starts_append, froms_append, weight_append, agrees_after}
 use Rattle.task_turns.proofs.Cases.{step_cases}
@@ -79,18 +79,15 @@ turned_nothing t here froms m p =
 
 -- ---- a move, and another from where it led
 
-ends_append : (es fs last : List Event) → EndsWith last fs → EndsWith last (es ++ fs)
-ends_append es fs last h = (es ++ h.0, ap (λ (x : List Event). es ++ x) h.1 ∙ sym (append_assoc es h.0 last))
-
 stops_append : (t : ℕ) (froms : Table) (made : List Event) (s : Option Stopped) (ps : List Place) (more : List Event) →
-    StopsAt t (froms_after (froms_after froms made) more) s ps more → StopsAt t (froms_after froms (made ++ more)) s ps (made ++ more)
+    StopsAt t (froms_after (froms_after froms made) more) s ps → StopsAt t (froms_after froms (made ++ more)) s ps
 stops_append t froms made None ps more h = h
 stops_append t froms made (Some to_begin) ps more h = h
 stops_append t froms made (Some (asking kernel purpose)) ps more h = h
 stops_append t froms made (Some (asleep n since)) ps more h =
-    subst (λ (f : Table). StopsAt t f (Some (asleep n since)) ps more) (sym (froms_append made more froms)) h
-stops_append t froms made (Some (awaiting children u e)) ps more h = (h.0, ends_append made more _ h.1)
-stops_append t froms made (Some (at_end u e)) ps more h = (h.0, ends_append made more _ h.1)
+    subst (λ (f : Table). StopsAt t f (Some (asleep n since)) ps) (sym (froms_append made more froms)) h
+stops_append t froms made (Some (awaiting children u e)) ps more h = h
+stops_append t froms made (Some (at_end u e)) ps more h = h
 
 -- a move that did not stop, and one from where it led
 module _ (t : ℕ) (here : Here) (froms : Table) (Given : Table → Telling → Type 0) (before : Table → Telling → Result) (bound : ℕ)

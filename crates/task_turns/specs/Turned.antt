@@ -10,7 +10,7 @@ use Rattle.job_meaning.specs.Rest.{Event, noted, signs, enters, starts, Telling,
 use Rattle.task_turns.specs.Midway.{Place, stack_at, Midway, Begun, Move, behind, left_of, left_after, begun_comes_to}
 use Rattle.task_turns.specs.Placed.{PlacedAfter, places_behind, home_after, KidsAfter, HasChild, HasChildAfter, AllHoused}
 use Rattle.task_turns.specs.Wakes.{Wake, WakesBy}
-use Rattle.task_turns.specs.Steps.{froms_after, signs_home}
+use Rattle.task_turns.specs.Steps.{froms_after}
 
 -- ---- what a table is asked
 
@@ -106,23 +106,19 @@ EntersOnceWith l d (starts i m t ∷ es) = EntersOnceWith l d es
 
 -- ---- how it stopped
 
--- these events are the last of those
-abbrev pub EndsWith : List Event → List Event → Type 0
-EndsWith last made = (before : List Event) × (made ≡ before ++ last)
-
 abbrev pub IsSome : {A : Type 0} → Option A → Type 0
 IsSome None = ⊥
 IsSome (Some x) = Unit {0}
 
--- A task stops to ask a kernel; to sleep, with nothing seen now and a due tick after now; to wait, and at its end: there
--- the sign for its innermost place is the last event, if it failed. The froms are those after the turn.
-abbrev pub StopsAt : ℕ → Table → Option Stopped → List Place → List Event → Type 0
-StopsAt t froms None ps made = Unit {0}
-StopsAt t froms (Some to_begin) ps made = ⊥
-StopsAt t froms (Some (asking kernel purpose)) ps made = Unit {0}
-StopsAt t froms (Some (asleep n since)) ps made = (since ≡ t) × (0 < n) × (seen (stack_at froms ps) t ≡ false)
-StopsAt t froms (Some (awaiting children ended e)) ps made = (ended ≡ t) × EndsWith (signs_home e ps t) made
-StopsAt t froms (Some (at_end u e)) ps made = (u ≡ t) × EndsWith (signs_home e ps t) made
+-- How a task stops in tick t, with these froms after the turn: a sleep begins now, with nothing seen now and a due tick after
+-- now; a body that waits, and a task that ended, did so now.
+abbrev pub StopsAt : ℕ → Table → Option Stopped → List Place → Type 0
+StopsAt t froms None ps = Unit {0}
+StopsAt t froms (Some to_begin) ps = ⊥
+StopsAt t froms (Some (asking kernel purpose)) ps = Unit {0}
+StopsAt t froms (Some (asleep n since)) ps = (since ≡ t) × (0 < n) × (seen (stack_at froms ps) t ≡ false)
+StopsAt t froms (Some (awaiting children ended e)) ps = ended ≡ t
+StopsAt t froms (Some (at_end u e)) ps = u ≡ t
 
 -- ---- weights
 
@@ -171,7 +167,7 @@ pub record Turned
     -- each is in places that its starter was in or entered on the way, and no nursery's body
     pub begun_in : BegunIn (known_after (labels_of places_before) o.made) o.begun
     -- how the task stopped
-    pub stops : StopsAt t (froms_after froms o.made) o.stopped o.places o.made
+    pub stops : StopsAt t (froms_after froms o.made) o.stopped o.places
     -- the weight of what is left, the children's included, is less than the bound
     pub weight : weight_of_stop o.stopped + frames_weight o.frames + weight_of_begun o.begun < bound
 
