@@ -1,0 +1,219 @@
+-- Where `start` stands in nurseries alone, a task ends no earlier than those that it started.
+use Rattle.std.proofs.Common.{◌≡◌, ℕ, zero, suc, ◌+◌, ◌≤◌, max, Bool, true, false, Option, Some, None, List, [], ◌∷◌, ◌++◌, refl, subst, arith, nat_le, if◌then◌else◌}
+use Rattle.job_tree.specs.Tree.{Step, sleep, checkpoint, forever, pace, find, head, longest, need, raise, cancel, scope, nursery, start, attempt, Steps, stop, step, Handled, unhandled, except, Cleaned, uncleaned, finally}
+use Rattle.job_tree.specs.Starting.{StartsIn, StartsAt, HandlerStarts, CleanupStarts}
+use Rattle.buffer_parts.specs.Lines.{Span}
+use Rattle.exc_groups.specs.Exceptions.{Label, Exc, cancelled}
+use Rattle.exc_groups.specs.Split.{Wanted, keep, drop}
+use Rattle.cancel_scopes.specs.Sight.{Tick, sight}
+use Rattle.job_meaning.specs.Log.{Log, nil, entry, sign, entered, task, followed_by, Member, Result}
+use Rattle.job_meaning.specs.Walk.{Stack, Mode, Here, walk, walk_step, walk_handler, walk_cleanup, done_at, raised_at, joined, and_then, then_if, slept, sleeping, log_of_lines, showing, needing, cancelling, sign_of, Kind, from_of, block, signed, sign_if, home_of, latest, gathered, child, each, handled, handled_exc, handled_if, cleaned}
+use Rattle.job_meaning.proofs.Late.{Late, late, latest_ends, child_ends, each_ends}
+
+-- each task of a log ends by e, and those that it started by its end
+abbrev pub Inside : ℕ → Log → Type 0
+Inside e nil = Unit {0}
+Inside e (entry t x rest) = Inside e rest
+Inside e (sign l t rest) = Inside e rest
+Inside e (entered l t d rest) = Inside e rest
+Inside e (task l s u x own rest) = (u ≤ e) × Inside u own × Inside e rest
+
+-- so of two logs together, and of the first of them
+pub inside_followed : (e : ℕ) (a b : Log) → Inside e a → Inside e b → Inside e (followed_by a b)
+inside_followed e nil b h k = k
+inside_followed e (entry t x rest) b h k = inside_followed e rest b h k
+inside_followed e (sign l t rest) b h k = inside_followed e rest b h k
+inside_followed e (entered l t d rest) b h k = inside_followed e rest b h k
+inside_followed e (task l s u x own rest) b h k = (h.0, h.1, inside_followed e rest b h.2 k)
+
+pub inside_first : (e : ℕ) (a b : Log) → Inside e (followed_by a b) → Inside e a
+inside_first e nil b h = tt
+inside_first e (entry t x rest) b h = inside_first e rest b h
+inside_first e (sign l t rest) b h = inside_first e rest b h
+inside_first e (entered l t d rest) b h = inside_first e rest b h
+inside_first e (task l s u x own rest) b h = (h.0, h.1, inside_first e rest b h.2)
+
+inside_later : (e f : ℕ) (a : Log) → e ≤ f → Inside e a → Inside f a
+inside_later e f nil le h = tt
+inside_later e f (entry t x rest) le h = inside_later e f rest le h
+inside_later e f (sign l t rest) le h = inside_later e f rest le h
+inside_later e f (entered l t d rest) le h = inside_later e f rest le h
+inside_later e f (task l s u x own rest) le h = (by h.0, h.1, inside_later e f rest le h.2)
+  where
+    by : u ≤ e → u ≤ f
+    by k = omega arith
+
+latest_append : (t : ℕ) (a b : List Member) → latest t (a ++ b) ≡ latest (latest t a) b
+latest_append t [] b = refl
+latest_append t (m ∷ a) b = latest_append (max t m.end) a b
+
+latest_later : (t u : ℕ) (a : List Member) → t ≤ u → latest t a ≤ latest u a
+latest_later t u [] le = le
+latest_later t u (m ∷ a) le = latest_later (max t m.end) (max u m.end) a (omega arith)
+
+-- all that a walk started ends by its end, or with a member of the nursery that is still open; and outside of a
+-- nursery's body no member is open
+record Ends (body : Bool) (r : Result) : Type 0 where
+  inside : Inside (latest r.end r.members) r.log
+  closed : body ≡ false → r.members ≡ []
+
+ends_joined : (body : Bool) (r q : Result) → Ends body r → Ends body q → r.end ≤ q.end → Ends body (joined r q)
+ends_joined body r q h k le = record {
+  inside =
+      (let a : latest r.end r.members ≤ latest q.end r.members = latest_later r.end q.end r.members le in
+      let b : latest q.end r.members ≤ latest (latest q.end r.members) q.members = latest_ends (latest q.end r.members) q.members in
+      let c : q.end ≤ latest q.end r.members = latest_ends q.end r.members in
+      let d : latest q.end q.members ≤ latest (latest q.end r.members) q.members = latest_later q.end (latest q.end r.members) q.members c in
+      let e : latest q.end (r.members ++ q.members) ≡ latest (latest q.end r.members) q.members = latest_append q.end r.members q.members in
+      inside_followed (latest q.end (r.members ++ q.members)) r.log q.log
+      (inside_later (latest r.end r.members) _ r.log (omega arith) h.inside)
+      (inside_later (latest q.end q.members) _ q.log (omega arith) k.inside));
+  closed = λ e. (λ i. h.closed e i ++ k.closed e i);
+}
+
+ends_then : (body : Bool) (r : Result) (go : ℕ → Result) → Ends body r → ((u : ℕ) → Ends body (go u)) → ((u : ℕ) → Late u (go u)) → Ends body (and_then r go)
+unfolding and_then
+ends_then body r go h k l = by_exc r.exc
+  where
+    by_exc : (o : Option Exc) → Ends body (then_if o r go)
+    by_exc None = ends_joined body r (go r.end) h (k r.end) (l r.end).ends
+    by_exc (Some e) = h
+
+ends_done : (body : Bool) (t : ℕ) → Ends body (done_at t)
+ends_done body t = record { inside = tt; closed = λ e. refl }
+
+ends_raised : (body : Bool) (e : Exc) (t : ℕ) → Ends body (raised_at e t)
+ends_raised body e t = record { inside = tt; closed = λ e. refl }
+
+ends_sleeping : (body : Bool) (st : Stack) (n t : ℕ) → Ends body (sleeping st n t)
+unfolding sleeping
+ends_sleeping body st n t = by_sight (sight st)
+  where
+    by_sight : (a : Tick) → Ends body (slept a n t)
+    by_sight None = ends_done body (t + n)
+    by_sight (Some from) = by_now (nat_le from t) (nat_le from (t + n))
+      where
+        by_now : (now due : Bool) → Ends body (if now then raised_at cancelled t else (if due then raised_at cancelled from else done_at (t + n)))
+        by_now true due = ends_raised body cancelled t
+        by_now false true = ends_raised body cancelled from
+        by_now false false = ends_done body (t + n)
+
+inside_lines : (e t : ℕ) (ls : List Span) → Inside e (log_of_lines t ls)
+inside_lines e t [] = tt
+inside_lines e t (l ∷ ls) = inside_lines e t ls
+
+ends_showing : (body : Bool) (ls : List Span) (t : ℕ) → Ends body (showing ls t)
+unfolding showing
+ends_showing body ls t = record { inside = inside_lines t t ls; closed = λ e. refl }
+
+ends_needing : (body : Bool) (found : Option Span) (name : List ℕ) (label : Label) (t : ℕ) → Ends body (needing found name label t)
+unfolding needing
+ends_needing body (Some l) name label t = ends_showing body (l ∷ []) t
+ends_needing body None name label t = record { inside = tt; closed = λ e. refl }
+
+inside_sign : (e : ℕ) (o : Option Label) (t : ℕ) → Inside e (sign_of o t)
+inside_sign e None t = tt
+inside_sign e (Some l) t = tt
+
+inside_sign_if : (e : ℕ) (x : Option Exc) (o : Option Label) (t : ℕ) → Inside e (sign_if x o t)
+inside_sign_if e None o t = tt
+inside_sign_if e (Some x) o t = inside_sign e o t
+
+ends_cancelling : (body : Bool) (o : Option Label) (t : ℕ) → Ends body (cancelling o t)
+unfolding cancelling
+ends_cancelling body o t = record { inside = inside_sign t o t; closed = λ e. refl }
+
+-- with no member open all ends by the end
+inside_closed : (r : Result) → Ends false r → Inside r.end r.log
+inside_closed r h = subst (λ (ms : List Member). Inside (latest r.end ms) r.log) (h.closed refl) h.inside
+
+ends_block : (body : Bool) (m : Mode) (kind : Kind) (label : Label) (t : ℕ) (d : Tick) (shield : Bool) (st : Stack) (inside : Tick → Result) →
+    ((f : Tick) → Ends false (inside f)) → Ends body (block m kind label t d shield st inside)
+unfolding block
+ends_block body m kind label t d shield st inside h =
+    let f : Tick = from_of m label d inside in
+    record { inside = inside_followed (inside f).end (inside f).log (entry (inside f).end _ nil) (inside_closed (inside f) (h f)) tt; closed = λ e. refl }
+
+ends_signed : (body : Bool) (st : Stack) (r : Result) → Ends body r → Ends body (signed st r)
+unfolding signed
+ends_signed body st r h = record { inside = inside_followed (latest r.end r.members) r.log _ h.inside (inside_sign_if (latest r.end r.members) r.exc (home_of st) r.end); closed = h.closed }
+
+ends_gathered : (body : Bool) (label : Label) (r : Result) → Ends true r → Ends body (gathered label r)
+unfolding gathered
+ends_gathered body label r h = record { inside = h.inside; closed = λ e. refl }
+
+ends_child : (label : Label) (t : ℕ) (r : Result) → Ends false r → Ends true (child label t r)
+unfolding child
+ends_child label t r h = record { inside = (omega arith, inside_closed r h, tt); closed = λ e. cc }
+
+ends_each : (k : ℕ) (go : ℕ → Result) (t : ℕ) → ((i : ℕ) → (go i).end ≡ t) → ((i : ℕ) → Ends true (go i)) → Ends true (each k go t)
+ends_each zero go t e h = ends_done true t
+ends_each (suc k) go t e h =
+    let a : (each k go t).end ≡ t = each_ends k go t e in
+    let b : (go k).end ≡ t = e k in
+    ends_joined true (each k go t) (go k) (ends_each k go t e h) (h k) (omega arith)
+
+ends_handled : (body : Bool) (wanted : Wanted) (r : Result) (go : ℕ → Result) → Ends body r → ((u : ℕ) → Ends body (go u)) → ((u : ℕ) → Late u (go u)) → Ends body (handled wanted r go)
+unfolding handled
+ends_handled body wanted r go h k l = by_exc r.exc
+  where
+    both : Ends body (joined r (go r.end))
+    both = ends_joined body r (go r.end) h (k r.end) (l r.end).ends
+
+    by_match : (o rest : Option Exc) → Ends body (handled_if o rest r go)
+    by_match None rest = h
+    by_match (Some e) rest = record { inside = both.inside; closed = both.closed }
+
+    by_exc : (o : Option Exc) → Ends body (handled_exc o wanted r go)
+    by_exc None = h
+    by_exc (Some e) = by_match (keep wanted e) (drop wanted e)
+
+ends_cleaned : (body : Bool) (r : Result) (go : ℕ → Result) → Ends body r → ((u : ℕ) → Ends body (go u)) → ((u : ℕ) → Late u (go u)) → Ends body (cleaned r go)
+unfolding cleaned
+ends_cleaned body r go h k l =
+    let both : Ends body (joined r (go r.end)) = ends_joined body r (go r.end) h (k r.end) (l r.end).ends in
+    record { inside = both.inside; closed = both.closed }
+
+-- outside of a nursery's body nothing is open, so in one too
+ends_in : (body : Bool) (r : Result) → Ends false r → Ends body r
+ends_in body r h = record { inside = h.inside; closed = λ e. h.closed refl }
+
+mutual
+  unfolding walk
+
+  ends : (m : Mode) (body : Bool) (b : Steps) (here : Here) (st : Stack) (t : ℕ) → StartsIn body b → Ends body (walk m b here st t)
+  ends m body stop here st t p = ends_done body t
+  ends m body (step s ss) here st t p = ends_then body _ _ (ends_step m body s here st t p.0) (λ u. ends m body ss here st u p.1) (λ u. late m ss here st u)
+
+  ends_step : (m : Mode) (body : Bool) (s : Step) (here : Here) (st : Stack) (t : ℕ) → StartsAt body s → Ends body (walk_step m s here st t)
+  ends_step m body (sleep n) here st t p = ends_sleeping body st _ t
+  ends_step m body checkpoint here st t p = ends_sleeping body st _ t
+  ends_step m body forever here st t p = ends_sleeping body st _ t
+  ends_step m body (pace k) here st t p = ends_sleeping body st _ t
+  ends_step m body (find text) here st t p = ends_showing body _ t
+  ends_step m body (head n) here st t p = ends_showing body _ t
+  ends_step m body longest here st t p = ends_showing body _ t
+  ends_step m body (need text name) here st t p = ends_needing body _ name here.task t
+  ends_step m body (raise name) here st t p = ends_raised body _ t
+  ends_step m body (cancel name) here st t p = ends_cancelling body _ t
+  ends_step m body (scope name d shield fail b) here st t p = ends_block body m _ _ t _ shield st _ (λ f. ends m false b here _ t p)
+  ends_step m body (nursery name d shield b) here st t p =
+      ends_block body m _ _ t _ shield st _ (λ f. ends_gathered false _ _ (ends_signed true _ _ (ends m true b here _ t p)))
+  ends_step m true (start name None b) here st t p = ends_child _ t _ (ends_signed false st _ (ends m false b _ st t p.1))
+  ends_step m true (start name (Some k) b) here st t p =
+      ends_each k _ t (λ i. child_ends _ t _) (λ i. ends_child _ t _ (ends_signed false st _ (ends m false b _ st t p.1)))
+  ends_step m false (start name over b) here st t p = cc
+  ends_step m body (attempt b handler cleanup) here st t p =
+      ends_cleanup m body cleanup here st _ p.2 (ends_handler m body handler here st _ p.1 (ends_in body _ (ends m false b here st t p.0)))
+
+  ends_handler : (m : Mode) (body : Bool) (x : Handled) (here : Here) (st : Stack) (r : Result) → HandlerStarts x → Ends body r → Ends body (walk_handler m x here st r)
+  ends_handler m body unhandled here st r p h = h
+  ends_handler m body (except name b) here st r p h = ends_handled body _ r _ h (λ u. ends_in body _ (ends m false b here st u p)) (λ u. late m b here st u)
+
+  ends_cleanup : (m : Mode) (body : Bool) (x : Cleaned) (here : Here) (st : Stack) (r : Result) → CleanupStarts x → Ends body r → Ends body (walk_cleanup m x here st r)
+  ends_cleanup m body uncleaned here st r p h = h
+  ends_cleanup m body (finally b) here st r p h = ends_cleaned body r _ h (λ u. ends_in body _ (ends m false b here st u p)) (λ u. late m b here st u)
+
+-- each task of a job's walk ends by the end of the root
+pub ends_by_root : (m : Mode) (b : Steps) (here : Here) (st : Stack) (t : ℕ) → StartsIn false b → Inside (walk m b here st t).end (walk m b here st t).log
+ends_by_root m b here st t p = inside_closed _ (ends m false b here st t p)

@@ -1,0 +1,14 @@
+pub mod Readings
+pub mod Contract
+pub mod Lateness
+pub mod Agreement
+pub mod Commit
+pub mod Turning
+pub mod Picking
+pub mod Waking
+pub mod Beginning
+pub mod Ending
+pub mod Ends
+pub mod Limits
+pub mod Running
+pub mod Housing

@@ -1,0 +1,21 @@
+use Rattle.run_course.proofs.laws.law_runs.Goals as goal
+use Rattle.run_course.proofs.Housing.{tasks_are_housed}
+use Rattle.run_course.proofs.Running.{runs_on_course, runs_are_the_meaning, limits_are_exact, blocked_runs_sleep, runs_end}
+
+pub returns-clause-course : goal.returns-clause-course
+returns-clause-course c = runs_on_course
+
+pub returns-clause-meaning : goal.returns-clause-meaning
+returns-clause-meaning c = runs_are_the_meaning
+
+pub returns-clause-limit : goal.returns-clause-limit
+returns-clause-limit c = limits_are_exact
+
+pub returns-clause-sleeper : goal.returns-clause-sleeper
+returns-clause-sleeper c = blocked_runs_sleep
+
+pub returns-clause-turns : goal.returns-clause-turns
+returns-clause-turns c = runs_end
+
+pub returns-clause-housed : goal.returns-clause-housed
+returns-clause-housed c = tasks_are_housed

@@ -1,0 +1,83 @@
+-- The laws of runs in turns. They are the contract of a function that does nothing.
+use Rattle.std.specs.Prelude.{◌≡◌, ◌⊎◌, true, ℕ, ◌+◌, ◌*◌, ◌<◌, ◌≤◌, Some, List, [], ◌∷◌}
+use Rattle.job_tree.specs.Tree.{Tree}
+use Rattle.job_tree.specs.Names.{GivesNamesOnce, size_of}
+use Rattle.job_tree.specs.Starting.{StartsInNurseries}
+use Rattle.job_meaning.specs.Log.{Table}
+use Rattle.job_meaning.specs.Meaning.{root_label, meaning_records, meaning_froms, meaning_end, meaning_table}
+use Rattle.job_meaning.specs.Follow.{follow, IsSettled}
+use Rattle.job_meaning.specs.Rest.{asleep}
+use Rattle.task_turns.specs.Midway.{Place}
+use Rattle.task_turns.specs.Placed.{PlacedStop, home_after, KidsAfter, HasChildAfter}
+use Rattle.task_turns.specs.Turned.{AgreesOn}
+use Rattle.run_course.specs.Course.{Started, In, OnCourse, live, AllFrom, Blocked}
+use Rattle.run_course.specs.Runs.{Reached, turns_taken, all_weights}
+use Rattle.run_course.specs.Rows.{Row, HasRow, records_by, froms_in, DepthFirst}
+
+-- Each turn takes some of the weight: so a run has at most as many turns as the root weighs at first, which is twice the
+-- job's size and one.
+abbrev pub RunsEnd : Type 0
+RunsEnd =
+    (k : Table) (job : Tree) (input : List ℕ) (f : Table) (t m : ℕ) (qs : List Started) → (r : Reached k job input f t m qs) →
+    turns_taken r + all_weights qs ≤ 2 * size_of job.steps + 1
+
+-- The task that has another in one of its nurseries: that one has this serial number, and its home's places are those of the
+-- nursery.
+pub record Home (qs : List Started) (serial : ℕ) (home : List Place) : Type 0 where
+  pub starter : Started
+  pub among : In starter qs
+  pub number : ℕ
+  pub same : serial ≡ starter.child number
+  pub has : HasChildAfter number home (Some starter.rest.stopped) starter.rest.frames starter.places
+
+-- what each task of a run keeps: its frames fit its places, the children of its nurseries are those that it started, and
+-- while it has not ended it is the root, or in a nursery of another task that has not settled
+pub record IsHoused (qs : List Started) (q : Started) : Type 0 where
+  pub placed : PlacedStop q.rest.stopped q.rest.frames q.places
+  pub kids : KidsAfter q.count (Some q.rest.stopped) q.rest.frames
+  pub home : live q.rest.stopped ≡ true → (q.serial ≡ 0) ⊎ Home qs q.serial (home_after (Some q.rest.stopped) q.rest.frames q.places)
+
+abbrev pub TasksAreHoused : Type 0
+TasksAreHoused =
+    (k : Table) (job : Tree) (input : List ℕ) → StartsInNurseries job →
+    (f : Table) (t m : ℕ) (qs : List Started) → Reached k job input f t m qs → (q : Started) → In q qs → IsHoused qs q
+
+-- For each settled table a run is on its course: nothing that was not made happens before the tick, and the table agrees
+-- there with the froms that the run keeps, on each task's places.
+abbrev pub RunsOnCourse : Type 0
+RunsOnCourse =
+    (k : Table) (job : Tree) (input : List ℕ) → IsSettled k job input → GivesNamesOnce job → StartsInNurseries job →
+    (f : Table) (t m : ℕ) (qs : List Started) → Reached k job input f t m qs →
+    OnCourse k f (follow k job input) qs × AllFrom k qs t × ((q : Started) → In q qs → AgreesOn t k f q.places)
+
+-- a run in which all tasks have ended says what the job means: its records, its froms and its end
+abbrev pub RunsAreTheMeaning : Type 0
+RunsAreTheMeaning =
+    (job : Tree) (input : List ℕ) → GivesNamesOnce job → StartsInNurseries job →
+    (f : Table) (t m : ℕ) (qs : List Started) → Reached (meaning_table job input) job input f t m qs →
+    (rows : ℕ → Row) → ((q : Started) → In q qs → HasRow f rows q) → (rows 0).label ≡ root_label job.name → (rows 0).start ≡ 0 →
+    (taken : List ℕ) → DepthFirst rows (0 ∷ []) taken →
+    (records_by rows taken ≡ meaning_records job input) × (froms_in rows taken ≡ meaning_froms job input) × ((rows 0).end ≡ meaning_end job input)
+
+-- a task that sleeps
+pub record Sleeps (qs : List Started) : Type 0 where
+  pub sleeper : Started
+  pub among : In sleeper qs
+  pub ticks : ℕ
+  pub since : ℕ
+  pub stopped : sleeper.rest.stopped ≡ asleep ticks since
+
+-- Where no task is ready and one has not ended, one sleeps: so the clock has a tick to jump to.
+abbrev pub BlockedRunsSleep : Type 0
+BlockedRunsSleep =
+    (k : Table) (job : Tree) (input : List ℕ) → GivesNamesOnce job → StartsInNurseries job → IsSettled k job input →
+    (f : Table) (t m : ℕ) (qs : List Started) → Reached k job input f t m qs → (u : ℕ) → Blocked f qs u →
+    (q : Started) → In q qs → live q.rest.stopped ≡ true → Sleeps qs
+
+-- Where a task of a run has not ended, the job does not end before the present tick. So a run that stops at a limit, as
+-- the clock would jump past it, stops where the job's end is past it.
+abbrev pub LimitsAreExact : Type 0
+LimitsAreExact =
+    (job : Tree) (input : List ℕ) → GivesNamesOnce job → StartsInNurseries job →
+    (f : Table) (t m : ℕ) (qs : List Started) → Reached (meaning_table job input) job input f t m qs →
+    (q : Started) → In q qs → live q.rest.stopped ≡ true → t ≤ meaning_end job input
