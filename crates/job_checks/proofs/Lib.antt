@@ -1,1 +1,2 @@
 pub mod ByShapes
+pub mod Distinct_names

@@ -1,10 +1,10 @@
 -- What each arm of the reading answers.
-use Rattle.std.proofs.Common.{◌≡◌, ℕ, ◌<◌, ◌≤◌, List, [], length, Option, Some, None, refl, sym, ap, subst, ◌∙◌, arith}
+use Rattle.std.proofs.Common.{◌≡◌, ℕ, ◌<◌, ◌≤◌, List, [], length, Option, Some, None, inr, refl, sym, ap, subst, ◌∙◌, arith}
+use Rattle.std.specs.Prelude.{Result, Ok, Err, IfErr}
 use Rattle.job_tree.specs.Tree.{Tree}
 use Rattle.job_tokens.specs.declared.token.Token.{Token}
 use Rattle.job_tokens.specs.Shapes.{shapes_of}
 use Rattle.job_tree.specs.Names.{size_of}
-use Rattle.job_tree.specs.Modest.{IsModest}
 use Rattle.job_tokens.specs.Lexing.{Gives}
 use Rattle.job_syntax.specs.declared.role.Role.{Role}
 use Rattle.job_syntax.specs.Syntax.{fault_at, roles_at, whole_job}
@@ -14,14 +14,30 @@ use Rattle.job_syntax.specs.Reading.{job_at}
 use Rattle.job_syntax.proofs.Places.{IsFault, fault_at-means}
 use Rattle.job_syntax.proofs.Names.{roles_of_job, job_of_text}
 use Rattle.job_syntax.proofs.Again.{job_again}
-use Rattle.job_syntax.proofs.Modest.{modest_numbers}
 use Rattle.job_checks.specs.Given.{twice_in}
 use Rattle.job_checks.specs.Reserved.{reserved_in}
+use Rattle.job_grammar.specs.declared.fault.JobKind.{JobKind}
 use Rattle.job_grammar.specs.declared.fault.JobKind.TheVariants as kind
+use Rattle.job_grammar.specs.declared.fault.JobFault.{JobFault}
 use Rattle.job_grammar.specs.declared.draft.Draft.{Draft}
-use Rattle.job_grammar.specs.Refusals.{most_steps, HasTokens, AreTokensOf, IsOf, IsOfSomeJob, IsReadTo, roles_of, stray_of, Passes, IsRefused, Spells}
+use Rattle.job_grammar.specs.Refusals.{most_steps, HasTokens, AreTokensOf, IsOf, IsOfSomeJob, IsReadTo, roles_of, stray_of, Passes, IsRefused, IsFair, Spells}
 use Rattle.job_grammar.specs.Drafts.{IsDraftTo, tree_of}
-use Rattle.job_grammar.proofs.Passing.{none_of, within, refused_after, passes_tokens, passes_numbers, passes_syntax, passes_depth, passes_given, passes_cancels, passes_reserved, passes_size, passes_all, small_enough}
+use Rattle.job_grammar.proofs.Passing.{within, refused_after, passes_tokens, passes_numbers, passes_syntax, passes_depth, passes_given, passes_cancels, passes_reserved, passes_size, passes_all}
+
+-- what `refuse_at` answers: a refusal of that kind, at the place that a pass found
+abbrev pub IsRefusalAt : Option ℕ → JobKind → JobFault → Type 0
+IsRefusalAt found k fault = (found ≡ Some fault.at) × (fault.kind ≡ k)
+
+-- such a refusal is fair where the pass finds nothing but refusals of the text
+pub fair_refusal : (text : List ℕ) (k : JobKind) (found : Option ℕ) (fault : JobFault) → ((at : ℕ) → found ≡ Some at → IsRefused text k at)
+    → IsRefusalAt found k fault → IsFair text fault
+fair_refusal text k found fault refuses is = inr (subst (λ (j : JobKind). IsRefused text j fault.at) (sym is.1) (refuses fault.at is.0))
+
+-- the same of an answer that may be no refusal
+pub fair_answer : (text : List ℕ) (k : JobKind) (found : Option ℕ) (r : Result (Unit {0}) JobFault)
+    → ((at : ℕ) → found ≡ Some at → IsRefused text k at) → IfErr r (IsRefusalAt found k) → IfErr r (IsFair text)
+fair_answer text k found (Ok u) refuses is = tt
+fair_answer text k found (Err fault) refuses is = fair_refusal text k found fault refuses is
 
 pub token_refused : (text : List ℕ) (tokens : List Token) (at : ℕ) → Passes text 3 → HasTokens text tokens (Some at) → IsRefused text kind.Token at
 token_refused text tokens at before lexed = refused_after text 3 kind.Token at before refl (tokens, lexed)
@@ -136,12 +152,6 @@ size_refused text d h lt = refused_after text 10 kind.TooLarge 0 h.passes refl (
 pub size_passed : (text : List ℕ) (d : Draft) → IsDraftTo 10 text d → size_of d.steps ≤ most_steps → IsDraftTo 11 text d
 size_passed text d h le = next_draft 10 11 text d h (passes_size text d.tokens.items (tree_of d) h.passes h.is_of le)
 
--- a job that all passes have seen has its numbers in their ranges, and not too many steps
-pub is_modest : (text : List ℕ) (d : Draft) → IsDraftTo 11 text d → IsModest (tree_of d)
-is_modest text d h = record {
-  numbers = modest_numbers (tree_of d) d.tokens.items h.is_of.1.0 h.is_of.1.1 (none_of (number_fault None d.tokens.items) (λ at e. h.passes kind.Number at (omega arith) (d.tokens.items, h.is_of.0, e)));
-  size = small_enough (size_of d.steps) (λ lt. h.passes kind.TooLarge 0 (omega arith) (d.tokens.items, tree_of d, h.is_of, lt, refl));
-}
-
+-- a job that all passes have seen is spelled
 pub is_spelled : (text : List ℕ) (d : Draft) → IsDraftTo 11 text d → Spells text (tree_of d)
 is_spelled text d h = (d.tokens.items, h.is_of, passes_all text h.passes)

@@ -2,7 +2,7 @@ ghost use Rattle.std.specs.Prelude.{◌≡◌, IfOk, IfErr, OnOk};
 ghost use Rattle.job_grammar.specs.Refusals.{IsReadTo, IsOfSomeJob, IsFair, Spells};
 ghost use Rattle.job_grammar.specs.Drafts.{IsDraftTo};
 
-use crate::fault::{JobFault, JobKind};
+use crate::fault::{JobFault, JobKind, refuse_at};
 use crate::job::Job;
 use job_checks::{given_twice, reserved_name, size_of, stray_cancel};
 use job_syntax::{Role, job_at};
@@ -54,13 +54,8 @@ impl<'t> Draft<'t> {
         ensures ok { OnOk result (IsDraftTo 8 self.now.text.now self.now) }
         ensures err { IfErr result (IsFair self.now.text.now) }
     {
-        if let Some(at) = given_twice(alloc, &self.tokens, &self.roles)? {
-            return Err(JobFault {
-                at,
-                kind: JobKind::Twice,
-            });
-        }
-        Ok(())
+        let found = given_twice(alloc, &self.tokens, &self.roles)?;
+        refuse_at(found, JobKind::Twice)
     }
 
     /// Each `cancel` names a scope or nursery round it.
@@ -69,13 +64,8 @@ impl<'t> Draft<'t> {
         ensures ok { OnOk result (IsDraftTo 9 self.now.text.now self.now) }
         ensures err { IfErr result (IsFair self.now.text.now) }
     {
-        if let Some(at) = stray_cancel(self.steps.as_slice(), &self.tokens, &self.roles) {
-            return Err(JobFault {
-                at,
-                kind: JobKind::NotEnclosing,
-            });
-        }
-        Ok(())
+        let found = stray_cancel(self.steps.as_slice(), &self.tokens, &self.roles);
+        refuse_at(found, JobKind::NotEnclosing)
     }
 
     /// No name is reserved.
@@ -84,13 +74,8 @@ impl<'t> Draft<'t> {
         ensures ok { OnOk result (IsDraftTo 10 self.now.text.now self.now) }
         ensures err { IfErr result (IsFair self.now.text.now) }
     {
-        if let Some(at) = reserved_name(&self.tokens, &self.roles) {
-            return Err(JobFault {
-                at,
-                kind: JobKind::Reserved,
-            });
-        }
-        Ok(())
+        let found = reserved_name(&self.tokens, &self.roles);
+        refuse_at(found, JobKind::Reserved)
     }
 
     /// The job has not too many step instances.

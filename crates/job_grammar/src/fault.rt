@@ -1,4 +1,4 @@
-ghost use Rattle.std.specs.Prelude.{◌≡◌};
+ghost use Rattle.std.specs.Prelude.{◌≡◌, Some, None, IfErr, OnOk};
 ghost use Rattle.job_grammar.specs.Kinds.{number_of, name_of};
 
 use std::alloc::AllocError;
@@ -98,5 +98,16 @@ impl From<AllocError> for JobFault {
             at: 0,
             kind: JobKind::NoMemory,
         }
+    }
+}
+
+/// Refuses for that kind, at the place that a pass found, if it found one.
+pub(crate) fn refuse_at(found: Option<usize>, kind: JobKind) -> Result<(), JobFault>
+    ensures ok { OnOk result (found ≡ None) }
+    ensures err { IfErr result (λ fault. (found ≡ Some fault.at) × (fault.kind ≡ kind)) }
+{
+    match found {
+        Some(at) => Err(JobFault { at, kind }),
+        None => Ok(()),
     }
 }

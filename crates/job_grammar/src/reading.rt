@@ -5,7 +5,7 @@ ghost use Rattle.job_grammar.specs.declared.fault.JobKind.{JobKind};
 ghost use Rattle.job_grammar.specs.Refusals.{is_ascii, IsReadTo, Passes, IsRefused, IsFair, IsOfSomeJob, Spells, AnswersUnlessMemory};
 
 use crate::draft::Draft;
-use crate::fault::{JobFault, JobKind};
+use crate::fault::{JobFault, JobKind, refuse_at};
 use crate::job::Job;
 use job_syntax::{Course, Role, depth_fault, follow, number_fault};
 use job_tokens::{Lexed, Token, lex};
@@ -96,12 +96,7 @@ fn tokens_of(alloc: Global, text: &[u8], body: &[u8]) -> Result<Vec<Token>, JobF
     ensures err { IfErr result (IsFair text.now) }
 {
     let Lexed { tokens, fault } = lex(alloc, body, text.len())?;
-    if let Some(at) = fault {
-        return Err(JobFault {
-            at,
-            kind: JobKind::Token,
-        });
-    }
+    refuse_at(fault, JobKind::Token)?;
     Ok(tokens)
 }
 
@@ -110,13 +105,7 @@ fn check_numbers(text: &[u8], tokens: &[Token]) -> Result<(), JobFault>
     ensures ok { OnOk result (IsReadTo 5 text.now tokens.now) }
     ensures err { IfErr result (IsFair text.now) }
 {
-    if let Some(at) = number_fault(tokens) {
-        return Err(JobFault {
-            at,
-            kind: JobKind::Number,
-        });
-    }
-    Ok(())
+    refuse_at(number_fault(tokens), JobKind::Number)
 }
 
 // What each token is for, where the tokens are those of a job.
@@ -126,12 +115,7 @@ fn roles_of(alloc: Global, text: &[u8], tokens: &[Token]) -> Result<Vec<Role>, J
     ensures err { IfErr result (IsFair text.now) }
 {
     let Course { fault, roles } = follow(alloc, tokens, text.len())?;
-    if let Some(at) = fault {
-        return Err(JobFault {
-            at,
-            kind: JobKind::Syntax,
-        });
-    }
+    refuse_at(fault, JobKind::Syntax)?;
     Ok(roles)
 }
 
@@ -140,11 +124,5 @@ fn check_depth(text: &[u8], tokens: &[Token]) -> Result<(), JobFault>
     ensures ok { OnOk result (IsReadTo 7 text.now tokens.now) }
     ensures err { IfErr result (IsFair text.now) }
 {
-    if let Some(at) = depth_fault(tokens) {
-        return Err(JobFault {
-            at,
-            kind: JobKind::Depth,
-        });
-    }
-    Ok(())
+    refuse_at(depth_fault(tokens), JobKind::Depth)
 }

@@ -4,7 +4,9 @@ ghost use Rattle.job_tokens.specs.declared.token.Shape.TheVariants as shape;
 ghost use Rattle.job_tokens.specs.declared.token.Mark.TheVariants as mark;
 ghost use Rattle.job_syntax.specs.Keywords.{spelling};
 ghost use Rattle.job_syntax.specs.Pieces.{opens, shapes_in, deadline_pieces, flag_pieces, over_pieces, step_pieces, steps_pieces, handler_pieces, cleanup_pieces, job_pieces};
+ghost use Rattle.job_grammar.specs.Refusals.{Spells};
 ghost use Rattle.job_grammar.specs.Canon.{canon};
+ghost use Rattle.job_grammar.specs.Jobs.{IsReadable};
 ghost use Rattle.job_grammar.specs.Printing.{Appends};
 
 use crate::job::Job;
@@ -14,9 +16,10 @@ use job_tokens::{Mark, Shape, push_canon};
 use job_tree::{Body, Deadline, Handler, Name, Step};
 use std::alloc::{AllocError, Global};
 
-/// The canonical text of a job, which spells it. No text that spells it is shorter.
+/// The canonical text of a job, which spells it: `read_job` gives that job for it. No text that spells it is shorter.
 pub fn write_job(alloc: Global, job: &Job) -> Result<Vec<u8>, AllocError>
-    ensures { IfOk result (λ text. text.items ≡ canon job.now) }
+    ensures canonical { IfOk result (λ text. text.items ≡ canon job.now) }
+    ensures again { IfOk result (λ text. Spells text.items job.now) }
 {
     let shapes = shapes_of_job(alloc, job)?;
     let mut text = Vec::from_slice(alloc, &FIRST_LINE)?;
@@ -24,9 +27,10 @@ pub fn write_job(alloc: Global, job: &Job) -> Result<Vec<u8>, AllocError>
     Ok(text)
 }
 
-// The tokens of a job.
+// The tokens of a job, which its canonical text spells.
 fn shapes_of_job(alloc: Global, job: &Job) -> Result<Vec<Shape>, AllocError>
-    ensures { IfOk result (λ shapes. shapes.items ≡ shapes_in (job_pieces job.now)) }
+    ensures shapes { IfOk result (λ shapes. shapes.items ≡ shapes_in (job_pieces job.now)) }
+    ensures spelled { OnOk result (IsReadable job.now) }
 {
     let mut shapes = Vec::new(alloc);
     push_named(&mut shapes, Keyword::Job, job.name())?;

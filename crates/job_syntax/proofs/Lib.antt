@@ -6,3 +6,4 @@ pub mod Steps
 pub mod Names
 pub mod Deep
 pub mod Modest
+pub mod Starting
