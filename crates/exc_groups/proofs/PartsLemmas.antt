@@ -2,7 +2,7 @@
 use Rattle.std.proofs.Common.{◌≡◌, ℕ, zero, suc, ◌+◌, ◌<◌, ◌≤◌, List, [], ◌∷◌, ◌++◌, length, take, refl, ap, sym, ◌∙◌, arith}
 use Rattle.std.specs.Prelude.{Bool, Option, Some, None, slice_index_or}
 use Rattle.std.specs.Option.{option_map}
-use Rattle.exc_groups.specs.Exceptions.{Excs, no_parts, part, Exc as Tree, Maker, group, group_of}
+use Rattle.exc_groups.specs.Exceptions.{Excs, no_parts, part, Exc as Tree, Whose, group, group_of}
 use Rattle.exc_groups.specs.Split.{pruned, pruned_parts, with_part}
 use Rattle.exc_groups.specs.declared.exc.Exc.{Exc}
 use Rattle.exc_groups.specs.Held.{exc_of, excs_of}
@@ -85,6 +85,6 @@ pruned_none test parts left new i x o h before is none at e =
     ∙ sym (pruned_next test parts i x None h (ap (option_map exc_of) (sym none) ∙ is) at)
 
 -- some exceptions make a group
-pub group_of-some : (made_by : Maker) (parts : List Exc) → (length parts ≡ 0 → ⊥) → Some (group made_by (excs_of parts)) ≡ group_of made_by (excs_of parts)
-group_of-some made_by [] h = absurd (h refl)
-group_of-some made_by (e ∷ es) h = refl
+pub group_of-some : (whose : Whose) (parts : List Exc) → (length parts ≡ 0 → ⊥) → Some (group whose (excs_of parts)) ≡ group_of whose (excs_of parts)
+group_of-some whose [] h = absurd (h refl)
+group_of-some whose (e ∷ es) h = refl

@@ -2,7 +2,7 @@
 use Rattle.std.specs.Prelude.{◌≡◌, ℕ, zero, suc, List, [], ◌∷◌, refl}
 use Rattle.std.specs.Coded.{Coded, code_by, coded×, coded_ℕ, coded_list}
 use Rattle.std.proofs.Common.{ap, ◌∙◌}
-use Rattle.exc_groups.specs.Exceptions.{Label, Maker, by_nursery, by_handler, Exc, cancelled, raised, too_slow, group, Excs, no_parts, part}
+use Rattle.exc_groups.specs.Exceptions.{Label, Whose, by_nursery, by_handler, Exc, cancelled, raised, too_slow, group, Excs, no_parts, part}
 
 -- a label is stored as the pair of its fields
 abbrev pub label_code : Coded Label
@@ -28,9 +28,9 @@ no_label = record { name = []; indices = [] }
 abbrev marked : ℕ → List ℕ → Label → ℕ → Mark
 marked kind name label tick = record { kind = kind; name = name; label = label; tick = tick }
 
-abbrev maker_mark : Maker → Mark
-maker_mark (by_nursery label) = marked 4 [] label 0
-maker_mark by_handler = marked 5 [] no_label 0
+abbrev whose_mark : Whose → Mark
+whose_mark (by_nursery label) = marked 4 [] label 0
+whose_mark by_handler = marked 5 [] no_label 0
 
 -- the parts of a group as marks, each in front of what it takes
 abbrev mutual
@@ -42,16 +42,16 @@ abbrev mutual
   marks_in cancelled rest = marked 1 [] no_label 0 ∷ rest
   marks_in (raised name task tick) rest = marked 2 name task tick ∷ rest
   marks_in (too_slow scope tick) rest = marked 3 [] scope tick ∷ rest
-  marks_in (group made_by parts) rest = maker_mark made_by ∷ marks_of parts rest
+  marks_in (group whose parts) rest = whose_mark whose ∷ marks_of parts rest
 
 -- an exception in front of the first parts that were read back
 abbrev put : Exc → List Excs → List Excs
 put e [] = []
 put e (es ∷ others) = part e es ∷ others
 
-abbrev put_group : Maker → List Excs → List Excs
-put_group made_by [] = []
-put_group made_by (es ∷ others) = put (group made_by es) others
+abbrev put_group : Whose → List Excs → List Excs
+put_group whose [] = []
+put_group whose (es ∷ others) = put (group whose es) others
 
 abbrev read_kind : ℕ → Mark → List Excs → List Excs
 read_kind zero m b = no_parts ∷ b
@@ -65,9 +65,9 @@ abbrev read_marks : List Mark → List Excs
 read_marks [] = []
 read_marks (m ∷ ms) = read_kind m.kind m (read_marks ms)
 
-read_maker : (w : Maker) (ms : List Mark) → read_marks (maker_mark w ∷ ms) ≡ put_group w (read_marks ms)
-read_maker (by_nursery label) ms = refl
-read_maker by_handler ms = refl
+read_whose : (w : Whose) (ms : List Mark) → read_marks (whose_mark w ∷ ms) ≡ put_group w (read_marks ms)
+read_whose (by_nursery label) ms = refl
+read_whose by_handler ms = refl
 
 -- what was written as marks is read back
 mutual
@@ -79,7 +79,7 @@ mutual
   read_exc cancelled rest = refl
   read_exc (raised name task tick) rest = refl
   read_exc (too_slow scope tick) rest = refl
-  read_exc (group made_by parts) rest = read_maker made_by (marks_of parts rest) ∙ ap (put_group made_by) (read_parts parts rest)
+  read_exc (group whose parts) rest = read_whose whose (marks_of parts rest) ∙ ap (put_group whose) (read_parts parts rest)
 
 abbrev first_parts : List Excs → Excs
 first_parts [] = no_parts

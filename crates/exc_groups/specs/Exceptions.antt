@@ -7,16 +7,16 @@ pub record Label : Type 0 where
   pub indices : List ℕ
 
 -- who made a group: a nursery, or a handler that raised
-pub data Maker : Type 0 where
-  by_nursery : (label : Label) → Maker
-  by_handler : Maker
+pub data Whose : Type 0 where
+  by_nursery : (label : Label) → Whose
+  by_handler : Whose
 
 mutual
   pub data Exc : Type 0 where
     cancelled : Exc
     raised : (name : List ℕ) → (task : Label) → (tick : ℕ) → Exc
     too_slow : (scope : Label) → (tick : ℕ) → Exc
-    group : (made_by : Maker) → (parts : Excs) → Exc
+    group : (whose : Whose) → (parts : Excs) → Exc
 
   -- the parts of a group, in order
   pub data Excs : Type 0 where
@@ -29,9 +29,9 @@ parts_of [] = no_parts
 parts_of (e ∷ es) = part e (parts_of es)
 
 -- the group of some exceptions: none where there is none
-abbrev pub group_of : Maker → Excs → Option Exc
-group_of made_by no_parts = None
-group_of made_by (part e es) = Some (group made_by (part e es))
+abbrev pub group_of : Whose → Excs → Option Exc
+group_of whose no_parts = None
+group_of whose (part e es) = Some (group whose (part e es))
 
 -- whether some leaf is `Cancelled`
 abbrev mutual
@@ -39,7 +39,7 @@ abbrev mutual
   holds_cancelled cancelled = true
   holds_cancelled (raised name task tick) = false
   holds_cancelled (too_slow scope tick) = false
-  holds_cancelled (group made_by parts) = hold_cancelled parts
+  holds_cancelled (group whose parts) = hold_cancelled parts
 
   pub hold_cancelled : Excs → Bool
   hold_cancelled no_parts = false

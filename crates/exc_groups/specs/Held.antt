@@ -6,16 +6,16 @@ use Rattle.exc_groups.specs.declared.exc.Whose.{Whose}
 use Rattle.exc_groups.specs.declared.exc.Whose.TheVariants.{Nursery, Handler}
 use Rattle.exc_groups.specs.Exceptions as tree
 
-abbrev pub maker_of : Whose → tree.Maker
-maker_of (Nursery label) = tree.by_nursery label
-maker_of Handler = tree.by_handler
+abbrev pub whose_of : Whose → tree.Whose
+whose_of (Nursery label) = tree.by_nursery label
+whose_of Handler = tree.by_handler
 
 -- an exception as a tree
 abbrev pub exc_of : Exc → tree.Exc
 exc_of Cancelled = tree.cancelled
 exc_of (Raised name task tick) = tree.raised name task tick
 exc_of (TooSlow scope tick) = tree.too_slow scope tick
-exc_of (Group whose parts) = tree.group (maker_of whose) parts
+exc_of (Group whose parts) = tree.group (whose_of whose) parts
 
 -- a list of exceptions as the parts of a group
 abbrev pub excs_of : List Exc → tree.Excs

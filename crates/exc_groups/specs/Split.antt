@@ -35,7 +35,7 @@ abbrev mutual
   pruned test cancelled = leaf_if (test cancelled) cancelled
   pruned test (raised name task tick) = leaf_if (test (raised name task tick)) (raised name task tick)
   pruned test (too_slow scope tick) = leaf_if (test (too_slow scope tick)) (too_slow scope tick)
-  pruned test (group made_by parts) = group_of made_by (pruned_parts test parts)
+  pruned test (group whose parts) = group_of whose (pruned_parts test parts)
 
   pub pruned_parts : (Exc → Bool) → Excs → Excs
   pruned_parts test no_parts = no_parts

@@ -11,4 +11,4 @@ abbrev mutual
   weight_in cancelled = 4
   weight_in (raised name task tick) = 4
   weight_in (too_slow scope tick) = 4
-  weight_in (group made_by parts) = 4 + weight_of parts
+  weight_in (group whose parts) = 4 + weight_of parts

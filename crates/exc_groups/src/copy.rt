@@ -1,5 +1,5 @@
 ghost use Rattle.std.specs.Prelude.{◌≡◌, IfOk};
-ghost use Rattle.exc_groups.specs.Held.{exc_of, excs_of, maker_of};
+ghost use Rattle.exc_groups.specs.Held.{exc_of, excs_of, whose_of};
 
 use crate::exc::{Exc, Parts, Whose};
 use std::alloc::{AllocError, Global};
@@ -7,7 +7,7 @@ use std::alloc::{AllocError, Global};
 impl Whose {
     // An equal value.
     pub(crate) fn copy(&self, alloc: Global) -> Result<Whose, AllocError>
-        ensures { IfOk result (λ whose. maker_of whose ≡ maker_of self.now) }
+        ensures { IfOk result (λ whose. whose_of whose ≡ whose_of self.now) }
     {
         match self {
             Whose::Nursery(label) => Ok(Whose::Nursery(label.copy(alloc)?)),

@@ -2,7 +2,7 @@ ghost use Rattle.std.specs.Prelude.{◌≡◌, Bool, true, IfOk, if◌then◌els
 ghost use Rattle.std.specs.Option.{option_map};
 ghost use Rattle.exc_groups.specs.Exceptions.{group_of, holds_cancelled as holding, hold_cancelled};
 ghost use Rattle.exc_groups.specs.Split.{matches as matching, pruned, pruned_parts, keep, drop};
-ghost use Rattle.exc_groups.specs.Held.{exc_of, excs_of, maker_of};
+ghost use Rattle.exc_groups.specs.Held.{exc_of, excs_of, whose_of};
 ghost use Rattle.exc_groups.specs.Matching.{wanted_of, side};
 
 use crate::exc::{Exc, Parts, Whose};
@@ -26,7 +26,7 @@ pub fn split(
 
 /// The group of these exceptions: none where there are none. Takes no memory.
 pub fn group(whose: Whose, parts: Vec<Exc>) -> Option<Exc>
-    ensures { option_map exc_of result ≡ group_of (maker_of whose) (excs_of parts.items) }
+    ensures { option_map exc_of result ≡ group_of (whose_of whose) (excs_of parts.items) }
 {
     if parts.as_slice().is_empty() {
         return None;

@@ -7,7 +7,7 @@ use Rattle.exc_groups.specs.Exceptions.{Label, Exc}
 use Rattle.cancel_scopes.specs.Sight.{Tick, earlier, reached, next, sight, seen}
 use Rattle.job_meaning.specs.Log.{Entry, Log, nil, entry, sign, entered, task, followed_by, Member, least_sign, tick_if, same_label, from_by}
 use Rattle.job_meaning.specs.Walk.{Stack, label_on, label_if, home_of, latest}
-use Rattle.job_meaning.specs.Before.{upto, Near, exc_if, known_member, known_members, entry_if, mark_if, entered_if, task_if, clipped}
+use Rattle.job_meaning.specs.Before.{upto, Near, exc_if, known_member, known_members, entry_if, sign_before, entered_if, task_if, clipped}
 use Rattle.job_meaning.proofs.Late.{Timed}
 
 pub upto_most : (c : ℕ) (a : Tick) → upto c a ≤ c
@@ -83,9 +83,9 @@ followed_entry : (b : Bool) (t : ℕ) (e : Entry) (x y : Log) → entry_if b t e
 followed_entry true t e x y = refl
 followed_entry false t e x y = refl
 
-followed_mark : (b : Bool) (l : Label) (t : ℕ) (x y : Log) → mark_if b l t (followed_by x y) ≡ followed_by (mark_if b l t x) y
-followed_mark true l t x y = refl
-followed_mark false l t x y = refl
+followed_sign_before : (b : Bool) (l : Label) (t : ℕ) (x y : Log) → sign_before b l t (followed_by x y) ≡ followed_by (sign_before b l t x) y
+followed_sign_before true l t x y = refl
+followed_sign_before false l t x y = refl
 
 followed_entered : (b : Bool) (l : Label) (t : ℕ) (d : Tick) (x y : Log) → entered_if b l t d (followed_by x y) ≡ followed_by (entered_if b l t d x) y
 followed_entered true l t d x y = refl
@@ -99,7 +99,7 @@ followed_task false l s u e own x y = refl
 pub clipped_followed : (c : ℕ) (a b : Log) → clipped c (followed_by a b) ≡ followed_by (clipped c a) (clipped c b)
 clipped_followed c nil b = refl
 clipped_followed c (entry t e rest) b = ap (λ (x : Log). entry_if (nat_lt t c) t e x) (clipped_followed c rest b) ∙ followed_entry (nat_lt t c) t e (clipped c rest) (clipped c b)
-clipped_followed c (sign l t rest) b = ap (λ (x : Log). mark_if (nat_lt t c) l t x) (clipped_followed c rest b) ∙ followed_mark (nat_lt t c) l t (clipped c rest) (clipped c b)
+clipped_followed c (sign l t rest) b = ap (λ (x : Log). sign_before (nat_lt t c) l t x) (clipped_followed c rest b) ∙ followed_sign_before (nat_lt t c) l t (clipped c rest) (clipped c b)
 clipped_followed c (entered l t d rest) b = ap (λ (x : Log). entered_if (nat_lt t c) l t d x) (clipped_followed c rest b) ∙ followed_entered (nat_lt t c) l t d (clipped c rest) (clipped c b)
 clipped_followed c (task l s u e own rest) b =
     ap (λ (x : Log). task_if (nat_lt s c) l s (min c u) (exc_if (nat_lt u c) e) (clipped c own) x) (clipped_followed c rest b)
@@ -119,9 +119,9 @@ without_entry : (b : Bool) (t : ℕ) (e : Entry) (x : Log) → b ≡ false → e
 without_entry true t e x f = absurd (true≢false f)
 without_entry false t e x f = refl
 
-without_mark : (b : Bool) (l : Label) (t : ℕ) (x : Log) → b ≡ false → mark_if b l t x ≡ x
-without_mark true l t x f = absurd (true≢false f)
-without_mark false l t x f = refl
+without_sign_before : (b : Bool) (l : Label) (t : ℕ) (x : Log) → b ≡ false → sign_before b l t x ≡ x
+without_sign_before true l t x f = absurd (true≢false f)
+without_sign_before false l t x f = refl
 
 without_entered : (b : Bool) (l : Label) (t : ℕ) (d : Tick) (x : Log) → b ≡ false → entered_if b l t d x ≡ x
 without_entered true l t d x f = absurd (true≢false f)
@@ -138,7 +138,7 @@ clipped_late c t (entry u e rest) le h = without_entry (nat_lt u c) u e (clipped
   where
     past : t ≤ u → c ≤ u
     past k = omega arith
-clipped_late c t (sign l u rest) le h = without_mark (nat_lt u c) l u (clipped c rest) (le-ltb u c (past h.0)) ∙ clipped_late c t rest le h.1
+clipped_late c t (sign l u rest) le h = without_sign_before (nat_lt u c) l u (clipped c rest) (le-ltb u c (past h.0)) ∙ clipped_late c t rest le h.1
   where
     past : t ≤ u → c ≤ u
     past k = omega arith
@@ -199,7 +199,7 @@ least_clipped c t l (sign m u rest) h = by_kept (nat_lt u c) refl (least_clipped
     at_c x y z e f g = omega arith
 
     by_kept : (b : Bool) → nat_lt u c ≡ b → upto c (least_sign l rest) ≡ upto c (least_sign l (clipped c rest)) →
-        upto c (earlier (tick_if (same_label l m) u) (least_sign l rest)) ≡ upto c (least_sign l (mark_if b m u (clipped c rest)))
+        upto c (earlier (tick_if (same_label l m) u) (least_sign l rest)) ≡ upto c (least_sign l (sign_before b m u (clipped c rest)))
     by_kept true e k = upto_earlier_same c (tick_if (same_label l m) u) (least_sign l rest) (tick_if (same_label l m) u) (least_sign l (clipped c rest)) refl k
     by_kept false e k =
         upto_earlier c (tick_if (same_label l m) u) (least_sign l rest)

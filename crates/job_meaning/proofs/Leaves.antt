@@ -1,15 +1,15 @@
 -- Which exceptions hold a `Cancelled`, when they are split, grouped or left.
 use Rattle.std.proofs.Common.{◌≡◌, ℕ, Bool, true, false, ◌||◌, ◌&&◌, not, Option, Some, None, List, refl, sym, ◌∙◌, IsTrue, arith}
 use Rattle.std.proofs.lemmas.Bool.{false≢true}
-use Rattle.exc_groups.specs.Exceptions.{Label, Maker, Exc, cancelled, raised, too_slow, group, Excs, no_parts, part, parts_of, group_of, holds_cancelled, hold_cancelled}
+use Rattle.exc_groups.specs.Exceptions.{Label, Whose, Exc, cancelled, raised, too_slow, group, Excs, no_parts, part, parts_of, group_of, holds_cancelled, hold_cancelled}
 use Rattle.exc_groups.specs.Split.{is_cancelled, matches, drop, pruned, pruned_parts, with_part, leaf_if}
 use Rattle.job_meaning.specs.Walk.{Kind, a_scope, a_nursery, left_with, slow_if, exc_after, with_exc}
 use Rattle.job_meaning.specs.Laws.{some_cancelled}
 
 -- a group holds what its parts hold
-pub group_holds : (made_by : Maker) (es : Excs) → some_cancelled (group_of made_by es) ≡ hold_cancelled es
-group_holds made_by no_parts = refl
-group_holds made_by (part e es) = refl
+pub group_holds : (whose : Whose) (es : Excs) → some_cancelled (group_of whose es) ≡ hold_cancelled es
+group_holds whose no_parts = refl
+group_holds whose (part e es) = refl
 
 pub with_part_holds : (o : Option Exc) (es : Excs) → hold_cancelled (with_part o es) ≡ (some_cancelled o || hold_cancelled es)
 with_part_holds None es = refl
@@ -39,7 +39,7 @@ mutual
       by_test : (b : Bool) → IsTrue (some_cancelled (leaf_if b (too_slow scope tick))) → IsTrue false
       by_test true k = k
       by_test false k = k
-  pruned_holds (group made_by parts) test h = pruned_parts_hold parts test (sym (group_holds made_by (pruned_parts test parts)) ∙ h)
+  pruned_holds (group whose parts) test h = pruned_parts_hold parts test (sym (group_holds whose (pruned_parts test parts)) ∙ h)
 
   pub pruned_parts_hold : (es : Excs) (test : Exc → Bool) → IsTrue (hold_cancelled (pruned_parts test es)) → IsTrue (hold_cancelled es)
   pruned_parts_hold no_parts test h = h
@@ -52,8 +52,8 @@ mutual
   drop_holds_none cancelled = refl
   drop_holds_none (raised name task tick) = refl
   drop_holds_none (too_slow scope tick) = refl
-  drop_holds_none (group made_by parts) =
-      group_holds made_by (pruned_parts (λ leaf. not (matches is_cancelled leaf)) parts) ∙ drop_parts_hold_none parts
+  drop_holds_none (group whose parts) =
+      group_holds whose (pruned_parts (λ leaf. not (matches is_cancelled leaf)) parts) ∙ drop_parts_hold_none parts
 
   pub drop_parts_hold_none : (es : Excs) → hold_cancelled (pruned_parts (λ leaf. not (matches is_cancelled leaf)) es) ≡ false
   drop_parts_hold_none no_parts = refl

@@ -34,9 +34,9 @@ abbrev pub entry_if : Bool → ℕ → Entry → Log → Log
 entry_if true t e rest = entry t e rest
 entry_if false t e rest = rest
 
-abbrev pub mark_if : Bool → Label → ℕ → Log → Log
-mark_if true l t rest = sign l t rest
-mark_if false l t rest = rest
+abbrev pub sign_before : Bool → Label → ℕ → Log → Log
+sign_before true l t rest = sign l t rest
+sign_before false l t rest = rest
 
 abbrev pub entered_if : Bool → Label → ℕ → Tick → Log → Log
 entered_if true l t d rest = entered l t d rest
@@ -51,7 +51,7 @@ task_if false l s u e own rest = rest
 abbrev pub clipped : ℕ → Log → Log
 clipped c nil = nil
 clipped c (entry t e rest) = entry_if (nat_lt t c) t e (clipped c rest)
-clipped c (sign l t rest) = mark_if (nat_lt t c) l t (clipped c rest)
+clipped c (sign l t rest) = sign_before (nat_lt t c) l t (clipped c rest)
 clipped c (entered l t d rest) = entered_if (nat_lt t c) l t d (clipped c rest)
 clipped c (task l s u e own rest) =
     task_if (nat_lt s c) l s (min c u) (exc_if (nat_lt u c) e) (clipped c own) (clipped c rest)

@@ -31,7 +31,7 @@ abbrev pub ending_with : Exc → Ending
 ending_with cancelled = by_cancellation
 ending_with (raised name task tick) = with_exception (raised name task tick)
 ending_with (too_slow scope tick) = with_exception (too_slow scope tick)
-ending_with (group made_by parts) = with_exception (group made_by parts)
+ending_with (group whose parts) = with_exception (group whose parts)
 
 abbrev pub ending_of : Option Exc → Ending
 ending_of None = well

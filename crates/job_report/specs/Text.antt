@@ -1,7 +1,7 @@
 -- The text of a report.
 use Rattle.std.specs.Prelude.{ℕ, ◌+◌, ◌/◌, ◌%◌, Bool, true, false, ◌&&◌, not, ◌==◌, nat_le, nat_lt, if◌then◌else◌, List, [], ◌∷◌, ◌++◌, length, codes, decimal}
 use Rattle.std.specs.List.{flat_map}
-use Rattle.exc_groups.specs.Exceptions.{Label, Maker, by_nursery, by_handler, Exc, cancelled, raised, too_slow, group, Excs, no_parts, part}
+use Rattle.exc_groups.specs.Exceptions.{Label, Whose, by_nursery, by_handler, Exc, cancelled, raised, too_slow, group, Excs, no_parts, part}
 use Rattle.job_meaning.specs.Shown.{Shown, line_shown, scope_shown, nursery_shown, Ending, well, by_cancellation, with_exception, Row}
 
 abbrev pub index_text : ℕ → List ℕ
@@ -15,9 +15,9 @@ label_text l = l.name ++ flat_map index_text l.indices
 abbrev pub place_text : Label → ℕ → List ℕ
 place_text label tick = codes "(" ++ label_text label ++ codes "@" ++ decimal tick ++ codes ")"
 
-abbrev pub maker_text : Maker → List ℕ
-maker_text (by_nursery label) = label_text label
-maker_text by_handler = codes "*"
+abbrev pub whose_text : Whose → List ℕ
+whose_text (by_nursery label) = label_text label
+whose_text by_handler = codes "*"
 
 -- an exception; the parts of a group stand between a comma and a space
 abbrev mutual
@@ -25,7 +25,7 @@ abbrev mutual
   exc_text cancelled = codes "Cancelled"
   exc_text (raised name task tick) = name ++ place_text task tick
   exc_text (too_slow scope tick) = codes "TooSlow" ++ place_text scope tick
-  exc_text (group made_by parts) = maker_text made_by ++ codes "[" ++ parts_text parts ++ codes "]"
+  exc_text (group whose parts) = whose_text whose ++ codes "[" ++ parts_text parts ++ codes "]"
 
   pub parts_text : Excs → List ℕ
   parts_text no_parts = []

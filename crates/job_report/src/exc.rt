@@ -1,6 +1,6 @@
 ghost use Rattle.std.specs.Prelude.{◌≡◌, ◌++◌, [], ◌∷◌, OnOk, decimal, codes, take};
-ghost use Rattle.exc_groups.specs.Held.{exc_of, excs_of, maker_of};
-ghost use Rattle.job_report.specs.Text.{exc_text, parts_text, more_text, maker_text};
+ghost use Rattle.exc_groups.specs.Held.{exc_of, excs_of, whose_of};
+ghost use Rattle.job_report.specs.Text.{exc_text, parts_text, more_text, whose_text};
 
 use crate::label::{push_label, push_place};
 use exc_groups::{Exc, Whose};
@@ -8,7 +8,7 @@ use std::alloc::AllocError;
 
 // Appends who made a group.
 fn push_whose(out: &mut Vec<u8>, whose: &Whose) -> Result<(), AllocError>
-    ensures { OnOk result (out.new.items ≡ out.old.items ++ maker_text (maker_of whose.now)) }
+    ensures { OnOk result (out.new.items ≡ out.old.items ++ whose_text (whose_of whose.now)) }
 {
     match whose {
         Whose::Nursery(label) => push_label(out, label),

@@ -4,17 +4,17 @@ use Rattle.std.specs.Option.{option_map}
 use Rattle.exc_groups.specs.declared.exc.Exc.{Exc}
 use Rattle.exc_groups.specs.Held.{exc_of}
 use Rattle.nursery_book.specs.Nursery.{End}
-use Rattle.nursery_book.specs.declared.ending.Ending.{Ending}
-use Rattle.nursery_book.specs.declared.ending.Ending.TheVariants.{Running, Ended}
+use Rattle.nursery_book.specs.declared.ending.MemberEnd.{MemberEnd}
+use Rattle.nursery_book.specs.declared.ending.MemberEnd.TheVariants.{Running, Ended}
 
-abbrev pub end_of : Ending → End
+abbrev pub end_of : MemberEnd → End
 end_of Running = None
 end_of (Ended exc) = Some (option_map exc_of exc)
 
 -- a member's exception, as the code holds it
-abbrev pub exc_held : Ending → Option Exc
+abbrev pub exc_held : MemberEnd → Option Exc
 exc_held Running = None
 exc_held (Ended exc) = exc
 
-abbrev pub excs_held : List Ending → List Exc
+abbrev pub excs_held : List MemberEnd → List Exc
 excs_held es = filter_map exc_held es

@@ -2,7 +2,7 @@ ghost use Rattle.std.specs.Prelude.{◌≡◌, ℕ, true, Some, None, IsSome, If
 ghost use Rattle.std.specs.Option.{option_map};
 ghost use Rattle.exc_groups.specs.Held.{exc_of};
 
-use crate::ending::{Ending, all_over, gathered};
+use crate::ending::{MemberEnd, all_over, gathered};
 use crate::nursery_id::{NurseryId, Place};
 use autojump_clock::TaskId;
 use cancel_scopes::ScopeId;
@@ -26,8 +26,8 @@ struct Members {
     scope: ScopeId,
     waiter: TaskId,
     label: Label,
-    body: Ending,
-    children: Vec<Ending>,
+    body: MemberEnd,
+    children: Vec<MemberEnd>,
 }
 
 impl NurseryBook {
@@ -60,7 +60,7 @@ impl NurseryBook {
             scope,
             waiter,
             label,
-            body: Ending::Running,
+            body: MemberEnd::Running,
             children: Vec::new(self.alloc),
         })?;
         Ok(NurseryId { key })
@@ -75,7 +75,7 @@ impl NurseryBook {
     {
         let members = &mut self.nurseries[id.key];
         let place = members.children.len();
-        members.children.push(Ending::Running)?;
+        members.children.push(MemberEnd::Running)?;
         Ok(place)
     }
 
@@ -85,7 +85,7 @@ impl NurseryBook {
         ensures { Changes self.old self.new id (with_child place (option_map exc_of exc)) }
     {
         let members = &mut self.nurseries[id.key];
-        members.children[place] = Ending::Ended(exc);
+        members.children[place] = MemberEnd::Ended(exc);
     }
 
     /// The body ended, with that exception or well. Takes no memory.
@@ -94,7 +94,7 @@ impl NurseryBook {
         ensures { Changes self.old self.new id (with_body (option_map exc_of exc)) }
     {
         let members = &mut self.nurseries[id.key];
-        members.body = Ending::Ended(exc);
+        members.body = MemberEnd::Ended(exc);
     }
 
     /// Whether the body and every child ended, so that the task which waits for the nursery goes on.

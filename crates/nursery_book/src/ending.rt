@@ -9,31 +9,31 @@ use exc_groups::Exc;
 
 /// How a member stands.
 #[derive(Drop)]
-pub(crate) enum Ending {
+pub(crate) enum MemberEnd {
     /// It runs.
     Running,
     /// It ended, with that exception or well.
     Ended(Option<Exc>),
 }
 
-impl Ending {
+impl MemberEnd {
     // Whether the member ended.
     pub(crate) fn is_over(&self) -> bool
         ensures { result ≡ is_some (end_of self.now) }
     {
-        matches!(self, Ending::Ended(_))
+        matches!(self, MemberEnd::Ended(_))
     }
 }
 
 // Whether every child ended.
-pub(crate) fn all_over(children: &[Ending]) -> bool
+pub(crate) fn all_over(children: &[MemberEnd]) -> bool
     ensures { result ≡ list_all (λ child. is_some (end_of child)) children.now }
 {
     children.iter().all(|child| child.is_over())
 }
 
 // The exceptions of members, the body's first and then the children's in order, in a list that has room for them.
-pub(crate) fn gathered(room: Vec<Exc>, body: Ending, children: Vec<Ending>) -> Vec<Exc>
+pub(crate) fn gathered(room: Vec<Exc>, body: MemberEnd, children: Vec<MemberEnd>) -> Vec<Exc>
     requires empty { room.items ≡ [] }
     requires fits { vec_len children + 1 ≤ vec_capacity room }
     ensures { excs_of result.items ≡ parts_of (with_exc (end_of body) (excs_in (map end_of children.items))) }
@@ -47,13 +47,13 @@ pub(crate) fn gathered(room: Vec<Exc>, body: Ending, children: Vec<Ending>) -> V
 }
 
 // The member's exception, if it ended with one, behind the others.
-fn push_exc(excs: &mut Vec<Exc>, member: Ending)
+fn push_exc(excs: &mut Vec<Exc>, member: MemberEnd)
     requires { vec_len excs.old < vec_capacity excs.old }
     ensures items { excs.new.items ≡ excs.old.items ++ option_to_list (exc_held member) }
     ensures len { vec_len excs.new ≤ vec_len excs.old + 1 }
     ensures capacity { vec_capacity excs.new ≡ vec_capacity excs.old }
 {
-    if let Ending::Ended(Some(exc)) = member {
+    if let MemberEnd::Ended(Some(exc)) = member {
         excs.push_reserved(exc);
     }
 }

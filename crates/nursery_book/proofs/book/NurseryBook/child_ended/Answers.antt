@@ -2,7 +2,7 @@ use Rattle.std.proofs.Common.{ap, refl}
 use Rattle.std.specs.Option.{option_map}
 use Rattle.std.proofs.lemmas.List.{map-set}
 use Rattle.exc_groups.specs.Held.{exc_of}
-use Rattle.nursery_book.specs.declared.ending.Ending.TheVariants.{Ended}
+use Rattle.nursery_book.specs.declared.ending.MemberEnd.TheVariants.{Ended}
 use Rattle.nursery_book.specs.Ends.{end_of}
 use Rattle.nursery_book.specs.Nursery.{with_child}
 use Rattle.nursery_book.proofs.BookLemmas.{Changes-write, with_children}
