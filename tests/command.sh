@@ -131,6 +131,11 @@ shows out 'refused J7 Depth at '
 shows err ': more than 32 blocks stand in one another'
 cases=$((cases + 1))
 
+# A file's name with a control character is told escaped, on one line.
+odd=$(printf 'odd\nname.job')
+printf 'trio-job 1\njob main { sleep }\n' > "$odd"
+wants 2 'refused J6 Syntax at 28\n' '"odd\\nname.job":2:18: expected a number\njob main { sleep }\n                 ^\n' check "$odd"
+
 # A job text of one byte too many, and one without end.
 { printf 'trio-job 1\njob main { }'; head -c 65600 /dev/zero | tr '\0' ' '; } > long.job
 head -c 65536 long.job > longest.job

@@ -7,15 +7,14 @@
 
 mod fault;
 mod finished;
-mod gate;
 mod pick;
 mod running;
 mod settings;
 
 pub use fault::RunFault;
 pub use finished::Run;
-pub use gate::{Gate, NoGate};
 pub use pick::{Forward, Pick, Reverse, Turn};
 pub use running::run;
+pub use scoped_workers::{Gate, NoGate};
 pub use settings::Settings;
 pub use task_records::{Entry, Outcome, Record, ScopeFrom};

@@ -8,7 +8,6 @@ ghost use Rattle.job_runner.specs.Runs.{name_of, rows_of, records_in, scope_from
 
 use crate::fault::RunFault;
 use crate::finished::Run;
-use crate::gate::Gate;
 use crate::pick::Pick;
 use crate::settings::Settings;
 use buffer_parts::Part;
@@ -16,6 +15,7 @@ use exc_groups::Label;
 use job_grammar::Job;
 use job_tree::Name;
 use plain_walk::{Here, Log, Stack, Walked, froms_of, walk_steps};
+use scoped_workers::Gate;
 use std::alloc::{AllocError, Global};
 use std::thread::Threads;
 

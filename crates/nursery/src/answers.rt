@@ -4,9 +4,11 @@ ghost use Rattle.nursery.specs.Statuses.{TellsVerdict, TellsCheck};
 use crate::sources::{MOST_INPUT, read_feed, read_input, read_job_text};
 use crate::stop::Stop;
 use job_grammar::JobFault;
-use job_report::{WriteOut, send};
-use job_runner::{Forward, NoGate, Pick, Settings};
-use nursery_app::{CheckVerdict, Order, Reverse, Turn, Verdict, check, explain, serve, split_feed};
+use nursery_app::{
+    CheckVerdict, Forward, NoGate, Order, Pick, Reverse, Settings, Turn, Verdict, WriteOut, check,
+    explain, send, serve, split_feed,
+};
+use std::alloc::{AllocError, Global};
 use std::io;
 use std::rt::Files;
 use std::thread::Threads;
@@ -114,9 +116,20 @@ fn check_text<R: Print + Eprint + AllocGlobal>(rt: &R, job: &str, text: &[u8]) -
 // Tells a refusal on standard error. Its line is on standard output already, so where memory or a write fails here
 // nothing more is told.
 fn tell_refusal<R: Eprint + AllocGlobal>(rt: &R, job: &str, text: &[u8], fault: JobFault) {
-    if let Ok(told) = explain(rt.alloc(), job, text, fault) {
-        let _ = rt.eprint(told.as_str());
+    let Ok(name) = shown_name(rt.alloc(), job) else {
+        return;
+    };
+    if let Ok(message) = explain(rt.alloc(), name.as_str(), text, fault) {
+        let _ = rt.eprint(message.as_str());
     }
+}
+
+// A file's name as it is told: with a control character in it, it stands between quotes and is escaped.
+fn shown_name(alloc: Global, name: &str) -> Result<String, AllocError> {
+    if name.chars().any(|c| c.is_control()) {
+        return format!(in alloc; "{name:?}");
+    }
+    String::from_str(alloc, name)
 }
 
 /// Writes a text that was asked for, and gives the status.

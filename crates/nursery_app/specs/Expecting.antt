@@ -4,6 +4,8 @@ use Rattle.job_tokens.specs.declared.token.Token.{Token}
 use Rattle.job_syntax.specs.declared.symbol.Symbol.{Symbol}
 use Rattle.job_syntax.specs.Symbols.{Rest, next}
 use Rattle.job_syntax.specs.Syntax.{whole_job}
+use Rattle.job_grammar.specs.declared.fault.JobKind.{JobKind}
+use Rattle.job_grammar.specs.declared.fault.JobKind.TheVariants as kind
 use Rattle.job_grammar.specs.Refusals.{HasTokens}
 
 -- the symbol for which a token cannot stand, or what more does
@@ -20,3 +22,18 @@ expected_in (s ∷ ss) (t ∷ ts) = or_symbol (next s t.shape) s (λ more. expec
 -- what the grammar asks for where the tokens of a text leave it, as far as tokens can be read
 abbrev pub IsExpected : List ℕ → Option Symbol → Type 0
 IsExpected text symbol = (tokens : List Token) × (fault : Option ℕ) × HasTokens text tokens fault × (symbol ≡ expected_in whole_job tokens)
+
+-- what the sentence of a refusal asks for: of a text that goes on wrongly what the grammar does, and nothing of another
+abbrev pub IsAsked : JobKind → List ℕ → Option Symbol → Type 0
+IsAsked kind.Syntax text symbol = IsExpected text symbol
+IsAsked kind.TooLong text symbol = symbol ≡ None
+IsAsked kind.NotAscii text symbol = symbol ≡ None
+IsAsked kind.Version text symbol = symbol ≡ None
+IsAsked kind.Token text symbol = symbol ≡ None
+IsAsked kind.Number text symbol = symbol ≡ None
+IsAsked kind.Depth text symbol = symbol ≡ None
+IsAsked kind.Twice text symbol = symbol ≡ None
+IsAsked kind.NotEnclosing text symbol = symbol ≡ None
+IsAsked kind.Reserved text symbol = symbol ≡ None
+IsAsked kind.TooLarge text symbol = symbol ≡ None
+IsAsked kind.NoMemory text symbol = symbol ≡ None

@@ -4,7 +4,7 @@ use Rattle.std.specs.List.{before_first}
 use Rattle.job_syntax.specs.declared.symbol.Symbol.{Symbol}
 use Rattle.job_grammar.specs.declared.fault.JobFault.{JobFault}
 use Rattle.nursery_app.specs.Places.{line_of, column_of}
-use Rattle.nursery_app.specs.Expecting.{IsExpected}
+use Rattle.nursery_app.specs.Expecting.{IsAsked}
 use Rattle.nursery_app.specs.Sentences.{sentence_of}
 
 -- the most bytes of a line that are shown in front of a place, and from it on
@@ -47,6 +47,6 @@ pointed text at = before text at ++ behind text at ++ codes "\n" ++ replicate (w
 -- The text that tells a refusal of a job text: its sentence is that of its kind, of the byte at the place, and of what the
 -- grammar asks for.
 abbrev pub Tells : List ℕ → List ℕ → JobFault → List ℕ → Type 0
-Tells job text fault told =
-    (symbol : Option Symbol) × IsExpected text symbol
-    × (told ≡ headed job (line_of text fault.at) (column_of text fault.at) (sentence_of fault.kind (slice_get text fault.at) symbol) ++ pointed text fault.at)
+Tells job text fault message =
+    (symbol : Option Symbol) × IsAsked fault.kind text symbol
+    × (message ≡ headed job (line_of text fault.at) (column_of text fault.at) (sentence_of fault.kind (slice_get text fault.at) symbol) ++ pointed text fault.at)

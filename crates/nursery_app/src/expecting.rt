@@ -1,14 +1,34 @@
 ghost use Rattle.std.specs.Prelude.{◌≡◌, IfOk};
 ghost use Rattle.job_syntax.specs.Syntax.{whole_job};
-ghost use Rattle.nursery_app.specs.Expecting.{expected_in, IsExpected};
+ghost use Rattle.nursery_app.specs.Expecting.{expected_in, IsExpected, IsAsked};
 
-use job_grammar::FIRST_LINE;
+use job_grammar::{FIRST_LINE, JobKind};
 use job_syntax::Symbol;
 use job_tokens::{Token, lex};
 use std::alloc::{AllocError, Global};
 
+// What the sentence of a refusal asks for. The text's tokens are looked at again only where it goes on wrongly.
+pub(crate) fn asked(alloc: Global, text: &[u8], kind: JobKind) -> Result<Option<Symbol>, AllocError>
+    ensures { IfOk result (IsAsked kind text.now) }
+{
+    match kind {
+        JobKind::Syntax => expected(alloc, text),
+        JobKind::TooLong
+        | JobKind::NotAscii
+        | JobKind::Version
+        | JobKind::Token
+        | JobKind::Number
+        | JobKind::Depth
+        | JobKind::Twice
+        | JobKind::NotEnclosing
+        | JobKind::Reserved
+        | JobKind::TooLarge
+        | JobKind::NoMemory => Ok(None),
+    }
+}
+
 // What the grammar asks for where the tokens of a text leave it; none where it asks for the text's end.
-pub(crate) fn expected(alloc: Global, text: &[u8]) -> Result<Option<Symbol>, AllocError>
+fn expected(alloc: Global, text: &[u8]) -> Result<Option<Symbol>, AllocError>
     ensures { IfOk result (IsExpected text.now) }
 {
     let (_, body) = text.split_at(FIRST_LINE.len().min(text.len()));

@@ -3,7 +3,7 @@ ghost use Rattle.std.specs.List.{before_first};
 ghost use Rattle.std.specs.String.{string_bytes};
 ghost use Rattle.nursery_app.specs.Explaining.{Tells, headed, shown_byte, is_newline, last_of, most_behind};
 
-use crate::expecting::expected;
+use crate::expecting::asked;
 use crate::places::{column_of, line_of};
 use crate::sentences::sentence_of;
 use itoa::Buffer;
@@ -19,21 +19,21 @@ const MOST_BEHIND: usize = 40;
 /// place. Of a long line the 60 bytes in front of the place and the 40 from it on are shown. A byte that is no printable
 /// ASCII is shown as `?`, and a tab or a carriage return as a space. `job` is the name that the user gave the text.
 pub fn explain(alloc: Global, job: &str, text: &[u8], fault: JobFault) -> Result<String, AllocError>
-    ensures { IfOk result (λ told. Tells job.now text.now fault (string_bytes told)) }
+    ensures { IfOk result (λ message. Tells job.now text.now fault (string_bytes message)) }
 {
     let line = line_of(text, fault.at);
     let column = column_of(text, fault.at);
-    let asked = expected(alloc, text)?;
+    let asked = asked(alloc, text, fault.kind)?;
     let (front, rest) = text.split_at(fault.at.min(text.len()));
     let sentence = sentence_of(fault.kind, rest.first().copied(), asked);
-    let mut told = headed(alloc, job, line, column, sentence)?;
+    let mut message = headed(alloc, job, line, column, sentence)?;
     let shown = (column - 1).min(MOST_BEFORE);
-    push_shown(&mut told, last_bytes(front, shown))?;
-    push_shown(&mut told, first_line(first_bytes(rest)))?;
-    told.push_str("\n")?;
-    push_spaces(&mut told, shown)?;
-    told.push_str("^\n")?;
-    Ok(told)
+    push_shown(&mut message, last_bytes(front, shown))?;
+    push_shown(&mut message, first_line(first_bytes(rest)))?;
+    message.push_str("\n")?;
+    push_spaces(&mut message, shown)?;
+    message.push_str("^\n")?;
+    Ok(message)
 }
 
 // The place and the sentence.
@@ -44,24 +44,24 @@ fn headed(
     column: usize,
     sentence: &str,
 ) -> Result<String, AllocError>
-    ensures { IfOk result (λ told. string_bytes told ≡ headed job.now line column sentence.now) }
+    ensures { IfOk result (λ message. string_bytes message ≡ headed job.now line column sentence.now) }
 {
-    let mut told = String::from_str(alloc, job)?;
-    push_place(&mut told, line)?;
-    push_place(&mut told, column)?;
-    told.push_str(": ")?;
-    told.push_str(sentence)?;
-    told.push_str("\n")?;
-    Ok(told)
+    let mut message = String::from_str(alloc, job)?;
+    push_place(&mut message, line)?;
+    push_place(&mut message, column)?;
+    message.push_str(": ")?;
+    message.push_str(sentence)?;
+    message.push_str("\n")?;
+    Ok(message)
 }
 
 // Appends a colon and a number.
-fn push_place(told: &mut String, n: usize) -> Result<(), AllocError>
-    ensures { OnOk result (string_bytes told.new ≡ string_bytes told.old ++ codes ":" ++ decimal n) }
+fn push_place(message: &mut String, n: usize) -> Result<(), AllocError>
+    ensures { OnOk result (string_bytes message.new ≡ string_bytes message.old ++ codes ":" ++ decimal n) }
 {
-    told.push_str(":")?;
+    message.push_str(":")?;
     let mut buffer = Buffer::new();
-    told.push_str(buffer.format(n as u64))
+    message.push_str(buffer.format(n as u64))
 }
 
 // The last so many bytes.
@@ -95,20 +95,20 @@ fn first_line(bytes: &[u8]) -> &[u8]
 }
 
 // Appends bytes, each as one character.
-fn push_shown(told: &mut String, bytes: &[u8]) -> Result<(), AllocError>
-    ensures { OnOk result (string_bytes told.new ≡ string_bytes told.old ++ map shown_byte bytes.now) }
+fn push_shown(message: &mut String, bytes: &[u8]) -> Result<(), AllocError>
+    ensures { OnOk result (string_bytes message.new ≡ string_bytes message.old ++ map shown_byte bytes.now) }
 {
     'bytes: for b in bytes {
-        told.push(shown_byte(*b))?;
+        message.push(shown_byte(*b))?;
     }
     Ok(())
 }
 
-fn push_spaces(told: &mut String, count: usize) -> Result<(), AllocError>
-    ensures { OnOk result (string_bytes told.new ≡ string_bytes told.old ++ replicate count 32) }
+fn push_spaces(message: &mut String, count: usize) -> Result<(), AllocError>
+    ensures { OnOk result (string_bytes message.new ≡ string_bytes message.old ++ replicate count 32) }
 {
     'spaces: for _done in 0..count {
-        told.push_str(" ")?;
+        message.push_str(" ")?;
     }
     Ok(())
 }

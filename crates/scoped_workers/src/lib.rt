@@ -12,6 +12,8 @@ mod tests;
 mod working;
 
 pub use bench::Bench;
+pub use claim_word::{Claims, Pass};
 pub use gate::{Gate, NoGate};
+pub use line_kernels::Request;
 pub use slot::{Content, Slot};
 pub use working::work;

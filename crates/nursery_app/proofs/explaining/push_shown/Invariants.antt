@@ -5,4 +5,4 @@ use Rattle.nursery_app.specs.Explaining.{shown_byte}
 use Rattle.nursery_app.proofs.explaining.push_shown.Given as goal
 
 abbrev pub invariant-bytes : goal.invariant-bytes
-invariant-bytes l = string_bytes l.told ≡ string_bytes l.fn.told ++ map shown_byte (take l.b-index l.bytes)
+invariant-bytes l = string_bytes l.message ≡ string_bytes l.fn.message ++ map shown_byte (take l.b-index l.bytes)
