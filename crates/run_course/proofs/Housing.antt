@@ -1,6 +1,6 @@
 -- Each task of a run is in a nursery of the task that started it, until it has ended.
-use Rattle.std.proofs.Common.{◌≡◌, ◌⊎◌, inl, inr, ℕ, suc, ◌+◌, ◌-◌, ◌<◌, ◌≤◌, true, false, cond, Option, Some, None, List, [], ◌∷◌, ◌++◌, length, refl, sym, ap, ◌∙◌, subst, arith}
-use Rattle.std.proofs.lemmas.Bool.{le-ltb, lt-ltb}
+use Rattle.cancel_scopes.specs.Sight.{Tick}
+use Rattle.std.proofs.Common.{◌≡◌, ◌⊎◌, inl, inr, ℕ, zero, suc, ◌+◌, ◌-◌, ◌<◌, ◌≤◌, true, false, Option, Some, None, List, [], ◌∷◌, ◌++◌, length, refl, sym, ap, ◌∙◌, subst, arith}
 use Rattle.exc_groups.specs.Exceptions.{Exc}
 use Rattle.job_tree.specs.Tree.{Tree}
 use Rattle.job_tree.specs.Starting.{StartsInNurseries}
@@ -11,14 +11,17 @@ use Rattle.task_turns.specs.Midway.{Place, Begun, Move}
 use Rattle.task_turns.specs.Steps.{froms_after}
 use Rattle.task_turns.specs.Placed.{PlacedStop, PlacedAfter, places_behind, home_after, AllBelow, KidsBelow, KidsAfter, IsAmong, HasChild, WaitsFor, HasChildAfter, AllHoused}
 use Rattle.task_turns.specs.Wakes.{Wake, begins, sees, is_due, has_answer, settles}
-use Rattle.task_turns.specs.Turned.{labels_of, known_after, Starts, BegunIn, TurnsOver}
-use Rattle.run_course.specs.Course.{Started, In, live}
+use Rattle.task_turns.specs.Turned.{Known, labels_of, AllKnown, known_after, EntersIn, Starts, BegunIn, TurnsOver}
+use Rattle.run_course.specs.Course.{Started, In, EachPlace, EntersWith, times_made, made_times, all_times, live}
 use Rattle.run_course.specs.Going.{root_task, children_from, child_from, turned}
 use Rattle.run_course.specs.Woken.{WaitIsOver, MayWake}
 use Rattle.run_course.specs.Runs.{Front, Reached, begun, turn, jump}
-use Rattle.run_course.specs.Laws.{Home, IsHoused, TasksAreHoused}
+use Rattle.run_course.specs.Laws.{Home, home_of, IsHoused, TasksAreHoused, LastToLeave}
 use Rattle.run_course.proofs.Picking.{SameTasks, front_same}
-use Rattle.run_course.proofs.Readings.{in_first, in_second, in_either}
+use Rattle.run_course.proofs.Readings.{in_first, in_second, in_either, made_few, made_counted, enters_too, enters_counted}
+use Rattle.run_course.proofs.Contract.{known_of, each_known}
+use Rattle.run_course.proofs.Turning.{old_child, later_child}
+use Rattle.run_course.proofs.Running.{begun_small, runs_on_course}
 
 -- ---- numbers of children
 
@@ -54,14 +57,6 @@ stop_below n i home (asleep m since) fs ps b (inl h) = absurd h
 stop_below n i home (awaiting children ended exc) fs [] b (inl h) = absurd h
 stop_below n i home (at_end u e) fs ps b (inl h) = absurd h
 
-old_serial : (count : ℕ) (child : ℕ → ℕ) (m i : ℕ) → i < count → child_from count child m i ≡ child i
-unfolding child_from
-old_serial count child m i h = ap (λ (b : _). cond b (child i) (m + (i - count))) (lt-ltb i count h)
-
-new_serial : (count : ℕ) (child : ℕ → ℕ) (m i : ℕ) → count ≤ i → child_from count child m i ≡ m + (i - count)
-unfolding child_from
-new_serial count child m i h = ap (λ (b : _). cond b (child i) (m + (i - count))) (le-ltb i count h)
-
 -- ---- who may be woken
 
 -- who may be woken has not ended
@@ -93,11 +88,43 @@ none_waited f qs t q w (asking kernel purpose) ps h i home a c among serial l = 
 none_waited f qs t q w (asleep n since) ps h i home a c among serial l = absurd a
 none_waited f qs t q w (at_end u e) ps h i home a c among serial l = absurd a
 
+-- ---- labels of places
+
+-- what is true of each place's label is true of a label among them
+at_place : (P : Label → Type 0) (l : Label) (ps : List Place) → EachPlace P ps → Known l (labels_of ps) → P l
+at_place P l [] e k = absurd k
+at_place P l (p ∷ ps) e (inl g) = subst P (sym g) e.0
+at_place P l (p ∷ ps) e (inr k) = at_place P l ps e.1 k
+
+all_behind : (ps : List Place) (ls ms : List Label) → ((l : Label) → Known l ls → Known l ms) → AllKnown ps ls → AllKnown ps ms
+all_behind [] ls ms f a = tt
+all_behind (p ∷ ps) ls ms f a = (f p.label a.0, all_behind ps ls ms f a.1)
+
+all_themselves : (ps : List Place) → AllKnown ps (labels_of ps)
+all_themselves [] = tt
+all_themselves (p ∷ ps) = (inl refl, all_behind ps (labels_of ps) (p.label ∷ labels_of ps) (λ l k. inr k) (all_themselves ps))
+
+enters_before : (l : Label) (es more : List Event) → EntersIn l es → EntersIn l (es ++ more)
+enters_before l [] more h = absurd h
+enters_before l (noted t e ∷ es) more h = enters_before l es more h
+enters_before l (signs m t ∷ es) more h = enters_before l es more h
+enters_before l (enters m t d ∷ es) more (inl e) = inl e
+enters_before l (enters m t d ∷ es) more (inr h) = inr (enters_before l es more h)
+enters_before l (starts i m t ∷ es) more h = enters_before l es more h
+
+enters_behind : (l : Label) (es more : List Event) → EntersIn l more → EntersIn l (es ++ more)
+enters_behind l [] more h = h
+enters_behind l (noted t e ∷ es) more h = enters_behind l es more h
+enters_behind l (signs m t ∷ es) more h = enters_behind l es more h
+enters_behind l (enters m t d ∷ es) more h = inr (enters_behind l es more h)
+enters_behind l (starts i m t ∷ es) more h = enters_behind l es more h
+
 -- ---- a turn
 
 module _ (k f : Table) (t m : ℕ) (q : Started) (ys : List Started) (wake : Wake) (o : Move) (s : Stopped)
     (all : (x : Started) → In x (q ∷ ys) → IsHoused (q ∷ ys) x) (may : MayWake f (q ∷ ys) t q wake q.rest.stopped)
-    (goes : TurnsOver q.stop t q.here f wake q.rest q.places q.count o) (stopped : o.stopped ≡ Some s) where
+    (goes : TurnsOver q.stop t q.here f wake q.rest q.places q.count o) (stopped : o.stopped ≡ Some s)
+    (small : (x : Started) → In x (q ∷ ys) → x.serial < m) where
   abbrev q' : Started
   q' = turned k t m q o s
 
@@ -115,12 +142,13 @@ module _ (k f : Table) (t m : ℕ) (q : Started) (ys : List Started) (wake : Wak
   home_stays : (serial : ℕ) (home : List Place) → (x : Started) → In x (q ∷ ys) → x.serial ≡ serial → live x.rest.stopped ≡ true → Home (q ∷ ys) serial home → Home after_turn serial home
   home_stays serial home x i e l h = by_starter h.among
     where
-      of_turned : (number : ℕ) → serial ≡ q.child number → HasChildAfter number home (Some q.rest.stopped) q.rest.frames q.places → Home after_turn serial home
-      of_turned number same has = record {
+      of_turned : (number : ℕ) → q.serial < serial → serial ≡ q.child number → HasChildAfter number home (Some q.rest.stopped) q.rest.frames q.places → Home after_turn serial home
+      of_turned number earlier same has = record {
         starter = q';
         among = inl refl;
+        earlier = earlier;
         number = number;
-        same = same ∙ sym (old_serial q.count q.child m number (stop_below q.count number home q.rest.stopped q.rest.frames q.places (all q (inl refl)).kids has));
+        same = same ∙ sym (old_child q.count q.child m number (stop_below q.count number home q.rest.stopped q.rest.frames q.places (all q (inl refl)).kids has));
         has = here_stopped (λ (z : Option Stopped). HasChildAfter number home z o.frames o.places) (by_wait has);
       }
         where
@@ -130,27 +158,38 @@ module _ (k f : Table) (t m : ℕ) (q : Started) (ys : List Started) (wake : Wak
 
       by_starter : In h.starter (q ∷ ys) → Home after_turn serial home
       by_starter (inl z) =
-          of_turned h.number (h.same ∙ ap (λ (v : Started). v.child h.number) z)
+          of_turned h.number (subst (λ (v : Started). v.serial < serial) z h.earlier) (h.same ∙ ap (λ (v : Started). v.child h.number) z)
           (subst (λ (v : Started). HasChildAfter h.number home (Some v.rest.stopped) v.rest.frames v.places) z h.has)
-      by_starter (inr j) = record { starter = h.starter; among = inr (in_second h.starter new ys j); number = h.number; same = h.same; has = h.has }
+      by_starter (inr j) = record { starter = h.starter; among = inr (in_second h.starter new ys j); earlier = h.earlier; number = h.number; same = h.same; has = h.has }
 
   -- the task that had its turn
   turned_housed : IsHoused after_turn q'
   turned_housed = record {
     placed = here_stopped (λ (z : Option Stopped). PlacedAfter z o.frames o.places) goes.placed;
     kids = here_stopped (λ (z : Option Stopped). KidsAfter (q.count + length o.begun) z o.frames) (goes.kids (all q (inl refl)).kids);
+    own = each_known (λ l. EntersIn l (q.made ++ o.made) ⊎ Known l (labels_of (home_of q'))) (known_after (labels_of q.places) o.made) own_after o.places goes.places;
     home = λ l. at_home ((all q (inl refl)).home before);
   }
     where
       before : live q.rest.stopped ≡ true
       before = wakes_live f (q ∷ ys) t q wake q.rest.stopped may
 
-      same_home : home_after (Some s) o.frames o.places ≡ home_after (Some q.rest.stopped) q.rest.frames q.places
+      same_home : home_of q' ≡ home_of q
       same_home = here_stopped (λ (z : Option Stopped). home_after z o.frames o.places ≡ home_after (Some q.rest.stopped) q.rest.frames q.places) goes.at_home
 
-      at_home : (q.serial ≡ 0) ⊎ Home (q ∷ ys) q.serial (home_after (Some q.rest.stopped) q.rest.frames q.places) →
-          (q.serial ≡ 0) ⊎ Home after_turn q.serial (home_after (Some s) o.frames o.places)
-      at_home (inl e) = inl e
+      of_old : (l : Label) → EntersIn l q.made ⊎ Known l (labels_of (home_of q)) → EntersIn l (q.made ++ o.made) ⊎ Known l (labels_of (home_of q'))
+      of_old l (inl h) = inl (enters_before l q.made o.made h)
+      of_old l (inr h) = inr (subst (λ (ps : List Place). Known l (labels_of ps)) (sym same_home) h)
+
+      own_after : (l : Label) → Known l (known_after (labels_of q.places) o.made) → EntersIn l (q.made ++ o.made) ⊎ Known l (labels_of (home_of q'))
+      own_after l h = by_time (known_of (labels_of q.places) o.made l h)
+        where
+          by_time : Known l (labels_of q.places) ⊎ ((d : Tick) × EntersWith l d o.made) → EntersIn l (q.made ++ o.made) ⊎ Known l (labels_of (home_of q'))
+          by_time (inl k) = of_old l (at_place (λ n. EntersIn n q.made ⊎ Known n (labels_of (home_of q))) l q.places (all q (inl refl)).own k)
+          by_time (inr k) = inl (enters_behind l q.made o.made (enters_too l k.0 o.made k.1))
+
+      at_home : ((q.serial ≡ 0) × (home_of q ≡ [])) ⊎ Home (q ∷ ys) q.serial (home_of q) → ((q.serial ≡ 0) × (home_of q' ≡ [])) ⊎ Home after_turn q.serial (home_of q')
+      at_home (inl e) = inl (e.0, same_home ∙ e.1)
       at_home (inr h) = inr (subst (λ (ps : List Place). Home after_turn q.serial ps) (sym same_home) (home_stays q.serial _ q (inl refl) refl before h))
 
   -- the children that it began
@@ -167,11 +206,13 @@ module _ (k f : Table) (t m : ℕ) (q : Started) (ys : List Started) (wake : Wak
   begun_housed i n j (starts v l u ∷ es) (c ∷ bs) a e g b h x (inl z) = subst (λ (y : Started). IsHoused after_turn y) (sym z) (record {
     placed = (b.1, tt);
     kids = tt;
+    own = each_known (λ l. EntersIn l [] ⊎ Known l (labels_of c.places)) (labels_of c.places) (λ l h. inr h) c.places (all_themselves c.places);
     home = λ live. inr (record {
       starter = q';
       among = inl refl;
+      earlier = (let below : q.serial < m = small q (inl refl) in let at : i ≡ m + j = g in omega arith);
       number = c.number;
-      same = serial ∙ sym (new_serial q.count q.child m c.number counted);
+      same = serial ∙ sym (later_child q.count q.child m c.number counted);
       has = here_stopped (λ (y : Option Stopped). HasChildAfter c.number c.places y o.frames o.places) h.0;
     });
   })
@@ -192,34 +233,142 @@ module _ (k f : Table) (t m : ℕ) (q : Started) (ys : List Started) (wake : Wak
     where
       by_place : In x new ⊎ In x ys → IsHoused after_turn x
       by_place (inl j) = begun_housed m q.count 0 o.made o.begun goes.starts (omega arith) (omega arith) goes.begun_in goes.housed x j
-      by_place (inr j) = record { placed = h.placed; kids = h.kids; home = λ l. at_home l (h.home l) }
+      by_place (inr j) = record { placed = h.placed; kids = h.kids; own = h.own; home = λ l. at_home l (h.home l) }
         where
           h : IsHoused (q ∷ ys) x
           h = all x (inr j)
 
-          at_home : live x.rest.stopped ≡ true → (x.serial ≡ 0) ⊎ Home (q ∷ ys) x.serial (home_after (Some x.rest.stopped) x.rest.frames x.places) →
-              (x.serial ≡ 0) ⊎ Home after_turn x.serial (home_after (Some x.rest.stopped) x.rest.frames x.places)
+          at_home : live x.rest.stopped ≡ true → ((x.serial ≡ 0) × (home_of x ≡ [])) ⊎ Home (q ∷ ys) x.serial (home_of x) →
+              ((x.serial ≡ 0) × (home_of x ≡ [])) ⊎ Home after_turn x.serial (home_of x)
           at_home l (inl e) = inl e
           at_home l (inr g) = inr (home_stays x.serial _ x (inr j) refl l g)
 
 -- ---- a run
 
 housed_moved : (qs rs : List Started) → SameTasks qs rs → ((x : Started) → In x qs → IsHoused qs x) → (x : Started) → In x rs → IsHoused rs x
-housed_moved qs rs same all x i = record { placed = h.placed; kids = h.kids; home = λ l. moved (h.home l) }
+housed_moved qs rs same all x i = record { placed = h.placed; kids = h.kids; own = h.own; home = λ l. moved (h.home l) }
   where
     h : IsHoused qs x
     h = all x (same.back x i)
 
-    moved : (x.serial ≡ 0) ⊎ Home qs x.serial (home_after (Some x.rest.stopped) x.rest.frames x.places) →
-        (x.serial ≡ 0) ⊎ Home rs x.serial (home_after (Some x.rest.stopped) x.rest.frames x.places)
+    moved : ((x.serial ≡ 0) × (home_of x ≡ [])) ⊎ Home qs x.serial (home_of x) → ((x.serial ≡ 0) × (home_of x ≡ [])) ⊎ Home rs x.serial (home_of x)
     moved (inl e) = inl e
-    moved (inr g) = inr (record { starter = g.starter; among = same.forth g.starter g.among; number = g.number; same = g.same; has = g.has })
+    moved (inr g) = inr (record { starter = g.starter; among = same.forth g.starter g.among; earlier = g.earlier; number = g.number; same = g.same; has = g.has })
+
+-- serial numbers are below the number of tasks started
+serials_below : (k : Table) (job : Tree) (input : List ℕ) (f : Table) (t m : ℕ) (qs : List Started) → Reached k job input f t m qs →
+    (x : Started) → In x qs → x.serial < m
+serials_below k job input f t m _ (begun f') x (inl e) = let a : x.serial ≡ 0 = ap (λ (z : Started). z.serial) e in omega arith
+serials_below k job input f t m _ (begun f') x (inr i) = absurd i
+serials_below k job input f t m _ (turn g u n p qs others wake o s r at may goes stopped) x (inl e) =
+    let a : x.serial ≡ p.serial = ap (λ (z : Started). z.serial) e in
+    let b : p.serial < n = serials_below k job input g u n qs r p ((front_same p qs others at).back p (inl refl)) in
+    omega arith
+serials_below k job input f t m _ (turn g u n p qs others wake o s r at may goes stopped) x (inr i) =
+    by_place (λ j. serials_below k job input g u n qs r x j) (in_either x (children_from k u n o.begun) others i)
+  where
+    by_place : (In x qs → x.serial < n) → In x (children_from k u n o.begun) ⊎ In x others → x.serial < n + length o.begun
+    by_place before (inl j) = begun_small k u n o.begun x j
+    by_place before (inr j) = let b : x.serial < n = before ((front_same p qs others at).back x (inr j)) in omega arith
+serials_below k job input f t m qs (jump g v u n qs' r le blocked) x i = serials_below k job input g v n qs' r x i
 
 -- each task of a run is housed
 pub tasks_are_housed : TasksAreHoused
 tasks_are_housed k job input inside f t m _ (begun f') q (inl e) =
-    subst (λ (x : Started). IsHoused (root_task k job input ∷ []) x) (sym e) (record { placed = (inside, tt); kids = tt; home = λ l. inl refl })
+    subst (λ (x : Started). IsHoused (root_task k job input ∷ []) x) (sym e) (record { placed = (inside, tt); kids = tt; own = tt; home = λ l. inl (refl, refl) })
 tasks_are_housed k job input inside f t m _ (begun f') q (inr i) = absurd i
 tasks_are_housed k job input inside f t m _ (turn g u n p qs others wake o s r at may goes stopped) q i =
-    housed_after k g u n p others wake o s (housed_moved qs (p ∷ others) (front_same p qs others at) (λ x j. tasks_are_housed k job input inside g u n qs r x j)) may goes stopped q i
+    housed_after k g u n p others wake o s
+    (housed_moved qs (p ∷ others) (front_same p qs others at) (λ x j. tasks_are_housed k job input inside g u n qs r x j))
+    may goes stopped (λ x j. serials_below k job input g u n qs r x ((front_same p qs others at).back x j)) q i
 tasks_are_housed k job input inside f t m qs (jump g v u n qs' r le blocked) q i = tasks_are_housed k job input inside g v n qs' r q i
+
+-- ---- who is in a scope or nursery
+
+-- the home of a child is among the places of the task that has it
+home_among : (i : ℕ) (l : Label) (home : List Place) (fs : List Frame) (ps : List Place) → HasChild i home fs ps → Known l (labels_of home) → Known l (labels_of ps)
+home_among i l home [] ps h k = absurd h
+home_among i l home (steps_left ss ∷ fs) ps h k = home_among i l home fs ps h k
+home_among i l home (in_scope fail ∷ fs) [] h k = absurd h
+home_among i l home (in_scope fail ∷ fs) (p ∷ ps) h k = inr (home_among i l home fs ps h k)
+home_among i l home (in_nursery children ∷ fs) [] h k = absurd h
+home_among i l home (in_nursery children ∷ fs) (p ∷ ps) (inl a) k = subst (λ (rs : List Place). Known l (labels_of rs)) a.1 k
+home_among i l home (in_nursery children ∷ fs) (p ∷ ps) (inr h) k = inr (home_among i l home fs ps h k)
+home_among i l home (in_try handler cleanup ∷ fs) ps h k = home_among i l home fs ps h k
+home_among i l home (in_handler rest cleanup ∷ fs) ps h k = home_among i l home fs ps h k
+home_among i l home (in_cleanup outcome ∷ fs) ps h k = home_among i l home fs ps h k
+
+home_within : (i : ℕ) (l : Label) (home : List Place) (s : Stopped) (fs : List Frame) (ps : List Place) → HasChildAfter i home (Some s) fs ps →
+    Known l (labels_of home) → Known l (labels_of ps)
+home_within i l home to_begin fs ps (inl h) k = absurd h
+home_within i l home to_begin fs ps (inr h) k = home_among i l home fs ps h k
+home_within i l home (asking kernel purpose) fs ps (inl h) k = absurd h
+home_within i l home (asking kernel purpose) fs ps (inr h) k = home_among i l home fs ps h k
+home_within i l home (asleep n since) fs ps (inl h) k = absurd h
+home_within i l home (asleep n since) fs ps (inr h) k = home_among i l home fs ps h k
+home_within i l home (awaiting children ended exc) fs [] (inl h) k = absurd h
+home_within i l home (awaiting children ended exc) fs [] (inr h) k = home_among i l home fs [] h k
+home_within i l home (awaiting children ended exc) fs (p ∷ ps) (inl a) k = subst (λ (rs : List Place). Known l (labels_of rs)) a.1 k
+home_within i l home (awaiting children ended exc) fs (p ∷ ps) (inr h) k = inr (home_among i l home fs ps h k)
+home_within i l home (at_end u e) fs ps (inl h) k = absurd h
+home_within i l home (at_end u e) fs ps (inr h) k = home_among i l home fs ps h k
+
+-- who has a child has not ended
+has_live : (i : ℕ) (home : List Place) (s : Stopped) (fs : List Frame) (ps : List Place) → PlacedStop s fs ps → HasChildAfter i home (Some s) fs ps → live s ≡ true
+has_live i home to_begin fs ps p h = refl
+has_live i home (asking kernel purpose) fs ps p h = refl
+has_live i home (asleep n since) fs ps p h = refl
+has_live i home (awaiting children ended exc) fs ps p h = refl
+has_live i home (at_end u e) fs ps p (inl h) = absurd h
+has_live i home (at_end u e) fs ps p (inr h) = absurd (subst (λ (gs : List Frame). HasChild i home gs ps) p h)
+
+-- a label that is entered at most once is entered by one task
+one_enters : (l : Label) (qs : List Started) → made_times l qs ≤ 1 → (x y : Started) → In x qs → In y qs → 1 ≤ times_made l x.made → 1 ≤ times_made l y.made → x ≡ y
+unfolding made_times
+one_enters l [] n x y i j a b = absurd i
+one_enters l (z ∷ zs) n x y (inl e) (inl g) a b = e ∙ sym g
+one_enters l (z ∷ zs) n x y (inl e) (inr j) a b =
+    let c : 1 ≤ times_made l z.made = subst (λ (v : Started). 1 ≤ times_made l v.made) e a in
+    let d : times_made l y.made ≤ made_times l zs = made_counted l y zs j in
+    absurd (omega arith)
+one_enters l (z ∷ zs) n x y (inr i) (inl g) a b =
+    let c : 1 ≤ times_made l z.made = subst (λ (v : Started). 1 ≤ times_made l v.made) g b in
+    let d : times_made l x.made ≤ made_times l zs = made_counted l x zs i in
+    absurd (omega arith)
+one_enters l (z ∷ zs) n x y (inr i) (inr j) a b = one_enters l zs (omega arith) x y i j a b
+
+module _ (qs : List Started) (all : (x : Started) → In x qs → IsHoused qs x) (once : (l : Label) → made_times l qs ≤ 1)
+    (l : Label) (q : Started) (i : In q qs) (h : EntersIn l q.made) where
+  -- a label round a live task is round the task that entered it
+  in_force : (n : ℕ) (x : Started) → In x qs → x.serial < n → live x.rest.stopped ≡ true → Known l (labels_of x.places) → Known l (labels_of q.places)
+  in_force zero x j lt a k = absurd (omega arith)
+  in_force (suc n) x j lt a k =
+      by_own (λ y b c d. in_force n y b c d) (at_place (λ m. EntersIn m x.made ⊎ Known m (labels_of (home_of x))) l x.places (all x j).own k)
+    where
+      Earlier : Type 0
+      Earlier = (y : Started) → In y qs → y.serial < n → live y.rest.stopped ≡ true → Known l (labels_of y.places) → Known l (labels_of q.places)
+
+      by_home : Earlier → Known l (labels_of (home_of x)) → ((x.serial ≡ 0) × (home_of x ≡ [])) ⊎ Home qs x.serial (home_of x) → Known l (labels_of q.places)
+      by_home up g (inl e) = absurd (subst (λ (ps : List Place). Known l (labels_of ps)) e.1 g)
+      by_home up g (inr y) =
+          let lower : y.starter.serial < x.serial = y.earlier in
+          up y.starter y.among (omega arith)
+          (has_live y.number (home_of x) y.starter.rest.stopped y.starter.rest.frames y.starter.places (all y.starter y.among).placed y.has)
+          (home_within y.number l (home_of x) y.starter.rest.stopped y.starter.rest.frames y.starter.places y.has g)
+
+      by_own : Earlier → EntersIn l x.made ⊎ Known l (labels_of (home_of x)) → Known l (labels_of q.places)
+      by_own up (inl e) =
+          subst (λ (z : Started). Known l (labels_of z.places))
+          (one_enters l qs (once l) x q j i (enters_counted l x.made e) (enters_counted l q.made h)) k
+      by_own up (inr g) = by_home up g ((all x j).home a)
+
+-- who leaves a scope or a nursery is the last to be in it
+pub last_to_leave : LastToLeave
+last_to_leave k job input names inside settled f t m qs r l q i h x j a w =
+    in_force qs (λ y g. tasks_are_housed k job input inside f t m qs r y g) at_most l q i h (suc x.serial) x j (omega arith) a w
+  where
+    at_most : (n : Label) → made_times n qs ≤ 1
+    at_most n =
+        let c : all_times n qs ≤ 1 = (runs_on_course k job input settled names inside f t m qs r).0.once n in
+        let d : made_times n qs ≤ all_times n qs = made_few n qs in
+        omega arith

@@ -36,7 +36,7 @@ record Kept (k f : Table) (whole : Result) (t m : ℕ) (qs : List Started) : Typ
   small : (q : Started) → In q qs → q.serial < m
 
 -- new children have the next serial numbers
-begun_small : (k : Table) (t m : ℕ) (bs : List Begun) (x : Started) → In x (children_from k t m bs) → x.serial < m + length bs
+pub begun_small : (k : Table) (t m : ℕ) (bs : List Begun) (x : Started) → In x (children_from k t m bs) → x.serial < m + length bs
 unfolding children_from
 begun_small k t m [] x i = absurd i
 begun_small k t m (b ∷ bs) x (inl e) = let a : x.serial ≡ m = ap (λ (z : Started). z.serial) e in omega arith

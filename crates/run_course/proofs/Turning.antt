@@ -71,11 +71,11 @@ begun_resumes k t m (b ∷ bs) x (inl e) = subst (λ (z : Started). t ≤ resume
 begun_resumes k t m (b ∷ bs) x (inr i) = begun_resumes k t (suc m) bs x i
 
 -- serial numbers of children
-old_child : (count : ℕ) (child : ℕ → ℕ) (m i : ℕ) → i < count → child_from count child m i ≡ child i
+pub old_child : (count : ℕ) (child : ℕ → ℕ) (m i : ℕ) → i < count → child_from count child m i ≡ child i
 unfolding child_from
 old_child count child m i h = ap (λ (b : Bool). cond b (child i) (m + (i - count))) (lt-ltb i count h)
 
-later_child : (count : ℕ) (child : ℕ → ℕ) (m i : ℕ) → count ≤ i → child_from count child m i ≡ m + (i - count)
+pub later_child : (count : ℕ) (child : ℕ → ℕ) (m i : ℕ) → count ≤ i → child_from count child m i ≡ m + (i - count)
 unfolding child_from
 later_child count child m i h = ap (λ (b : Bool). cond b (child i) (m + (i - count))) (le-ltb i count h)
 

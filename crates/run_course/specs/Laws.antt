@@ -1,5 +1,6 @@
 -- The laws of runs in turns. They are the contract of a function that does nothing.
 use Rattle.std.specs.Prelude.{◌≡◌, ◌⊎◌, true, ℕ, ◌+◌, ◌*◌, ◌<◌, ◌≤◌, Some, List, [], ◌∷◌}
+use Rattle.exc_groups.specs.Exceptions.{Label}
 use Rattle.job_tree.specs.Tree.{Tree}
 use Rattle.job_tree.specs.Names.{GivesNamesOnce, size_of}
 use Rattle.job_tree.specs.Starting.{StartsInNurseries}
@@ -9,8 +10,8 @@ use Rattle.job_meaning.specs.Follow.{follow, IsSettled}
 use Rattle.job_meaning.specs.Rest.{asleep}
 use Rattle.task_turns.specs.Midway.{Place}
 use Rattle.task_turns.specs.Placed.{PlacedStop, home_after, KidsAfter, HasChildAfter}
-use Rattle.task_turns.specs.Turned.{AgreesOn}
-use Rattle.run_course.specs.Course.{Started, In, OnCourse, live, AllFrom, Blocked}
+use Rattle.task_turns.specs.Turned.{AgreesOn, Known, labels_of, EntersIn}
+use Rattle.run_course.specs.Course.{Started, In, EachPlace, OnCourse, live, AllFrom, Blocked}
 use Rattle.run_course.specs.Runs.{Reached, turns_taken, all_weights}
 use Rattle.run_course.specs.Rows.{Row, HasRow, records_by, froms_in, DepthFirst}
 
@@ -21,26 +22,41 @@ RunsEnd =
     (k : Table) (job : Tree) (input : List ℕ) (f : Table) (t m : ℕ) (qs : List Started) → (r : Reached k job input f t m qs) →
     turns_taken r + all_weights qs ≤ 2 * size_of job.steps + 1
 
--- The task that has another in one of its nurseries: that one has this serial number, and its home's places are those of the
--- nursery.
+-- The task that has another in one of its nurseries: it was started earlier, that one has this serial number, and its
+-- home's places are those of the nursery.
 pub record Home (qs : List Started) (serial : ℕ) (home : List Place) : Type 0 where
   pub starter : Started
   pub among : In starter qs
+  pub earlier : starter.serial < serial
   pub number : ℕ
   pub same : serial ≡ starter.child number
   pub has : HasChildAfter number home (Some starter.rest.stopped) starter.rest.frames starter.places
 
--- what each task of a run keeps: its frames fit its places, the children of its nurseries are those that it started, and
--- while it has not ended it is the root, or in a nursery of another task that has not settled
+-- a task's home: the places behind those of its own frames
+abbrev pub home_of : Started → List Place
+home_of q = home_after (Some q.rest.stopped) q.rest.frames q.places
+
+-- What each task of a run keeps: its frames fit its places, the children of its nurseries are those that it started, and
+-- the scopes and nurseries that it is in are its own, or its home's. While it has not ended it is the root, which has no
+-- home, or in a nursery of another task that has not settled.
 pub record IsHoused (qs : List Started) (q : Started) : Type 0 where
   pub placed : PlacedStop q.rest.stopped q.rest.frames q.places
   pub kids : KidsAfter q.count (Some q.rest.stopped) q.rest.frames
-  pub home : live q.rest.stopped ≡ true → (q.serial ≡ 0) ⊎ Home qs q.serial (home_after (Some q.rest.stopped) q.rest.frames q.places)
+  pub own : EachPlace (λ l. EntersIn l q.made ⊎ Known l (labels_of (home_of q))) q.places
+  pub home : live q.rest.stopped ≡ true → ((q.serial ≡ 0) × (home_of q ≡ [])) ⊎ Home qs q.serial (home_of q)
 
 abbrev pub TasksAreHoused : Type 0
 TasksAreHoused =
     (k : Table) (job : Tree) (input : List ℕ) → StartsInNurseries job →
     (f : Table) (t m : ℕ) (qs : List Started) → Reached k job input f t m qs → (q : Started) → In q qs → IsHoused qs q
+
+-- A scope or nursery in which a live task is has not been left by the task that entered it: so who leaves one is the last
+-- to be in it.
+abbrev pub LastToLeave : Type 0
+LastToLeave =
+    (k : Table) (job : Tree) (input : List ℕ) → GivesNamesOnce job → StartsInNurseries job → IsSettled k job input →
+    (f : Table) (t m : ℕ) (qs : List Started) → Reached k job input f t m qs → (l : Label) (q : Started) → In q qs → EntersIn l q.made →
+    (x : Started) → In x qs → live x.rest.stopped ≡ true → Known l (labels_of x.places) → Known l (labels_of q.places)
 
 -- For each settled table a run is on its course: nothing that was not made happens before the tick, and the table agrees
 -- there with the froms that the run keeps, on each task's places.

@@ -2,6 +2,7 @@
 
 ghost use Rattle.run_course.specs.Laws.{
   BlockedRunsSleep,
+  LastToLeave,
   LimitsAreExact,
   RunsAreTheMeaning,
   RunsEnd,
@@ -14,7 +15,8 @@ ghost use Rattle.run_course.specs.Laws.{
 /// tasks have ended, the records, the froms and the end that their rows say are those of the meaning. While a task has
 /// not ended, the job does not end before the present tick; and where none is ready, one sleeps. A run takes at most
 /// twice as many turns as the job has steps, those of children counted, and one. A task that has not ended is the root, or
-/// stands in a nursery that has not settled of the task that started it.
+/// stands in a nursery that has not settled of the task that started it; and who leaves a scope or a nursery is the last to
+/// be in it.
 pub fn law_runs()
     ensures course { RunsOnCourse }
     ensures meaning { RunsAreTheMeaning }
@@ -22,4 +24,5 @@ pub fn law_runs()
     ensures sleeper { BlockedRunsSleep }
     ensures turns { RunsEnd }
     ensures housed { TasksAreHoused }
+    ensures last { LastToLeave }
 {}

@@ -1,5 +1,5 @@
 use Rattle.run_course.proofs.laws.law_runs.Goals as goal
-use Rattle.run_course.proofs.Housing.{tasks_are_housed}
+use Rattle.run_course.proofs.Housing.{tasks_are_housed, last_to_leave}
 use Rattle.run_course.proofs.Running.{runs_on_course, runs_are_the_meaning, limits_are_exact, blocked_runs_sleep, runs_end}
 
 pub returns-clause-course : goal.returns-clause-course
@@ -19,3 +19,6 @@ returns-clause-turns c = runs_end
 
 pub returns-clause-housed : goal.returns-clause-housed
 returns-clause-housed c = tasks_are_housed
+
+pub returns-clause-last : goal.returns-clause-last
+returns-clause-last c = last_to_leave
