@@ -1,12 +1,13 @@
-ghost use Rattle.std.specs.Prelude.{◌≡◌, reverse, [], ◌∷◌, Some, true, false};
-ghost use Rattle.job_syntax.specs.Symbols.{text_rest, start_rest, step_rest, cleanup_rest, tail_rest, fail_rest, shield_rest, scope_rest, over_rest, open_rest, close_rest, semicolon_rest, either, any_name, next};
-ghost use Rattle.job_syntax.specs.declared.symbol.Symbol.TheVariants as symbol;
+ghost use Rattle.std.specs.Prelude.{◌≡◌, reverse};
+ghost use Rattle.job_syntax.specs.Symbols.{step_rest, cleanup_rest, tail_rest, next};
 ghost use Rattle.job_syntax.specs.Syntax.{role_of};
 ghost use Rattle.job_tokens.specs.Lexing.{Gives};
+ghost use Rattle.job_tokens.specs.declared.token.Shape.TheVariants as shape;
 
 use crate::keyword::Keyword;
 use crate::role::Role;
 use job_tokens::{Mark, Shape};
+use job_tree::Name;
 
 /// What may have to stand next in a job text.
 #[derive(Clone, Copy, PartialEq, Eq)]
@@ -51,87 +52,17 @@ pub enum Symbol {
     Semicolon,
 }
 
-// What follows a token is listed last first, as it goes onto a stack. Where steps may go on, they do as in the block
-// round them: a nursery's have a list of their own.
-const NOTHING: [Symbol; 0] = [];
-
-const BODY: [Symbol; 1] = [Symbol::Steps];
-
-const BLOCK: [Symbol; 2] = [Symbol::Steps, Symbol::Open];
-
-const JOB: [Symbol; 3] = [Symbol::Steps, Symbol::Open, Symbol::Given];
-
-const DEADLINE: [Symbol; 2] = [Symbol::Shield, Symbol::Number];
-
-const SHIELDED: [Symbol; 1] = [Symbol::Fail];
-
-const COPIES: [Symbol; 3] = [Symbol::Steps, Symbol::Open, Symbol::Number];
-
-const START: [Symbol; 3] = [Symbol::Items, Symbol::Over, Symbol::Given];
-
-const STEPS_NUMBER: [Symbol; 3] = [Symbol::Steps, Symbol::Semicolon, Symbol::Number];
-
-const STEPS_PLAIN: [Symbol; 2] = [Symbol::Steps, Symbol::Semicolon];
-
-const STEPS_TEXT: [Symbol; 3] = [Symbol::Steps, Symbol::Semicolon, Symbol::Text];
-
-const STEPS_NEED: [Symbol; 4] = [
-    Symbol::Steps,
-    Symbol::Semicolon,
-    Symbol::Raised,
-    Symbol::Text,
-];
-
-const STEPS_RAISE: [Symbol; 3] = [Symbol::Steps, Symbol::Semicolon, Symbol::Raised];
-
-const STEPS_CANCEL: [Symbol; 3] = [Symbol::Steps, Symbol::Semicolon, Symbol::Target];
-
-const STEPS_SCOPE: [Symbol; 3] = [Symbol::Steps, Symbol::Scope, Symbol::Given];
-
-const STEPS_NURSERY: [Symbol; 4] = [Symbol::Steps, Symbol::Items, Symbol::Open, Symbol::Given];
-
-const STEPS_TRY: [Symbol; 3] = [Symbol::StepsTail, Symbol::Steps, Symbol::Open];
-
-const STEPS_CLEANUP: [Symbol; 3] = [Symbol::Steps, Symbol::Steps, Symbol::Open];
-
-const STEPS_HANDLER: [Symbol; 4] = [
-    Symbol::StepsCleanup,
-    Symbol::Steps,
-    Symbol::Open,
-    Symbol::Handled,
-];
-
-const ITEMS_NUMBER: [Symbol; 3] = [Symbol::Items, Symbol::Semicolon, Symbol::Number];
-
-const ITEMS_PLAIN: [Symbol; 2] = [Symbol::Items, Symbol::Semicolon];
-
-const ITEMS_TEXT: [Symbol; 3] = [Symbol::Items, Symbol::Semicolon, Symbol::Text];
-
-const ITEMS_NEED: [Symbol; 4] = [
-    Symbol::Items,
-    Symbol::Semicolon,
-    Symbol::Raised,
-    Symbol::Text,
-];
-
-const ITEMS_RAISE: [Symbol; 3] = [Symbol::Items, Symbol::Semicolon, Symbol::Raised];
-
-const ITEMS_CANCEL: [Symbol; 3] = [Symbol::Items, Symbol::Semicolon, Symbol::Target];
-
-const ITEMS_SCOPE: [Symbol; 3] = [Symbol::Items, Symbol::Scope, Symbol::Given];
-
-const ITEMS_NURSERY: [Symbol; 4] = [Symbol::Items, Symbol::Items, Symbol::Open, Symbol::Given];
-
-const ITEMS_TRY: [Symbol; 3] = [Symbol::ItemsTail, Symbol::Steps, Symbol::Open];
-
-const ITEMS_CLEANUP: [Symbol; 3] = [Symbol::Items, Symbol::Steps, Symbol::Open];
-
-const ITEMS_HANDLER: [Symbol; 4] = [
-    Symbol::ItemsCleanup,
-    Symbol::Steps,
-    Symbol::Open,
-    Symbol::Handled,
-];
+// What follows a token, last first, as it goes onto a stack. `outer`, `tail` and `cleanup` are how the block round it goes
+// on: right inside a nursery by symbols of its own.
+macro_rules! rest {
+    (outer $inside:ident, $($symbol:ident),*) => { rest!($inside: Items | Steps, $($symbol),*) };
+    (tail $inside:ident, $($symbol:ident),*) => { rest!($inside: ItemsTail | StepsTail, $($symbol),*) };
+    (cleanup $inside:ident, $($symbol:ident),*) => { rest!($inside: ItemsCleanup | StepsCleanup, $($symbol),*) };
+    ($inside:ident: $items:ident | $steps:ident, $($symbol:ident),*) => {
+        if $inside { rest!($items, $($symbol),*) } else { rest!($steps, $($symbol),*) }
+    };
+    ($($symbol:ident),*) => { Some(&[$(Symbol::$symbol),*]) };
+}
 
 impl Symbol {
     /// What a token that stands for this symbol is for.
@@ -151,158 +82,73 @@ impl Symbol {
     pub fn next(self, shape: Shape) -> Option<&'static [Symbol]>
         ensures { Gives (λ x. reverse x.now) result (next self shape) }
     {
-        match self {
-            Symbol::Job => text_rest(Keyword::of(shape.word()?)?),
-            Symbol::Steps => block_rest(false, shape),
-            Symbol::Items => block_rest(true, shape),
-            Symbol::StepsTail => tail_rest(false, Keyword::of(shape.word()?)?),
-            Symbol::ItemsTail => tail_rest(true, Keyword::of(shape.word()?)?),
-            Symbol::StepsCleanup => behind_handler(false, shape),
-            Symbol::ItemsCleanup => behind_handler(true, shape),
-            Symbol::Scope => scope_head(shape),
-            Symbol::Shield => shield_head(shape),
-            Symbol::Fail => fail_head(shape),
-            Symbol::Over => over_head(shape),
-            Symbol::Given => name_rest(shape),
-            Symbol::Raised => name_rest(shape),
-            Symbol::Handled => name_rest(shape),
-            Symbol::Target => name_rest(shape),
-            Symbol::Number => {
-                let _number = shape.number()?;
-                Some(&NOTHING)
+        match shape {
+            Shape::Word(word) => self.behind_word(word),
+            Shape::Number(number) => if self == Symbol::Number && number.is_some() {
+                rest!()
+            } else {
+                None
+            },
+            Shape::Text(_) => if self == Symbol::Text { rest!() } else { None },
+            Shape::Mark(mark) => self.behind_mark(mark),
+        }
+    }
+
+    fn behind_word(self, word: Name) -> Option<&'static [Symbol]>
+        ensures { Gives (λ x. reverse x.now) result (next self (shape.Word word)) }
+    {
+        // A name may be any word: that it is no keyword is asked later.
+        if self.role() != Role::Plain {
+            return rest!();
+        }
+        match (self, Keyword::of(word)?) {
+            (Symbol::Job, Keyword::Job) => rest!(Steps, Open, Given),
+            (Symbol::Steps, keyword) => step_rest(false, keyword),
+            (Symbol::Items, keyword) => step_rest(true, keyword),
+            (Symbol::StepsTail, keyword) => tail_rest(false, keyword),
+            (Symbol::ItemsTail, keyword) => tail_rest(true, keyword),
+            (Symbol::StepsCleanup, keyword) => cleanup_rest(false, keyword),
+            (Symbol::ItemsCleanup, keyword) => cleanup_rest(true, keyword),
+            (Symbol::Scope, Keyword::After | Keyword::At) => rest!(Shield, Number),
+            (Symbol::Scope | Symbol::Shield, Keyword::Shield) => rest!(Fail),
+            (Symbol::Scope | Symbol::Shield | Symbol::Fail, Keyword::Fail) => rest!(Steps, Open),
+            (Symbol::Over, Keyword::Over) => rest!(Steps, Open, Number),
+            _ => None,
+        }
+    }
+
+    fn behind_mark(self, mark: Mark) -> Option<&'static [Symbol]>
+        ensures { Gives (λ x. reverse x.now) result (next self (shape.Mark mark)) }
+    {
+        match (self, mark) {
+            (
+                Symbol::Steps | Symbol::Items | Symbol::StepsCleanup | Symbol::ItemsCleanup,
+                Mark::Close,
+            ) => rest!(),
+            (Symbol::Scope | Symbol::Shield | Symbol::Fail | Symbol::Over, Mark::Open) => {
+                rest!(Steps)
             }
-            Symbol::Text => {
-                let _text = shape.text()?;
-                Some(&NOTHING)
-            }
-            Symbol::Open => open_rest(shape.mark()?, &NOTHING),
-            Symbol::Semicolon => semicolon_rest(shape.mark()?),
+            (Symbol::Open, Mark::Open) | (Symbol::Semicolon, Mark::Semicolon) => rest!(),
+            _ => None,
         }
     }
 }
 
-fn name_rest(shape: Shape) -> Option<&'static [Symbol]>
-    ensures { Gives (λ x. reverse x.now) result (any_name shape) }
-{
-    let _name = shape.word()?;
-    Some(&NOTHING)
-}
-
-// The first token of a step, or the mark that ends the block.
-fn block_rest(inside: bool, shape: Shape) -> Option<&'static [Symbol]>
-    ensures { Gives (λ x. reverse x.now) result (either close_rest (step_rest inside) shape) }
-{
-    if let Some(mark) = shape.mark() {
-        return close_rest(mark);
-    }
-    step_rest(inside, Keyword::of(shape.word()?)?)
-}
-
-fn behind_handler(inside: bool, shape: Shape) -> Option<&'static [Symbol]>
-    ensures { Gives (λ x. reverse x.now) result (either close_rest (cleanup_rest inside) shape) }
-{
-    if let Some(mark) = shape.mark() {
-        return close_rest(mark);
-    }
-    cleanup_rest(inside, Keyword::of(shape.word()?)?)
-}
-
-fn scope_head(shape: Shape) -> Option<&'static [Symbol]>
-    ensures { Gives (λ x. reverse x.now) result (either (open_rest (Some (symbol.Steps ∷ []))) scope_rest shape) }
-{
-    if let Some(mark) = shape.mark() {
-        return open_rest(mark, &BODY);
-    }
-    scope_rest(Keyword::of(shape.word()?)?)
-}
-
-fn shield_head(shape: Shape) -> Option<&'static [Symbol]>
-    ensures { Gives (λ x. reverse x.now) result (either (open_rest (Some (symbol.Steps ∷ []))) shield_rest shape) }
-{
-    if let Some(mark) = shape.mark() {
-        return open_rest(mark, &BODY);
-    }
-    shield_rest(Keyword::of(shape.word()?)?)
-}
-
-fn fail_head(shape: Shape) -> Option<&'static [Symbol]>
-    ensures { Gives (λ x. reverse x.now) result (either (open_rest (Some (symbol.Steps ∷ []))) fail_rest shape) }
-{
-    if let Some(mark) = shape.mark() {
-        return open_rest(mark, &BODY);
-    }
-    fail_rest(Keyword::of(shape.word()?)?)
-}
-
-fn over_head(shape: Shape) -> Option<&'static [Symbol]>
-    ensures { Gives (λ x. reverse x.now) result (either (open_rest (Some (symbol.Steps ∷ []))) over_rest shape) }
-{
-    if let Some(mark) = shape.mark() {
-        return open_rest(mark, &BODY);
-    }
-    over_rest(Keyword::of(shape.word()?)?)
-}
-
-// What stands behind the first word of a text.
-fn text_rest(keyword: Keyword) -> Option<&'static [Symbol]>
-    ensures { Gives (λ x. reverse x.now) result (text_rest keyword) }
-{
-    if keyword == Keyword::Job {
-        return Some(&JOB);
-    }
-    None
-}
-
-// What stands behind the first word of a step.
+// What stands behind the first word of a step. A `start` stands only right inside a nursery.
 fn step_rest(inside: bool, keyword: Keyword) -> Option<&'static [Symbol]>
     ensures { Gives (λ x. reverse x.now) result (step_rest inside keyword) }
 {
-    if inside {
-        item_step(keyword)
-    } else {
-        block_step(keyword)
-    }
-}
-
-fn block_step(keyword: Keyword) -> Option<&'static [Symbol]>
-    ensures { Gives (λ x. reverse x.now) result (step_rest false keyword) }
-{
     match keyword {
-        Keyword::Sleep => Some(&STEPS_NUMBER),
-        Keyword::Checkpoint => Some(&STEPS_PLAIN),
-        Keyword::Forever => Some(&STEPS_PLAIN),
-        Keyword::Pace => Some(&STEPS_NUMBER),
-        Keyword::Find => Some(&STEPS_TEXT),
-        Keyword::Head => Some(&STEPS_NUMBER),
-        Keyword::Longest => Some(&STEPS_PLAIN),
-        Keyword::Need => Some(&STEPS_NEED),
-        Keyword::Raise => Some(&STEPS_RAISE),
-        Keyword::Cancel => Some(&STEPS_CANCEL),
-        Keyword::Scope => Some(&STEPS_SCOPE),
-        Keyword::Nursery => Some(&STEPS_NURSERY),
-        Keyword::Try => Some(&STEPS_TRY),
-        _ => None,
-    }
-}
-
-fn item_step(keyword: Keyword) -> Option<&'static [Symbol]>
-    ensures { Gives (λ x. reverse x.now) result (step_rest true keyword) }
-{
-    match keyword {
-        Keyword::Sleep => Some(&ITEMS_NUMBER),
-        Keyword::Checkpoint => Some(&ITEMS_PLAIN),
-        Keyword::Forever => Some(&ITEMS_PLAIN),
-        Keyword::Pace => Some(&ITEMS_NUMBER),
-        Keyword::Find => Some(&ITEMS_TEXT),
-        Keyword::Head => Some(&ITEMS_NUMBER),
-        Keyword::Longest => Some(&ITEMS_PLAIN),
-        Keyword::Need => Some(&ITEMS_NEED),
-        Keyword::Raise => Some(&ITEMS_RAISE),
-        Keyword::Cancel => Some(&ITEMS_CANCEL),
-        Keyword::Scope => Some(&ITEMS_SCOPE),
-        Keyword::Nursery => Some(&ITEMS_NURSERY),
-        Keyword::Try => Some(&ITEMS_TRY),
-        Keyword::Start => Some(&START),
+        Keyword::Sleep | Keyword::Pace | Keyword::Head => rest!(outer inside, Semicolon, Number),
+        Keyword::Checkpoint | Keyword::Forever | Keyword::Longest => rest!(outer inside, Semicolon),
+        Keyword::Find => rest!(outer inside, Semicolon, Text),
+        Keyword::Need => rest!(outer inside, Semicolon, Raised, Text),
+        Keyword::Raise => rest!(outer inside, Semicolon, Raised),
+        Keyword::Cancel => rest!(outer inside, Semicolon, Target),
+        Keyword::Scope => rest!(outer inside, Scope, Given),
+        Keyword::Nursery => rest!(outer inside, Items, Open, Given),
+        Keyword::Start if inside => rest!(Items, Over, Given),
+        Keyword::Try => rest!(tail inside, Steps, Open),
         _ => None,
     }
 }
@@ -311,14 +157,10 @@ fn item_step(keyword: Keyword) -> Option<&'static [Symbol]>
 fn cleanup_rest(inside: bool, keyword: Keyword) -> Option<&'static [Symbol]>
     ensures { Gives (λ x. reverse x.now) result (cleanup_rest inside keyword) }
 {
-    if keyword == Keyword::Finally {
-        return if inside {
-            Some(&ITEMS_CLEANUP)
-        } else {
-            Some(&STEPS_CLEANUP)
-        };
+    match keyword {
+        Keyword::Finally => rest!(outer inside, Steps, Open),
+        _ => step_rest(inside, keyword),
     }
-    step_rest(inside, keyword)
 }
 
 // What stands behind the word that follows the block of a `try`.
@@ -326,82 +168,8 @@ fn tail_rest(inside: bool, keyword: Keyword) -> Option<&'static [Symbol]>
     ensures { Gives (λ x. reverse x.now) result (tail_rest inside keyword) }
 {
     match keyword {
-        Keyword::Except => if inside {
-            Some(&ITEMS_HANDLER)
-        } else {
-            Some(&STEPS_HANDLER)
-        },
-        Keyword::Finally => if inside {
-            Some(&ITEMS_CLEANUP)
-        } else {
-            Some(&STEPS_CLEANUP)
-        },
+        Keyword::Except => rest!(cleanup inside, Steps, Open, Handled),
+        Keyword::Finally => rest!(outer inside, Steps, Open),
         _ => None,
-    }
-}
-
-fn scope_rest(keyword: Keyword) -> Option<&'static [Symbol]>
-    ensures { Gives (λ x. reverse x.now) result (scope_rest keyword) }
-{
-    if keyword == Keyword::After || keyword == Keyword::At {
-        return Some(&DEADLINE);
-    }
-    shield_rest(keyword)
-}
-
-fn shield_rest(keyword: Keyword) -> Option<&'static [Symbol]>
-    ensures { Gives (λ x. reverse x.now) result (shield_rest keyword) }
-{
-    if keyword == Keyword::Shield {
-        return Some(&SHIELDED);
-    }
-    fail_rest(keyword)
-}
-
-fn fail_rest(keyword: Keyword) -> Option<&'static [Symbol]>
-    ensures { Gives (λ x. reverse x.now) result (fail_rest keyword) }
-{
-    if keyword == Keyword::Fail {
-        return Some(&BLOCK);
-    }
-    None
-}
-
-fn over_rest(keyword: Keyword) -> Option<&'static [Symbol]>
-    ensures { Gives (λ x. reverse x.now) result (over_rest keyword) }
-{
-    if keyword == Keyword::Over {
-        return Some(&COPIES);
-    }
-    None
-}
-
-fn open_rest(mark: Mark, rest: &'static [Symbol]) -> Option<&'static [Symbol]>
-    ensures { Gives (λ x. reverse x.now) result (open_rest (Some (reverse rest.now)) mark) }
-{
-    match mark {
-        Mark::Open => Some(rest),
-        Mark::Close => None,
-        Mark::Semicolon => None,
-    }
-}
-
-fn close_rest(mark: Mark) -> Option<&'static [Symbol]>
-    ensures { Gives (λ x. reverse x.now) result (close_rest mark) }
-{
-    match mark {
-        Mark::Open => None,
-        Mark::Close => Some(&NOTHING),
-        Mark::Semicolon => None,
-    }
-}
-
-fn semicolon_rest(mark: Mark) -> Option<&'static [Symbol]>
-    ensures { Gives (λ x. reverse x.now) result (semicolon_rest mark) }
-{
-    match mark {
-        Mark::Open => None,
-        Mark::Close => None,
-        Mark::Semicolon => Some(&NOTHING),
     }
 }
