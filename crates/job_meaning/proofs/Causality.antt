@@ -7,7 +7,7 @@ use Rattle.exc_groups.specs.Exceptions.{Label, Exc, cancelled, by_nursery, group
 use Rattle.exc_groups.specs.Split.{Wanted, keep, drop}
 use Rattle.cancel_scopes.specs.Sight.{Tick, sight, seen, reached, catches}
 use Rattle.job_meaning.specs.Log.{Log, nil, entry, entered, followed_by, Member, Result}
-use Rattle.job_meaning.specs.Walk.{Stack, Mode, twice, by_table, Here, walk, walk_step, walk_handler, walk_cleanup, done_at, raised_at, joined, and_then, then_if, slept, sleeping, cancelling, label_on, Kind, from_of, block, left_from, left_with, left_as, exc_after, within, signed, sign_if, home_of, latest, with_exc, excs_of, gathered, child, each, handled, handled_exc, handled_if, handler_exc, with_outcome, outcome_after, cleaned}
+use Rattle.job_meaning.specs.Walk.{Stack, Mode, two_walks, by_table, Here, walk, walk_step, walk_handler, walk_cleanup, done_at, raised_at, joined, and_then, then_if, slept, sleeping, cancelling, label_on, Kind, from_of, block, left_from, left_with, left_as, exc_after, within, signed, sign_if, home_of, latest, with_exc, excs_of, gathered, child, each, handled, handled_exc, handled_if, handler_exc, with_outcome, outcome_after, cleaned}
 use Rattle.job_meaning.specs.Before.{upto, Near, Agree, soon, later, known_members, clipped, exc_if, entered_if, task_if}
 use Rattle.job_meaning.specs.Laws.{NothingBeforeItsCause}
 use Rattle.job_meaning.proofs.Late.{Timed, Late, late, late_signed, late_gathered, latest_ends, child_ends, each_ends}
@@ -169,7 +169,7 @@ module _ (c : ℕ) (kind : Kind) (label : Label) (t : ℕ) (d : Tick) where
     -- the froms of a block are near, where its insides agree
     block_near : (m : Mode) (inside inside' : Tick → Result) → ((f : Tick) → Late t (inside f)) → ((f : Tick) → Late t (inside' f)) →
         ((f g : Tick) → upto c f ≡ upto c g → Agree c (inside f) (inside' g)) → upto c (from_of m label d inside) ≡ upto c (from_of m label d inside')
-    block_near twice inside inside' h h' k =
+    block_near two_walks inside inside' h h' k =
         from_near c d _ _ (least_near c t label _ _ (h d).timed (h' d).timed (agree_logs (k d d refl)))
     block_near (by_table table) inside inside' h h' k = refl
 

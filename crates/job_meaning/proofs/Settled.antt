@@ -7,7 +7,7 @@ use Rattle.exc_groups.specs.Exceptions.{Label, Exc}
 use Rattle.exc_groups.specs.Split.{Wanted, keep, drop}
 use Rattle.cancel_scopes.specs.Sight.{Tick, catches}
 use Rattle.job_meaning.specs.Log.{Log, nil, entry, followed_by, Result, least_sign, deadline_of, deadline_if, either, same_label, from_by, Table, table_of}
-use Rattle.job_meaning.specs.Walk.{Stack, Mode, twice, by_table, Here, walk, walk_step, walk_handler, walk_cleanup, joined, and_then, then_if, Kind, block, left_from, left_as, left_with, within, signed, sign_if, home_of, gathered, child, each, handled, handled_exc, handled_if, handled_by, cleaned, cleaned_by, label_here, label_over, here_in}
+use Rattle.job_meaning.specs.Walk.{Stack, Mode, two_walks, by_table, Here, walk, walk_step, walk_handler, walk_cleanup, joined, and_then, then_if, Kind, block, left_from, left_as, left_with, within, signed, sign_if, home_of, gathered, child, each, handled, handled_exc, handled_if, handled_by, cleaned, cleaned_by, label_here, label_over, here_in}
 use Rattle.job_meaning.specs.Meaning.{meaning, meaning_table, root_walk, root_here}
 use Rattle.job_meaning.specs.Follow.{follow}
 use Rattle.job_meaning.specs.Before.{upto, clipped, Near}
@@ -67,7 +67,7 @@ module _ (table : Table) (kind : Kind) (label : Label) (t : ℕ) (d : Tick) (shi
   -- a block: the table has its from, and inside all is the same
   settled_block : ((f : Tick) → Late t (inside f)) → ((c : ℕ) (f g : Tick) → upto c f ≡ upto c g → clipped c (inside f).log ≡ clipped c (inside g).log) →
       ((f : Tick) → Fits table (inside f).log → inside' f ≡ inside f) →
-      Fits table (block twice kind label t d shield st inside).log → block (by_table table) kind label t d shield st inside' ≡ block twice kind label t d shield st inside
+      Fits table (block two_walks kind label t d shield st inside).log → block (by_table table) kind label t d shield st inside' ≡ block two_walks kind label t d shield st inside
   unfolding block
   settled_block later causal same h =
       let first : Tick = least_sign label (inside d).log in
@@ -199,34 +199,34 @@ near_same c (l ∷ ls) = (refl, refl, refl, near_same c ls)
 abbrev nursery_inside : Mode → Steps → Label → Here → Stack → ℕ → Result
 nursery_inside m body label here inner t = gathered label (signed inner (walk m body here inner t))
 
-tidy_nursery : (body : Steps) (label : Label) (here : Here) (inner : Stack) (t : ℕ) → Tidy inner (Belongs (names_of body) here.path) (nursery_inside twice body label here inner t)
-tidy_nursery body label here inner t = tidy_gathered inner _ label _ (tidy_signed inner _ _ (tidy twice body here inner t))
+tidy_nursery : (body : Steps) (label : Label) (here : Here) (inner : Stack) (t : ℕ) → Tidy inner (Belongs (names_of body) here.path) (nursery_inside two_walks body label here inner t)
+tidy_nursery body label here inner t = tidy_gathered inner _ label _ (tidy_signed inner _ _ (tidy two_walks body here inner t))
 
-late_nursery : (body : Steps) (label : Label) (here : Here) (inner : Stack) (t : ℕ) → Late t (nursery_inside twice body label here inner t)
-late_nursery body label here inner t = late_gathered t label _ (late_signed t inner _ (late twice body here inner t))
+late_nursery : (body : Steps) (label : Label) (here : Here) (inner : Stack) (t : ℕ) → Late t (nursery_inside two_walks body label here inner t)
+late_nursery body label here inner t = late_gathered t label _ (late_signed t inner _ (late two_walks body here inner t))
 
 agree_nursery : (c : ℕ) (body : Steps) (label : Label) (here : Here) (inner other : Stack) (t : ℕ) → Near c inner other →
-    clipped c (nursery_inside twice body label here inner t).log ≡ clipped c (nursery_inside twice body label here other t).log
+    clipped c (nursery_inside two_walks body label here inner t).log ≡ clipped c (nursery_inside two_walks body label here other t).log
 agree_nursery c body label here inner other t near =
-    agree_logs (agree_gathered c label _ _ (agree_signed c inner other _ _ near (agree c twice body here inner other t near)))
+    agree_logs (agree_gathered c label _ _ (agree_signed c inner other _ _ near (agree c two_walks body here inner other t near)))
 
 mutual
   unfolding walk
 
   -- every walk by a table that fits its meaning is that meaning
   settled : (table : Table) (b : Steps) (here : Here) (st : Stack) (t : ℕ) → Distinct (names_of b) → Fresh st (names_of b) →
-      Fits table (walk twice b here st t).log → walk (by_table table) b here st t ≡ walk twice b here st t
+      Fits table (walk two_walks b here st t).log → walk (by_table table) b here st t ≡ walk two_walks b here st t
   settled table stop here st t distinct fresh f = refl
   settled table (step s ss) here st t distinct fresh f =
-      settled_and_then table (walk_step twice s here st t) (walk_step (by_table table) s here st t)
-      (λ u. walk twice ss here st u) (λ u. walk (by_table table) ss here st u)
+      settled_and_then table (walk_step two_walks s here st t) (walk_step (by_table table) s here st t)
+      (λ u. walk two_walks ss here st u) (λ u. walk (by_table table) ss here st u)
       (λ g. settled_step table s here st t (distinct_left (names_in s) (names_of ss) distinct) (fresh_left st (names_in s) (names_of ss) fresh) g)
       (λ u g. settled table ss here st u (distinct_right (names_in s) (names_of ss) distinct) (fresh_right st (names_in s) (names_of ss) fresh) g)
-      (λ u. side_by_side st (names_in s) (names_of ss) here.path (walk_step twice s here st t) (walk twice ss here st u) distinct fresh (tidy_step twice s here st t) (tidy twice ss here st u))
+      (λ u. side_by_side st (names_in s) (names_of ss) here.path (walk_step two_walks s here st t) (walk two_walks ss here st u) distinct fresh (tidy_step two_walks s here st t) (tidy two_walks ss here st u))
       f
 
   settled_step : (table : Table) (s : Step) (here : Here) (st : Stack) (t : ℕ) → Distinct (names_in s) → Fresh st (names_in s) →
-      Fits table (walk_step twice s here st t).log → walk_step (by_table table) s here st t ≡ walk_step twice s here st t
+      Fits table (walk_step two_walks s here st t).log → walk_step (by_table table) s here st t ≡ walk_step two_walks s here st t
   settled_step table (sleep n) here st t distinct fresh f = refl
   settled_step table checkpoint here st t distinct fresh f = refl
   settled_step table forever here st t distinct fresh f = refl
@@ -239,9 +239,9 @@ mutual
   settled_step table (cancel name) here st t distinct fresh f = refl
   settled_step table (scope name d shield fail body) here st t distinct fresh f =
       settled_block table _ (label_here name here) t _ shield st _ _
-      (λ g e. not_inside name (names_of body) here here.path distinct ((tidy twice body here _ t).gives _ e))
-      (λ g. late twice body here _ t)
-      (λ c g k e. agree_logs (agree c twice body here _ _ t (near_within c (label_here name here) shield g k st st e (near_same c st))))
+      (λ g e. not_inside name (names_of body) here here.path distinct ((tidy two_walks body here _ t).gives _ e))
+      (λ g. late two_walks body here _ t)
+      (λ c g k e. agree_logs (agree c two_walks body here _ _ t (near_within c (label_here name here) shield g k st st e (near_same c st))))
       (λ g h. settled table body here _ t distinct.1 (fresh_within name (names_of body) here shield g st distinct fresh) h)
       f
   settled_step table (nursery name d shield body) here st t distinct fresh f =
@@ -253,33 +253,33 @@ mutual
       (near_within c (label_here name here) shield g k st st e (near_same c st)))
       (λ g h. settled_gathered table (label_here name here) _ _
       (settled_signed table (within (label_here name here) shield g st) (Belongs (names_of body) here.path) _ _
-      (tidy twice body here (within (label_here name here) shield g st) t)
+      (tidy two_walks body here (within (label_here name here) shield g st) t)
       (λ l o b. (fresh_within name (names_of body) here shield g st distinct fresh).none l o b.named)
       (λ i. settled table body here (within (label_here name here) shield g st) t distinct.1 (fresh_within name (names_of body) here shield g st distinct fresh) i))
       h)
       f
   settled_step table (start name None body) here st t distinct fresh f =
       settled_child table (label_here name here) t _ _
-      (settled_signed table st (Belongs (names_of body) here.path) _ _ (tidy twice body _ st t)
+      (settled_signed table st (Belongs (names_of body) here.path) _ _ (tidy two_walks body _ st t)
       (λ l o b. fresh.none l o (inr b.named))
       (λ g. settled table body _ st t distinct.1 (fresh_in st (names_of body) (name ∷ names_of body) (λ n i. inr i) fresh) g))
       f
   settled_step table (start name (Some k) body) here st t distinct fresh f =
       settled_each table st (name ∷ names_of body) here.path k _ _ t fresh
-      (λ i. tidy_over twice name body here (cut_of here.input here.part k i) i st t)
+      (λ i. tidy_over two_walks name body here (cut_of here.input here.part k i) i st t)
       (λ i g. settled_child table (label_over name here i) t _ _
-      (settled_signed table st (Belongs (names_of body) (here.path ++ i ∷ [])) _ _ (tidy twice body (here_in (label_over name here i) (cut_of here.input here.part k i) here) st t)
+      (settled_signed table st (Belongs (names_of body) (here.path ++ i ∷ [])) _ _ (tidy two_walks body (here_in (label_over name here i) (cut_of here.input here.part k i) here) st t)
       (λ l o b. fresh.none l o (inr b.named))
       (λ h. settled table body (here_in (label_over name here i) (cut_of here.input here.part k i) here) st t distinct.1 (fresh_in st (names_of body) (name ∷ names_of body) (λ n j. inr j) fresh) h))
       g)
       f
   settled_step table (attempt body handler cleanup) here st t distinct fresh f =
       let names : List (List ℕ) = names_of body ++ handled_names handler in
-      let first : Result = walk twice body here st t in
-      let second : Result = walk_handler twice handler here st first in
-      let tidy_first : Tidy st (Belongs (names_of body) here.path) first = tidy twice body here st t in
+      let first : Result = walk two_walks body here st t in
+      let second : Result = walk_handler two_walks handler here st first in
+      let tidy_first : Tidy st (Belongs (names_of body) here.path) first = tidy two_walks body here st t in
       let cleanup_same = settled_cleanup table cleanup here st second names
-      (tidy_handler twice handler here st first (names_of body) tidy_first) distinct fresh f in
+      (tidy_handler two_walks handler here st first (names_of body) tidy_first) distinct fresh f in
       let handler_same = settled_handler table handler here st first (names_of body) tidy_first
       (distinct_left names (cleaned_names cleanup) distinct) (fresh_left st names (cleaned_names cleanup) fresh) cleanup_same.0 in
       let body_same = settled table body here st t
@@ -290,23 +290,23 @@ mutual
 
   -- a handler behind a body that is the same
   settled_handler : (table : Table) (x : Handled) (here : Here) (st : Stack) (r : Result) (names : List (List ℕ)) → Tidy st (Belongs names here.path) r →
-      Distinct (names ++ handled_names x) → Fresh st (names ++ handled_names x) → Fits table (walk_handler twice x here st r).log →
-      Fits table r.log × (walk_handler (by_table table) x here st r ≡ walk_handler twice x here st r)
+      Distinct (names ++ handled_names x) → Fresh st (names ++ handled_names x) → Fits table (walk_handler two_walks x here st r).log →
+      Fits table r.log × (walk_handler (by_table table) x here st r ≡ walk_handler two_walks x here st r)
   settled_handler table unhandled here st r names h distinct fresh f = (f, refl)
   settled_handler table (except name body) here st r names h distinct fresh f =
-      settled_handled table _ r (λ u. walk twice body here st u) (λ u. walk (by_table table) body here st u)
-      (λ u. side_by_side st names (names_of body) here.path r (walk twice body here st u) distinct fresh h (tidy twice body here st u))
+      settled_handled table _ r (λ u. walk two_walks body here st u) (λ u. walk (by_table table) body here st u)
+      (λ u. side_by_side st names (names_of body) here.path r (walk two_walks body here st u) distinct fresh h (tidy two_walks body here st u))
       (λ u g. settled table body here st u (distinct_right names (names_of body) distinct) (fresh_right st names (names_of body) fresh) g)
       f
 
   -- a cleanup behind what is the same
   settled_cleanup : (table : Table) (x : Cleaned) (here : Here) (st : Stack) (r : Result) (names : List (List ℕ)) → Tidy st (Belongs names here.path) r →
-      Distinct (names ++ cleaned_names x) → Fresh st (names ++ cleaned_names x) → Fits table (walk_cleanup twice x here st r).log →
-      Fits table r.log × (walk_cleanup (by_table table) x here st r ≡ walk_cleanup twice x here st r)
+      Distinct (names ++ cleaned_names x) → Fresh st (names ++ cleaned_names x) → Fits table (walk_cleanup two_walks x here st r).log →
+      Fits table r.log × (walk_cleanup (by_table table) x here st r ≡ walk_cleanup two_walks x here st r)
   settled_cleanup table uncleaned here st r names h distinct fresh f = (f, refl)
   settled_cleanup table (finally body) here st r names h distinct fresh f =
-      settled_cleaned table r (λ u. walk twice body here st u) (λ u. walk (by_table table) body here st u)
-      (λ u. side_by_side st names (names_of body) here.path r (walk twice body here st u) distinct fresh h (tidy twice body here st u))
+      settled_cleaned table r (λ u. walk two_walks body here st u) (λ u. walk (by_table table) body here st u)
+      (λ u. side_by_side st names (names_of body) here.path r (walk two_walks body here st u) distinct fresh h (tidy two_walks body here st u))
       (λ u g. settled table body here st u (distinct_right names (names_of body) distinct) (fresh_right st names (names_of body) fresh) g)
       f
 
@@ -316,7 +316,7 @@ following_is_meaning job input once =
     settled (meaning_table job input) job.steps (root_here job input) [] 0
     (distinct_by_bytes (job.name ∷ names_of job.steps) once).1
     (record { none = λ l o i. o })
-    (fits_own (root_walk twice job input).log)
+    (fits_own (root_walk two_walks job input).log)
 
 pub table_is_settled : TableIsSettled
 table_is_settled job input once l = ap (λ (r : Result). table_of r.log l) (sym (following_is_meaning job input once))

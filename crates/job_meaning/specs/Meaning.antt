@@ -4,7 +4,7 @@ use Rattle.job_tree.specs.Tree.{Tree}
 use Rattle.exc_groups.specs.Exceptions.{Label, Exc}
 use Rattle.cancel_scopes.specs.Sight.{Tick}
 use Rattle.job_meaning.specs.Log.{Entry, Log, nil, entry, sign, entered, task, Result, Table, table_of}
-use Rattle.job_meaning.specs.Walk.{Mode, twice, Here, walk}
+use Rattle.job_meaning.specs.Walk.{Mode, two_walks, Here, walk}
 
 -- an entry with its tick
 pub record Noted : Type 0 where
@@ -71,7 +71,7 @@ root_log job r = task (root_label job.name) 0 r.end r.exc r.log nil
 
 -- the meaning of a job over an input
 unfoldable pub meaning : Tree → List ℕ → Result
-meaning job input = root_walk twice job input
+meaning job input = root_walk two_walks job input
 
 -- the records of the meaning
 abbrev pub meaning_records : Tree → List ℕ → List Record

@@ -23,7 +23,7 @@ Stack = List (Level Label)
 -- How a block's from is found. The meaning walks it twice: first for its earliest sign, then with the from that
 -- follows. A table gives each from outright.
 pub data Mode : Type 0 where
-  twice : Mode
+  two_walks : Mode
   by_table : (table : Table) → Mode
 
 -- where a walk is: the input, the task's part of it, the task's label, and the path of indices
@@ -157,7 +157,7 @@ leaving kind label t deadline left r =
 
 -- the from of a block, whose inside is walked at each from
 abbrev pub from_of : Mode → Label → Tick → (Tick → Result) → Tick
-from_of twice label deadline inside = from_by deadline (least_sign label (inside deadline).log)
+from_of two_walks label deadline inside = from_by deadline (least_sign label (inside deadline).log)
 from_of (by_table table) label deadline inside = table label
 
 abbrev pub left_from : Kind → Label → ℕ → Tick → Bool → Stack → Tick → Result → Result

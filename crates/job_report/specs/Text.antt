@@ -45,13 +45,13 @@ abbrev pub hex_digit : ℕ → ℕ
 hex_digit n = if nat_lt n 10 then n + 48 else n + 87
 
 -- a byte that stands for itself: 32 to 126, but no backslash
-abbrev pub is_plain : ℕ → Bool
-is_plain b = (nat_le 32 b && nat_le b 126) && not (b == 92)
+abbrev pub stands_for_itself : ℕ → Bool
+stands_for_itself b = (nat_le 32 b && nat_le b 126) && not (b == 92)
 
 -- a byte as a report shows it: a backslash is doubled, and what is not plain is `\x` and two digits
 abbrev pub escaped : ℕ → List ℕ
 escaped b =
-    if is_plain b then b ∷ []
+    if stands_for_itself b then b ∷ []
     else (if b == 92 then 92 ∷ 92 ∷ [] else 92 ∷ 120 ∷ hex_digit (b / 16) ∷ hex_digit (b % 16) ∷ [])
 
 abbrev pub caught_text : Bool → List ℕ

@@ -1,6 +1,6 @@
 ghost use Rattle.std.specs.Prelude.{◌≡◌, ◌++◌, [], ◌∷◌, OnOk, IfSome, IfNone, ◌<◌, ◌≤◌, ℕ, false, true, length, slice_index};
 ghost use Rattle.std.specs.List.{flat_map};
-ghost use Rattle.job_report.specs.Text.{escaped, hex_digit, is_plain};
+ghost use Rattle.job_report.specs.Text.{escaped, hex_digit, stands_for_itself};
 
 use std::alloc::AllocError;
 
@@ -20,7 +20,7 @@ pub fn push_escaped(out: &mut Vec<u8>, text: &[u8]) -> Result<(), AllocError>
 // The bytes before the first that does not stand for itself, that byte, and the bytes behind it.
 fn split_special(text: &[u8]) -> Option<(&[u8], u8, &[u8])>
     ensures none { IfNone result (flat_map escaped text.now ≡ text.now) }
-    ensures special { IfSome result (λ r. is_plain r.1 ≡ false) }
+    ensures special { IfSome result (λ r. stands_for_itself r.1 ≡ false) }
     ensures shorter { IfSome result (λ r. length r.2.now < length text.now) }
     ensures parts { IfSome result (λ r. flat_map escaped text.now ≡ r.0.now ++ (escaped r.1 ++ flat_map escaped r.2.now)) }
 {
@@ -34,8 +34,8 @@ fn split_special(text: &[u8]) -> Option<(&[u8], u8, &[u8])>
 // How many bytes from the front on stand for themselves.
 fn plain_len(text: &[u8]) -> usize
     ensures within { result ≤ length text.now }
-    ensures plain { (k : ℕ) → k < result → is_plain (slice_index text.now k) ≡ true }
-    ensures special { result < length text.now → is_plain (slice_index text.now result) ≡ false }
+    ensures plain { (k : ℕ) → k < result → stands_for_itself (slice_index text.now k) ≡ true }
+    ensures special { result < length text.now → stands_for_itself (slice_index text.now result) ≡ false }
 {
     for (i, b) in text.iter().enumerate() {
         if !is_plain_byte(*b) {
@@ -46,14 +46,14 @@ fn plain_len(text: &[u8]) -> usize
 }
 
 fn is_plain_byte(b: u8) -> bool
-    ensures { result ≡ is_plain b }
+    ensures { result ≡ stands_for_itself b }
 {
     32 <= b && b <= 126 && b != 92
 }
 
 // Appends a byte that does not stand for itself.
 fn push_special(out: &mut Vec<u8>, b: u8) -> Result<(), AllocError>
-    requires { is_plain b ≡ false }
+    requires { stands_for_itself b ≡ false }
     ensures { OnOk result (out.new.items ≡ out.old.items ++ escaped b) }
 {
     if b == b'\\' {

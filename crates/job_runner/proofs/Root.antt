@@ -7,7 +7,7 @@ use Rattle.cancel_scopes.specs.Sight.{Tick, next}
 use Rattle.job_tree.specs.Tree.{Tree, Steps}
 use Rattle.job_meaning.specs.Log as meaning
 use Rattle.job_meaning.specs.Log.{Result, nil, task, least_sign, table_of, entered_from, either}
-use Rattle.job_meaning.specs.Walk.{Here, twice, walk, child}
+use Rattle.job_meaning.specs.Walk.{Here, two_walks, walk, child}
 use Rattle.job_meaning.specs.Meaning.{meaning, root_here, root_label, root_log, From, froms_by}
 use Rattle.job_meaning.proofs.Touched.{earlier_never, either_nothing}
 use Rattle.plain_walk.specs.declared.walked.Walked.{Walked}
@@ -30,12 +30,12 @@ root_is job input buffer r l b p t =
     ∙ ap (λ (x : Label). record { input = buffer; part = record { from = 0; to = length input }; task = x; path = x.indices }) t
     ∙ ap (λ (x : List ℕ). record { input = x; part = record { from = 0; to = length input }; task = root_label job.name; path = [] }) b
 
-pub root_walked : (job : Tree) (input buffer : List ℕ) (w : Walked) (here : Here) (ss : Steps) → here ≡ root_here job input → ss ≡ job.steps → buffer ≡ input → IsWalked buffer w (walk twice ss here [] 0) → IsWalked input w (meaning job input)
+pub root_walked : (job : Tree) (input buffer : List ℕ) (w : Walked) (here : Here) (ss : Steps) → here ≡ root_here job input → ss ≡ job.steps → buffer ≡ input → IsWalked buffer w (walk two_walks ss here [] 0) → IsWalked input w (meaning job input)
 unfolding meaning
 root_walked job input buffer w here ss at steps same h =
-    subst (λ (x : List ℕ). IsWalked x w (walk twice job.steps (root_here job input) [] 0)) same
-    (subst (λ (x : Here). IsWalked buffer w (walk twice job.steps x [] 0)) at
-    (subst (λ (x : Steps). IsWalked buffer w (walk twice x here [] 0)) steps h))
+    subst (λ (x : List ℕ). IsWalked x w (walk two_walks job.steps (root_here job input) [] 0)) same
+    (subst (λ (x : Here). IsWalked buffer w (walk two_walks job.steps x [] 0)) at
+    (subst (λ (x : Steps). IsWalked buffer w (walk two_walks x here [] 0)) steps h))
 
 pub root_told : (job : Tree) (input : List ℕ) (w : Walked) (r : Result) → IsWalked input w (child (root_label job.name) 0 r) → Tells input w.log (root_log job r)
 unfolding child

@@ -9,20 +9,20 @@ use Rattle.exc_groups.specs.declared.exc.Exc as held_exc
 use Rattle.exc_groups.specs.Split.{Wanted, keep, drop}
 use Rattle.job_tree.specs.Tree.{Steps}
 use Rattle.job_meaning.specs.Log.{Result}
-use Rattle.job_meaning.specs.Walk.{Here, Stack, twice, walk, handled, handled_exc, handled_if, handled_by}
+use Rattle.job_meaning.specs.Walk.{Here, Stack, two_walks, walk, handled, handled_exc, handled_if, handled_by}
 use Rattle.plain_walk.specs.declared.walked.Walked.{Walked}
 use Rattle.plain_walk.specs.Walks.{IsWalked}
 
 -- a walk of equal steps from an equal tick
-pub walked_at : (input : List ℕ) (w : Walked) (ss body : Steps) (here : Here) (st : Stack) (u v : ℕ) → ss ≡ body → u ≡ v → IsWalked input w (walk twice ss here st u) → IsWalked input w (walk twice body here st v)
+pub walked_at : (input : List ℕ) (w : Walked) (ss body : Steps) (here : Here) (st : Stack) (u v : ℕ) → ss ≡ body → u ≡ v → IsWalked input w (walk two_walks ss here st u) → IsWalked input w (walk two_walks body here st v)
 walked_at input w ss body here st u v e f h =
-    subst (λ (x : ℕ). IsWalked input w (walk twice body here st x)) f (subst (λ (x : Steps). IsWalked input w (walk twice x here st u)) e h)
+    subst (λ (x : ℕ). IsWalked input w (walk two_walks body here st x)) f (subst (λ (x : Steps). IsWalked input w (walk two_walks x here st u)) e h)
 
 -- a walk with an equal input
-pub walked_in : (a b : List ℕ) (w : Walked) (ss body : Steps) (p : Range) (l : Label) (st : Stack) (t : ℕ) → a ≡ b → ss ≡ body → IsWalked a w (walk twice ss (record { input = a; part = p; task = l; path = l.indices }) st t) → IsWalked b w (walk twice body (record { input = b; part = p; task = l; path = l.indices }) st t)
+pub walked_in : (a b : List ℕ) (w : Walked) (ss body : Steps) (p : Range) (l : Label) (st : Stack) (t : ℕ) → a ≡ b → ss ≡ body → IsWalked a w (walk two_walks ss (record { input = a; part = p; task = l; path = l.indices }) st t) → IsWalked b w (walk two_walks body (record { input = b; part = p; task = l; path = l.indices }) st t)
 walked_in a b w ss body p l st t e f h =
-    subst (λ (x : List ℕ). IsWalked x w (walk twice body (record { input = x; part = p; task = l; path = l.indices }) st t)) e
-    (subst (λ (x : Steps). IsWalked a w (walk twice x (record { input = a; part = p; task = l; path = l.indices }) st t)) f h)
+    subst (λ (x : List ℕ). IsWalked x w (walk two_walks body (record { input = x; part = p; task = l; path = l.indices }) st t)) e
+    (subst (λ (x : Steps). IsWalked a w (walk two_walks x (record { input = a; part = p; task = l; path = l.indices }) st t)) f h)
 
 -- nothing was raised
 pub not_raised : (input : List ℕ) (w : Walked) (wanted : Wanted) (r : Result) (go : ℕ → Result) → r.exc ≡ None → IsWalked input w r → IsWalked input w (handled wanted r go)

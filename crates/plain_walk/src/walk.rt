@@ -5,7 +5,7 @@ ghost use Rattle.job_tree.specs.Modest.{AreModest, IsModestStep, IsModestHandler
 ghost use Rattle.job_tree.specs.Names.{size_of, size_in, handled_size, cleaned_size};
 ghost use Rattle.exc_groups.specs.Exceptions.{Label as TreeLabel};
 ghost use Rattle.job_meaning.specs.Log as meaning;
-ghost use Rattle.job_meaning.specs.Walk.{twice, walk, walk_step, walk_handler, walk_cleanup, block, each};
+ghost use Rattle.job_meaning.specs.Walk.{two_walks, walk, walk_step, walk_handler, walk_cleanup, block, each};
 ghost use Rattle.plain_walk.specs.Kinds.{kind_of};
 ghost use Rattle.plain_walk.specs.Heres.{HasRoom, here_of, input_of, scopes_of, inside, started, started_over, label_in};
 ghost use Rattle.plain_walk.specs.Walks.{IsWalked};
@@ -33,7 +33,7 @@ pub fn walk_steps<'a>(
 ) -> Result<Walked<'a>, AllocError>
     requires modest { AreModest (steps_of steps.now) }
     requires room { HasRoom (size_of (steps_of steps.now)) here tick }
-    ensures { IfOk result (λ w. IsWalked (input_of here.entry) w (walk twice (steps_of steps.now) (here_of here.entry) (scopes_of here.entry) tick)) }
+    ensures { IfOk result (λ w. IsWalked (input_of here.entry) w (walk two_walks (steps_of steps.now) (here_of here.entry) (scopes_of here.entry) tick)) }
 {
     let mut walked = Walked::done(here.alloc, tick);
     'steps: for step in steps {
@@ -51,7 +51,7 @@ pub fn walk_steps<'a>(
 fn walk_step<'a>(step: &'a Step, here: Here<'a, '_>, tick: u64) -> Result<Walked<'a>, AllocError>
     requires modest { IsModestStep (step_of step.now) }
     requires room { HasRoom (size_in (step_of step.now)) here tick }
-    ensures { IfOk result (λ w. IsWalked (input_of here.entry) w (walk_step twice (step_of step.now) (here_of here.entry) (scopes_of here.entry) tick)) }
+    ensures { IfOk result (λ w. IsWalked (input_of here.entry) w (walk_step two_walks (step_of step.now) (here_of here.entry) (scopes_of here.entry) tick)) }
 {
     let (alloc, stack) = (here.alloc, here.stack);
     match step {
@@ -105,7 +105,7 @@ fn walk_block<'a>(
     requires modest { AreModest body.now }
     requires room { HasRoom (size_of body.now) here tick }
     ensures { IfOk result (λ w. IsWalked (input_of here.entry) w
-        (block twice (kind_of kind) (label_in name.now here.entry) tick deadline shield (scopes_of here.entry)
+        (block two_walks (kind_of kind) (label_in name.now here.entry) tick deadline shield (scopes_of here.entry)
         (inside (kind_of kind) (label_in name.now here.entry) shield body.now (here_of here.entry) (scopes_of here.entry) tick))) }
 {
     let label = here.task.named(here.alloc, *name)?;
@@ -234,9 +234,9 @@ fn walk_try<'a>(
     requires modest_cleanup { IsModestCleanup (cleaned_of cleanup.now) }
     requires room { HasRoom (size_of body.now + handled_size (handled_of handler.now) + cleaned_size (cleaned_of cleanup.now)) here tick }
     ensures { IfOk result (λ w. IsWalked (input_of here.entry) w
-        (walk_cleanup twice (cleaned_of cleanup.now) (here_of here.entry) (scopes_of here.entry)
-        (walk_handler twice (handled_of handler.now) (here_of here.entry) (scopes_of here.entry)
-        (walk twice body.now (here_of here.entry) (scopes_of here.entry) tick)))) }
+        (walk_cleanup two_walks (cleaned_of cleanup.now) (here_of here.entry) (scopes_of here.entry)
+        (walk_handler two_walks (handled_of handler.now) (here_of here.entry) (scopes_of here.entry)
+        (walk two_walks body.now (here_of here.entry) (scopes_of here.entry) tick)))) }
 {
     let walked = walk_steps(body.as_slice(), here, tick)?;
     let walked = walk_handler(handler, walked, here)?;
@@ -254,7 +254,7 @@ fn walk_handler<'a>(
     requires modest { IsModestHandler (handled_of handler.now) }
     requires room { HasRoom (handled_size (handled_of handler.now)) here walked.end }
     ensures { IfOk result (λ w. (r : meaning.Result) → IsWalked (input_of here.entry) walked.entry r → IsWalked (input_of here.entry) w
-        (walk_handler twice (handled_of handler.now) (here_of here.entry) (scopes_of here.entry) r)) }
+        (walk_handler two_walks (handled_of handler.now) (here_of here.entry) (scopes_of here.entry) r)) }
 {
     let Some(handler) = handler else {
         return Ok(walked);
@@ -281,7 +281,7 @@ fn walk_cleanup<'a>(
     requires modest { IsModestCleanup (cleaned_of cleanup.now) }
     requires room { HasRoom (cleaned_size (cleaned_of cleanup.now)) here walked.end }
     ensures { IfOk result (λ w. (r : meaning.Result) → IsWalked (input_of here.entry) walked.entry r → IsWalked (input_of here.entry) w
-        (walk_cleanup twice (cleaned_of cleanup.now) (here_of here.entry) (scopes_of here.entry) r)) }
+        (walk_cleanup two_walks (cleaned_of cleanup.now) (here_of here.entry) (scopes_of here.entry) r)) }
 {
     let Some(cleanup) = cleanup else {
         return Ok(walked);

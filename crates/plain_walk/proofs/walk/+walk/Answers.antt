@@ -12,7 +12,7 @@ use Rattle.exc_groups.specs.Held.{exc_of}
 use Rattle.job_tree.specs.Names.{size_in}
 use Rattle.job_tree.specs.Blocks.{handled_of}
 use Rattle.job_meaning.specs.Log.{Result}
-use Rattle.job_meaning.specs.Walk.{walk, cleaned, twice, within, each, label_over, block}
+use Rattle.job_meaning.specs.Walk.{walk, cleaned, two_walks, within, each, label_over, block}
 use Rattle.plain_walk.specs.Kinds.{kind_of}
 use Rattle.plain_walk.specs.Heres.{HasRoom, here_of, input_of, scopes_of, inside, started, started_over}
 use Rattle.plain_walk.specs.Walks.{IsWalked}
@@ -26,7 +26,7 @@ walk_block-returns-then-eq t c =
     let kind = kind_of c.args.kind in
     let label = c.in_ok-label.label in
     let same = same_tick c.earlier-from.result c.args.deadline c.if-eq.ensures in
-    subst (λ (l : Label). IsWalked (input_of c.args.here) c.in_ok-walked.walked (block twice (kind_of c.args.kind) l c.args.tick c.args.deadline c.args.shield (scopes_of c.args.here) (inside (kind_of c.args.kind) l c.args.shield c.args.body.now (here_of c.args.here) (scopes_of c.args.here) c.args.tick)))
+    subst (λ (l : Label). IsWalked (input_of c.args.here) c.in_ok-walked.walked (block two_walks (kind_of c.args.kind) l c.args.tick c.args.deadline c.args.shield (scopes_of c.args.here) (inside (kind_of c.args.kind) l c.args.shield c.args.body.now (here_of c.args.here) (scopes_of c.args.here) c.args.tick)))
     c.in_ok-label.ensures
     (walked_block _ c.in_ok-first.first c.in_ok-first.first c.in_ok-walked.walked kind label _ _ _ _ _ c.earlier-from.result c.catches-catches.result
     (c.earlier-from.ensures ∙ ap (earlier c.args.deadline) c.seen_from.ensures) c.in_ok-first.ensures (subst (λ (d : Tick). IsWalked (input_of c.args.here) c.in_ok-first.first (inside kind label c.args.shield c.args.body.now (here_of c.args.here) (scopes_of c.args.here) c.args.tick d)) (sym same) c.in_ok-first.ensures)
@@ -36,7 +36,7 @@ pub walk_block-returns : goal.walk_block-returns
 walk_block-returns t c =
     let kind = kind_of c.args.kind in
     let label = c.in_ok-label.label in
-    subst (λ (l : Label). IsWalked (input_of c.args.here) c.in_ok-walked-2.walked (block twice (kind_of c.args.kind) l c.args.tick c.args.deadline c.args.shield (scopes_of c.args.here) (inside (kind_of c.args.kind) l c.args.shield c.args.body.now (here_of c.args.here) (scopes_of c.args.here) c.args.tick)))
+    subst (λ (l : Label). IsWalked (input_of c.args.here) c.in_ok-walked-2.walked (block two_walks (kind_of c.args.kind) l c.args.tick c.args.deadline c.args.shield (scopes_of c.args.here) (inside (kind_of c.args.kind) l c.args.shield c.args.body.now (here_of c.args.here) (scopes_of c.args.here) c.args.tick)))
     c.in_ok-label.ensures
     (walked_block _ c.in_ok-first.first c.in_ok-second.second c.in_ok-walked-2.walked kind label _ _ _ _ _ c.earlier-from.result c.catches-catches-2.result
     (c.earlier-from.ensures ∙ ap (earlier c.args.deadline) c.seen_from.ensures) c.in_ok-first.ensures c.in_ok-second.ensures
@@ -111,7 +111,7 @@ walk_inside-sign-requires t c =
 pub walk_inside-returns : goal.walk_inside-returns
 walk_inside-returns t c =
     let body = walked_at _ c.in_ok-walked.walked _ c.args.body.now _ _ _ c.args.tick c.as_slice.ensures refl c.in_ok-walked.ensures in
-    let inner = subst (λ (l : Label). IsWalked (input_of c.args.here) c.in_ok-walked.walked (walk twice c.args.body.now (here_of c.args.here) (within l c.args.shield c.args.from (scopes_of c.args.here)) c.args.tick)) c.in_ok-copy.ensures body in
+    let inner = subst (λ (l : Label). IsWalked (input_of c.args.here) c.in_ok-walked.walked (walk two_walks c.args.body.now (here_of c.args.here) (within l c.args.shield c.args.from (scopes_of c.args.here)) c.args.tick)) c.in_ok-copy.ensures body in
     rw c.in-Nursery.is
     (c.in_ok-walked-in-Nursery-2.ensures _ _ (c.in_ok-walked-in-Nursery.ensures _ (within c.args.label.now c.args.shield c.args.from (scopes_of c.args.here)) _ (c.home.ensures ∙ ap (λ (l : Label). Some l) c.in_ok-copy.ensures) inner))
 
