@@ -6,5 +6,7 @@
 #![tactic(auto)]
 
 mod laws;
+mod limits;
 
 pub use laws::{law_causality, law_labels, law_monotone_sight, law_root, law_settled_table};
+pub use limits::MOST_INPUT;

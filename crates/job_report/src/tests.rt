@@ -4,7 +4,7 @@ use crate::{MemOut, Out, PutFault, SendFault, WriteOut, report, send};
 use buffer_parts::Part;
 use exc_groups::{Exc, Label, Parts, Whose};
 use job_grammar::read_job;
-use job_runner::{Entry, Forward, NoGate, Outcome, Record, Settings, run};
+use job_runner::{Entry, Forward, MOST_INPUT, NoGate, Outcome, Record, Settings, run};
 use job_tree::Name;
 use std::alloc::Global;
 use std::io::{self, ErrorKind, Write};
@@ -22,7 +22,7 @@ fn report_of<R: Threads + Sync + Abort>(
     text: &[u8],
     input: &[u8],
 ) -> Result<Vec<u8>, Fail> {
-    assert!(rt; input.len() <= 16_777_216);
+    assert!(rt; input.len() <= MOST_INPUT);
     let job = read_job(alloc, text).ok().ok_or("a job")?;
     let settings = Settings::new(1, 100).ok_or("settings")?;
     let done = run(rt, alloc, &job, input, settings, &mut Forward, &NoGate);

@@ -1,4 +1,5 @@
 ghost use Rattle.std.specs.Prelude.{◌≡◌, ◌≤◌, ℕ, List, IfOk, IfErr, length};
+ghost use Rattle.job_meaning.specs.declared.limits.TheConstants.{MOST_INPUT};
 ghost use Rattle.job_tree.specs.Tree.{Tree};
 ghost use Rattle.job_meaning.specs.Meaning.{meaning, meaning_end, meaning_froms};
 ghost use Rattle.job_meaning.specs.Shown.{meaning_rows};
@@ -32,7 +33,7 @@ pub fn run<'a, R: Threads + Sync, P: Pick, G: Gate + Sync>(
     picker: &mut P,
     gate: &G,
 ) -> Result<Run<'a>, RunFault>
-    requires { length input.now ≤ 16777216 }
+    requires { length input.now ≤ MOST_INPUT }
     ensures name { IfOk result (λ run. name_of run ≡ job.now.name) }
     ensures records { IfOk result (λ run. rows_of run ≡ meaning_rows job.now input.now) }
     ensures lines { IfOk result (λ run. AreSlices input.now (records_in run)) }
@@ -52,7 +53,7 @@ pub fn run<'a, R: Threads + Sync, P: Pick, G: Gate + Sync>(
 
 // Walks a job's steps from tick 0 on the empty stack, over the whole input.
 fn walk_job<'a>(alloc: Global, job: &'a Job, input: &'a [u8]) -> Result<Walked<'a>, AllocError>
-    requires { length input.now ≤ 16777216 }
+    requires { length input.now ≤ MOST_INPUT }
     ensures { IfOk result (λ w. IsWalked input.now w (meaning job.now input.now)) }
 {
     let label = Label::new(alloc, job.name());

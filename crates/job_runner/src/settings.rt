@@ -1,5 +1,7 @@
 ghost use Rattle.std.specs.Prelude.{◌≡◌, ◌≤◌, ◌↔◌, IsSome, IfSome};
+ghost use Rattle.job_runner.specs.declared.limits.TheConstants.{MOST_WORKERS, GREATEST_LIMIT};
 
+use crate::limits::{GREATEST_LIMIT, MOST_WORKERS};
 use std::marker::Model;
 
 /// How a job is run: the number of workers, 1 to 64, and the limit, the last tick at which it may end.
@@ -12,12 +14,13 @@ pub struct Settings {
 impl Model for Settings {
     ghost use Rattle.std.specs.Prelude.{◌≤◌};
     ghost use Rattle.job_runner.specs.Settings.{Chosen};
+    ghost use Rattle.job_runner.specs.declared.limits.TheConstants.{MOST_WORKERS, GREATEST_LIMIT};
 
     ghost Value = { Chosen };
 
     ghost view = { λ s. record { workers = s.workers; limit = s.limit } };
 
-    ghost invariant = { λ s. (1 ≤ s.workers) × (s.workers ≤ 64) × (s.limit ≤ 4294967295) };
+    ghost invariant = { λ s. (1 ≤ s.workers) × (s.workers ≤ MOST_WORKERS) × (s.limit ≤ GREATEST_LIMIT) };
 
     ghost inverse = { λ c. record { workers = c.workers; limit = c.limit } };
 }
@@ -26,10 +29,10 @@ impl Settings {
     /// Settings with that many workers and that limit: none unless there are 1 to 64 workers and the limit is at most
     /// 4,294,967,295.
     pub fn new(workers: usize, limit: u64) -> Option<Settings>
-        ensures fits { IsSome result ↔ ((1 ≤ workers) × (workers ≤ 64) × (limit ≤ 4294967295)) }
+        ensures fits { IsSome result ↔ ((1 ≤ workers) × (workers ≤ MOST_WORKERS) × (limit ≤ GREATEST_LIMIT)) }
         ensures value { IfSome result (λ settings. settings ≡ record { workers = workers; limit = limit }) }
     {
-        if workers < 1 || workers > 64 || limit > 4_294_967_295 {
+        if workers < 1 || workers > MOST_WORKERS || limit > GREATEST_LIMIT {
             return None;
         }
         Some(Settings { workers, limit })
@@ -39,7 +42,7 @@ impl Settings {
     pub fn workers(self) -> usize
         ensures value { result ≡ self.workers }
         ensures some { 1 ≤ result }
-        ensures few { result ≤ 64 }
+        ensures few { result ≤ MOST_WORKERS }
     {
         self.workers
     }
@@ -47,7 +50,7 @@ impl Settings {
     /// The limit, in ticks.
     pub fn limit(self) -> u64
         ensures value { result ≡ self.limit }
-        ensures within { result ≤ 4294967295 }
+        ensures within { result ≤ GREATEST_LIMIT }
     {
         self.limit
     }

@@ -1,6 +1,7 @@
 -- Numbers in their ranges, from the tokens to the steps.
 use Rattle.std.proofs.Common.{◌≡◌, ℕ, ◌≤◌, nat_le, Bool, true, false, ◌&&◌, cond, List, [], ◌∷◌, Option, Some, None, refl, sym, subst}
 use Rattle.std.proofs.lemmas.Bool.{leb-true}
+use Rattle.job_tree.specs.declared.limits.TheConstants.{GREATEST_NUMBER, GREATEST_PACE, MOST_COPIES}
 use Rattle.job_tree.specs.declared.deadline.Deadline.{Deadline}
 use Rattle.job_tree.specs.declared.deadline.Deadline.TheVariants.{Never, After, At}
 use Rattle.job_tree.specs.Tree.{Step, sleep, checkpoint, forever, pace, find, head, longest, need, raise, cancel, scope, nursery, start, attempt, Steps, stop, step, Handled, unhandled, except, Cleaned, uncleaned, finally, Tree}
@@ -52,29 +53,29 @@ between least most n e = let two = both (nat_le least n) (nat_le n most) e in (l
 abbrev IsFit : Keyword → ℕ → Type 0
 IsFit k n = is_in_range (keyword_in (keyword k).shape) (number n).shape ≡ true
 
-sleep_fit : (n : ℕ) → IsFit word.Sleep n → n ≤ 1000000000
+sleep_fit : (n : ℕ) → IsFit word.Sleep n → n ≤ GREATEST_NUMBER
 unfolding keyword_of
-sleep_fit n e = (between 0 1000000000 n e).1
+sleep_fit n e = (between 0 GREATEST_NUMBER n e).1
 
-head_fit : (n : ℕ) → IsFit word.Head n → n ≤ 1000000000
+head_fit : (n : ℕ) → IsFit word.Head n → n ≤ GREATEST_NUMBER
 unfolding keyword_of
-head_fit n e = (between 0 1000000000 n e).1
+head_fit n e = (between 0 GREATEST_NUMBER n e).1
 
-after_fit : (n : ℕ) → IsFit word.After n → n ≤ 1000000000
+after_fit : (n : ℕ) → IsFit word.After n → n ≤ GREATEST_NUMBER
 unfolding keyword_of
-after_fit n e = (between 0 1000000000 n e).1
+after_fit n e = (between 0 GREATEST_NUMBER n e).1
 
-at_fit : (n : ℕ) → IsFit word.At n → n ≤ 1000000000
+at_fit : (n : ℕ) → IsFit word.At n → n ≤ GREATEST_NUMBER
 unfolding keyword_of
-at_fit n e = (between 0 1000000000 n e).1
+at_fit n e = (between 0 GREATEST_NUMBER n e).1
 
-pace_fit : (n : ℕ) → IsFit word.Pace n → (1 ≤ n) × (n ≤ 1000000)
+pace_fit : (n : ℕ) → IsFit word.Pace n → (1 ≤ n) × (n ≤ GREATEST_PACE)
 unfolding keyword_of
-pace_fit n e = between 1 1000000 n e
+pace_fit n e = between 1 GREATEST_PACE n e
 
-over_fit : (n : ℕ) → IsFit word.Over n → (1 ≤ n) × (n ≤ 64)
+over_fit : (n : ℕ) → IsFit word.Over n → (1 ≤ n) × (n ≤ MOST_COPIES)
 unfolding keyword_of
-over_fit n e = between 1 64 n e
+over_fit n e = between 1 MOST_COPIES n e
 
 -- ---- construct by construct
 

@@ -1,5 +1,6 @@
 -- The ranges of the numbers of a job text.
 use Rattle.std.specs.Prelude.{ℕ, List, [], ◌∷◌, Bool, true, false, ◌&&◌, nat_le, Option, Some, None, if◌then◌else◌}
+use Rattle.job_tree.specs.declared.limits.TheConstants.{GREATEST_NUMBER, GREATEST_PACE, MOST_COPIES}
 use Rattle.job_tokens.specs.declared.token.Shape.{Shape}
 use Rattle.job_tokens.specs.declared.token.Shape.TheVariants as shape
 use Rattle.job_tokens.specs.declared.token.Token.{Token}
@@ -16,9 +17,9 @@ keyword_in (shape.Mark mark) = None
 
 -- the least and the greatest number behind a keyword
 abbrev pub range_of : Option Keyword → ℕ × ℕ
-range_of (Some word.Over) = (1, 64)
-range_of (Some word.Pace) = (1, 1000000)
-range_of _ = (0, 1000000000)
+range_of (Some word.Over) = (1, MOST_COPIES)
+range_of (Some word.Pace) = (1, GREATEST_PACE)
+range_of _ = (0, GREATEST_NUMBER)
 
 -- a number in its range: none is one that the number rule refuses
 abbrev pub fits : Option Keyword → Option ℕ → Bool

@@ -3,6 +3,7 @@ ghost use Rattle.job_syntax.specs.Ranges.{range_of, fits, is_in_range, keyword_i
 
 use crate::keyword::Keyword;
 use job_tokens::{Shape, Token};
+use job_tree::{GREATEST_NUMBER, GREATEST_PACE, MOST_COPIES};
 
 /// The place of the first number with a leading zero, or out of its range.
 pub fn number_fault(tokens: &[Token]) -> Option<usize>
@@ -59,8 +60,8 @@ fn range_of(before: Option<Keyword>) -> (u64, u64)
     ensures { result ≡ range_of before }
 {
     match before {
-        Some(Keyword::Over) => (1, 64),
-        Some(Keyword::Pace) => (1, 1_000_000),
-        _ => (0, 1_000_000_000),
+        Some(Keyword::Over) => (1, MOST_COPIES),
+        Some(Keyword::Pace) => (1, GREATEST_PACE),
+        _ => (0, GREATEST_NUMBER),
     }
 }

@@ -3,10 +3,7 @@ ghost use Rattle.job_tokens.specs.Lexing.{number_at, number_of, value_within, ha
 
 use crate::run;
 use crate::token::Shape;
-use job_tree::is_word_byte;
-
-/// The greatest number of a job text.
-pub const MOST: u64 = 1_000_000_000;
+use job_tree::{GREATEST_NUMBER, is_word_byte};
 
 /// The number that the bytes, which begin with a digit, begin with.
 pub fn number_at(bytes: &[u8]) -> Option<(Shape, &[u8])>
@@ -54,7 +51,7 @@ fn value_of(digits: &[u8]) -> Option<u64>
     let mut value: u64 = 0;
     for digit in digits {
         value = 10 * value + u64::from(digit.saturating_sub(b'0'));
-        if value > MOST {
+        if value > GREATEST_NUMBER {
             return None;
         }
     }

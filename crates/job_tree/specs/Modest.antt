@@ -1,24 +1,21 @@
 -- The numbers of a job that was read.
 use Rattle.std.specs.Prelude.{ℕ, ◌≤◌, Option, Some, None}
+use Rattle.job_tree.specs.declared.limits.TheConstants.{GREATEST_NUMBER, GREATEST_PACE, MOST_COPIES}
 use Rattle.job_tree.specs.declared.deadline.Deadline.{Deadline}
 use Rattle.job_tree.specs.declared.deadline.Deadline.TheVariants.{Never, After, At}
 use Rattle.job_tree.specs.Tree.{Step, sleep, checkpoint, forever, pace, find, head, longest, need, raise, cancel, scope, nursery, start, attempt, Steps, stop, step, Handled, unhandled, except, Cleaned, uncleaned, finally, Tree}
 use Rattle.job_tree.specs.Names.{size_of}
 
--- the greatest number of a job text
-abbrev pub greatest : ℕ
-greatest = 1000000000
-
 -- a deadline's number is at most the greatest
 abbrev pub IsModestDeadline : Deadline → Type 0
 IsModestDeadline Never = Unit {0}
-IsModestDeadline (After n) = n ≤ greatest
-IsModestDeadline (At n) = n ≤ greatest
+IsModestDeadline (After n) = n ≤ GREATEST_NUMBER
+IsModestDeadline (At n) = n ≤ GREATEST_NUMBER
 
--- how many copies a `start .. over` makes: 1 to 64
+-- how many copies a `start .. over` makes: at least one
 abbrev pub IsModestOver : Option ℕ → Type 0
 IsModestOver None = Unit {0}
-IsModestOver (Some k) = (1 ≤ k) × (k ≤ 64)
+IsModestOver (Some k) = (1 ≤ k) × (k ≤ MOST_COPIES)
 
 -- all numbers of a block are in their ranges
 abbrev mutual
@@ -27,12 +24,12 @@ abbrev mutual
   AreModest (step s ss) = IsModestStep s × AreModest ss
 
   pub IsModestStep : Step → Type 0
-  IsModestStep (sleep n) = n ≤ greatest
+  IsModestStep (sleep n) = n ≤ GREATEST_NUMBER
   IsModestStep checkpoint = Unit {0}
   IsModestStep forever = Unit {0}
-  IsModestStep (pace k) = (1 ≤ k) × (k ≤ 1000000)
+  IsModestStep (pace k) = (1 ≤ k) × (k ≤ GREATEST_PACE)
   IsModestStep (find text) = Unit {0}
-  IsModestStep (head n) = n ≤ greatest
+  IsModestStep (head n) = n ≤ GREATEST_NUMBER
   IsModestStep longest = Unit {0}
   IsModestStep (need text name) = Unit {0}
   IsModestStep (raise name) = Unit {0}

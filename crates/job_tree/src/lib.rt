@@ -5,6 +5,7 @@
 #![tactic(auto)]
 
 mod deadline;
+mod limits;
 mod name;
 mod room;
 mod step;
@@ -14,6 +15,7 @@ mod text;
 mod word;
 
 pub use deadline::Deadline;
+pub use limits::{GREATEST_NUMBER, GREATEST_PACE, MOST_COPIES};
 pub use name::Name;
 pub use step::{Body, Handler, Step};
 pub use text::Text;

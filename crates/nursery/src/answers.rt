@@ -1,20 +1,18 @@
 ghost use Rattle.std.specs.Prelude.{◌≤◌, length, IfOk};
+ghost use Rattle.job_meaning.specs.declared.limits.TheConstants.{MOST_INPUT};
 ghost use Rattle.nursery.specs.Statuses.{TellsVerdict, TellsCheck};
 
-use crate::sources::{MOST_INPUT, read_feed, read_input, read_job_text};
+use crate::sources::{read_feed, read_input, read_job_text};
 use crate::stop::Stop;
 use job_grammar::JobFault;
 use nursery_app::{
-    CheckVerdict, Forward, NoGate, Order, Pick, Reverse, Settings, Turn, Verdict, WriteOut, check,
-    explain, send, serve, split_feed,
+    CheckVerdict, DEFAULT_LIMIT, Forward, MOST_INPUT, NoGate, Order, Pick, Reverse, Settings, Turn,
+    Verdict, WriteOut, check, explain, send, serve, split_feed,
 };
 use std::alloc::{AllocError, Global};
 use std::io;
 use std::rt::Files;
 use std::thread::Threads;
-
-/// The limit of a feed, in ticks.
-const FEED_LIMIT: u64 = 1_000_000;
 
 /// Serves standard input with the defaults, and gives the status.
 pub(crate) fn run_feed<R: Input + Print + Eprint + Threads + Sync + AllocGlobal>(
@@ -25,7 +23,7 @@ pub(crate) fn run_feed<R: Input + Print + Eprint + Threads + Sync + AllocGlobal>
     if input.len() > MOST_INPUT {
         return Err(Stop::TooLong);
     }
-    let Some(settings) = Settings::new(1, FEED_LIMIT) else {
+    let Some(settings) = Settings::new(1, DEFAULT_LIMIT) else {
         unreachable!()
     };
     run_text(rt, "standard input", text, input, settings, &mut Forward)
@@ -72,7 +70,7 @@ fn run_text<R: Print + Eprint + Threads + Sync + AllocGlobal, P: Pick>(
     settings: Settings,
     picker: &mut P,
 ) -> Result<u8, Stop>
-    requires { length input.now ≤ 16777216 }
+    requires { length input.now ≤ MOST_INPUT }
     ensures { IfOk result (TellsVerdict text.now input.now settings.limit) }
 {
     let mut out = WriteOut::new(io::writer(rt));

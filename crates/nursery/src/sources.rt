@@ -1,14 +1,12 @@
 ghost use Rattle.std.specs.Prelude.{◌≤◌, IfOk, vec_len};
+ghost use Rattle.job_meaning.specs.declared.limits.TheConstants.{MOST_INPUT};
 
 use crate::stop::Stop;
-use nursery_app::{ReadFault, read_whole};
+use nursery_app::{MOST_INPUT, ReadFault, read_whole};
 use std::alloc::Global;
 use std::fs;
 use std::io::Read;
 use std::rt::Files;
-
-/// The most bytes of an input.
-pub(crate) const MOST_INPUT: usize = 16_777_216;
 
 /// The most bytes of a feed: a job text, the line between, and an input.
 const MOST_FEED: usize = 16_842_759;
@@ -21,7 +19,7 @@ pub(crate) fn read_input<R: Files + Input + AllocGlobal>(
     rt: &R,
     name: &str,
 ) -> Result<Vec<u8>, Stop>
-    ensures { IfOk result (λ bytes. vec_len bytes ≤ 16777216) }
+    ensures { IfOk result (λ bytes. vec_len bytes ≤ MOST_INPUT) }
 {
     let read = if name == "-" {
         read_whole(rt.alloc(), &mut rt.reader(), MOST_INPUT)

@@ -2,7 +2,7 @@ use crate::serve;
 use crate::tests::assert_serves;
 use job_grammar::read_job;
 use job_report::{MemOut, Out};
-use job_runner::{Forward, NoGate, Settings, run};
+use job_runner::{Forward, MOST_INPUT, NoGate, Settings, run};
 use std::process::Abort;
 use std::test::Fail;
 use std::thread::Threads;
@@ -13,7 +13,7 @@ fn served<R: Abort + Threads + Sync + AllocGlobal>(
     steps: &str,
     input: &[u8],
 ) -> Result<MemOut, Fail> {
-    assert!(rt; input.len() <= 16_777_216);
+    assert!(rt; input.len() <= MOST_INPUT);
     let text = format!(in rt.alloc(); "trio-job 1\njob main {{ {steps} }}")?;
     let settings = Settings::new(1, 100).expect(rt, "settings");
     let mut out = MemOut::new(rt.alloc(), 1_000_000, 65_536, None)?;

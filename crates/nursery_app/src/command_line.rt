@@ -1,5 +1,12 @@
 use clap::{Arg, Command, value_parser};
+use job_runner::{GREATEST_LIMIT, MOST_WORKERS};
 use std::alloc::{AllocError, Global};
+
+/// The limit where none is asked for, in ticks.
+pub const DEFAULT_LIMIT: u64 = 1_000_000;
+
+// The same, as the help shows it.
+const SHOWN_LIMIT: &str = "1000000";
 
 const ABOUT: &str =
     "Runs a job of nurseries and cancel scopes over an input, and reports what each task did";
@@ -99,7 +106,7 @@ fn workers_option<'a>(alloc: Global) -> Arg<'a> {
         .long("workers")
         .value_name("N")
         .help("The number of workers, 1 to 64; the report is the same for all")
-        .value_parser(value_parser!(usize).range(1..=64))
+        .value_parser(value_parser!(usize).range(1..=MOST_WORKERS as i64))
         .default_value("1")
 }
 
@@ -117,6 +124,6 @@ fn limit_option<'a>(alloc: Global) -> Arg<'a> {
         .long("limit")
         .value_name("T")
         .help("The last tick at which the job may end, at most 4294967295")
-        .value_parser(value_parser!(u64).range(0..=4_294_967_295))
-        .default_value("1000000")
+        .value_parser(value_parser!(u64).range(0..=GREATEST_LIMIT as i64))
+        .default_value(SHOWN_LIMIT)
 }

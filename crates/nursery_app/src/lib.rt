@@ -29,10 +29,11 @@ mod words;
 mod worked;
 
 pub use checking::check;
+pub use command_line::DEFAULT_LIMIT;
 pub use explaining::explain;
 pub use feed::split_feed;
 pub use job_report::{MemOut, Out, PutFault, SendFault, WriteOut, send};
-pub use job_runner::{Forward, Gate, NoGate, Pick, Reverse, Settings, Turn};
+pub use job_runner::{Forward, Gate, MOST_INPUT, NoGate, Pick, Reverse, Settings, Turn};
 pub use read::{ReadFault, read_whole};
 pub use serving::serve;
 pub use verdict::{CheckVerdict, ServeFault, Verdict};

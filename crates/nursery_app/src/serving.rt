@@ -1,4 +1,5 @@
 ghost use Rattle.std.specs.Prelude.{◌≡◌, ◌<◌, ◌≤◌, length, map, IfOk, IfErr, OnOk};
+ghost use Rattle.job_meaning.specs.declared.limits.TheConstants.{MOST_INPUT};
 ghost use Rattle.task_records.specs.Records.{row_in};
 ghost use Rattle.job_runner.specs.Runs.{rows_of};
 ghost use Rattle.nursery_app.specs.Verdict.{IsVerdict, IsSent, IsServeFault, CountsFailure, IsRefusalOf, IsRunVerdict, root_is_well};
@@ -24,7 +25,7 @@ pub fn serve<R: Threads + Sync, P: Pick, G: Gate + Sync, W: Out>(
     gate: &G,
     out: &mut W,
 ) -> Result<Verdict, ServeFault>
-    requires input { length input.now ≤ 16777216 }
+    requires input { length input.now ≤ MOST_INPUT }
     requires countable { W.failed out.old < 18446744073709551615 }
 
     // The bytes written are the report of the meaning, or the refusal which it names.
@@ -54,7 +55,7 @@ fn answer<R: Threads + Sync, P: Pick, G: Gate + Sync>(
     picker: &mut P,
     gate: &G,
 ) -> Result<(Verdict, Vec<u8>), AllocError>
-    requires { length input.now ≤ 16777216 }
+    requires { length input.now ≤ MOST_INPUT }
     ensures { IfOk result (λ r. IsVerdict job_text.now input.now settings.limit r.0 r.1.items) }
 {
     match read_job(alloc, job_text) {
@@ -86,7 +87,7 @@ fn run_answer<R: Threads + Sync, P: Pick, G: Gate + Sync>(
     picker: &mut P,
     gate: &G,
 ) -> Result<(Verdict, Vec<u8>), AllocError>
-    requires { length input.now ≤ 16777216 }
+    requires { length input.now ≤ MOST_INPUT }
     ensures { IfOk result (λ r. IsRunVerdict job.now input.now settings.limit r.0 r.1.items) }
 {
     match run(rt, alloc, job, input, settings, picker, gate) {

@@ -4,7 +4,7 @@ use crate::{
 };
 use job_grammar::{JobFault, JobKind};
 use job_report::{MemOut, Out};
-use job_runner::{Forward, NoGate, Pick, Settings};
+use job_runner::{Forward, MOST_INPUT, NoGate, Pick, Settings};
 use std::io;
 use std::io::Read;
 use std::process::Abort;
@@ -25,7 +25,7 @@ pub fn assert_serves<R: Abort + Threads + Sync + AllocGlobal>(
     input: &[u8],
     expected: &str,
 ) -> Result<(), Fail> {
-    assert!(rt; input.len() <= 16_777_216);
+    assert!(rt; input.len() <= MOST_INPUT);
     let text = format!(in rt.alloc(); "trio-job 1\njob main {{ {steps} }}")?;
     for workers in [1, 64] {
         let settings = Settings::new(workers, 100).expect(rt, "settings");
@@ -45,7 +45,7 @@ fn assert_writes<R: Abort + Threads + Sync + AllocGlobal, P: Pick>(
     picker: &mut P,
     expected: &str,
 ) -> Result<(), Fail> {
-    assert!(rt; input.len() <= 16_777_216);
+    assert!(rt; input.len() <= MOST_INPUT);
     let mut out = MemOut::new(rt.alloc(), 65_536, 4_096, None)?;
     let verdict = serve(
         rt,
@@ -291,7 +291,7 @@ fn reading_a_slice_whole(rt: HostRuntime) -> Result<(), Fail> {
     assert_eq!(rt; bytes.as_slice(), b"error".as_slice());
     let one_too_many = vec![in rt.alloc(); b'x'; 16_777_217]?;
     let mut all = one_too_many.as_slice();
-    let answer = read_whole(rt.alloc(), &mut all, 16_777_216).map(|bytes| bytes.len());
+    let answer = read_whole(rt.alloc(), &mut all, MOST_INPUT).map(|bytes| bytes.len());
     assert_eq!(rt; answer, Err(ReadFault::TooLong));
     Ok(())
 }

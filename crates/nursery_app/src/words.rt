@@ -3,9 +3,10 @@ ghost use Rattle.nursery_app.specs.declared.words.Command.TheVariants.{Feed};
 ghost use Rattle.nursery_app.specs.declared.words.CommandFault.TheVariants.{NoMemory};
 ghost use Rattle.nursery_app.specs.Words.{IsFit, IsAsked};
 
-use crate::command_line::parser;
+use crate::command_line::{DEFAULT_LIMIT, parser};
 use clap::ArgMatches;
 use clap::error::ErrorKind;
+use job_runner::{GREATEST_LIMIT, MOST_WORKERS};
 use std::alloc::{AllocError, Global};
 use thiserror::Error;
 
@@ -141,8 +142,8 @@ fn run_command(alloc: Global, job: &str, matches: &ArgMatches<'_>) -> Result<Com
         );
     }
     let workers = matches.get_one::<usize>("workers").unwrap_or(1);
-    let limit = matches.get_one::<u64>("limit").unwrap_or(1_000_000);
-    if workers < 1 || workers > 64 || limit > 4_294_967_295 {
+    let limit = matches.get_one::<u64>("limit").unwrap_or(DEFAULT_LIMIT);
+    if workers < 1 || workers > MOST_WORKERS || limit > GREATEST_LIMIT {
         return refused(alloc, "error: a setting is out of its range\n");
     }
     Ok(Command::Run {

@@ -1,4 +1,5 @@
 ghost use Rattle.std.specs.Prelude.{◌≡◌, ◌+◌, ◌<◌, ◌≤◌, ◌^◌, length, Option, IfOk};
+ghost use Rattle.job_meaning.specs.declared.limits.TheConstants.{MOST_INPUT};
 ghost use Rattle.buffer_parts.specs.Part.{buffer_of, range_of};
 ghost use Rattle.line_kernels.specs.Kernels.{found_in, head_of, longest_in, needed_in, count_in};
 ghost use Rattle.exc_groups.specs.Exceptions.{raised as raising};
@@ -22,7 +23,7 @@ pub(crate) fn pace<'a>(
 ) -> Result<Walked<'a>, AllocError>
     requires some { 1 ≤ per_tick }
     requires few { per_tick ≤ 1000000 }
-    requires small { length (input_of here) ≤ 16777216 }
+    requires small { length (input_of here) ≤ MOST_INPUT }
     requires room { tick ≤ 4611686018427387904 }
     ensures { IfOk result (λ w. IsWalked (input_of here.entry) w
         (sleeping (scopes_of here.entry) (paced (count_in (input_of here.entry) (range_of here.entry.part)) per_tick) tick)) }
@@ -34,9 +35,9 @@ pub(crate) fn pace<'a>(
 
 // How many lines the part has.
 fn line_count(here: Here<'_, '_>) -> Result<u64, AllocError>
-    requires { length (input_of here) ≤ 16777216 }
+    requires { length (input_of here) ≤ MOST_INPUT }
     ensures count { IfOk result (λ n. n ≡ count_in (input_of here.entry) (range_of here.entry.part)) }
-    ensures few { IfOk result (λ n. n ≤ 16777216) }
+    ensures few { IfOk result (λ n. n ≤ MOST_INPUT) }
 {
     let Answer::Count(count) = answer(here.alloc, &Kernel::Count, here.part)? else {
         unreachable!()
