@@ -5,3 +5,4 @@ pub mod CancelLemmas
 pub mod OpenLemmas
 pub mod CloseLemmas
 pub mod CatchLemmas
+pub mod ChainLemmas

@@ -1,6 +1,6 @@
 -- A tree of cancel scopes as contracts see it: the stack of each open scope, innermost first. Labels are keys.
-use Rattle.std.specs.Prelude.{◌≡◌, ◌≢◌, ℕ, ◌+◌, Bool, false, ◌==◌, if◌then◌else◌, List, [], ◌∷◌, map, Option, Some, None, IsSome, slice_index_or}
-use Rattle.std.specs.Option.{unwrap_or}
+use Rattle.std.specs.Prelude.{◌≡◌, ◌≢◌, ℕ, ◌+◌, Bool, false, ◌==◌, if◌then◌else◌, List, [], ◌∷◌, ◌++◌, map, Option, Some, None, IsSome, slice_index_or}
+use Rattle.std.specs.Option.{unwrap_or, ForSome}
 use Rattle.std.specs.List.{All}
 use Rattle.cancel_scopes.specs.Sight.{Tick, Level, earlier}
 use Rattle.cancel_scopes.specs.Sight as sights
@@ -50,7 +50,31 @@ abbrev pub own_from : Stack → Tick
 own_from [] = None
 own_from (l ∷ outer) = l.from
 
+-- what names the innermost scope of a stack
+abbrev pub own_label : Stack → Option ℕ
+own_label [] = None
+own_label (l ∷ outer) = Some l.label
+
+-- the levels round the innermost one
+abbrev pub behind_own : Stack → Stack
+behind_own [] = []
+behind_own (l ∷ outer) = outer
+
 -- no other open scope has this one round it
 abbrev pub IsInnermost : Tree → ℕ → Type 0
 IsInnermost tree key =
     (other : ℕ) (stack : Stack) → other ≢ key → stack_of tree other ≡ Some stack → All (λ l. l.label ≢ key) stack
+
+-- the innermost scope of each stack is the one whose stack it is
+abbrev pub IsOwn : Tree → Type 0
+IsOwn tree = (key : ℕ) → ForSome (stack_of tree key) (λ stack. own_label stack ≡ Some key)
+
+-- each scope in a stack is open itself, and its stack is the rest of that one from it on
+abbrev pub IsChain : Tree → Type 0
+IsChain tree =
+    (key : ℕ) (stack : Stack) → stack_of tree key ≡ Some stack → (before : Stack) (l : Level ℕ) (behind : Stack) → stack ≡ before ++ l ∷ behind → stack_of tree l.label ≡ Some (l ∷ behind)
+
+-- no scope stands twice in a stack
+abbrev pub IsApart : Tree → Type 0
+IsApart tree =
+    (key : ℕ) (stack : Stack) → stack_of tree key ≡ Some stack → (before : Stack) (l : Level ℕ) (behind : Stack) → stack ≡ before ++ l ∷ behind → All (λ m. m.label ≢ l.label) behind

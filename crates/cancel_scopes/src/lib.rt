@@ -17,4 +17,4 @@ mod tree;
 
 pub use scope_id::ScopeId;
 pub use ticks::{earlier, reached};
-pub use tree::ScopeTree;
+pub use tree::{ScopeTree, stacks_are_chains};

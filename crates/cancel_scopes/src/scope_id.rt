@@ -1,3 +1,5 @@
+ghost use Rattle.std.specs.Prelude.{◌≡◌};
+
 use std::marker::Model;
 
 /// An open scope of a tree, as `ScopeTree::open` gives it. Once the scope is closed, the tree may use the id again.
@@ -14,4 +16,13 @@ impl Model for ScopeId {
     ghost view = { λ id. id.key };
 
     ghost inverse = { λ key. record { key = key } };
+}
+
+impl ScopeId {
+    /// The number of the scope, which another may have once it is closed.
+    pub fn key(self) -> usize
+        ensures { result ≡ self }
+    {
+        self.key
+    }
 }

@@ -1,4 +1,4 @@
-use crate::{ScopeTree, earlier, reached};
+use crate::{ScopeTree, earlier, reached, stacks_are_chains};
 use std::test::Fail;
 
 #[test]
@@ -24,6 +24,20 @@ fn the_outermost_of_two_catches(rt: HostRuntime) -> Result<(), Fail> {
     let inner = tree.open(Some(outer), false, Some(3))?;
     assert!(rt; !tree.may_catch(inner, 3));
     assert!(rt; tree.may_catch(outer, 3));
+    Ok(())
+}
+
+#[test]
+fn scopes_stand_under_their_parents(rt: HostRuntime) -> Result<(), Fail> {
+    let mut tree = ScopeTree::new(rt.alloc());
+    let outer = tree.open(None, false, None)?;
+    let middle = tree.open(Some(outer), true, Some(3))?;
+    let inner = tree.open(Some(middle), false, None)?;
+    stacks_are_chains(&tree);
+    assert_eq!(rt; tree.parent(inner), Some(middle));
+    assert_eq!(rt; tree.parent(middle), Some(outer));
+    assert_eq!(rt; tree.parent(outer), None);
+    assert!(rt; inner.key() != outer.key());
     Ok(())
 }
 

@@ -1,7 +1,7 @@
 ghost use Rattle.std.specs.Prelude.{◌≡◌, ◌≢◌, ℕ, ◌+◌, ◌<◌, ◌^◌, ◌∷◌, Some, None, is_some, IsSome, IfOk, OnErr};
 ghost use Rattle.std.specs.Option.{ForSome, option_map};
 ghost use Rattle.cancel_scopes.specs.Sight.{sight, seen as is_seen};
-ghost use Rattle.cancel_scopes.specs.Tree.{stack_of, IsOpen, outer_of, SameStacks, OthersKeep, after_cancel, catches, own_from, IsInnermost};
+ghost use Rattle.cancel_scopes.specs.Tree.{stack_of, IsOpen, outer_of, SameStacks, OthersKeep, after_cancel, catches, own_from, behind_own, IsInnermost, IsOwn, IsChain, IsApart};
 ghost use Rattle.cancel_scopes.specs.Kept.{IsTree, IsUnder, stack_at};
 ghost use Rattle.slab.specs.Slab.{get, ContainsKey};
 
@@ -83,6 +83,15 @@ impl ScopeTree {
         self.scopes.contains(id.key)
     }
 
+    /// The scope right round this one, if there is one.
+    pub fn parent(&self, id: ScopeId) -> Option<ScopeId>
+        requires { IsOpen self.now id }
+        ensures open { ForSome result (IsOpen self.now) }
+        ensures round { ForSome (stack_of self.now id) (λ stack. outer_of self.now result ≡ behind_own stack) }
+    {
+        self.scopes[id.key].parent
+    }
+
     /// Cancels a scope in a tick: it is cancelled from the next tick on, or from when it already was, if that is
     /// earlier.
     pub fn cancel(&mut self, id: ScopeId, tick: u64)
@@ -138,6 +147,17 @@ impl ScopeTree {
     {
         self.scopes.remove(id.key).from
     }
+}
+
+/// A law, which does nothing at run time: each stack begins with the scope whose stack it is, each scope in a stack is open
+/// and has for its own stack the rest of that one from it on, and no scope stands twice in a stack.
+pub fn stacks_are_chains(tree: &ScopeTree)
+    ensures own { IsOwn tree.now }
+    ensures chain { IsChain tree.now }
+    ensures apart { IsApart tree.now }
+{
+    // The law is read off what the tree keeps.
+    let _scopes = &tree.scopes;
 }
 
 // What is kept of a scope that is opened under this parent.
