@@ -10,3 +10,4 @@ pub mod Waking
 pub mod Ends
 pub mod Whole
 pub mod Arms
+pub mod Names

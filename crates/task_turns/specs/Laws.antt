@@ -1,16 +1,19 @@
 -- The laws of steps and turns. Each is the contract of a function that does nothing.
-use Rattle.std.specs.Prelude.{◌≡◌, ℕ, ◌<◌, ◌≤◌, Some, List, ◌++◌}
+use Rattle.std.specs.Prelude.{◌≡◌, ℕ, ◌<◌, ◌≤◌, Some, List, [], ◌∷◌, ◌++◌}
+use Rattle.job_tree.specs.Tree.{Tree}
+use Rattle.job_tree.specs.Names.{GivesNamesOnce}
 use Rattle.exc_groups.specs.Exceptions.{Label}
 use Rattle.cancel_scopes.specs.Sight.{Tick}
 use Rattle.job_meaning.specs.Log.{Table, from_by}
 use Rattle.job_meaning.specs.Walk.{by_table, Here}
-use Rattle.job_meaning.specs.Rest.{Event, Telling, Stopped, Rest, rest_comes_to, task_comes_to}
+use Rattle.job_meaning.specs.Rest.{steps_left, Event, Telling, Stopped, Rest, rest_comes_to, task_comes_to}
 use Rattle.task_turns.specs.Midway.{Place, stack_at, Midway, Move}
 use Rattle.task_turns.specs.Steps.{froms_after, step_of}
-use Rattle.task_turns.specs.Placed.{Placed, PlacedStop}
+use Rattle.task_turns.specs.Placed.{Placed, PlacedStop, places_behind}
 use Rattle.task_turns.specs.Wakes.{Wake, wake_of, turn_from, WakesBy, CanWake}
 use Rattle.task_turns.specs.Turned.{AgreesOn, AgreesIn, AllTold, Known, MadeAt, made_sign, EntersIn, EntersOnceWith, IsSome, Goes, TurnsOver}
 use Rattle.task_turns.specs.Bound.{frames_length}
+use Rattle.task_turns.specs.Names.{names_at, OwnNames, NewIn, StaysNew}
 
 -- each step keeps the promise
 abbrev pub EachStepGoes : Type 0
@@ -46,3 +49,16 @@ abbrev pub FromsAreOpened : Type 0
 FromsAreOpened =
     (t : ℕ) (es : List Event) (ls : List Label) (froms : Table) (l : Label) (d : Tick) → MadeAt t ls es → (Known l ls → ⊥) → EntersOnceWith l d es →
     froms_after froms es l ≡ from_by d (made_sign l es)
+
+-- in a job whose names are given once, none is the name of a scope round it
+abbrev pub JobsBeginNew : Type 0
+JobsBeginNew = (job : Tree) → GivesNamesOnce job → NewIn (steps_left job.steps ∷ []) []
+
+-- and each step and each turn keep that, so that the scopes round a task have labels of their own
+abbrev pub EachStepStaysNew : Type 0
+EachStepStaysNew = (froms : Table) (t : ℕ) (here : Here) (m : Midway) → NewIn m.frames m.places → OwnNames (names_at m.places) → StaysNew (step_of froms t here m)
+
+abbrev pub EachTurnStaysNew : Type 0
+EachTurnStaysNew =
+    (n t : ℕ) (here : Here) (froms : Table) (w : Wake) (rest : Rest) (ps : List Place) (count : ℕ) → CanWake w rest.stopped →
+    NewIn rest.frames (places_behind (Some rest.stopped) ps) → OwnNames (names_at ps) → StaysNew (turn_from n froms t here w rest.stopped rest.frames ps count)

@@ -5,4 +5,5 @@ pub mod Wakes
 pub mod Turned
 pub mod Bound
 pub mod Worked
+pub mod Names
 pub mod Laws

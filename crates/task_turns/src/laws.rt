@@ -3,9 +3,12 @@
 ghost use Rattle.task_turns.specs.Laws.{
   EachStepGoes,
   EachTurnKeeps,
+  EachStepStaysNew,
+  EachTurnStaysNew,
   EachTurnStops,
   FromsAreLowered,
   FromsAreOpened,
+  JobsBeginNew,
   TaskComesToTheSame,
 };
 
@@ -28,4 +31,12 @@ pub fn law_turn()
 pub fn law_froms()
     ensures lowered { FromsAreLowered }
     ensures opened { FromsAreOpened }
+{}
+
+/// Where each name of a job is given once, the scopes and nurseries round a task have different names, and none is entered
+/// that has the name of one round it: so by each step, each turn, and in each child begun.
+pub fn law_names()
+    ensures job { JobsBeginNew }
+    ensures step { EachStepStaysNew }
+    ensures turn { EachTurnStaysNew }
 {}

@@ -8,4 +8,4 @@
 
 mod laws;
 
-pub use laws::{law_froms, law_step, law_turn};
+pub use laws::{law_froms, law_names, law_step, law_turn};
