@@ -86,7 +86,7 @@ impl ScopeTree {
     /// The scope right round this one, if there is one.
     pub fn parent(&self, id: ScopeId) -> Option<ScopeId>
         requires { IsOpen self.now id }
-        ensures open { ForSome result (IsOpen self.now) }
+        ensures parent_open { ForSome result (IsOpen self.now) }
         ensures round { ForSome (stack_of self.now id) (λ stack. outer_of self.now result ≡ behind_own stack) }
     {
         self.scopes[id.key].parent

@@ -6,8 +6,8 @@ pub index-requires : goal.index-requires
 index-requires c =
     kept_where_open c.args.self.now c.self.inside.scopes.slots c.id.inside.key c.args.id c.self.view_is c.id.view_is c.requires
 
-pub returns-clause-open : goal.returns-clause-open
-returns-clause-open c parent up =
+pub returns-clause-parent_open : goal.returns-clause-parent_open
+returns-clause-parent_open c parent up =
     parent_open c.args.self.now c.self.inside.scopes.slots c.id.inside.key parent c.index.result.now c.self.view_is c.self.invariant c.index.ensures up
 
 pub returns-clause-round : goal.returns-clause-round
