@@ -8,15 +8,14 @@
 mod fault;
 mod finished;
 mod limits;
-mod pick;
 mod running;
 mod settings;
 
+pub use batch_commit::{Forward, Pick, Reverse, Turn};
 pub use fault::RunFault;
 pub use finished::Run;
 pub use job_meaning::MOST_INPUT;
 pub use limits::{GREATEST_LIMIT, MOST_WORKERS};
-pub use pick::{Forward, Pick, Reverse, Turn};
 pub use running::run;
 pub use scoped_workers::{Gate, NoGate};
 pub use settings::Settings;

@@ -9,8 +9,8 @@ ghost use Rattle.job_runner.specs.Runs.{name_of, rows_of, records_in, scope_from
 
 use crate::fault::RunFault;
 use crate::finished::Run;
-use crate::pick::Pick;
 use crate::settings::Settings;
+use batch_commit::Pick;
 use buffer_parts::Part;
 use exc_groups::Label;
 use job_grammar::Job;

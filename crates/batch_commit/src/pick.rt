@@ -1,12 +1,16 @@
-ghost use Rattle.std.specs.Prelude.{◌≡◌, ◌+◌, ◌-◌, ◌%◌, ◌^◌, ◌<◌};
+ghost use Rattle.std.specs.Prelude.{◌≡◌, ℕ, ◌+◌, ◌-◌, ◌%◌, ◌^◌, ◌<◌};
 
-/// The order in which the ready tasks of a batch have their turns. A job is computed on the calling thread yet, and no
-/// picker is called.
+/// The order in which the ready tasks of a batch have their turns.
 pub trait Pick {
+    // What a call may pick: the picker before, how many are left, the place, and the picker after. Without a word of its
+    // own a picker may pick any of those left.
+    ghost picks: { Self → ℕ → ℕ → Self → Type 0 } = { λ old left place new. place < left };
+
     /// The place, from 0, of the next task among those left, of which there is at least one.
     fn pick(&mut self, left: usize) -> usize
         requires { 0 < left }
-        ensures { result < left };
+        ensures below { result < left }
+        ensures picked { picks self.old left result self.new };
 }
 
 /// Picks the first of those left: the order in which they became ready.
@@ -14,6 +18,8 @@ pub trait Pick {
 pub struct Forward;
 
 impl Pick for Forward {
+    ghost picks = { λ old left place new. place ≡ 0 };
+
     fn pick(&mut self, left: usize) -> usize
         requires { 0 < left }
         ensures below { result < left }
@@ -29,6 +35,8 @@ impl Pick for Forward {
 pub struct Reverse;
 
 impl Pick for Reverse {
+    ghost picks = { λ old left place new. place ≡ left - 1 };
+
     fn pick(&mut self, left: usize) -> usize
         requires { 0 < left }
         ensures below { result < left }
@@ -46,6 +54,10 @@ pub struct Turn {
 }
 
 impl Pick for Turn {
+    ghost use Rattle.batch_commit.specs.Picks.{TurnPicks};
+
+    ghost picks = { TurnPicks };
+
     fn pick(&mut self, left: usize) -> usize
         requires { 0 < left }
         ensures below { result < left }

@@ -1,0 +1,5 @@
+pub mod HalvesLemmas
+pub mod PlaceLemmas
+pub mod SlotLemmas
+pub mod EntryLemmas
+pub mod BatchLemmas

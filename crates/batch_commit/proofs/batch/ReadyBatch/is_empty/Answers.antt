@@ -1,0 +1,5 @@
+use Rattle.batch_commit.proofs.BatchLemmas.{nothing_left}
+use Rattle.batch_commit.proofs.batch.ReadyBatch.is_empty.Goals as goal
+
+pub returns : goal.returns
+returns c = nothing_left c.args.self.now.current c.left.result c.left.ensures

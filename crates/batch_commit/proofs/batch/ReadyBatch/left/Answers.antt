@@ -1,0 +1,10 @@
+use Rattle.std.proofs.Common.{ap, length, ◌∙◌}
+use Rattle.batch_commit.specs.Batch.{Batches}
+use Rattle.batch_commit.proofs.BatchLemmas.{left_count}
+use Rattle.batch_commit.proofs.batch.ReadyBatch.left.Goals as goal
+
+pub returns : goal.returns
+returns c =
+    let b = c.self.inside in
+    c.len.ensures ∙ left_count b.current.items b.next.items b.places c.self.invariant
+    ∙ ap (λ (v : Batches). length v.current) c.self.view_is

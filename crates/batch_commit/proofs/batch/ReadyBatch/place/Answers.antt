@@ -1,0 +1,33 @@
+use Rattle.std.proofs.Common.{ap, subst, sym, ◌∙◌}
+use Rattle.std.proofs.lemmas.List.{with_items_is}
+use Rattle.batch_commit.specs.Batch.{Batches, IsReady}
+use Rattle.batch_commit.specs.Slots.{held}
+use Rattle.batch_commit.specs.Entries.{placed, AllPlaced}
+use Rattle.batch_commit.specs.Placing.{slots_placed}
+use Rattle.batch_commit.proofs.EntryLemmas.{held-placed, all_placed}
+use Rattle.batch_commit.proofs.BatchLemmas.{ready_placed}
+use Rattle.batch_commit.proofs.batch.ReadyBatch.place.Goals as goal
+
+pub invariant_of-self : goal.invariant_of-self
+invariant_of-self c =
+    let b = c.self.inside in
+    let items = with_items_is b.current c.place_all.new.slots (c.place_all.auto.slots ∙ c.as_mut_slice.ensures.len) in
+    let slots = items ∙ c.place_all.ensures ∙ ap (λ xs. slots_placed xs c.args.answers.items) c.as_mut_slice.ensures.value in
+    ready_placed b.current.items _ b.next.items b.places c.args.answers.items c.self.invariant slots
+
+pub returns-clause-placed : goal.returns-clause-placed
+returns-clause-placed c =
+    let b = c.self.inside in
+    let items = with_items_is b.current c.place_all.new.slots (c.place_all.auto.slots ∙ c.as_mut_slice.ensures.len) in
+    let slots = items ∙ c.place_all.ensures ∙ ap (λ xs. slots_placed xs c.args.answers.items) c.as_mut_slice.ensures.value in
+    ap held slots ∙ held-placed b.current.items c.args.answers.items
+    ∙ ap (λ (v : Batches). placed v.current c.args.answers.items) c.self.view_is
+
+pub returns-clause-all : goal.returns-clause-all
+returns-clause-all c =
+    let b = c.self.inside in
+    let items = with_items_is b.current c.place_all.new.slots (c.place_all.auto.slots ∙ c.as_mut_slice.ensures.len) in
+    let slots = items ∙ c.place_all.ensures ∙ ap (λ xs. slots_placed xs c.args.answers.items) c.as_mut_slice.ensures.value in
+    let current = ap held slots ∙ held-placed b.current.items c.args.answers.items
+    ∙ ap (λ (v : Batches). placed v.current c.args.answers.items) c.self.view_is in
+    subst AllPlaced (sym current) (all_placed c.args.self.now.current c.args.answers.items c.requires.as_many)

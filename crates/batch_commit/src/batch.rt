@@ -1,0 +1,147 @@
+ghost use Rattle.std.specs.Prelude.{◌≡◌, ◌↔◌, ◌<◌, [], ◌∷◌, ◌++◌, length, map, slice_get, IsTrue, IsNone, IfOk, OnOk, OnErr, IfNone, IfSome};
+ghost use Rattle.std.specs.List.{remove};
+ghost use Rattle.batch_commit.specs.Entries.{unplaced, requests_of, placed, AllPlaced, NonePlaced};
+ghost use Rattle.batch_commit.specs.Batch.{HandsOut};
+
+use crate::entry::{Call, Entry, wake_for};
+use crate::pick::Pick;
+use crate::places::Places;
+use crate::slots::{asked, place_all, take_at};
+use autojump_clock::TaskId;
+use line_kernels::{Answer, Request};
+use std::alloc::{AllocError, Global};
+use std::marker::Model;
+use std::mem;
+use task_machine::Wake;
+
+/// The tasks that are ready: the current batch, whose tasks have their turns in the order that a picker picks, and the
+/// next one, which tasks are added to meanwhile.
+///
+/// The caller sees to it that a batch is over before the next one becomes current, and that each request of a batch is
+/// answered before its tasks have their turns.
+#[derive(Drop)]
+pub struct ReadyBatch<'a> {
+    alloc: Global,
+    // The entries by their places. Each is taken out of its slot as its task has its turn.
+    current: Vec<Option<Entry<'a>>>,
+    next: Vec<Option<Entry<'a>>>,
+    // The places of the current batch that are left, with room for those of the next one.
+    places: Places,
+}
+
+impl<'a> Model for ReadyBatch<'a> {
+    ghost use Rattle.batch_commit.specs.Batch.{Batches};
+
+    ghost Value = { Batches };
+
+    ghost use Rattle.batch_commit.specs.Slots.{held};
+    ghost use Rattle.batch_commit.specs.Batch.{added_in, IsReady};
+
+    ghost view = { λ b. record { current = held b.current.items; next = added_in b.next.items } };
+
+    ghost invariant = { λ b. IsReady b.current.items b.next.items b.places };
+}
+
+impl<'a> ReadyBatch<'a> {
+    /// No task is ready. Takes no memory.
+    pub fn new(alloc: Global) -> ReadyBatch<'a>
+        ensures current { result.current ≡ [] }
+        ensures next { result.next ≡ [] }
+    {
+        ReadyBatch {
+            alloc,
+            current: Vec::new(alloc),
+            next: Vec::new(alloc),
+            places: Places::new(alloc),
+        }
+    }
+
+    /// Adds a task to the next batch, with why it is ready. On want of memory nothing changes.
+    pub fn add(&mut self, task: TaskId, call: Call<'a>) -> Result<(), AllocError>
+        ensures added { OnOk result (self.new.next ≡ self.old.next ++ (task, call.entry) ∷ []) }
+        ensures current { self.new.current ≡ self.old.current }
+        ensures err { OnErr result (self.new ≡ self.old) }
+    {
+        self.places.make_room(self.next.len())?;
+        self.next.push(Some(Entry {
+            task,
+            call,
+            answer: None,
+        }))?;
+        Ok(())
+    }
+
+    /// The next batch becomes the current one, with no answer placed, and nothing is added to the one after it yet. The
+    /// caller sees to it that the current batch is over. Takes no memory.
+    pub fn turn_over(&mut self)
+        requires { self.old.current ≡ [] }
+        ensures current { self.new.current ≡ map unplaced self.old.next }
+        ensures unplaced { NonePlaced self.new.current }
+        ensures next { self.new.next ≡ [] }
+    {
+        self.current.clear();
+        mem::swap(&mut self.current, &mut self.next);
+        self.places.restart(self.current.len());
+    }
+
+    /// Whether the current batch is over: no task of it is left.
+    pub fn is_empty(&self) -> bool
+        ensures { IsTrue result ↔ (self.now.current ≡ []) }
+    {
+        self.left() == 0
+    }
+
+    /// The requests of the current batch, in the order of its tasks.
+    pub fn requests(&self) -> Result<Vec<Request<'a>>, AllocError>
+        ensures { IfOk result (λ requests. requests.items ≡ requests_of self.now.current) }
+    {
+        asked(self.alloc, self.current.as_slice())
+    }
+
+    /// Places the answers to the requests of the current batch, each for the task that made its request. The caller sees
+    /// to it that there are as many, and that none was placed before. Takes no memory.
+    pub fn place(&mut self, answers: Vec<Answer<'a>>)
+        requires as_many { length answers.items ≡ length (requests_of self.old.current) }
+        requires unplaced { NonePlaced self.old.current }
+        ensures placed { self.new.current ≡ placed self.old.current answers.entry.items }
+        ensures all { AllPlaced self.new.current }
+        ensures next { self.new.next ≡ self.old.next }
+    {
+        place_all(self.current.as_mut_slice(), answers);
+    }
+
+    /// Takes the task that the picker picks among those left of the current batch, and tells how it goes on. None, and no
+    /// pick, exactly where none is left. The caller sees to it that answers are placed. Takes no memory.
+    pub fn next<P: Pick>(&mut self, picker: &mut P) -> Option<(TaskId, Wake<'a>)>
+        requires { AllPlaced self.old.current }
+        ensures none { IsNone result ↔ (self.old.current ≡ []) }
+        ensures idle { IfNone result ((self.new ≡ self.old) × (picker.new ≡ picker.old)) }
+        ensures hands_out { IfSome result (λ r. HandsOut P.picks self.old self.new picker.old picker.new r.0 r.1) }
+        ensures placed { AllPlaced self.new.current }
+    {
+        let left = self.left();
+        if left == 0 {
+            return None;
+        }
+        let entry = self.take(picker.pick(left));
+        Some((entry.task, wake_for(entry.call, entry.answer)))
+    }
+
+    // How many tasks of the current batch are left.
+    fn left(&self) -> usize
+        ensures { result ≡ length self.now.current }
+    {
+        self.places.len()
+    }
+
+    // Takes out the k-th entry of those left of the current batch.
+    fn take(&mut self, k: usize) -> Entry<'a>
+        requires { k < length self.old.current }
+        ensures entry { slice_get self.old.current k ≡ Some result }
+        ensures rest { self.new.current ≡ remove self.old.current k }
+        ensures next { self.new.next ≡ self.old.next }
+    {
+        let place = self.places.take(k);
+        take_at(self.current.as_mut_slice(), place)
+    }
+}

@@ -1,0 +1,62 @@
+ghost use Rattle.std.specs.Prelude.{◌≡◌, ℕ, Some, None, IfOk, OnErr, option_copied};
+ghost use Rattle.std.specs.Option.{option_copied_mut};
+ghost use Rattle.std.specs.Borrow.{sem};
+
+use autojump_clock::TaskId;
+use slab::Slab;
+use std::alloc::{AllocError, Global};
+
+/// What lives under the ids of tasks.
+#[derive(Drop)]
+pub struct Live<T> {
+    slots: Slab<T>,
+}
+
+impl<T> Live<T> {
+    ghost use Rattle.batch_commit.specs.Live.{live_at, SameLive, Updates};
+    ghost use Rattle.batch_commit.specs.Lending.{lends_live};
+
+    /// Nothing lives. Takes no memory.
+    pub fn new(alloc: Global) -> Live<T>
+        ensures { (key : ℕ) → live_at result key ≡ None }
+    {
+        Live {
+            slots: Slab::new(alloc),
+        }
+    }
+
+    /// Puts a value under an id that nothing lives under. On want of memory nothing changes.
+    pub fn put(&mut self, value: T) -> Result<TaskId, AllocError>
+    where
+        T: Drop,
+        ensures fresh { IfOk result (λ id. live_at self.old id ≡ None) }
+        ensures put { IfOk result (λ id. Updates self.old self.new id (Some value)) }
+        ensures err { OnErr result (SameLive self.old self.new) }
+    {
+        let key = self.slots.insert(value)?;
+        Ok(TaskId::of(key))
+    }
+
+    /// What lives under the id, if anything does.
+    pub fn get(&self, id: TaskId) -> Option<&T>
+        ensures { option_copied result ≡ live_at self.now id }
+    {
+        self.slots.get(id.key())
+    }
+
+    /// What lives under the id, for writing, if anything does. What lives under other ids stays.
+    pub fn get_mut(&mut self, id: TaskId) -> Option<&mut T>
+        ensures* writes_back { sem 𝓛 (lends_live T.row self.entry id result) }
+        ensures value { option_copied_mut result ≡ live_at self.old id }
+    {
+        self.slots.get_mut(id.key())
+    }
+
+    /// Takes out what lives under the id, if anything does. The id may be given out again from then on. Takes no memory.
+    pub fn take(&mut self, id: TaskId) -> Option<T>
+        ensures value { result ≡ live_at self.old id }
+        ensures emptied { Updates self.old self.new id None }
+    {
+        self.slots.try_remove(id.key())
+    }
+}

@@ -1,0 +1,43 @@
+-- The innermost scope of a name, going outwards.
+use Rattle.std.proofs.Common.{◌≡◌, ℕ, ◌<◌, true, false, List, [], ◌∷◌, length, Option, Some, None, is_some, refl, sym, ap, ◌∙◌, arith}
+use Rattle.std.specs.Option.{ForSome}
+use Rattle.cancel_scopes.specs.Sight.{Level}
+use Rattle.cancel_scopes.specs.Tree.{Stack, Tree, stack_of, outer_of, behind_own, IsOpen, IsOwn}
+use Rattle.task_machine.specs.Labels.{Labels, is_named, scope_named}
+
+-- an open scope's stack begins with it
+record Begins (tree : Tree) (id : ℕ) : Type 0 where
+  first : Level ℕ
+  outer : Stack
+  stack : stack_of tree id ≡ Some (first ∷ outer)
+  own : first.label ≡ id
+
+begins : (tree : Tree) (id : ℕ) → IsOwn tree → IsOpen tree id → Begins tree id
+begins tree id own whole = by_stack (stack_of tree id) refl
+  where
+    by_stack : (o : Option Stack) → stack_of tree id ≡ o → Begins tree id
+    by_stack None is = absurd (let e : false ≡ true = sym (ap is_some is) ∙ whole in cc)
+    by_stack (Some []) is = absurd (let e : None ≡ Some id = own id [] is in cc)
+    by_stack (Some (l ∷ outer)) is =
+        let e : Some l.label ≡ Some id = own id (l ∷ outer) is in
+        record { first = l; outer = outer; stack = is; own = cc }
+
+-- the scope has the name
+pub found_here : (labels : Labels) (name : List ℕ) (tree : Tree) (id : ℕ) → IsOwn tree → IsOpen tree id → is_named name (labels id) ≡ true → scope_named labels name (outer_of tree (Some id)) ≡ Some id
+found_here labels name tree id own whole named =
+    let b = begins tree id own whole in
+    rw (b.stack, b.own, named) refl
+
+-- it has not, and the search goes on at its parent
+pub found_outwards : (labels : Labels) (name : List ℕ) (tree : Tree) (id : ℕ) (parent : Option ℕ) → IsOwn tree → IsOpen tree id → is_named name (labels id) ≡ false → ForSome (stack_of tree id) (λ stack. outer_of tree parent ≡ behind_own stack) → scope_named labels name (outer_of tree (Some id)) ≡ scope_named labels name (outer_of tree parent)
+found_outwards labels name tree id parent own whole named round =
+    let b = begins tree id own whole in
+    let e : outer_of tree parent ≡ b.outer = round (b.first ∷ b.outer) b.stack in
+    rw (e, b.stack, b.own, named) refl
+
+-- which has a shorter stack
+pub shorter : (tree : Tree) (id : ℕ) (parent : Option ℕ) → IsOwn tree → IsOpen tree id → ForSome (stack_of tree id) (λ stack. outer_of tree parent ≡ behind_own stack) → length (outer_of tree parent) < length (outer_of tree (Some id))
+shorter tree id parent own whole round =
+    let b = begins tree id own whole in
+    let e : outer_of tree parent ≡ b.outer = round (b.first ∷ b.outer) b.stack in
+    rw (e, b.stack) (omega arith)

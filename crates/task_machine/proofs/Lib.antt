@@ -1,0 +1,4 @@
+pub mod LabelLemmas
+pub mod OwnLemmas
+pub mod FindLemmas
+pub mod Stacked

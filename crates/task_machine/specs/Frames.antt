@@ -1,0 +1,25 @@
+-- What the code holds of what a task has not finished, the innermost last, as frames, the innermost first.
+use Rattle.std.specs.Prelude.{ℕ, List, [], ◌∷◌}
+use Rattle.std.specs.Option.{option_map}
+use Rattle.job_tree.specs.Blocks.{steps_of, handled_of, cleaned_of}
+use Rattle.exc_groups.specs.Held.{exc_of}
+use Rattle.job_meaning.specs.Rest as rest
+use Rattle.task_machine.specs.declared.frame.Frame.{Frame}
+use Rattle.task_machine.specs.declared.frame.Frame.TheVariants.{Steps, Scope, Nursery, Try, Handler, Cleanup}
+
+-- one frame, where the children that were started in each nursery have these numbers
+abbrev pub frame_of : (ℕ → List ℕ) → Frame → rest.Frame
+frame_of children (Steps steps) = rest.steps_left (steps_of steps.now)
+frame_of children (Scope fail) = rest.in_scope fail
+frame_of children (Nursery id) = rest.in_nursery (children id)
+frame_of children (Try handler cleanup) = rest.in_try (handled_of handler.now) (cleaned_of cleanup.now)
+frame_of children (Handler others cleanup) = rest.in_handler (option_map exc_of others) (cleaned_of cleanup.now)
+frame_of children (Cleanup outcome) = rest.in_cleanup (option_map exc_of outcome)
+
+-- those held, inside the outer ones
+abbrev pub frames_onto : (ℕ → List ℕ) → List Frame → List rest.Frame → List rest.Frame
+frames_onto children [] outer = outer
+frames_onto children (f ∷ fs) outer = frames_onto children fs (frame_of children f ∷ outer)
+
+abbrev pub frames_of : (ℕ → List ℕ) → List Frame → List rest.Frame
+frames_of children fs = frames_onto children fs []

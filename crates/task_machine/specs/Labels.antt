@@ -1,0 +1,32 @@
+-- The labels of the open scopes, by the keys of the scopes.
+use Rattle.std.specs.Prelude.{◌≡◌, ◌≢◌, ℕ, Bool, true, false, List, [], ◌∷◌, Option, Some, None, slice_index_or}
+use Rattle.std.specs.Str.{bytes_eq}
+use Rattle.cancel_scopes.specs.Tree.{Stack}
+use Rattle.exc_groups.specs.Exceptions.{Label}
+
+-- which label each key has, if it has one
+abbrev pub Labels : Type 0
+Labels = ℕ → Option Label
+
+-- what stands at a place, and none behind the last
+abbrev pub label_in : List (Option Label) → Labels
+label_in labels key = slice_index_or labels key None
+
+-- the key has this label now, or none, and every other key keeps its own
+pub record Updates (old new : Labels) (key : ℕ) (label : Option Label) : Type 0 where
+  pub changed : new key ≡ label
+  pub others : (other : ℕ) → other ≢ key → new other ≡ old other
+
+-- the label has that name
+abbrev pub is_named : List ℕ → Option Label → Bool
+is_named name None = false
+is_named name (Some label) = bytes_eq name label.name
+
+abbrev pub key_if : Bool → ℕ → Option ℕ → Option ℕ
+key_if true key o = Some key
+key_if false key o = o
+
+-- the innermost scope of a stack that has a label of that name
+abbrev pub scope_named : Labels → List ℕ → Stack → Option ℕ
+scope_named labels name [] = None
+scope_named labels name (l ∷ outer) = key_if (is_named name (labels l.label)) l.label (scope_named labels name outer)

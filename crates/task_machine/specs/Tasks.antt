@@ -1,0 +1,19 @@
+-- What clauses see of a task.
+use Rattle.std.specs.Prelude.{ℕ, Option, map}
+use Rattle.std.specs.Option.{option_map}
+use Rattle.std.specs.List.{last_or}
+use Rattle.task_machine.specs.declared.task.Own.{Own}
+use Rattle.task_machine.specs.declared.task.Home.{Home}
+use Rattle.task_machine.specs.declared.task.Task.{Task}
+
+-- the scope of the nursery in which a task was started
+abbrev pub home_scope : Task → Option ℕ
+home_scope task = option_map (λ (h : Home). h.scope) task.home
+
+-- the innermost scope round a task: the last that it opened itself, else that of its home nursery
+abbrev pub scope_of : Task → Option ℕ
+scope_of task = last_or (home_scope task) (map (λ (o : Own). o.id) task.own.items)
+
+-- the nursery in which it was started, and its place there
+abbrev pub home_of : Task → Option (ℕ × ℕ)
+home_of task = option_map (λ (h : Home). (h.nursery, h.place)) task.home

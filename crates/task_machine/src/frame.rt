@@ -1,0 +1,46 @@
+use exc_groups::Exc;
+use job_tree::{Body, Handler, Step};
+use nursery_book::NurseryId;
+
+/// What a task has not finished. It is in one of them inside the other.
+#[derive(Drop)]
+pub(crate) enum Frame<'a> {
+    /// The steps of a block that were not begun.
+    Steps(&'a [Step]),
+    /// A cancel scope.
+    Scope {
+        /// Whether it raises `TooSlow` where it caught a cancellation and nothing else is left.
+        fail: bool,
+    },
+    /// The body of a nursery.
+    Nursery {
+        /// The nursery.
+        id: NurseryId,
+    },
+    /// The body of a `try`.
+    Try {
+        /// Its handler, if it has one.
+        handler: &'a Option<Handler>,
+        /// Its cleanup, if it has one.
+        cleanup: &'a Option<Body>,
+    },
+    /// A handler.
+    Handler {
+        /// What the split left for others.
+        rest: Option<Exc>,
+        /// The cleanup of its `try`, if it has one.
+        cleanup: &'a Option<Body>,
+    },
+    /// A cleanup.
+    Cleanup {
+        /// How the `try` came out before it.
+        outcome: Option<Exc>,
+    },
+}
+
+// What stands in the free places of a short stack.
+impl<'a> Default for Frame<'a> {
+    fn default() -> Frame<'a> {
+        Frame::Scope { fail: false }
+    }
+}

@@ -1,0 +1,25 @@
+//! Tasks and what they share: the ground of the layer in which a task has its turns.
+//!
+//! A `Task` holds what it has not finished, the cancel scopes that it opened, innermost last, and what it noted. A `World`
+//! holds the tick, the cancel scopes with their labels, the nurseries, and the tasks that were started and that nobody took
+//! yet. A task that is woken (`Wake`) goes on until it stops (`Stop`).
+//!
+//! The layer promises that a label belongs to the scope that was entered with it until that is left, that a name finds the
+//! innermost scope of that name, and that a call of the world changes the parts that it names alone. It stands on the scope
+//! tree, on the book of nurseries, and on the jobs whose steps it borrows.
+#![tactic(auto)]
+
+mod frame;
+mod labels;
+mod laws;
+mod stop;
+mod task;
+#[cfg(test)]
+mod tests;
+mod world;
+
+pub use laws::law_places;
+pub use stop::{Stop, Wake};
+pub use task::Task;
+pub use task_records::{Entry, ScopeFrom};
+pub use world::World;

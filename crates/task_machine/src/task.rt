@@ -1,0 +1,138 @@
+ghost use Rattle.std.specs.Prelude.{◌≡◌, ℕ, ◌≤◌, List, [], ◌∷◌, None, IfOk, length};
+ghost use Rattle.buffer_parts.specs.Lines.{bytes_of};
+ghost use Rattle.buffer_parts.specs.Part.{buffer_of, range_of};
+ghost use Rattle.job_meaning.specs.declared.limits.TheConstants.{MOST_INPUT};
+ghost use Rattle.job_meaning.specs.Rest.{steps_left};
+ghost use Rattle.task_machine.specs.Frames.{frames_of};
+ghost use Rattle.task_machine.specs.Tasks.{scope_of, home_of, home_scope};
+ghost use Rattle.task_machine.specs.declared.stop.Halt.TheVariants.{ToBegin};
+
+use crate::frame::Frame;
+use crate::stop::Halt;
+use buffer_parts::Part;
+use cancel_scopes::ScopeId;
+use exc_groups::Label;
+use job_grammar::Job;
+use nursery_book::{NurseryId, Place};
+use smallvec::SmallVec;
+use std::alloc::{AllocError, Global};
+use task_records::{Entry, ScopeFrom};
+
+/// A cancel scope that a task opened.
+#[derive(Clone, Copy)]
+pub(crate) struct Own {
+    /// The scope.
+    pub(crate) id: ScopeId,
+    /// Its place among the task's froms.
+    pub(crate) at: usize,
+}
+
+/// Where a child was started.
+#[derive(Clone, Copy)]
+pub(crate) struct Home {
+    /// Its nursery.
+    pub(crate) nursery: NurseryId,
+    /// Its place among the nursery's children.
+    pub(crate) place: Place,
+    /// The nursery's cancel scope.
+    pub(crate) scope: ScopeId,
+}
+
+/// A task of a job, whose steps and whose part of the input it borrows.
+#[derive(Drop)]
+pub struct Task<'a> {
+    pub(crate) alloc: Global,
+    pub(crate) label: Label,
+    pub(crate) part: Part<'a>,
+    // None for the root.
+    pub(crate) home: Option<Home>,
+    // The innermost is the last.
+    pub(crate) frames: SmallVec<Frame<'a>, 4>,
+    // The innermost is the last.
+    pub(crate) own: Vec<Own>,
+    pub(crate) halt: Halt,
+    pub(crate) entries: Vec<Entry<'a>>,
+    pub(crate) froms: Vec<ScopeFrom>,
+}
+
+impl<'a> Task<'a> {
+    /// The root task of a job on a part of the input. It has to begin with the job's steps, and noted nothing.
+    pub fn root(alloc: Global, job: &'a Job, part: Part<'a>) -> Result<Task<'a>, AllocError>
+        requires { length (bytes_of (buffer_of part) (range_of part)) ≤ MOST_INPUT }
+        ensures label { IfOk result (λ task. task.label ≡ record { name = job.now.name; indices = [] }) }
+        ensures part { IfOk result (λ task. task.part ≡ part.entry) }
+        ensures home { IfOk result (λ task. task.home ≡ None) }
+        ensures frames { IfOk result (λ task. (children : ℕ → List ℕ) →
+            frames_of children task.frames.items ≡ steps_left job.now.steps ∷ []) }
+        ensures own { IfOk result (λ task. task.own.items ≡ []) }
+        ensures halt { IfOk result (λ task. task.halt ≡ ToBegin) }
+        ensures entries { IfOk result (λ task. task.entries.items ≡ []) }
+        ensures froms { IfOk result (λ task. task.froms.items ≡ []) }
+    {
+        let mut frames = SmallVec::new(alloc);
+        frames.push(Frame::Steps(job.steps()))?;
+        Ok(Task {
+            alloc,
+            label: Label::new(alloc, job.name()),
+            part,
+            home: None,
+            frames,
+            own: Vec::new(alloc),
+            halt: Halt::ToBegin,
+            entries: Vec::new(alloc),
+            froms: Vec::new(alloc),
+        })
+    }
+
+    /// The task's label; the root's is the job's name.
+    pub fn label(&self) -> &Label
+        ensures { result.now ≡ self.now.label }
+    {
+        &self.label
+    }
+
+    /// The innermost cancel scope round the task: the last that it opened itself and did not leave, else its home
+    /// nursery's, and none for a root that is in no scope.
+    pub fn scope(&self) -> Option<ScopeId>
+        ensures { result ≡ scope_of self.now }
+    {
+        let Some(own) = self.own.last() else {
+            return self.home_scope();
+        };
+        Some(own.id)
+    }
+
+    // The cancel scope of the nursery in which the task was started.
+    fn home_scope(&self) -> Option<ScopeId>
+        ensures { result ≡ home_scope self.now }
+    {
+        match &self.home {
+            Some(home) => Some(home.scope),
+            None => None,
+        }
+    }
+
+    /// The nursery in which the task was started, and its place there; none for the root.
+    pub fn home(&self) -> Option<(NurseryId, Place)>
+        ensures { result ≡ home_of self.now }
+    {
+        match &self.home {
+            Some(home) => Some((home.nursery, home.place)),
+            None => None,
+        }
+    }
+
+    /// What the task noted, in the order in which it did.
+    pub fn entries(&self) -> &[Entry<'a>]
+        ensures { result.now ≡ self.now.entries.items }
+    {
+        self.entries.as_slice()
+    }
+
+    /// The scopes and nurseries that the task opened, in that order, each with the tick from which it was cancelled.
+    pub fn froms(&self) -> &[ScopeFrom]
+        ensures { result.now ≡ self.now.froms.items }
+    {
+        self.froms.as_slice()
+    }
+}

@@ -1,0 +1,207 @@
+ghost use Rattle.std.specs.Prelude.{◌≡◌, ℕ, ◌+◌, ◌<◌, ◌≤◌, ◌^◌, [], ◌∷◌, Some, None, IsSome, IfOk, OnOk};
+ghost use Rattle.std.specs.Option.{ForSome, option_map};
+ghost use Rattle.std.specs.Borrow.{sem};
+ghost use Rattle.cancel_scopes.specs.Sight.{seen};
+ghost use Rattle.cancel_scopes.specs.Tree.{stack_of, IsOpen, outer_of, OthersKeep, after_cancel, own_from, IsInnermost};
+ghost use Rattle.cancel_scopes.specs.Tree as tree;
+ghost use Rattle.nursery_book.specs.Book.{nursery_at};
+ghost use Rattle.task_machine.specs.Labels.{Updates};
+
+use crate::labels::{put_label, take_label};
+use crate::task::Task;
+use cancel_scopes::{ScopeId, ScopeTree, stacks_are_chains};
+use exc_groups::Label;
+use job_tree::Name;
+use nursery_book::NurseryBook;
+use std::alloc::{AllocError, Global};
+use std::collections::VecDeque;
+
+/// What tasks share: the tick, the cancel scopes, each with its label, the nurseries, and the tasks that were started and
+/// that nobody took yet.
+///
+/// The caller sees to it that ticks are at most 1,099,511,627,776 (2 to the 40).
+#[derive(Drop)]
+pub struct World<'a> {
+    pub(crate) alloc: Global,
+    pub(crate) tick: u64,
+    pub(crate) scopes: ScopeTree,
+    // By the keys of the scopes.
+    pub(crate) labels: Vec<Option<Label>>,
+    pub(crate) book: NurseryBook,
+    pub(crate) started: VecDeque<Task<'a>>,
+}
+
+impl<'a> World<'a> {
+    ghost use Rattle.task_machine.specs.Labels.{is_named, scope_named};
+    ghost use Rattle.task_machine.specs.Worlds.{label_at, TakesFirst};
+    ghost use Rattle.task_machine.specs.Lending.{lends_scopes, lends_book};
+
+    /// A world at tick 0, in which nothing is open and nothing was started. Takes no memory.
+    pub fn new(alloc: Global) -> World<'a>
+        ensures tick { result.tick ≡ 0 }
+        ensures scopes { (key : ℕ) → stack_of result.scopes key ≡ None }
+        ensures labels { (key : ℕ) → label_at result key ≡ None }
+        ensures book { (key : ℕ) → nursery_at result.book key ≡ None }
+        ensures started { result.started.items ≡ [] }
+    {
+        World {
+            alloc,
+            tick: 0,
+            scopes: ScopeTree::new(alloc),
+            labels: Vec::new(alloc),
+            book: NurseryBook::new(alloc),
+            started: VecDeque::new(alloc),
+        }
+    }
+
+    /// The tick.
+    pub fn now(&self) -> u64
+        ensures { result ≡ self.now.tick }
+    {
+        self.tick
+    }
+
+    /// Sets the tick, to none that is earlier.
+    pub fn set_now(&mut self, tick: u64)
+        requires later { self.old.tick ≤ tick }
+        requires bounded { tick ≤ 2 ^ 40 }
+        ensures { self.new ≡ record self.old { tick = tick } }
+    {
+        self.tick = tick;
+    }
+
+    /// The cancel scopes.
+    pub fn scopes(&self) -> &ScopeTree
+        ensures { result.now ≡ self.now.scopes }
+    {
+        &self.scopes
+    }
+
+    /// The cancel scopes, for writing.
+    pub fn scopes_mut(&mut self) -> &mut ScopeTree
+        ensures* writes_back { sem 𝓛 (lends_scopes self.entry result) }
+        ensures value { result.now ≡ self.old.scopes }
+    {
+        &mut self.scopes
+    }
+
+    /// The nurseries.
+    pub fn book(&self) -> &NurseryBook
+        ensures { result.now ≡ self.now.book }
+    {
+        &self.book
+    }
+
+    /// The nurseries, for writing.
+    pub fn book_mut(&mut self) -> &mut NurseryBook
+        ensures* writes_back { sem 𝓛 (lends_book self.entry result) }
+        ensures value { result.now ≡ self.old.book }
+    {
+        &mut self.book
+    }
+
+    /// Takes the task that was started first of those that nobody took yet: none exactly where none is left.
+    pub fn take_started(&mut self) -> Option<Task<'a>>
+        ensures task { TakesFirst self.old.started.items result self.new.started.items }
+        ensures rest { self.new ≡ record self.old { started = self.new.started } }
+    {
+        self.started.pop_front()
+    }
+
+    // A cancel scope with that label is opened inside another, or as an outermost one. After an error the world may only
+    // be dropped.
+    pub(crate) fn enter(
+        &mut self,
+        outer: Option<ScopeId>,
+        label: Label,
+        shield: bool,
+        deadline: Option<u64>,
+    ) -> Result<ScopeId, AllocError>
+        requires outer { ForSome outer (IsOpen self.old.scopes) }
+        requires deadline { ForSome deadline (λ tick. tick < 2 ^ 41) }
+        ensures fresh { IfOk result (λ id. stack_of self.old.scopes id ≡ None) }
+        ensures opened { IfOk result (λ id. stack_of self.new.scopes id ≡
+            Some (record { label = id; shield = shield; from = deadline } ∷ outer_of self.old.scopes outer)) }
+        ensures others { IfOk result (OthersKeep self.old.scopes self.new.scopes) }
+        ensures label { IfOk result (λ id. Updates (label_at self.old) (label_at self.new) id (Some label)) }
+        ensures rest { self.new ≡ record self.old { scopes = self.new.scopes; labels = self.new.labels } }
+    {
+        let id = self.scopes.open(outer, shield, deadline)?;
+        put_label(&mut self.labels, id.key(), label)?;
+        Ok(id)
+    }
+
+    // Closes a cancel scope that is round no other, and gives its label and from when it was cancelled: none is never.
+    pub(crate) fn leave(&mut self, id: ScopeId) -> (Label, Option<u64>)
+        requires id { IsOpen self.old.scopes id }
+        requires innermost { IsInnermost self.old.scopes id }
+        requires label { IsSome (label_at self.old id) }
+        ensures label { label_at self.old id ≡ Some result.0 }
+        ensures from { ForSome (stack_of self.old.scopes id) (λ stack. result.1 ≡ own_from stack) }
+        ensures closed { stack_of self.new.scopes id ≡ None }
+        ensures others { OthersKeep self.old.scopes self.new.scopes id }
+        ensures taken { Updates (label_at self.old) (label_at self.new) id None }
+        ensures rest { self.new ≡ record self.old { scopes = self.new.scopes; labels = self.new.labels } }
+    {
+        let from = self.scopes.close(id);
+        let label = take_label(&mut self.labels, id.key());
+        (label, from)
+    }
+
+    // Cancels a scope in the present tick, which is seen from the next one on.
+    pub(crate) fn sign(&mut self, id: ScopeId)
+        requires id { IsOpen self.old.scopes id }
+        requires tick { self.old.tick + 1 < 2 ^ 41 }
+        ensures stacks { (key : ℕ) → stack_of self.new.scopes key
+            ≡ option_map (after_cancel id self.old.tick) (stack_of self.old.scopes key) }
+        ensures rest { self.new ≡ record self.old { scopes = self.new.scopes } }
+    {
+        self.scopes.cancel(id, self.tick);
+    }
+
+    // The innermost scope of that name, from this one outwards.
+    pub(crate) fn find(&self, scope: Option<ScopeId>, name: Name) -> Option<ScopeId>
+        requires { ForSome scope (IsOpen self.now.scopes) }
+        ensures { result ≡ scope_named (label_at self.now) name (outer_of self.now.scopes scope) }
+    {
+        stacks_are_chains(&self.scopes);
+        let mut at = scope;
+        'outwards: while let Some(id) = at {
+            if self.has_name(id, name) {
+                return Some(id);
+            }
+            at = self.scopes.parent(id);
+        }
+        None
+    }
+
+    // Whether the scope's label has that name.
+    fn has_name(&self, id: ScopeId, name: Name) -> bool
+        ensures { result ≡ is_named name (label_at self.now id) }
+    {
+        match self.labels.get(id.key()) {
+            Some(Some(label)) => name == label.name(),
+            Some(None) => false,
+            None => false,
+        }
+    }
+
+    // Whether a task in that scope sees a cancellation now; outside any scope it never does.
+    pub(crate) fn sees(&self, scope: Option<ScopeId>) -> bool
+        requires { ForSome scope (IsOpen self.now.scopes) }
+        ensures { result ≡ seen (outer_of self.now.scopes scope) self.now.tick }
+    {
+        match scope {
+            Some(id) => self.scopes.seen(id, self.tick),
+            None => false,
+        }
+    }
+
+    // Whether the scope catches a cancellation that leaves it now.
+    pub(crate) fn catches(&self, id: ScopeId) -> bool
+        requires { IsOpen self.now.scopes id }
+        ensures { ForSome (stack_of self.now.scopes id) (λ stack. result ≡ tree.catches stack self.now.tick) }
+    {
+        self.scopes.may_catch(id, self.tick)
+    }
+}
