@@ -5,6 +5,3 @@ pub mod Worlds
 pub mod Lending
 pub mod Stacked
 pub mod Laws
-pub mod Stops
-pub mod Entered
-pub mod Left
