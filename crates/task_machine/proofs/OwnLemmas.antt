@@ -1,5 +1,5 @@
 -- The last of the scopes that a task opened.
-use Rattle.std.proofs.Common.{◌≡◌, ℕ, zero, suc, ◌+◌, ◌-◌, List, [], ◌∷◌, map, length, Option, Some, None, refl, ap, arith}
+use Rattle.std.proofs.Common.{◌≡◌, ℕ, zero, suc, ◌+◌, ◌-◌, List, [], ◌∷◌, ◌++◌, ◌∙◌, map, length, Option, Some, None, refl, ap, arith}
 use Rattle.std.specs.List.{slice_get, last_or}
 use Rattle.std.proofs.lemmas.Option.{slice_get-get_or}
 use Rattle.task_machine.specs.declared.task.Own.{Own}
@@ -24,3 +24,10 @@ pub no_own : (o : Option ℕ) (own : List Own) → slice_get own (length own - 1
 no_own o [] none = refl
 no_own o (y ∷ ys) none =
     absurd (let e = slice_get-get_or (y ∷ ys) (length (y ∷ ys) - 1) y (omega arith) in cc)
+
+pub last_pushed : (o : Option ℕ) (own pushed : List Own) (x : Own) → pushed ≡ own ++ x ∷ [] → last_or o (ids pushed) ≡ Some x.id
+last_pushed o own pushed x e = ap (λ (os : List Own). last_or o (ids os)) e ∙ by_own o own
+  where
+    by_own : (o : Option ℕ) (own : List Own) → last_or o (ids (own ++ x ∷ [])) ≡ Some x.id
+    by_own o [] = refl
+    by_own o (y ∷ ys) = by_own (Some y.id) ys

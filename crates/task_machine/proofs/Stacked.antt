@@ -17,7 +17,7 @@ use Rattle.task_turns.specs.Names.{IsName, names_at, OwnNames}
 use Rattle.task_machine.specs.Labels.{Labels, is_named, key_if, scope_named}
 use Rattle.task_machine.specs.Stacked.{AreAt, IsKey, Alone, SameOn, FoundAs}
 
-one_of : {A : Type 0} (a b : A) → Some a ≡ Some b → a ≡ b
+pub one_of : {A : Type 0} (a b : A) → Some a ≡ Some b → a ≡ b
 one_of a b e = cc
 
 -- the same is seen from a stack and from its places

@@ -5,3 +5,6 @@ pub mod Worlds
 pub mod Lending
 pub mod Stacked
 pub mod Laws
+pub mod Stops
+pub mod Entered
+pub mod Left

@@ -9,9 +9,13 @@
 //! tree, on the book of nurseries, and on the jobs whose steps it borrows.
 #![tactic(auto)]
 
+mod cancelling;
+mod entering;
 mod frame;
 mod labels;
 mod laws;
+mod leaving;
+mod pausing;
 mod stop;
 mod task;
 #[cfg(test)]

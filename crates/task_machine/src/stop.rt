@@ -56,3 +56,12 @@ pub(crate) enum Purpose {
     /// To sleep the number of lines divided by this, rounded up.
     Paces(u64),
 }
+
+/// What a step of a turn leads to.
+#[derive(Drop)]
+pub(crate) enum Moved<'a> {
+    /// The task goes on, with that exception, or well.
+    On(Option<Exc>),
+    /// It stops.
+    Stops(Stop<'a>),
+}

@@ -1,0 +1,66 @@
+-- A scope round a task that is cancelled by its name.
+use Rattle.std.proofs.Common.{◌≡◌, inl, inr, ℕ, Option, Some, None, List, [], ◌∷◌, ◌++◌, append_assoc, refl, ap, sym, ◌∙◌, subst}
+use Rattle.std.specs.Prelude.{IsSome}
+use Rattle.std.specs.Option.{option_map, unwrap_or}
+use Rattle.exc_groups.specs.Exceptions.{Label}
+use Rattle.cancel_scopes.specs.Sight.{Tick, Level}
+use Rattle.cancel_scopes.specs.Tree.{Stack, Tree, stack_of, IsOpen, outer_of, IsChain, after_cancel}
+use Rattle.job_meaning.specs.Log.{Table}
+use Rattle.task_turns.specs.Midway.{Place}
+use Rattle.task_turns.specs.Names.{names_at, OwnNames}
+use Rattle.task_turns.specs.Steps.{label_among, signs_to, froms_after, lowered}
+use Rattle.task_machine.specs.Labels.{Labels, scope_named}
+use Rattle.task_machine.specs.Stacked.{AreAt, IsKey, FoundAs}
+use Rattle.task_machine.proofs.Stacked.{named_at, named_is_in, signed_alike}
+
+some_is : (o : Option Stack) (st : Stack) → o ≡ Some st → IsSome o
+some_is o st e = subst IsSome (sym e) refl
+
+-- a scope of a stack is open
+open_in : (tree : Tree) (key : ℕ) (before st : Stack) →
+    ((front : Stack) (l : Level ℕ) (behind : Stack) → before ++ st ≡ front ++ l ∷ behind → stack_of tree l.label ≡ Some (l ∷ behind)) → IsKey key st → IsOpen tree key
+open_in tree key before [] chain i = absurd i
+open_in tree key before (l ∷ ls) chain (inl e) = subst (IsOpen tree) (sym e) (some_is _ _ (chain before l ls refl))
+open_in tree key before (l ∷ ls) chain (inr i) =
+    open_in tree key (before ++ l ∷ []) ls (λ front m behind e. chain front m behind (sym (append_assoc before (l ∷ []) ls) ∙ e)) i
+
+open_round : (tree : Tree) → IsChain tree → (scope : Option ℕ) (key : ℕ) → IsKey key (outer_of tree scope) → IsOpen tree key
+open_round tree chain None key i = absurd i
+open_round tree chain (Some p) key i = by_stack (stack_of tree p) refl i
+  where
+    by_stack : (o : Option Stack) → stack_of tree p ≡ o → IsKey key (unwrap_or o []) → IsOpen tree key
+    by_stack None e i = absurd i
+    by_stack (Some st) e i = open_in tree key [] st (λ front l behind f. chain p st e front l behind f) i
+
+pub found_open : (labels : Labels) (tree : Tree) (name : List ℕ) (scope : Option ℕ) (key : ℕ) → IsChain tree → scope_named labels name (outer_of tree scope) ≡ Some key → IsOpen tree key
+found_open labels tree name scope key chain e = open_round tree chain scope key (named_is_in labels name (outer_of tree scope) key e)
+
+-- the stacks after a cancellation
+round_after : (old new : Tree) (key t : ℕ) (scope : Option ℕ) → ((at : ℕ) → stack_of new at ≡ option_map (after_cancel key t) (stack_of old at)) →
+    outer_of new scope ≡ after_cancel key t (outer_of old scope)
+round_after old new key t None h = refl
+round_after old new key t (Some p) h = ap (λ (o : Option Stack). unwrap_or o []) (h p) ∙ by_stack (stack_of old p)
+  where
+    by_stack : (o : Option Stack) → unwrap_or (option_map (after_cancel key t) o) [] ≡ after_cancel key t (unwrap_or o [])
+    by_stack None = refl
+    by_stack (Some st) = refl
+
+pub cancels_at : (labels more : Labels) (old new : Tree) (scope : Option ℕ) (name : List ℕ) (key t : ℕ) → more ≡ labels →
+    ((at : ℕ) → stack_of new at ≡ option_map (after_cancel key t) (stack_of old at)) → scope_named labels name (outer_of old scope) ≡ Some key →
+    (froms : Table) (ps : List Place) → OwnNames (names_at ps) → AreAt labels froms (outer_of old scope) ps →
+    AreAt more (froms_after froms (signs_to (label_among name ps) t)) (outer_of new scope) ps
+cancels_at labels more old new scope name key t same after found froms ps own a =
+    let at : FoundAs labels (Some key) (label_among name ps) =
+    subst (λ (o : Option ℕ). FoundAs labels o (label_among name ps)) found (named_at labels froms name (outer_of old scope) ps a) in
+    let label : Label = at.1.0 in
+    let signed : AreAt labels (lowered froms label t) (after_cancel key t (outer_of old scope)) ps =
+    signed_alike labels froms (outer_of old scope) ps key t label (at.0 ∙ at.1.1) (named_is_in labels name (outer_of old scope) key found) own a in
+    subst (λ (ls : Labels). AreAt ls (froms_after froms (signs_to (label_among name ps) t)) (outer_of new scope) ps) (sym same)
+    (subst (λ (st : Stack). AreAt labels (froms_after froms (signs_to (label_among name ps) t)) st ps) (sym (round_after old new key t scope after))
+    (subst (λ (o : Option Label). AreAt labels (froms_after froms (signs_to o t)) (after_cancel key t (outer_of old scope)) ps) (sym at.1.1) signed))
+
+pub cancels_none : (labels : Labels) (st : Stack) (name : List ℕ) (t : ℕ) → scope_named labels name st ≡ None → (froms : Table) (ps : List Place) →
+    AreAt labels froms st ps → AreAt labels (froms_after froms (signs_to (label_among name ps) t)) st ps
+cancels_none labels st name t none froms ps a =
+    let found : label_among name ps ≡ None = subst (λ (o : Option ℕ). FoundAs labels o (label_among name ps)) none (named_at labels froms name st ps a) in
+    subst (λ (o : Option Label). AreAt labels (froms_after froms (signs_to o t)) st ps) (sym found) a

@@ -1,0 +1,30 @@
+-- Moves of the code, as those of the definitions.
+use Rattle.std.proofs.Common.{◌≡◌, ℕ, zero, suc, ◌+◌, Bool, true, false, Some, None, List, refl, ap, sym, ◌∙◌, subst}
+use Rattle.cancel_scopes.specs.Sight.{seen}
+use Rattle.cancel_scopes.specs.Tree as scopes
+use Rattle.job_meaning.specs.Log.{Table}
+use Rattle.job_meaning.specs.Rest.{Frame}
+use Rattle.task_turns.specs.Midway.{Place, stack_at, Move}
+use Rattle.task_turns.specs.Steps.{sleeps, falls_asleep}
+use Rattle.task_machine.specs.declared.stop.Stop.TheVariants.{Sleep}
+use Rattle.task_machine.specs.declared.stop.Halt.TheVariants.{Asleep}
+use Rattle.task_machine.specs.Stops.{StopsAs}
+use Rattle.task_machine.specs.Labels.{Labels}
+use Rattle.task_machine.specs.Stacked.{AreAt}
+use Rattle.task_machine.proofs.Stacked.{seen_at}
+
+-- a sleep goes by what is seen
+pub sleeps_by : (labels : Labels) (froms : Table) (st : scopes.Stack) (ps : List Place) (n t : ℕ) (fs : List Frame) (b : Bool) → AreAt labels froms st ps →
+    b ≡ seen st t → (P : Move → Type 0) → P (falls_asleep b n t fs ps) → P (sleeps froms n t fs ps)
+sleeps_by labels froms st ps n t fs b a e P p = subst (λ (x : Bool). P (falls_asleep x n t fs ps)) (e ∙ seen_at labels froms st ps t a) p
+
+-- one of no tick goes on
+pub sleeps_on : (n t : ℕ) (fs : List Frame) (ps : List Place) → n ≡ 0 → (let o = falls_asleep false n t fs ps in (None ≡ o.exc) × (o.stopped ≡ None))
+sleeps_on zero t fs ps e = (refl, refl)
+sleeps_on (suc n) t fs ps e = absurd (let f : suc n ≡ 0 = e in cc)
+
+-- and another stops
+pub sleeps_off : (n t due : ℕ) (fs : List Frame) (ps : List Place) → (n ≡ 0 → ⊥) → due ≡ t + n →
+    (let o = falls_asleep false n t fs ps in (o.exc ≡ None) × StopsAs (Sleep due) Asleep o.stopped)
+sleeps_off zero t due fs ps h e = absurd (h refl)
+sleeps_off (suc n) t due fs ps h e = (refl, e)

@@ -1,0 +1,55 @@
+use Rattle.std.proofs.Common.{◌≡◌, ℕ, Bool, Option, Some, None, List, [], ◌∷◌, ◌++◌, refl, ap, sym, ◌∙◌, subst}
+use Rattle.std.specs.Option.{unwrap_or}
+use Rattle.exc_groups.specs.Exceptions.{Label}
+use Rattle.cancel_scopes.specs.Tree.{Stack, outer_of, IsOpen}
+use Rattle.task_machine.specs.Tasks.{scope_of, home_scope}
+use Rattle.task_machine.specs.Worlds.{label_at}
+use Rattle.task_machine.specs.Stacked.{AreAt}
+use Rattle.task_machine.proofs.Stacked.{one_of, catches_at}
+use Rattle.task_machine.proofs.OwnLemmas.{ids, last_pushed}
+use Rattle.task_machine.proofs.Leaves.{Top, top_of, first_after, places_after, left_from}
+use Rattle.task_machine.proofs.task.Task.leave.Goals as goal
+
+pub catches-catches-requires : goal.catches-catches-requires
+catches-catches-requires c = c.requires.«open» c.in-Some.own.id (last_pushed _ _ _ _ c.in-Some.ensures.items)
+
+pub leave-label-requires-clause-id : goal.leave-label-requires-clause-id
+leave-label-requires-clause-id c = c.requires.«open» c.in-Some.own.id (last_pushed _ _ _ _ c.in-Some.ensures.items)
+
+pub leave-label-requires-clause-innermost : goal.leave-label-requires-clause-innermost
+leave-label-requires-clause-innermost c = c.requires.innermost c.in-Some.own.id (last_pushed _ _ _ _ c.in-Some.ensures.items)
+
+pub leave-label-requires-clause-label : goal.leave-label-requires-clause-label
+leave-label-requires-clause-label c = c.requires.labelled c.in-Some.own.id (last_pushed _ _ _ _ c.in-Some.ensures.items)
+
+pub returns-clause-left : goal.returns-clause-left
+returns-clause-left c =
+    record { last = c.in-Some.own; taken = c.in-Some.ensures.items; from = c.leave-label.result.1; seen = c.leave-label.ensures.from }
+
+pub returns-clause-own : goal.returns-clause-own
+returns-clause-own c =
+    let self = c.args.self.now in
+    let last = last_pushed (home_scope self) _ _ _ c.in-Some.ensures.items in
+    first_after c.args.world.now.scopes c.leave-label.new.self.scopes (home_scope self) c.pop.new.self.items c.in-Some.own c.leave-label.ensures.others
+    (top_of c.args.world.now.scopes c.stacks_are_chains.ensures.chain c.stacks_are_chains.ensures.own (home_scope self) self.own.items c.pop.new.self.items c.in-Some.own
+    c.in-Some.ensures.items (c.requires.«open» c.in-Some.own.id last) c.requires.own last)
+
+pub returns-clause-at : goal.returns-clause-at
+returns-clause-at c =
+    let self = c.args.self.now in
+    let world = c.args.world.now in
+    let last = last_pushed (home_scope self) _ _ _ c.in-Some.ensures.items in
+    let top : Top world.scopes (home_scope self) c.pop.new.self.items c.in-Some.own =
+        top_of world.scopes c.stacks_are_chains.ensures.chain c.stacks_are_chains.ensures.own (home_scope self) self.own.items c.pop.new.self.items c.in-Some.own
+        c.in-Some.ensures.items (c.requires.«open» c.in-Some.own.id last) c.requires.own last in
+    λ froms p ps a.
+    let at : AreAt (label_at world) froms (top.level ∷ top.behind) (p ∷ ps) =
+        left_from (label_at world) froms world.scopes (home_scope self) _ c.pop.new.self.items c.in-Some.own p ps top last a in
+    let named : top.level.label ≡ c.in-Some.own.id = one_of _ _ (c.stacks_are_chains.ensures.own c.in-Some.own.id (top.level ∷ top.behind) top.at) in
+    record {
+      label = one_of _ _ (sym c.leave-label.ensures.label ∙ ap (label_at world) (sym named) ∙ at.0);
+      caught = c.catches-catches.ensures (top.level ∷ top.behind) top.at ∙ catches_at (label_at world) froms top.level top.behind p ps world.tick at;
+      round =
+          places_after (label_at world) (label_at c.leave-label.new.self) world.scopes c.leave-label.new.self.scopes (home_scope self) c.pop.new.self.items c.in-Some.own None
+          c.stacks_are_chains.ensures.chain c.leave-label.ensures.others c.leave-label.ensures.taken top froms ps at.3;
+    }

@@ -1,0 +1,34 @@
+use Rattle.std.proofs.Common.{◌≡◌, ℕ, suc, ◌+◌, true, false, Option, Some, None, refl, ap, sym, ◌∙◌, subst}
+use Rattle.exc_groups.specs.Exceptions.{cancelled}
+use Rattle.cancel_scopes.specs.Sight.{seen}
+use Rattle.cancel_scopes.specs.Tree.{outer_of}
+use Rattle.task_turns.specs.Midway.{Move}
+use Rattle.task_machine.specs.declared.stop.Stop.TheVariants.{Sleep}
+use Rattle.task_machine.specs.declared.stop.Halt.TheVariants.{Asleep}
+use Rattle.task_machine.specs.Stops.{StopsAs}
+use Rattle.task_machine.proofs.Moves.{sleeps_by, sleeps_on, sleeps_off}
+use Rattle.task_machine.proofs.task.Task.sleep.Goals as goal
+
+pub returns-then-sees-clause-sleeps : goal.returns-then-sees-clause-sleeps
+returns-then-sees-clause-sleeps c =
+    let world = c.args.world.now in
+    λ froms fs ps a.
+    sleeps_by _ froms _ ps c.args.ticks world.tick fs true a
+    (sym c.if-sees.true ∙ c.sees.ensures ∙ ap (λ (s : Option ℕ). seen (outer_of world.scopes s) world.tick) c.scope.ensures)
+    (λ (o : Move). (Some cancelled ≡ o.exc) × (o.stopped ≡ None)) (refl, refl)
+
+pub returns-then-ticks-eq0-clause-sleeps : goal.returns-then-ticks-eq0-clause-sleeps
+returns-then-ticks-eq0-clause-sleeps c =
+    let world = c.args.world.now in
+    λ froms fs ps a.
+    sleeps_by _ froms _ ps c.args.ticks world.tick fs false a
+    (sym c.if-sees.false ∙ c.sees.ensures ∙ ap (λ (s : Option ℕ). seen (outer_of world.scopes s) world.tick) c.scope.ensures)
+    (λ (o : Move). (None ≡ o.exc) × (o.stopped ≡ None)) (sleeps_on c.args.ticks world.tick fs ps c.if-ticks-eq0.true)
+
+pub returns-clause-sleeps : goal.returns-clause-sleeps
+returns-clause-sleeps c =
+    let world = c.args.world.now in
+    λ froms fs ps a.
+    sleeps_by _ froms _ ps c.args.ticks world.tick fs false a
+    (sym c.if-sees.false ∙ c.sees.ensures ∙ ap (λ (s : Option ℕ). seen (outer_of world.scopes s) world.tick) c.scope.ensures)
+    (λ (o : Move). (o.exc ≡ None) × StopsAs (Sleep (c.now.result + c.args.ticks)) Asleep o.stopped) (sleeps_off c.args.ticks world.tick (c.now.result + c.args.ticks) fs ps c.if-ticks-eq0.false (ap (λ (x : ℕ). x + c.args.ticks) c.now.ensures))

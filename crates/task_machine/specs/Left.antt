@@ -1,0 +1,48 @@
+-- A task that leaves the innermost of its scopes.
+use Rattle.std.specs.Prelude.{◌≡◌, ℕ, Option, Some, None, List, [], ◌∷◌, ◌++◌, map, reverse, slice_set, slice_get}
+use Rattle.std.specs.Option.{ForSome}
+use Rattle.std.specs.List.{last_or}
+use Rattle.exc_groups.specs.Exceptions.{Label}
+use Rattle.cancel_scopes.specs.Sight.{Tick, Level, catches}
+use Rattle.cancel_scopes.specs.Tree.{Tree, Stack, stack_of, outer_of, own_from}
+use Rattle.job_meaning.specs.Log.{Table}
+use Rattle.task_turns.specs.Midway.{Place, stack_at}
+use Rattle.task_records.specs.declared.entry.ScopeFrom.{ScopeFrom}
+use Rattle.task_machine.specs.declared.leaving.Closed.{Closed}
+use Rattle.task_machine.specs.declared.task.Own.{Own}
+use Rattle.task_machine.specs.declared.task.Task.{Task}
+use Rattle.task_machine.specs.declared.world.World.{World}
+use Rattle.task_machine.specs.Worlds.{label_at}
+use Rattle.task_machine.specs.Stacked.{AreAt}
+
+-- the keys of a stack, innermost first
+abbrev pub keys_of : Stack → List ℕ
+keys_of st = map (λ (l : Level ℕ). l.label) st
+
+-- the scopes that a task opened, innermost first
+abbrev pub keys_in : List Own → List ℕ
+keys_in [] = []
+keys_in (o ∷ os) = keys_in os ++ o.id ∷ []
+
+-- the scopes that a task opened are those round it, as far as its home
+abbrev pub OwnFirst : Tree → Option ℕ → List Own → Type 0
+OwnFirst tree home own = keys_of (outer_of tree (last_or home (map (λ (o : Own). o.id) own))) ≡ keys_in own ++ keys_of (outer_of tree home)
+
+-- the last scope is taken off, and its from is kept
+pub record LeavesOne (before after : Task) (world : World) : Type 0 where
+  pub last : Own
+  pub taken : before.own.items ≡ after.own.items ++ last ∷ []
+  pub from : Tick
+  pub seen : ForSome (stack_of world.scopes last.id) (λ st. from ≡ own_from st)
+
+-- The innermost place is left: the task is in those round it, with the same froms, and the scope that was left catches as
+-- its place does.
+pub record LeavesFrom (before after : World) (outer inner : Option ℕ) (closed : Closed) (froms : Table) (p : Place) (ps : List Place) : Type 0 where
+  pub label : closed.label ≡ p.label
+  pub caught : closed.catches ≡ catches (froms p.label) p.shield (stack_at froms ps) before.tick
+  pub round : AreAt (label_at after) froms (outer_of after.scopes inner) ps
+
+abbrev pub LeavesAt : World → World → Option ℕ → Option ℕ → Closed → Type 0
+LeavesAt before after outer inner closed =
+    (froms : Table) (p : Place) (ps : List Place) → AreAt (label_at before) froms (outer_of before.scopes outer) (p ∷ ps) →
+    LeavesFrom before after outer inner closed froms p ps

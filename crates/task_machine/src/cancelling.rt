@@ -1,0 +1,25 @@
+ghost use Rattle.std.specs.Prelude.{◌≡◌, ◌+◌, ◌<◌, ◌^◌};
+ghost use Rattle.std.specs.Option.{ForSome};
+ghost use Rattle.cancel_scopes.specs.Tree.{IsOpen};
+ghost use Rattle.task_machine.specs.Tasks.{scope_of};
+ghost use Rattle.task_machine.specs.Entered.{CancelsAt};
+
+use crate::task::Task;
+use crate::world::World;
+use cancel_scopes::stacks_are_chains;
+use job_tree::Name;
+
+impl<'a> Task<'a> {
+    // The scope or nursery of that name round the task is cancelled, from the next tick on.
+    pub(crate) fn cancel(&self, name: Name, world: &mut World<'a>)
+        requires scope { ForSome (scope_of self.now) (IsOpen world.old.scopes) }
+        requires tick { world.old.tick + 1 < 2 ^ 41 }
+        ensures rest { world.new ≡ record world.old { scopes = world.new.scopes } }
+        ensures at { CancelsAt world.old world.new (scope_of self.now) name }
+    {
+        stacks_are_chains(&world.scopes);
+        if let Some(id) = world.find(self.scope(), name) {
+            world.sign(id);
+        }
+    }
+}

@@ -1,0 +1,45 @@
+ghost use Rattle.std.specs.Prelude.{◌≡◌, ◌<◌, ◌++◌, [], ◌∷◌, IsSome, length};
+ghost use Rattle.std.specs.Option.{ForSome};
+ghost use Rattle.std.specs.List.{All};
+ghost use Rattle.cancel_scopes.specs.Tree.{IsOpen, IsInnermost};
+ghost use Rattle.task_machine.specs.Tasks.{scope_of, home_scope};
+ghost use Rattle.task_machine.specs.Worlds.{label_at};
+ghost use Rattle.task_machine.specs.Left.{OwnFirst, LeavesAt, LeavesOne};
+
+use crate::task::Task;
+use crate::world::World;
+use cancel_scopes::stacks_are_chains;
+use exc_groups::Label;
+
+// A scope that was left: its label, and whether it catches a cancellation that leaves it.
+#[derive(Drop)]
+pub(crate) struct Closed {
+    pub(crate) label: Label,
+    pub(crate) catches: bool,
+}
+
+impl<'a> Task<'a> {
+    // The innermost scope of those that the task opened is left.
+    pub(crate) fn leave(&mut self, world: &mut World<'a>) -> Closed
+        requires some { 0 < length self.old.own.items }
+        requires open { ForSome (scope_of self.old) (IsOpen world.old.scopes) }
+        requires innermost { ForSome (scope_of self.old) (IsInnermost world.old.scopes) }
+        requires labelled { ForSome (scope_of self.old) (λ id. IsSome (label_at world.old id)) }
+        requires froms { All (λ own. own.at < length self.old.froms.items) self.old.own.items }
+        requires own { OwnFirst world.old.scopes (home_scope self.old) self.old.own.items }
+        ensures stays { self.new ≡ record self.old { own = self.new.own; froms = self.new.froms } }
+        ensures world { world.new ≡ record world.old { scopes = world.new.scopes; labels = world.new.labels } }
+        ensures left { LeavesOne self.old self.new world.old }
+        ensures own { OwnFirst world.new.scopes (home_scope self.old) self.new.own.items }
+        ensures at { LeavesAt world.old world.new (scope_of self.old) (scope_of self.new) result }
+    {
+        stacks_are_chains(&world.scopes);
+        let Some(own) = self.own.pop() else {
+            unreachable!()
+        };
+        let catches = world.catches(own.id);
+        let (label, from) = world.leave(own.id);
+        self.froms[own.at].seen = from;
+        Closed { label, catches }
+    }
+}

@@ -1,0 +1,68 @@
+ghost use Rattle.std.specs.Prelude.{◌≡◌, ℕ, ◌+◌, ◌<◌, ◌^◌, List, Some, None, IfOk};
+ghost use Rattle.std.specs.Option.{ForSome};
+ghost use Rattle.exc_groups.specs.Exceptions.{raised};
+ghost use Rattle.cancel_scopes.specs.Tree.{IsOpen, outer_of};
+ghost use Rattle.job_meaning.specs.Log.{Table};
+ghost use Rattle.job_meaning.specs.Rest.{Frame as Left, asking};
+ghost use Rattle.task_turns.specs.Midway.{Place};
+ghost use Rattle.task_turns.specs.Steps.{sleeps, onward, halts};
+ghost use Rattle.task_machine.specs.Tasks.{scope_of};
+ghost use Rattle.task_machine.specs.Worlds.{label_at};
+ghost use Rattle.task_machine.specs.Stacked.{AreAt};
+ghost use Rattle.task_machine.specs.Stops.{MovesAs, AsksOn, kernel_in, purpose_in};
+
+use crate::stop::{Halt, Moved, Purpose, Stop};
+use crate::task::Task;
+use crate::world::World;
+use exc_groups::Exc;
+use job_tree::Name;
+use line_kernels::{Kernel, Request};
+use std::alloc::AllocError;
+
+impl<'a> Task<'a> {
+    // A sleep of so many ticks: a checkpoint, where a cancellation that is seen is raised.
+    pub(crate) fn sleep(&mut self, ticks: u64, world: &World<'a>) -> Moved<'a>
+        requires scope { ForSome (scope_of self.old) (IsOpen world.now.scopes) }
+        requires due { world.now.tick + ticks < 2 ^ 64 }
+        ensures stays { self.new ≡ record self.old { halt = self.new.halt } }
+        ensures sleeps { (froms : Table) (fs : List Left) (ps : List Place) →
+            AreAt (label_at world.now) froms (outer_of world.now.scopes (scope_of self.old)) ps →
+            MovesAs result self.new.halt (sleeps froms ticks world.now.tick fs ps) }
+    {
+        if world.sees(self.scope()) {
+            return Moved::On(Some(Exc::Cancelled));
+        }
+        if ticks == 0 {
+            return Moved::On(None);
+        }
+        self.halt = Halt::Asleep;
+        Moved::Stops(Stop::Sleep(world.now() + ticks))
+    }
+
+    // An exception of that name is raised.
+    pub(crate) fn raise(&self, name: Name, world: &World<'a>) -> Result<Moved<'a>, AllocError>
+        ensures { IfOk result (λ moved. (fs : List Left) (ps : List Place) →
+            MovesAs moved self.now.halt (onward fs ps (Some (raised name self.now.label world.now.tick)))) }
+    {
+        let task = self.label.copy(self.alloc)?;
+        Ok(Moved::On(Some(Exc::Raised {
+            name,
+            task,
+            tick: world.now(),
+        })))
+    }
+
+    // A kernel is asked for an answer on the task's part.
+    pub(crate) fn ask(&mut self, kernel: Kernel<'a>, purpose: Purpose) -> Moved<'a>
+        ensures stays { self.new ≡ record self.old { halt = self.new.halt } }
+        ensures asks { (fs : List Left) (ps : List Place) →
+            MovesAs result self.new.halt (halts (asking (kernel_in kernel.entry) (purpose_in purpose)) fs ps) }
+        ensures part { AsksOn self.old.part result }
+    {
+        self.halt = Halt::Asked(purpose);
+        Moved::Stops(Stop::Ask(Request {
+            kernel,
+            part: self.part,
+        }))
+    }
+}
