@@ -36,7 +36,7 @@ pub found_open : (labels : Labels) (tree : Tree) (name : List ℕ) (scope : Opti
 found_open labels tree name scope key chain e = open_round tree chain scope key (named_is_in labels name (outer_of tree scope) key e)
 
 -- the stacks after a cancellation
-round_after : (old new : Tree) (key t : ℕ) (scope : Option ℕ) → ((at : ℕ) → stack_of new at ≡ option_map (after_cancel key t) (stack_of old at)) →
+pub round_after : (old new : Tree) (key t : ℕ) (scope : Option ℕ) → ((at : ℕ) → stack_of new at ≡ option_map (after_cancel key t) (stack_of old at)) →
     outer_of new scope ≡ after_cancel key t (outer_of old scope)
 round_after old new key t None h = refl
 round_after old new key t (Some p) h = ap (λ (o : Option Stack). unwrap_or o []) (h p) ∙ by_stack (stack_of old p)

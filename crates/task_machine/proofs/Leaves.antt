@@ -71,9 +71,10 @@ keeps_outer old new key l ls others stack (Some p) short = ap (λ (o : Option St
 same_behind : (labels more : Labels) (tree : Tree) (key : ℕ) (label : Option Label) (whole before st : Stack) → Updates labels more key label → stack_of tree key ≡ Some whole →
     length st < length whole → Suffixes tree before st → SameOn labels more st
 same_behind labels more tree key label whole before [] u stack short chain = tt
-same_behind labels more tree key label whole before (l ∷ ls) u stack short chain =
-    (sym (u.others l.label other),
-    same_behind labels more tree key label whole (before ++ l ∷ []) ls u stack (omega (arith, short)) (λ front m behind e. chain front m behind (sym (append_assoc before (l ∷ []) ls) ∙ e)))
+same_behind labels more tree key label whole before (l ∷ ls) u stack short chain = (
+  sym (u.others l.label other),
+  same_behind labels more tree key label whole (before ++ l ∷ []) ls u stack (omega (arith, short)) (λ front m behind e. chain front m behind (sym (append_assoc before (l ∷ []) ls) ∙ e)),
+)
   where
     other : l.label ≢ key
     other e =
@@ -111,11 +112,12 @@ top_of tree chain owns home own os x pushed opened first last = by_stack (stack_
     by_level : (l : Level ℕ) (ls : Stack) → stack_of tree x.id ≡ Some (l ∷ ls) → Top tree home os x
     by_level l ls e =
         let whole : keys_of (outer_of tree (last_or home (ids own))) ≡ l.label ∷ keys_of ls =
-            ap (λ (s : Option ℕ). keys_of (outer_of tree s)) last ∙ ap (λ (o : Option Stack). keys_of (unwrap_or o [])) e in
+        ap (λ (s : Option ℕ). keys_of (outer_of tree s)) last ∙ ap (λ (o : Option Stack). keys_of (unwrap_or o [])) e in
         let split : keys_in own ++ keys_of (outer_of tree home) ≡ x.id ∷ (keys_in os ++ keys_of (outer_of tree home)) =
-            ap (λ (ks : List Own). keys_in ks ++ keys_of (outer_of tree home)) pushed ∙ ap (λ (ks : List ℕ). ks ++ keys_of (outer_of tree home)) (keys_pushed os x) in
+        ap (λ (ks : List Own). keys_in ks ++ keys_of (outer_of tree home)) pushed ∙ ap (λ (ks : List ℕ). ks ++ keys_of (outer_of tree home)) (keys_pushed os x) in
         let keys : keys_of ls ≡ keys_in os ++ keys_of (outer_of tree home) = tail_of l.label x.id _ _ (sym whole ∙ first ∙ split) in
         record { level = l; behind = ls; at = e; keys = keys; round = round_last tree chain owns home os x l ls e keys }
+
     by_stack : (o : Option Stack) → stack_of tree x.id ≡ o → Top tree home os x
     by_stack None e = absurd (let f : is_some (stack_of tree x.id) ≡ true = opened in let g : is_some (stack_of tree x.id) ≡ false = ap is_some e in cc)
     by_stack (Some []) e = absurd (let f : None ≡ Some x.id = owns x.id [] e in cc)
@@ -127,7 +129,7 @@ first_after old new home os x others top =
     let shorter : length (keys_of top.behind) ≡ length (keys_in os) + length (keys_of (outer_of old home)) = ap length top.keys ∙ length-append (keys_in os) _ in
     let n : length (outer_of old (last_or home (ids os))) < length (top.level ∷ top.behind) = subst (λ (st : Stack). length st < length (top.level ∷ top.behind)) (sym top.round) (omega arith) in
     let m : length (outer_of old home) < length (top.level ∷ top.behind) =
-        (let a = length_keys (outer_of old home) in let b = length_keys top.behind in omega (arith, shorter, a, b)) in
+    (let a = length_keys (outer_of old home) in let b = length_keys top.behind in omega (arith, shorter, a, b)) in
     ap keys_of (keeps_outer old new x.id top.level top.behind others top.at (last_or home (ids os)) n)
     ∙ ap keys_of top.round ∙ top.keys
     ∙ ap (λ (st : Stack). keys_in os ++ keys_of st) (sym (keeps_outer old new x.id top.level top.behind others top.at home m))

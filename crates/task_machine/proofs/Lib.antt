@@ -6,3 +6,6 @@ pub mod Moves
 pub mod Enters
 pub mod Cancels
 pub mod Leaves
+pub mod Exits
+pub mod FrameLemmas
+pub mod Starts

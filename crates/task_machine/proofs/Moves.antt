@@ -8,7 +8,9 @@ use Rattle.task_turns.specs.Midway.{Place, stack_at, Move}
 use Rattle.task_turns.specs.Steps.{sleeps, falls_asleep}
 use Rattle.task_machine.specs.declared.stop.Stop.TheVariants.{Sleep}
 use Rattle.task_machine.specs.declared.stop.Halt.TheVariants.{Asleep}
-use Rattle.task_machine.specs.Stops.{StopsAs}
+use Rattle.buffer_parts.specs.declared.part.Part.{Part}
+use Rattle.nursery_book.specs.declared.book.NurseryBook.{NurseryBook}
+use Rattle.task_machine.specs.Stops.{Numbers, StopsAs}
 use Rattle.task_machine.specs.Labels.{Labels}
 use Rattle.task_machine.specs.Stacked.{AreAt}
 use Rattle.task_machine.proofs.Stacked.{seen_at}
@@ -24,7 +26,7 @@ sleeps_on zero t fs ps e = (refl, refl)
 sleeps_on (suc n) t fs ps e = absurd (let f : suc n ≡ 0 = e in cc)
 
 -- and another stops
-pub sleeps_off : (n t due : ℕ) (fs : List Frame) (ps : List Place) → (n ≡ 0 → ⊥) → due ≡ t + n →
-    (let o = falls_asleep false n t fs ps in (o.exc ≡ None) × StopsAs (Sleep due) Asleep o.stopped)
-sleeps_off zero t due fs ps h e = absurd (h refl)
-sleeps_off (suc n) t due fs ps h e = (refl, e)
+pub sleeps_off : (n t since : ℕ) (fs : List Frame) (ps : List Place) (numbers : Numbers) (book : NurseryBook) (part : Part) → (n ≡ 0 → ⊥) → since ≡ t →
+    (let o = falls_asleep false n t fs ps in (o.exc ≡ None) × StopsAs numbers book part (Sleep (since + n)) (Asleep n since) o.stopped)
+sleeps_off zero t since fs ps numbers book part h e = absurd (h refl)
+sleeps_off (suc n) t since fs ps numbers book part h e = (refl, ((refl, e), refl))

@@ -1,5 +1,10 @@
 -- A task that enters a scope.
-use Rattle.std.specs.Prelude.{◌≡◌, ℕ, Bool, Option, List, ◌∷◌}
+use Rattle.std.specs.Prelude.{◌≡◌, ℕ, Bool, Option, Some, None, List, [], ◌∷◌, ◌++◌, length}
+use Rattle.job_tree.specs.Tree.{Steps}
+use Rattle.job_tree.specs.Blocks.{steps_of}
+use Rattle.nursery_book.specs.Nursery.{opened as opens}
+use Rattle.nursery_book.specs.Book.{nursery_at, Updates}
+use Rattle.task_records.specs.declared.entry.ScopeFrom.{ScopeFrom}
 use Rattle.exc_groups.specs.Exceptions.{Label}
 use Rattle.cancel_scopes.specs.Sight.{Tick}
 use Rattle.cancel_scopes.specs.Tree.{outer_of}
@@ -7,7 +12,12 @@ use Rattle.job_meaning.specs.Log.{Table}
 use Rattle.task_turns.specs.Midway.{Place}
 use Rattle.task_turns.specs.Names.{IsName, names_at, OwnNames}
 use Rattle.task_turns.specs.Steps.{opened, label_among, signs_to, froms_after}
+use Rattle.task_machine.specs.declared.frame.Frame.{Frame}
+use Rattle.task_machine.specs.declared.frame.Frame.TheVariants as frame
+use Rattle.task_machine.specs.declared.task.Own.{Own}
+use Rattle.task_machine.specs.declared.task.Task.{Task}
 use Rattle.task_machine.specs.declared.world.World.{World}
+use Rattle.task_machine.specs.Tasks.{scope_of}
 use Rattle.task_machine.specs.Worlds.{label_at}
 use Rattle.task_machine.specs.Stacked.{AreAt}
 
@@ -18,6 +28,37 @@ EntersAt before after outer inner label shield deadline =
     (froms : Table) (ps : List Place) → (IsName label.name (names_at ps) → ⊥) →
     AreAt (label_at before) froms (outer_of before.scopes outer) ps →
     AreAt (label_at after) (opened froms label deadline) (outer_of after.scopes inner) (record { label = label; shield = shield } ∷ ps)
+
+-- the label of a scope that a task enters
+abbrev pub label_in : Task → List ℕ → Label
+label_in task name = record { name = name; indices = task.label.indices }
+
+-- a scope was opened that was not open: the last of the task's own, behind the froms
+pub record EntersOne (before after : Task) (label : Label) : Type 0 where
+  pub own : Own
+  pub opened : after.own.items ≡ before.own.items ++ own ∷ []
+  pub place : own.at ≡ length before.froms.items
+  pub froms : after.froms.items ≡ before.froms.items ++ record { label = label; seen = None } ∷ []
+
+-- a frame that holds the steps of a block
+abbrev pub IsBlock : Frame → Steps → Type 0
+IsBlock (frame.Steps steps) body = steps_of steps.now ≡ body
+IsBlock _ body = ⊥
+
+-- the block's body is inside its exit
+pub record EntersBlock (before after : Task) (exit : Frame) (body : Steps) : Type 0 where
+  pub top : Frame
+  pub block : IsBlock top body
+  pub frames : after.frames.items ≡ before.frames.items ++ exit ∷ top ∷ []
+
+-- a nursery was opened with the task's innermost scope
+pub record EntersNursery (me : ℕ) (before after : Task) (old new : World) (label : Label) (body : Steps) : Type 0 where
+  pub id : ℕ
+  pub scope : ℕ
+  pub inner : scope_of after ≡ Some scope
+  pub fresh : nursery_at old.book id ≡ None
+  pub stands : Updates old.book new.book id (Some (opens scope me label))
+  pub frames : EntersBlock before after (frame.Nursery id) body
 
 -- The froms of the task's places are lowered by the sign of the place of this name, if there is one.
 abbrev pub CancelsAt : World → World → Option ℕ → List ℕ → Type 0

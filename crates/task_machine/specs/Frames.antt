@@ -1,6 +1,6 @@
 -- What the code holds of what a task has not finished, the innermost last, as frames, the innermost first.
 use Rattle.std.specs.Prelude.{ℕ, List, [], ◌∷◌}
-use Rattle.std.specs.Option.{option_map}
+use Rattle.std.specs.Option.{option_map, option_copied}
 use Rattle.job_tree.specs.Blocks.{steps_of, handled_of, cleaned_of}
 use Rattle.exc_groups.specs.Held.{exc_of}
 use Rattle.job_meaning.specs.Rest as rest
@@ -12,7 +12,7 @@ abbrev pub frame_of : (ℕ → List ℕ) → Frame → rest.Frame
 frame_of children (Steps steps) = rest.steps_left (steps_of steps.now)
 frame_of children (Scope fail) = rest.in_scope fail
 frame_of children (Nursery id) = rest.in_nursery (children id)
-frame_of children (Try handler cleanup) = rest.in_try (handled_of handler.now) (cleaned_of cleanup.now)
+frame_of children (Try handler cleanup) = rest.in_try (handled_of (option_copied handler)) (cleaned_of cleanup.now)
 frame_of children (Handler others cleanup) = rest.in_handler (option_map exc_of others) (cleaned_of cleanup.now)
 frame_of children (Cleanup outcome) = rest.in_cleanup (option_map exc_of outcome)
 

@@ -5,6 +5,11 @@ pub mod Worlds
 pub mod Lending
 pub mod Stacked
 pub mod Laws
+pub mod Kinds
 pub mod Stops
 pub mod Entered
 pub mod Left
+pub mod Fitting
+pub mod Standing
+pub mod Exits
+pub mod Started

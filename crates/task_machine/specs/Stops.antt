@@ -1,17 +1,19 @@
 -- How the code stops, as a move of the definitions does.
-use Rattle.std.specs.Prelude.{◌≡◌, ℕ, ◌+◌, Option, Some, None}
+use Rattle.std.specs.Prelude.{◌≡◌, ℕ, ◌+◌, List, Option, Some, None}
 use Rattle.std.specs.Option.{option_map}
 use Rattle.exc_groups.specs.Held.{exc_of}
 use Rattle.buffer_parts.specs.declared.part.Part.{Part}
 use Rattle.line_kernels.specs.declared.kernel.Kernel.{Kernel}
 use Rattle.line_kernels.specs.declared.kernel.Kernel.TheVariants.{Find, Head, Longest, Need, Count}
+use Rattle.nursery_book.specs.declared.book.NurseryBook.{NurseryBook}
+use Rattle.nursery_book.specs.Book.{HasNursery}
 use Rattle.job_meaning.specs.Asking as ask
 use Rattle.job_meaning.specs.Rest.{Stopped, to_begin, asking, asleep, awaiting, at_end}
 use Rattle.task_turns.specs.Midway.{Move}
 use Rattle.task_machine.specs.declared.stop.Stop.{Stop}
 use Rattle.task_machine.specs.declared.stop.Stop.TheVariants.{Ask, Sleep, Wait, Ended}
 use Rattle.task_machine.specs.declared.stop.Halt.{Halt}
-use Rattle.task_machine.specs.declared.stop.Halt.TheVariants.{Asleep, Asked}
+use Rattle.task_machine.specs.declared.stop.Halt.TheVariants.{ToBegin, Asked, Asleep, Awaits, Over}
 use Rattle.task_machine.specs.declared.stop.Purpose.{Purpose}
 use Rattle.task_machine.specs.declared.stop.Purpose.TheVariants.{Shows, Needs, Paces}
 use Rattle.task_machine.specs.declared.stop.Moved.{Moved}
@@ -30,22 +32,33 @@ purpose_in Shows = ask.shows
 purpose_in (Needs name) = ask.needs name
 purpose_in (Paces k) = ask.paces k
 
--- a stop of the code is one of the definitions
-abbrev pub IsStop : Stop → Halt → Stopped → Type 0
-IsStop (Sleep due) Asleep (asleep ticks since) = due ≡ since + ticks
-IsStop (Ask request) (Asked purpose) (asking kernel p) = (kernel_in request.kernel ≡ kernel) × (purpose_in purpose ≡ p)
-IsStop _ halt _ = ⊥
+-- which numbers the children have that a task started in each nursery
+abbrev pub Numbers : Type 0
+Numbers = ℕ → List ℕ
 
-abbrev pub StopsAs : Stop → Halt → Option Stopped → Type 0
-StopsAs stop halt None = ⊥
-StopsAs stop halt (Some stopped) = IsStop stop halt stopped
+-- what a task that stopped goes on with is this stop of the definitions
+abbrev pub IsHalt : Numbers → NurseryBook → Halt → Stopped → Type 0
+IsHalt numbers book ToBegin to_begin = Unit {0}
+IsHalt numbers book (Asked kernel purpose) (asking k p) = (kernel_in kernel ≡ k) × (purpose_in purpose ≡ p)
+IsHalt numbers book (Asleep ticks since) (asleep n u) = (ticks ≡ n) × (since ≡ u)
+IsHalt numbers book (Awaits nursery since) (awaiting children u exc) =
+    (numbers nursery ≡ children) × (since ≡ u) × HasNursery book nursery (λ n. n.body ≡ Some exc)
+IsHalt numbers book Over (at_end u e) = Unit {0}
+IsHalt numbers book _ _ = ⊥
+
+-- what the caller is told of a stop, for a task on this part
+abbrev pub IsTold : Part → Stop → Halt → Stopped → Type 0
+IsTold part (Ask request) (Asked kernel purpose) stopped = (request.kernel ≡ kernel) × (request.part ≡ part)
+IsTold part (Sleep due) (Asleep ticks since) stopped = due ≡ since + ticks
+IsTold part (Wait id) (Awaits nursery since) stopped = id ≡ nursery
+IsTold part (Ended exc) Over (at_end u e) = option_map exc_of exc ≡ e
+IsTold part _ _ _ = ⊥
+
+abbrev pub StopsAs : Numbers → NurseryBook → Part → Stop → Halt → Option Stopped → Type 0
+StopsAs numbers book part stop halt None = ⊥
+StopsAs numbers book part stop halt (Some stopped) = IsHalt numbers book halt stopped × IsTold part stop halt stopped
 
 -- the code goes on as a move does, with the same exception, or stops where it stops
-abbrev pub MovesAs : Moved → Halt → Move → Type 0
-MovesAs (On exc) halt o = (option_map exc_of exc ≡ o.exc) × (o.stopped ≡ None)
-MovesAs (Stops stop) halt o = (o.exc ≡ None) × StopsAs stop halt o.stopped
-
--- a request is for this part
-abbrev pub AsksOn : Part → Moved → Type 0
-AsksOn part (Stops (Ask request)) = request.part ≡ part
-AsksOn part _ = ⊥
+abbrev pub MovesAs : Numbers → NurseryBook → Part → Moved → Halt → Move → Type 0
+MovesAs numbers book part (On exc) halt o = (option_map exc_of exc ≡ o.exc) × (o.stopped ≡ None)
+MovesAs numbers book part (Stops stop) halt o = (o.exc ≡ None) × StopsAs numbers book part stop halt o.stopped

@@ -1,4 +1,4 @@
-ghost use Rattle.std.specs.Prelude.{◌≡◌, ℕ, ◌<◌, ◌^◌, ◌++◌, [], ◌∷◌, List, Some, None, IfOk, OnOk, length};
+ghost use Rattle.std.specs.Prelude.{◌≡◌, ℕ, ◌<◌, ◌≤◌, ◌^◌, false, ◌++◌, [], ◌∷◌, List, Some, None, IfOk, OnOk, length};
 ghost use Rattle.std.specs.Option.{ForSome};
 ghost use Rattle.exc_groups.specs.Exceptions.{Label as Named};
 ghost use Rattle.cancel_scopes.specs.Tree.{IsOpen, outer_of};
@@ -9,14 +9,28 @@ ghost use Rattle.task_turns.specs.Steps.{opened};
 ghost use Rattle.task_machine.specs.Tasks.{scope_of};
 ghost use Rattle.task_machine.specs.Worlds.{label_at};
 ghost use Rattle.task_machine.specs.Stacked.{AreAt};
-ghost use Rattle.task_machine.specs.Entered.{EntersAt};
+ghost use Rattle.task_machine.specs.Entered.{EntersAt, EntersOne, EntersBlock, EntersNursery, label_in};
+ghost use Rattle.task_machine.specs.declared.frame.Frame.TheVariants.{Scope};
+ghost use Rattle.job_tree.specs.Modest.{IsModestDeadline};
+ghost use Rattle.job_meaning.specs.Walk.{due};
 
+use crate::frame::Frame;
 use crate::task::{Own, Task};
 use crate::world::World;
+use autojump_clock::TaskId;
 use cancel_scopes::{ScopeId, stacks_are_chains};
-use job_tree::Name;
+use job_tree::{Body, Deadline, Name};
 use std::alloc::AllocError;
 use task_records::ScopeFrom;
+
+// A cancel scope that is to be entered.
+#[derive(Clone, Copy)]
+pub(crate) struct Block<'a> {
+    pub(crate) name: Name,
+    pub(crate) deadline: Deadline,
+    pub(crate) shield: bool,
+    pub(crate) body: &'a Body,
+}
 
 impl<'a> Task<'a> {
     // A scope is entered, inside those that the task is in. After an error the task and the world may only be dropped.
@@ -48,5 +62,70 @@ impl<'a> Task<'a> {
         })?;
         self.own.push(Own { id, at })?;
         Ok(id)
+    }
+
+    // A cancel scope is entered, and its body begins. After an error the task and the world may only be dropped.
+    pub(crate) fn enter_scope(
+        &mut self,
+        block: Block<'a>,
+        fail: bool,
+        world: &mut World<'a>,
+    ) -> Result<(), AllocError>
+        requires scope { ForSome (scope_of self.old) (IsOpen world.old.scopes) }
+        requires modest { IsModestDeadline block.deadline }
+        requires tick { world.old.tick ≤ 2 ^ 40 }
+        ensures stays { OnOk result (self.new
+            ≡ record self.old { frames = self.new.frames; own = self.new.own; froms = self.new.froms }) }
+        ensures frames { OnOk result (EntersBlock self.old self.new (Scope fail) block.entry.body.now) }
+        ensures own { OnOk result (EntersOne self.old self.new (label_in self.old block.entry.name)) }
+        ensures world { OnOk result (world.new ≡ record world.old { scopes = world.new.scopes; labels = world.new.labels }) }
+        ensures at { OnOk result (EntersAt world.old world.new (scope_of self.old) (scope_of self.new)
+            (label_in self.old block.entry.name) block.entry.shield (due block.entry.deadline world.old.tick)) }
+    {
+        let deadline = due(block.deadline, world.now());
+        self.enter(block.name, block.shield, deadline, world)?;
+        self.push(Frame::Scope { fail })?;
+        self.push(Frame::Steps(block.body.as_slice()))
+    }
+
+    // A nursery is entered, which stands in the book then, and its body begins. After an error the task and the world
+    // may only be dropped.
+    pub(crate) fn enter_nursery(
+        &mut self,
+        me: TaskId,
+        name: Name,
+        body: &'a Body,
+        world: &mut World<'a>,
+    ) -> Result<(), AllocError>
+        requires scope { ForSome (scope_of self.old) (IsOpen world.old.scopes) }
+        ensures stays { OnOk result (self.new
+            ≡ record self.old { frames = self.new.frames; own = self.new.own; froms = self.new.froms }) }
+        ensures nursery { OnOk result (EntersNursery me self.old self.new world.old world.new (label_in self.old name) body.now) }
+        ensures own { OnOk result (EntersOne self.old self.new (label_in self.old name)) }
+        ensures world { OnOk result (world.new
+            ≡ record world.old { scopes = world.new.scopes; labels = world.new.labels; book = world.new.book }) }
+        ensures at { OnOk result (EntersAt world.old world.new (scope_of self.old) (scope_of self.new)
+            (label_in self.old name) false None) }
+    {
+        let scope = self.enter(name, false, None, world)?;
+        let label = self.label.named(self.alloc, name)?;
+        let id = world.book.open(scope, me, label)?;
+        self.push(Frame::Nursery { id })?;
+        self.push(Frame::Steps(body.as_slice()))?;
+        Ok(())
+    }
+}
+
+// The tick of a deadline for a scope that is entered in a tick.
+fn due(deadline: Deadline, tick: u64) -> Option<u64>
+    requires modest { IsModestDeadline deadline }
+    requires room { tick ≤ 2 ^ 40 }
+    ensures due { result ≡ due deadline tick }
+    ensures bounded { ForSome result (λ from. from < 2 ^ 41) }
+{
+    match deadline {
+        Deadline::Never => None,
+        Deadline::After(ticks) => Some(tick + ticks),
+        Deadline::At(tick) => Some(tick),
     }
 }

@@ -19,8 +19,8 @@ pub(crate) enum Frame<'a> {
     },
     /// The body of a `try`.
     Try {
-        /// Its handler, if it has one.
-        handler: &'a Option<Handler>,
+        /// Its handler, if it has one that was not asked.
+        handler: Option<&'a Handler>,
         /// Its cleanup, if it has one.
         cleanup: &'a Option<Body>,
     },

@@ -11,15 +11,19 @@
 
 mod cancelling;
 mod entering;
+mod exiting;
 mod frame;
 mod labels;
 mod laws;
 mod leaving;
+mod outcome;
 mod pausing;
+mod starting;
 mod stop;
 mod task;
 #[cfg(test)]
 mod tests;
+mod trying;
 mod world;
 
 pub use laws::law_places;

@@ -2,6 +2,7 @@ ghost use Rattle.std.specs.Prelude.{◌≡◌, ℕ, ◌+◌, ◌<◌, ◌^◌, L
 ghost use Rattle.std.specs.Option.{ForSome};
 ghost use Rattle.exc_groups.specs.Exceptions.{raised};
 ghost use Rattle.cancel_scopes.specs.Tree.{IsOpen, outer_of};
+ghost use Rattle.nursery_book.specs.declared.book.NurseryBook.{NurseryBook as Book};
 ghost use Rattle.job_meaning.specs.Log.{Table};
 ghost use Rattle.job_meaning.specs.Rest.{Frame as Left, asking};
 ghost use Rattle.task_turns.specs.Midway.{Place};
@@ -9,7 +10,7 @@ ghost use Rattle.task_turns.specs.Steps.{sleeps, onward, halts};
 ghost use Rattle.task_machine.specs.Tasks.{scope_of};
 ghost use Rattle.task_machine.specs.Worlds.{label_at};
 ghost use Rattle.task_machine.specs.Stacked.{AreAt};
-ghost use Rattle.task_machine.specs.Stops.{MovesAs, AsksOn, kernel_in, purpose_in};
+ghost use Rattle.task_machine.specs.Stops.{Numbers, MovesAs, kernel_in, purpose_in};
 
 use crate::stop::{Halt, Moved, Purpose, Stop};
 use crate::task::Task;
@@ -25,9 +26,9 @@ impl<'a> Task<'a> {
         requires scope { ForSome (scope_of self.old) (IsOpen world.now.scopes) }
         requires due { world.now.tick + ticks < 2 ^ 64 }
         ensures stays { self.new ≡ record self.old { halt = self.new.halt } }
-        ensures sleeps { (froms : Table) (fs : List Left) (ps : List Place) →
+        ensures sleeps { (froms : Table) (numbers : Numbers) (book : Book) (fs : List Left) (ps : List Place) →
             AreAt (label_at world.now) froms (outer_of world.now.scopes (scope_of self.old)) ps →
-            MovesAs result self.new.halt (sleeps froms ticks world.now.tick fs ps) }
+            MovesAs numbers book self.old.part result self.new.halt (sleeps froms ticks world.now.tick fs ps) }
     {
         if world.sees(self.scope()) {
             return Moved::On(Some(Exc::Cancelled));
@@ -35,14 +36,16 @@ impl<'a> Task<'a> {
         if ticks == 0 {
             return Moved::On(None);
         }
-        self.halt = Halt::Asleep;
-        Moved::Stops(Stop::Sleep(world.now() + ticks))
+        let since = world.now();
+        self.halt = Halt::Asleep { ticks, since };
+        Moved::Stops(Stop::Sleep(since + ticks))
     }
 
     // An exception of that name is raised.
     pub(crate) fn raise(&self, name: Name, world: &World<'a>) -> Result<Moved<'a>, AllocError>
-        ensures { IfOk result (λ moved. (fs : List Left) (ps : List Place) →
-            MovesAs moved self.now.halt (onward fs ps (Some (raised name self.now.label world.now.tick)))) }
+        ensures { IfOk result (λ moved. (numbers : Numbers) (book : Book) (fs : List Left) (ps : List Place) →
+            MovesAs numbers book self.now.part moved self.now.halt
+            (onward fs ps (Some (raised name self.now.label world.now.tick)))) }
     {
         let task = self.label.copy(self.alloc)?;
         Ok(Moved::On(Some(Exc::Raised {
@@ -55,11 +58,11 @@ impl<'a> Task<'a> {
     // A kernel is asked for an answer on the task's part.
     pub(crate) fn ask(&mut self, kernel: Kernel<'a>, purpose: Purpose) -> Moved<'a>
         ensures stays { self.new ≡ record self.old { halt = self.new.halt } }
-        ensures asks { (fs : List Left) (ps : List Place) →
-            MovesAs result self.new.halt (halts (asking (kernel_in kernel.entry) (purpose_in purpose)) fs ps) }
-        ensures part { AsksOn self.old.part result }
+        ensures asks { (numbers : Numbers) (book : Book) (fs : List Left) (ps : List Place) →
+            MovesAs numbers book self.old.part result self.new.halt
+            (halts (asking (kernel_in kernel.entry) (purpose_in purpose)) fs ps) }
     {
-        self.halt = Halt::Asked(purpose);
+        self.halt = Halt::Asked { kernel, purpose };
         Moved::Stops(Stop::Ask(Request {
             kernel,
             part: self.part,

@@ -1,6 +1,6 @@
 use exc_groups::Exc;
 use job_tree::Name;
-use line_kernels::{Answer, Request};
+use line_kernels::{Answer, Kernel, Request};
 use nursery_book::NurseryId;
 
 /// How a task goes on.
@@ -33,15 +33,30 @@ pub enum Stop<'a> {
 
 /// What a stopped task goes on with.
 #[derive(Drop)]
-pub(crate) enum Halt {
+pub(crate) enum Halt<'a> {
     /// It has to begin.
     ToBegin,
-    /// It asked a kernel for this.
-    Asked(Purpose),
+    /// It asked a kernel for an answer.
+    Asked {
+        /// What was asked.
+        kernel: Kernel<'a>,
+        /// What the answer is for.
+        purpose: Purpose,
+    },
     /// It sleeps.
-    Asleep,
-    /// It waits for the children of the nursery.
-    Awaits(NurseryId),
+    Asleep {
+        /// So many ticks.
+        ticks: u64,
+        /// From this tick on.
+        since: u64,
+    },
+    /// It waits for the children of a nursery.
+    Awaits {
+        /// The nursery.
+        nursery: NurseryId,
+        /// The tick in which the nursery's body ended.
+        since: u64,
+    },
     /// It ended.
     Over,
 }

@@ -1,9 +1,9 @@
-ghost use Rattle.std.specs.Prelude.{◌≡◌, ℕ, ◌≤◌, List, [], ◌∷◌, None, IfOk, length};
+ghost use Rattle.std.specs.Prelude.{◌≡◌, ℕ, ◌≤◌, ◌++◌, List, [], ◌∷◌, None, IfOk, OnOk, length};
 ghost use Rattle.buffer_parts.specs.Lines.{bytes_of};
 ghost use Rattle.buffer_parts.specs.Part.{buffer_of, range_of};
 ghost use Rattle.job_meaning.specs.declared.limits.TheConstants.{MOST_INPUT};
 ghost use Rattle.job_meaning.specs.Rest.{steps_left};
-ghost use Rattle.task_machine.specs.Frames.{frames_of};
+ghost use Rattle.task_machine.specs.Frames.{frame_of, frames_of};
 ghost use Rattle.task_machine.specs.Tasks.{scope_of, home_of, home_scope};
 ghost use Rattle.task_machine.specs.declared.stop.Halt.TheVariants.{ToBegin};
 
@@ -50,7 +50,7 @@ pub struct Task<'a> {
     pub(crate) frames: SmallVec<Frame<'a>, 4>,
     // The innermost is the last.
     pub(crate) own: Vec<Own>,
-    pub(crate) halt: Halt,
+    pub(crate) halt: Halt<'a>,
     pub(crate) entries: Vec<Entry<'a>>,
     pub(crate) froms: Vec<ScopeFrom>,
 }
@@ -134,5 +134,16 @@ impl<'a> Task<'a> {
         ensures { result.now ≡ self.now.froms.items }
     {
         self.froms.as_slice()
+    }
+
+    // The task is in a frame inside the others.
+    pub(crate) fn push(&mut self, frame: Frame<'a>) -> Result<(), AllocError>
+        ensures stays { OnOk result (self.new ≡ record self.old { frames = self.new.frames }) }
+        ensures items { OnOk result (self.new.frames.items ≡ self.old.frames.items ++ frame.entry ∷ []) }
+        ensures frames { OnOk result ((children : ℕ → List ℕ) → frames_of children self.new.frames.items
+            ≡ frame_of children frame.entry ∷ frames_of children self.old.frames.items) }
+    {
+        self.frames.push(frame)?;
+        Ok(())
     }
 }

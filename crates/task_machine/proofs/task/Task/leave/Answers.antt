@@ -40,11 +40,11 @@ returns-clause-at c =
     let world = c.args.world.now in
     let last = last_pushed (home_scope self) _ _ _ c.in-Some.ensures.items in
     let top : Top world.scopes (home_scope self) c.pop.new.self.items c.in-Some.own =
-        top_of world.scopes c.stacks_are_chains.ensures.chain c.stacks_are_chains.ensures.own (home_scope self) self.own.items c.pop.new.self.items c.in-Some.own
-        c.in-Some.ensures.items (c.requires.«open» c.in-Some.own.id last) c.requires.own last in
+    top_of world.scopes c.stacks_are_chains.ensures.chain c.stacks_are_chains.ensures.own (home_scope self) self.own.items c.pop.new.self.items c.in-Some.own
+    c.in-Some.ensures.items (c.requires.«open» c.in-Some.own.id last) c.requires.own last in
     λ froms p ps a.
     let at : AreAt (label_at world) froms (top.level ∷ top.behind) (p ∷ ps) =
-        left_from (label_at world) froms world.scopes (home_scope self) _ c.pop.new.self.items c.in-Some.own p ps top last a in
+    left_from (label_at world) froms world.scopes (home_scope self) _ c.pop.new.self.items c.in-Some.own p ps top last a in
     let named : top.level.label ≡ c.in-Some.own.id = one_of _ _ (c.stacks_are_chains.ensures.own c.in-Some.own.id (top.level ∷ top.behind) top.at) in
     record {
       label = one_of _ _ (sym c.leave-label.ensures.label ∙ ap (label_at world) (sym named) ∙ at.0);

@@ -12,7 +12,7 @@ use Rattle.task_machine.proofs.task.Task.sleep.Goals as goal
 pub returns-then-sees-clause-sleeps : goal.returns-then-sees-clause-sleeps
 returns-then-sees-clause-sleeps c =
     let world = c.args.world.now in
-    λ froms fs ps a.
+    λ froms numbers book fs ps a.
     sleeps_by _ froms _ ps c.args.ticks world.tick fs true a
     (sym c.if-sees.true ∙ c.sees.ensures ∙ ap (λ (s : Option ℕ). seen (outer_of world.scopes s) world.tick) c.scope.ensures)
     (λ (o : Move). (Some cancelled ≡ o.exc) × (o.stopped ≡ None)) (refl, refl)
@@ -20,7 +20,7 @@ returns-then-sees-clause-sleeps c =
 pub returns-then-ticks-eq0-clause-sleeps : goal.returns-then-ticks-eq0-clause-sleeps
 returns-then-ticks-eq0-clause-sleeps c =
     let world = c.args.world.now in
-    λ froms fs ps a.
+    λ froms numbers book fs ps a.
     sleeps_by _ froms _ ps c.args.ticks world.tick fs false a
     (sym c.if-sees.false ∙ c.sees.ensures ∙ ap (λ (s : Option ℕ). seen (outer_of world.scopes s) world.tick) c.scope.ensures)
     (λ (o : Move). (None ≡ o.exc) × (o.stopped ≡ None)) (sleeps_on c.args.ticks world.tick fs ps c.if-ticks-eq0.true)
@@ -28,7 +28,8 @@ returns-then-ticks-eq0-clause-sleeps c =
 pub returns-clause-sleeps : goal.returns-clause-sleeps
 returns-clause-sleeps c =
     let world = c.args.world.now in
-    λ froms fs ps a.
+    λ froms numbers book fs ps a.
     sleeps_by _ froms _ ps c.args.ticks world.tick fs false a
     (sym c.if-sees.false ∙ c.sees.ensures ∙ ap (λ (s : Option ℕ). seen (outer_of world.scopes s) world.tick) c.scope.ensures)
-    (λ (o : Move). (o.exc ≡ None) × StopsAs (Sleep (c.now.result + c.args.ticks)) Asleep o.stopped) (sleeps_off c.args.ticks world.tick (c.now.result + c.args.ticks) fs ps c.if-ticks-eq0.false (ap (λ (x : ℕ). x + c.args.ticks) c.now.ensures))
+    (λ (o : Move). (o.exc ≡ None) × StopsAs numbers book c.args.self.now.part (Sleep (c.now-since.result + c.args.ticks)) (Asleep c.args.ticks c.now-since.result) o.stopped)
+    (sleeps_off c.args.ticks world.tick c.now-since.result fs ps numbers book c.args.self.now.part c.if-ticks-eq0.false c.now-since.ensures)

@@ -1,0 +1,30 @@
+use Rattle.std.proofs.Common.{◌≡◌, List, Option, Some, ◌∷◌, [], ◌++◌, refl, ap, sym, ◌∙◌}
+use Rattle.std.specs.Option.{option_map}
+use Rattle.exc_groups.specs.Held.{exc_of}
+use Rattle.buffer_parts.specs.Part.{buffer_of}
+use Rattle.task_records.specs.declared.entry.Entry.{Entry}
+use Rattle.task_machine.specs.declared.task.Task.{Task}
+use Rattle.task_machine.specs.declared.world.World.{World}
+use Rattle.task_machine.specs.Kinds.{kind_of, left_of}
+use Rattle.task_machine.proofs.Exits.{exc_goes_on, leaving_noted}
+use Rattle.task_machine.proofs.task.Task.exit.Goals as goal
+
+pub returns-clause-at : goal.returns-clause-at
+returns-clause-at c =
+    let world = c.args.world.now in
+    let left = c.leave-label in
+    let tick : left.new.world.tick ≡ world.tick = ap (λ (w : World). w.tick) left.ensures.world in
+    λ froms p ps a.
+    let at = left.ensures.at froms p ps a in
+    record {
+      exc =
+          exc_goes_on (kind_of c.args.kind) left.result.label p.label c.now.result world.tick left.result.catches _ (left_of c.in_ok-left.left) (option_map exc_of c.args.exc) _
+          c.in_ok-exc.ensures c.in_ok-left.ensures at.label at.caught (c.now.ensures ∙ tick);
+      entry = c.entry.result;
+      entries = c.in_ok-push.ensures.items ∙ ap (λ (t : Task). t.entries.items ++ c.entry.result ∷ []) left.ensures.stays;
+      shown =
+          leaving_noted (buffer_of c.args.self.now.part) c.entry.result (kind_of c.args.kind) left.result.label p.label c.now-2.result world.tick left.result.catches _
+          (left_of c.in_ok-left.left) (option_map exc_of c.args.exc) (c.entry.ensures.shown (buffer_of c.args.self.now.part)) (c.entry.ensures.slice (buffer_of c.args.self.now.part))
+          c.in_ok-left.ensures at.label at.caught (c.now-2.ensures ∙ tick);
+      round = at.round;
+    }

@@ -1,0 +1,10 @@
+use Rattle.std.proofs.Common.{◌≡◌, ℕ, ◌≤◌, None}
+use Rattle.nursery_book.specs.Book.{HasNursery}
+use Rattle.task_machine.specs.Started.{StartsOver}
+use Rattle.task_machine.proofs.task.Task.start_over.Given as goal
+
+abbrev pub invariant-copies : goal.invariant-copies
+invariant-copies l =
+    (l.i ≤ l.copies) × StartsOver l.self l.initial.world l.world l.nursery l.name l.copies l.body l.i
+    × HasNursery l.world.book l.nursery (λ n. n.body ≡ None)
+    × (l.world ≡ record l.initial.world { book = l.world.book; started = l.world.started })

@@ -1,0 +1,44 @@
+-- A block that a task leaves, and the cancellation that one makes who fails.
+use Rattle.std.specs.Prelude.{◌≡◌, ℕ, List, [], ◌∷◌, ◌++◌, Option}
+use Rattle.buffer_parts.specs.Part.{buffer_of}
+use Rattle.exc_groups.specs.Exceptions.{Exc}
+use Rattle.cancel_scopes.specs.Sight.{catches}
+use Rattle.cancel_scopes.specs.Tree.{outer_of}
+use Rattle.job_meaning.specs.Log.{Table}
+use Rattle.job_meaning.specs.Walk.{left_as, left_with, exc_after}
+use Rattle.job_meaning.specs.Walk as meaning
+use Rattle.job_meaning.specs.Rest.{noted}
+use Rattle.task_records.specs.declared.entry.Entry.{Entry}
+use Rattle.task_turns.specs.Midway.{Place, stack_at}
+use Rattle.task_turns.specs.Names.{names_at, OwnNames}
+use Rattle.task_turns.specs.Steps.{signs_home, froms_after}
+use Rattle.task_machine.specs.declared.outcome.Kind.{Kind}
+use Rattle.task_machine.specs.declared.task.Task.{Task}
+use Rattle.task_machine.specs.declared.world.World.{World}
+use Rattle.task_machine.specs.Kinds.{kind_of}
+use Rattle.task_machine.specs.Stacked.{AreAt}
+use Rattle.task_machine.specs.Standing.{AreNoted}
+use Rattle.task_machine.specs.Tasks.{scope_of}
+use Rattle.task_machine.specs.Worlds.{label_at}
+
+-- The innermost place is left with an exception: what it leaves of that by the froms goes on, it is noted, and the task is in the
+-- places round it, with the same froms.
+pub record ExitsFrom
+    (before after : Task) (old new : World) (kind : meaning.Kind) (left : meaning.Left) (goes_on : Option Exc) (froms : Table) (p : Place) (ps : List Place) : Type 0
+  where
+    pub exc : goes_on ≡ exc_after kind p.label old.tick left
+    pub entry : Entry
+    pub entries : after.entries.items ≡ before.entries.items ++ entry ∷ []
+    pub shown : AreNoted (buffer_of before.part) (entry ∷ []) (noted old.tick (left_as kind p.label left.caught) ∷ [])
+    pub round : AreAt (label_at new) froms (outer_of new.scopes (scope_of after)) ps
+
+abbrev pub ExitsAt : Task → Task → World → World → Kind → Option Exc → Option Exc → Type 0
+ExitsAt before after old new kind exc goes_on =
+    (froms : Table) (p : Place) (ps : List Place) → AreAt (label_at old) froms (outer_of old.scopes (scope_of before)) (p ∷ ps) →
+    ExitsFrom before after old new (kind_of kind) (left_with (catches (froms p.label) p.shield (stack_at froms ps) old.tick) exc) goes_on froms p ps
+
+-- Who ends with an exception lowers the from of the innermost place.
+abbrev pub FailsAt : World → World → Option ℕ → Option Exc → Type 0
+FailsAt old new scope exc =
+    (froms : Table) (ps : List Place) → OwnNames (names_at ps) → AreAt (label_at old) froms (outer_of old.scopes scope) ps →
+    AreAt (label_at new) (froms_after froms (signs_home exc ps old.tick)) (outer_of new.scopes scope) ps

@@ -1,0 +1,21 @@
+-- What a block is, and what leaving it leaves, as the meaning has it.
+use Rattle.std.specs.Prelude.{Bool, false}
+use Rattle.std.specs.Option.{option_map}
+use Rattle.exc_groups.specs.Held.{exc_of}
+use Rattle.job_meaning.specs.Walk as meaning
+use Rattle.task_machine.specs.declared.outcome.Kind.{Kind}
+use Rattle.task_machine.specs.declared.outcome.Kind.TheVariants.{Scope, Nursery}
+use Rattle.task_machine.specs.declared.outcome.Left.{Left}
+
+abbrev pub kind_of : Kind → meaning.Kind
+kind_of (Scope fail) = meaning.a_scope fail
+kind_of Nursery = meaning.a_nursery
+
+-- whether it is a `fail` scope
+abbrev pub fails_of : meaning.Kind → Bool
+fails_of (meaning.a_scope fail) = fail
+fails_of meaning.a_nursery = false
+
+-- what leaving a block leaves
+abbrev pub left_of : Left → meaning.Left
+left_of l = record { caught = l.caught; exc = option_map exc_of l.exc }

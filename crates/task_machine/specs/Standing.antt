@@ -1,0 +1,140 @@
+-- Where a task stands between two moves, and what a move of the code makes of it.
+use Rattle.std.specs.Prelude.{◌≡◌, ◌⊎◌, ℕ, List, [], ◌∷◌, ◌++◌, Option, Some, None, map, All, length, slice_get}
+use Rattle.buffer_parts.specs.Part.{buffer_of, range_of}
+use Rattle.cancel_scopes.specs.Tree.{outer_of}
+use Rattle.nursery_book.specs.Nursery.{End, Nursery}
+use Rattle.nursery_book.specs.Book.{nursery_at, HasNursery}
+use Rattle.nursery_book.specs.declared.book.NurseryBook.{NurseryBook}
+use Rattle.job_meaning.specs.Log.{Table}
+use Rattle.job_meaning.specs.Walk.{Here}
+use Rattle.job_meaning.specs.Shown.{Shown, shown_at}
+use Rattle.job_meaning.specs.Rest as rest
+use Rattle.job_meaning.specs.Rest.{Event, noted, signs, enters, starts, Stopped}
+use Rattle.task_records.specs.declared.entry.Entry.{Entry}
+use Rattle.task_records.specs.Records.{entry_of, IsSlice}
+use Rattle.task_turns.specs.Midway.{Place, Begun, Move}
+use Rattle.task_turns.specs.Placed.{PlacedAfter, places_behind}
+use Rattle.task_turns.specs.Names.{NewIn, OwnNames, names_at}
+use Rattle.task_turns.specs.Steps.{froms_after}
+use Rattle.task_machine.specs.declared.frame.Frame.{Frame}
+use Rattle.task_machine.specs.declared.stop.Halt.{Halt}
+use Rattle.task_machine.specs.declared.stop.Halt.TheVariants.{ToBegin}
+use Rattle.task_machine.specs.declared.stop.Moved.TheVariants.{On, Stops}
+use Rattle.task_machine.specs.declared.stop.Moved.{Moved}
+use Rattle.task_machine.specs.declared.task.Home.{Home}
+use Rattle.task_machine.specs.declared.task.Task.{Task}
+use Rattle.task_machine.specs.declared.world.World.{World}
+use Rattle.task_machine.specs.Fitting.{Block, a_scope, a_nursery, blocks_of, waits_of}
+use Rattle.task_machine.specs.Frames.{frames_of}
+use Rattle.task_machine.specs.Stacked.{AreAt}
+use Rattle.task_machine.specs.Stops.{Numbers, MovesAs}
+use Rattle.task_machine.specs.Tasks.{scope_of}
+use Rattle.task_machine.specs.Worlds.{label_at}
+
+-- where a task is
+abbrev pub here_of : Task → Here
+here_of task = record { input = buffer_of task.part; part = range_of task.part; task = task.label; path = task.label.indices }
+
+-- a nursery is among blocks
+abbrev pub HasBlock : ℕ → List Block → Type 0
+HasBlock id [] = ⊥
+HasBlock id (a_scope ∷ bs) = HasBlock id bs
+HasBlock id (a_nursery key ∷ bs) = (id ≡ key) ⊎ HasBlock id bs
+
+-- and one of a task with these blocks, which waits for this one or for none
+abbrev pub HasNurseryOf : ℕ → List Block → Option ℕ → Type 0
+HasNurseryOf id bs waits = HasBlock id bs ⊎ (waits ≡ Some id)
+
+-- what a task waits for after a move
+abbrev pub waits_by : Moved → Halt → Option ℕ
+waits_by (On exc) halt = None
+waits_by (Stops stop) halt = waits_of halt
+
+-- each nursery among the frames has as many children in the book as the task numbered there
+abbrev pub AreNumbered : Numbers → NurseryBook → List Frame → Type 0
+AreNumbered numbers book fs = (id : ℕ) → HasBlock id (blocks_of fs) → HasNursery book id (λ n. length (numbers id) ≡ length n.children)
+
+-- A task with these frames, in the middle of a turn or where it stopped, is in these places with the froms of a table, and
+-- numbered its children so. Each scope and nursery has its place, and no name stands twice among those round one another.
+pub record Stands
+    (frames : List Frame) (task : Task) (world : World) (froms : Table) (numbers : Numbers) (stopped : Option Stopped) (ps : List Place) : Type 0
+  where
+    pub places : AreAt (label_at world) froms (outer_of world.scopes (scope_of task)) ps
+    pub numbered : AreNumbered numbers world.book frames
+    pub placed : PlacedAfter stopped (frames_of numbers frames) ps
+    pub new : NewIn (frames_of numbers frames) (places_behind stopped ps)
+    pub own : OwnNames (names_at ps)
+
+-- what is shown of the entries made, in order
+abbrev pub shown_made : List ℕ → List Event → List Shown
+shown_made input [] = []
+shown_made input (noted t e ∷ es) = shown_at input t e ∷ shown_made input es
+shown_made input (signs l t ∷ es) = shown_made input es
+shown_made input (enters l t d ∷ es) = shown_made input es
+shown_made input (starts i l t ∷ es) = shown_made input es
+
+-- the entries that a task noted are these, and their lines are slices of the input
+pub record AreNoted (input : List ℕ) (entries : List Entry) (made : List Event) : Type 0 where
+  pub shown : map entry_of entries ≡ shown_made input made
+  pub slices : All (IsSlice input) entries
+
+-- A task that was started is this child: it has to begin with its steps, at its place of its nursery, which has its number
+-- there.
+pub record IsBegun (numbers : Numbers) (book : NurseryBook) (bs : List Block) (waits : Option ℕ) (task : Task) (b : Begun) : Type 0 where
+  pub here : here_of task ≡ b.here
+  pub frames : (others : Numbers) → frames_of others task.frames.items ≡ rest.steps_left b.body ∷ []
+  pub own : task.own.items ≡ []
+  pub halt : task.halt ≡ ToBegin
+  pub entries : task.entries.items ≡ []
+  pub froms : task.froms.items ≡ []
+  pub home : Home
+  pub at_home : task.home ≡ Some home
+  pub number : slice_get (numbers home.nursery) home.place ≡ Some b.number
+  pub nursery : HasNursery book home.nursery (λ n. n.scope ≡ home.scope)
+  pub owned : HasNurseryOf home.nursery bs waits
+
+abbrev pub AreBegun : Numbers → NurseryBook → List Block → Option ℕ → List Task → List Begun → Type 0
+AreBegun numbers book bs waits [] [] = Unit {0}
+AreBegun numbers book bs waits [] (c ∷ cs) = ⊥
+AreBegun numbers book bs waits (t ∷ ts) [] = ⊥
+AreBegun numbers book bs waits (t ∷ ts) (c ∷ cs) = IsBegun numbers book bs waits t c × AreBegun numbers book bs waits ts cs
+
+-- A nursery after a move: it has the same scope, waiter and label, and more children, which run and have numbers.
+pub record Grown (before after : Nursery) (was are : List ℕ) : Type 0 where
+  pub scope : after.scope ≡ before.scope
+  pub waiter : after.waiter ≡ before.waiter
+  pub label : after.label ≡ before.label
+  pub more : List End
+  pub children : after.children ≡ before.children ++ more
+  pub run : All (λ (e : End). e ≡ None) more
+  pub added : List ℕ
+  pub numbers : are ≡ was ++ added
+
+-- each nursery among the frames grew so
+abbrev pub Grow : List Frame → Numbers → Numbers → NurseryBook → NurseryBook → Type 0
+Grow fs numbers after old new = (id : ℕ) → HasBlock id (blocks_of fs) → (n : Nursery) → nursery_at old id ≡ Some n → HasNursery new id (λ m. Grown n m (numbers id) (after id))
+
+-- A move of the code from one state of a task and its world to another is this move of the definitions.
+pub record Took
+    (frames : List Frame) (before after : Task) (old new : World) (moved : Moved) (froms : Table) (numbers : Numbers) (o : Move) : Type 0
+  where
+    pub numbers_after : Numbers
+    pub frames_after : frames_of numbers_after after.frames.items ≡ o.frames
+    pub places : AreAt (label_at new) (froms_after froms o.made) (outer_of new.scopes (scope_of after)) o.places
+    pub moves : MovesAs numbers_after new.book before.part moved after.halt o
+    pub entries : List Entry
+    pub noted : after.entries.items ≡ before.entries.items ++ entries
+    pub shown : AreNoted (buffer_of before.part) entries o.made
+    pub tasks : List Task
+    pub started : new.started.items ≡ old.started.items ++ tasks
+    pub begun : AreBegun numbers_after new.book (blocks_of after.frames.items) (waits_by moved after.halt) tasks o.begun
+    pub grow : Grow frames numbers numbers_after old.book new.book
+    pub kept : (id : ℕ) → HasBlock id (blocks_of frames) → HasNurseryOf id (blocks_of after.frames.items) (waits_by moved after.halt)
+    pub numbered : AreNumbered numbers_after new.book after.frames.items
+
+-- the same of each table of froms, of each numbering, and of places and counts, from where the task stood with these frames
+abbrev pub Takes :
+    List Frame → Task → Task → World → World → Moved → (Table → Numbers → List Place → ℕ → Move) → Type 0
+Takes frames before after old new moved move =
+    (froms : Table) (numbers : Numbers) (ps : List Place) (count : ℕ) → Stands frames before old froms numbers None ps →
+    Took frames before after old new moved froms numbers (move froms numbers ps count)

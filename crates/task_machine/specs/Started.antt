@@ -1,0 +1,64 @@
+-- Children that a task starts.
+use Rattle.std.specs.Prelude.{◌≡◌, ℕ, zero, suc, ◌+◌, List, [], ◌∷◌, ◌++◌, Option, Some, None, length}
+use Rattle.buffer_parts.specs.Lines.{Range}
+use Rattle.buffer_parts.specs.Part.{buffer_of, range_of}
+use Rattle.buffer_parts.specs.Cuts.{cut_of}
+use Rattle.buffer_parts.specs.declared.part.Part.{Part}
+use Rattle.exc_groups.specs.Exceptions.{Label}
+use Rattle.job_tree.specs.Tree.{Steps}
+use Rattle.job_meaning.specs.Rest.{steps_left}
+use Rattle.nursery_book.specs.Nursery.{End, Nursery, with_start}
+use Rattle.nursery_book.specs.Book.{nursery_at, HasNursery, Updates}
+use Rattle.task_machine.specs.declared.stop.Halt.TheVariants.{ToBegin}
+use Rattle.task_machine.specs.declared.task.Home.{Home}
+use Rattle.task_machine.specs.declared.task.Task.{Task}
+use Rattle.task_machine.specs.declared.world.World.{World}
+use Rattle.task_machine.specs.Frames.{frames_of}
+use Rattle.task_machine.specs.Stops.{Numbers}
+
+-- a task that was started with this label on this range of an input: it has to begin with these steps, at this home
+pub record IsChild (task : Task) (label : Label) (input : List ℕ) (range : Range) (body : Steps) (home : Home) : Type 0 where
+  pub label_is : task.label ≡ label
+  pub input_is : buffer_of task.part ≡ input
+  pub range_is : range_of task.part ≡ range
+  pub home_is : task.home ≡ Some home
+  pub frames : (numbers : Numbers) → frames_of numbers task.frames.items ≡ steps_left body ∷ []
+  pub own : task.own.items ≡ []
+  pub halt : task.halt ≡ ToBegin
+  pub entries : task.entries.items ≡ []
+  pub froms : task.froms.items ≡ []
+
+-- so many children that run
+abbrev pub running : ℕ → List End
+running zero = []
+running (suc k) = running k ++ None ∷ []
+
+-- the home of the child with so many before it in a nursery
+abbrev pub home_at : ℕ → Nursery → ℕ → Home
+home_at id n before = record { nursery = id; place = length n.children + before; scope = n.scope }
+
+-- A child was started: it runs in the nursery of this key, and nobody took it yet.
+pub record StartsOne (old new : World) (id : ℕ) (label : Label) (part : Part) (body : Steps) : Type 0 where
+  pub nursery : Nursery
+  pub was : nursery_at old.book id ≡ Some nursery
+  pub book : Updates old.book new.book id (Some (with_start nursery))
+  pub task : Task
+  pub started : new.started.items ≡ old.started.items ++ task ∷ []
+  pub child : IsChild task label (buffer_of part) (range_of part) body (home_at id nursery 0)
+
+-- the children 0 to i - 1 of a `start .. over` of k cuts
+abbrev pub AreChildren : Task → ℕ → Nursery → List ℕ → ℕ → Steps → List Task → ℕ → Type 0
+AreChildren self id n name k body tasks zero = tasks ≡ []
+AreChildren self id n name k body tasks (suc i) =
+    (before : List Task) × (last : Task) × (tasks ≡ before ++ last ∷ []) × AreChildren self id n name k body before i
+    × IsChild last (record { name = name; indices = self.label.indices ++ i ∷ [] }) (buffer_of self.part) (cut_of (buffer_of self.part) (range_of self.part) k i) body
+    (home_at id n i)
+
+-- so many of them were started
+pub record StartsOver (self : Task) (old new : World) (id : ℕ) (name : List ℕ) (k : ℕ) (body : Steps) (i : ℕ) : Type 0 where
+  pub nursery : Nursery
+  pub was : nursery_at old.book id ≡ Some nursery
+  pub book : Updates old.book new.book id (Some (record nursery { children = nursery.children ++ running i }))
+  pub tasks : List Task
+  pub started : new.started.items ≡ old.started.items ++ tasks
+  pub children : AreChildren self id nursery name k body tasks i

@@ -1,0 +1,110 @@
+ghost use Rattle.std.specs.Prelude.{◌≡◌, ◌+◌, ◌<◌, ◌^◌, IsSome, IfOk, OnOk, length};
+ghost use Rattle.std.specs.Option.{ForSome, option_map};
+ghost use Rattle.std.specs.List.{All};
+ghost use Rattle.exc_groups.specs.Held.{exc_of};
+ghost use Rattle.cancel_scopes.specs.Tree.{IsOpen, IsInnermost};
+ghost use Rattle.nursery_book.specs.Nursery.{with_body};
+ghost use Rattle.nursery_book.specs.Book.{HasNursery, Changes};
+ghost use Rattle.task_machine.specs.declared.stop.Halt.TheVariants.{Awaits, Over};
+ghost use Rattle.task_machine.specs.declared.stop.Moved.TheVariants.{Stops};
+ghost use Rattle.task_machine.specs.declared.stop.Stop.TheVariants.{Wait, Ended};
+ghost use Rattle.task_machine.specs.Tasks.{scope_of, home_scope};
+ghost use Rattle.task_machine.specs.Worlds.{label_at};
+ghost use Rattle.task_machine.specs.Left.{OwnFirst, LeavesOne};
+ghost use Rattle.task_machine.specs.Exits.{ExitsAt, FailsAt};
+
+use crate::leaving::Closed;
+use crate::outcome::{Kind, exc_after, left_with};
+use crate::stop::{Halt, Moved, Stop};
+use crate::task::Task;
+use crate::world::World;
+use cancel_scopes::stacks_are_chains;
+use exc_groups::Exc;
+use nursery_book::NurseryId;
+use std::alloc::AllocError;
+
+impl<'a> Task<'a> {
+    // The innermost block with a scope is left with that exception, or well: it catches or not, and that is noted. After
+    // an error the task and the world may only be dropped.
+    pub(crate) fn exit(
+        &mut self,
+        kind: Kind,
+        exc: Option<Exc>,
+        world: &mut World<'a>,
+    ) -> Result<Option<Exc>, AllocError>
+        requires some { 0 < length self.old.own.items }
+        requires open { ForSome (scope_of self.old) (IsOpen world.old.scopes) }
+        requires innermost { ForSome (scope_of self.old) (IsInnermost world.old.scopes) }
+        requires labelled { ForSome (scope_of self.old) (λ id. IsSome (label_at world.old id)) }
+        requires froms { All (λ own. own.at < length self.old.froms.items) self.old.own.items }
+        requires own { OwnFirst world.old.scopes (home_scope self.old) self.old.own.items }
+        ensures stays { OnOk result (self.new
+            ≡ record self.old { own = self.new.own; froms = self.new.froms; entries = self.new.entries }) }
+        ensures world { OnOk result (world.new ≡ record world.old { scopes = world.new.scopes; labels = world.new.labels }) }
+        ensures left { OnOk result (LeavesOne self.old self.new world.old) }
+        ensures own { OnOk result (OwnFirst world.new.scopes (home_scope self.old) self.new.own.items) }
+        ensures at { IfOk result (λ after. ExitsAt self.old self.new world.old world.new kind (option_map exc_of exc) (option_map exc_of after)) }
+    {
+        let Closed { label, catches } = self.leave(world);
+        let left = left_with(self.alloc, catches, exc)?;
+        let caught = left.caught;
+        let exc = exc_after(self.alloc, kind, &label, world.now(), left)?;
+        self.entries.push(kind.entry(label, world.now(), caught))?;
+        Ok(exc)
+    }
+
+    // Who ends with an exception cancels the innermost nursery round it, if there is one, from the next tick on.
+    fn fail(&self, exc: &Option<Exc>, world: &mut World<'a>)
+        requires scope { ForSome (scope_of self.now) (IsOpen world.old.scopes) }
+        requires tick { world.old.tick + 1 < 2 ^ 41 }
+        ensures rest { world.new ≡ record world.old { scopes = world.new.scopes } }
+        ensures at { FailsAt world.old world.new (scope_of self.now) (option_map exc_of exc.now) }
+    {
+        stacks_are_chains(&world.scopes);
+        if exc.is_none() {
+            return;
+        }
+        if let Some(id) = self.scope() {
+            world.sign(id);
+        }
+    }
+
+    // The body of a nursery has ended, and the task waits for the children.
+    pub(crate) fn end_body(
+        &mut self,
+        nursery: NurseryId,
+        exc: Option<Exc>,
+        world: &mut World<'a>,
+    ) -> Moved<'a>
+        requires scope { ForSome (scope_of self.old) (IsOpen world.old.scopes) }
+        requires tick { world.old.tick + 1 < 2 ^ 41 }
+        requires nursery { HasNursery world.old.book nursery (λ n. n.body ≡ None) }
+        ensures moved { result ≡ Stops (Wait nursery) }
+        ensures stays { self.new ≡ record self.old { halt = Awaits nursery world.old.tick } }
+        ensures rest { world.new ≡ record world.old { scopes = world.new.scopes; book = world.new.book } }
+        ensures ended { Changes world.old.book world.new.book nursery (with_body (option_map exc_of exc)) }
+        ensures at { FailsAt world.old world.new (scope_of self.old) (option_map exc_of exc) }
+    {
+        self.fail(&exc, world);
+        world.book.body_ended(nursery, exc);
+        self.halt = Halt::Awaits {
+            nursery,
+            since: world.now(),
+        };
+        Moved::Stops(Stop::Wait(nursery))
+    }
+
+    // The task has ended.
+    pub(crate) fn end(&mut self, exc: Option<Exc>, world: &mut World<'a>) -> Moved<'a>
+        requires scope { ForSome (scope_of self.old) (IsOpen world.old.scopes) }
+        requires tick { world.old.tick + 1 < 2 ^ 41 }
+        ensures moved { result ≡ Stops (Ended exc) }
+        ensures stays { self.new ≡ record self.old { halt = Over } }
+        ensures rest { world.new ≡ record world.old { scopes = world.new.scopes } }
+        ensures at { FailsAt world.old world.new (scope_of self.old) (option_map exc_of exc) }
+    {
+        self.fail(&exc, world);
+        self.halt = Halt::Over;
+        Moved::Stops(Stop::Ended(exc))
+    }
+}

@@ -1,0 +1,103 @@
+ghost use Rattle.std.specs.Prelude.{◌≡◌, ◌≤◌, ◌<◌, ◌++◌, ℕ, List, [], ◌∷◌, Some, None, OnOk, IfOk, length};
+ghost use Rattle.buffer_parts.specs.Part.{buffer_of, range_of};
+ghost use Rattle.exc_groups.specs.Exceptions.{Label as Named};
+ghost use Rattle.job_meaning.specs.Rest.{steps_left};
+ghost use Rattle.nursery_book.specs.Book.{HasNursery};
+ghost use Rattle.task_machine.specs.declared.stop.Halt.TheVariants.{ToBegin};
+ghost use Rattle.task_machine.specs.Frames.{frames_of};
+ghost use Rattle.task_machine.specs.Stops.{Numbers};
+ghost use Rattle.task_machine.specs.Started.{StartsOne, StartsOver};
+
+use crate::frame::Frame;
+use crate::stop::Halt;
+use crate::task::{Home, Task};
+use crate::world::World;
+use buffer_parts::Part;
+use exc_groups::Label;
+use job_tree::{Body, Name};
+use nursery_book::NurseryId;
+use smallvec::SmallVec;
+use std::alloc::{AllocError, Global};
+
+impl<'a> Task<'a> {
+    // A child that has to begin with a body, on its part.
+    fn child(
+        alloc: Global,
+        label: Label,
+        part: Part<'a>,
+        body: &'a Body,
+        home: Home,
+    ) -> Result<Task<'a>, AllocError>
+        ensures label { IfOk result (λ task. task.label ≡ label) }
+        ensures part { IfOk result (λ task. task.part ≡ part.entry) }
+        ensures home { IfOk result (λ task. task.home ≡ Some home) }
+        ensures frames { IfOk result (λ task. (numbers : Numbers) →
+            frames_of numbers task.frames.items ≡ steps_left body.now ∷ []) }
+        ensures own { IfOk result (λ task. task.own.items ≡ []) }
+        ensures halt { IfOk result (λ task. task.halt ≡ ToBegin) }
+        ensures entries { IfOk result (λ task. task.entries.items ≡ []) }
+        ensures froms { IfOk result (λ task. task.froms.items ≡ []) }
+    {
+        let mut frames = SmallVec::new(alloc);
+        frames.push(Frame::Steps(body.as_slice()))?;
+        Ok(Task {
+            alloc,
+            label,
+            part,
+            home: Some(home),
+            frames,
+            own: Vec::new(alloc),
+            halt: Halt::ToBegin,
+            entries: Vec::new(alloc),
+            froms: Vec::new(alloc),
+        })
+    }
+
+    // A child is started in a nursery of the task. After an error the world may only be dropped.
+    pub(crate) fn start(
+        &self,
+        nursery: NurseryId,
+        label: Label,
+        part: Part<'a>,
+        body: &'a Body,
+        world: &mut World<'a>,
+    ) -> Result<(), AllocError>
+        requires { HasNursery world.old.book nursery (λ n. n.body ≡ None) }
+        ensures rest { OnOk result (world.new ≡ record world.old { book = world.new.book; started = world.new.started }) }
+        ensures started { OnOk result (StartsOne world.old world.new nursery label part.entry body.now) }
+    {
+        let scope = world.book.scope(nursery);
+        let place = world.book.start(nursery)?;
+        let home = Home {
+            nursery,
+            place,
+            scope,
+        };
+        let child = Task::child(self.alloc, label, part, body, home)?;
+        world.started.push_back(child)?;
+        Ok(())
+    }
+
+    // A child is started for each cut of the task's part.
+    pub(crate) fn start_over(
+        &self,
+        nursery: NurseryId,
+        name: Name,
+        copies: u64,
+        body: &'a Body,
+        world: &mut World<'a>,
+    ) -> Result<(), AllocError>
+        requires some { 1 ≤ copies }
+        requires few { copies ≤ 64 }
+        requires nursery { HasNursery world.old.book nursery (λ n. n.body ≡ None) }
+        ensures rest { OnOk result (world.new ≡ record world.old { book = world.new.book; started = world.new.started }) }
+        ensures started { OnOk result (StartsOver self.now world.old world.new nursery name copies body.now copies) }
+    {
+        'copies: for i in 0..copies {
+            let part = self.part.cut(copies as usize, i as usize);
+            let label = self.label.named(self.alloc, name)?.indexed(i)?;
+            self.start(nursery, label, part, body, world)?;
+        }
+        Ok(())
+    }
+}

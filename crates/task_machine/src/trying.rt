@@ -1,0 +1,119 @@
+ghost use Rattle.std.specs.Prelude.{◌≡◌, ◌∷◌, List, OnOk, IfOk};
+ghost use Rattle.std.specs.Option.{option_map, option_copied};
+ghost use Rattle.job_tree.specs.Blocks.{handled_of, cleaned_of};
+ghost use Rattle.exc_groups.specs.Held.{exc_of};
+ghost use Rattle.job_meaning.specs.Rest.{steps_left, in_try};
+ghost use Rattle.job_meaning.specs.Walk.{handler_exc as raised_in_handler};
+ghost use Rattle.job_tree.specs.Tree.{unhandled};
+ghost use Rattle.task_turns.specs.Midway.{Place};
+ghost use Rattle.task_turns.specs.Steps.{onward, step_try};
+ghost use Rattle.task_machine.specs.Frames.{frames_of};
+ghost use Rattle.task_machine.specs.Stops.{Numbers};
+
+use crate::frame::Frame;
+use crate::outcome::handler_exc;
+use crate::task::Task;
+use exc_groups::{Exc, Match, split};
+use job_tree::{Body, Handler};
+use std::alloc::AllocError;
+
+impl<'a> Task<'a> {
+    // A `try` begins.
+    pub(crate) fn begin_try(
+        &mut self,
+        body: &'a Body,
+        handler: &'a Option<Handler>,
+        cleanup: &'a Option<Body>,
+    ) -> Result<(), AllocError>
+        ensures stays { OnOk result (self.new ≡ record self.old { frames = self.new.frames }) }
+        ensures frames { OnOk result ((numbers : Numbers) → frames_of numbers self.new.frames.items
+            ≡ steps_left body.now ∷ in_try (handled_of handler.now) (cleaned_of cleanup.now) ∷ frames_of numbers self.old.frames.items) }
+    {
+        self.push(Frame::Try {
+            handler: handler.as_ref(),
+            cleanup,
+        })?;
+        self.push(Frame::Steps(body.as_slice()))
+    }
+
+    // The body of a `try` has ended with that exception, or well: its handler runs if that matches, else its cleanup. Gives
+    // the exception that the task goes on with.
+    pub(crate) fn end_try(
+        &mut self,
+        handler: Option<&'a Handler>,
+        cleanup: &'a Option<Body>,
+        exc: Option<Exc>,
+    ) -> Result<Option<Exc>, AllocError>
+        ensures stays { OnOk result (self.new ≡ record self.old { frames = self.new.frames }) }
+        ensures step { IfOk result (λ after. (numbers : Numbers) (ps : List Place) →
+            step_try (handled_of (option_copied handler.entry)) (cleaned_of cleanup.now) (frames_of numbers self.old.frames.items) ps (option_map exc_of exc)
+            ≡ onward (frames_of numbers self.new.frames.items) ps (option_map exc_of after)) }
+    {
+        let Some(handler) = handler else {
+            return self.begin_cleanup(cleanup, exc);
+        };
+        let Some(exc) = exc else {
+            self.without_handler(cleanup)?;
+            return Ok(None);
+        };
+        let (matched, rest) = split(
+            self.alloc,
+            exc.copy(self.alloc)?,
+            &Match::Name(handler.name),
+        )?;
+        if matched.is_none() {
+            self.without_handler(cleanup)?;
+            return Ok(Some(exc));
+        }
+        self.push(Frame::Handler { rest, cleanup })?;
+        self.push(Frame::Steps(handler.body.as_slice()))?;
+        Ok(None)
+    }
+
+    // A handler has ended with that exception, or well. Gives the exception that the task goes on with.
+    pub(crate) fn end_handler(
+        &mut self,
+        rest: Option<Exc>,
+        cleanup: &'a Option<Body>,
+        exc: Option<Exc>,
+    ) -> Result<Option<Exc>, AllocError>
+        ensures stays { OnOk result (self.new ≡ record self.old { frames = self.new.frames }) }
+        ensures frames { OnOk result ((numbers : Numbers) → frames_of numbers self.new.frames.items
+            ≡ in_try unhandled (cleaned_of cleanup.now) ∷ frames_of numbers self.old.frames.items) }
+        ensures exc { IfOk result (λ after. option_map exc_of after ≡ raised_in_handler (option_map exc_of exc) (option_map exc_of rest)) }
+    {
+        self.without_handler(cleanup)?;
+        handler_exc(self.alloc, exc, rest)
+    }
+
+    // Goes on behind the handler of a `try`.
+    fn without_handler(&mut self, cleanup: &'a Option<Body>) -> Result<(), AllocError>
+        ensures stays { OnOk result (self.new ≡ record self.old { frames = self.new.frames }) }
+        ensures frames { OnOk result ((numbers : Numbers) → frames_of numbers self.new.frames.items
+            ≡ in_try unhandled (cleaned_of cleanup.now) ∷ frames_of numbers self.old.frames.items) }
+    {
+        self.push(Frame::Try {
+            handler: None,
+            cleanup,
+        })
+    }
+
+    // The cleanup of a `try` begins, if it has one.
+    fn begin_cleanup(
+        &mut self,
+        cleanup: &'a Option<Body>,
+        exc: Option<Exc>,
+    ) -> Result<Option<Exc>, AllocError>
+        ensures stays { OnOk result (self.new ≡ record self.old { frames = self.new.frames }) }
+        ensures step { IfOk result (λ after. (numbers : Numbers) (ps : List Place) →
+            step_try unhandled (cleaned_of cleanup.now) (frames_of numbers self.old.frames.items) ps (option_map exc_of exc)
+            ≡ onward (frames_of numbers self.new.frames.items) ps (option_map exc_of after)) }
+    {
+        let Some(body) = cleanup else {
+            return Ok(exc);
+        };
+        self.push(Frame::Cleanup { outcome: exc })?;
+        self.push(Frame::Steps(body.as_slice()))?;
+        Ok(None)
+    }
+}
