@@ -3,7 +3,7 @@ use Rattle.std.proofs.Common.{◌≡◌, inl, inr, ℕ, Option, Some, None, List
 use Rattle.std.specs.Prelude.{IsSome}
 use Rattle.std.specs.Option.{option_map, unwrap_or}
 use Rattle.exc_groups.specs.Exceptions.{Label}
-use Rattle.cancel_scopes.specs.Sight.{Tick, Level}
+use Rattle.cancel_scopes.specs.Sight.{Level}
 use Rattle.cancel_scopes.specs.Tree.{Stack, Tree, stack_of, IsOpen, outer_of, IsChain, after_cancel}
 use Rattle.job_meaning.specs.Log.{Table}
 use Rattle.task_turns.specs.Midway.{Place}
@@ -24,7 +24,7 @@ open_in tree key before (l ∷ ls) chain (inl e) = subst (IsOpen tree) (sym e) (
 open_in tree key before (l ∷ ls) chain (inr i) =
     open_in tree key (before ++ l ∷ []) ls (λ front m behind e. chain front m behind (sym (append_assoc before (l ∷ []) ls) ∙ e)) i
 
-open_round : (tree : Tree) → IsChain tree → (scope : Option ℕ) (key : ℕ) → IsKey key (outer_of tree scope) → IsOpen tree key
+pub open_round : (tree : Tree) → IsChain tree → (scope : Option ℕ) (key : ℕ) → IsKey key (outer_of tree scope) → IsOpen tree key
 open_round tree chain None key i = absurd i
 open_round tree chain (Some p) key i = by_stack (stack_of tree p) refl i
   where

@@ -1,9 +1,9 @@
 -- A scope that is entered inside the places of a task.
 use Rattle.std.proofs.Common.{◌≡◌, ◌≢◌, ℕ, Bool, Option, Some, None, List, [], ◌∷◌, ◌++◌, append_assoc, refl, ap, sym, ◌∙◌, subst}
-use Rattle.std.specs.Option.{ForSome, unwrap_or}
+use Rattle.std.specs.Option.{unwrap_or}
 use Rattle.exc_groups.specs.Exceptions.{Label}
 use Rattle.cancel_scopes.specs.Sight.{Tick, Level}
-use Rattle.cancel_scopes.specs.Tree.{Stack, Tree, stack_of, IsOpen, outer_of, IsChain}
+use Rattle.cancel_scopes.specs.Tree.{Stack, Tree, stack_of, outer_of, IsChain}
 use Rattle.job_meaning.specs.Log.{Table}
 use Rattle.task_turns.specs.Midway.{Place}
 use Rattle.task_turns.specs.Names.{IsName, names_at}

@@ -1,8 +1,7 @@
 -- Frames that the code holds, the innermost last.
-use Rattle.std.proofs.Common.{◌≡◌, ℕ, List, [], ◌∷◌, ◌++◌, refl, ap, sym, ◌∙◌, subst}
+use Rattle.std.proofs.Common.{◌≡◌, ℕ, List, [], ◌∷◌, ◌++◌, refl, ap, ◌∙◌}
 use Rattle.job_meaning.specs.Rest as rest
 use Rattle.task_machine.specs.declared.frame.Frame.{Frame}
-use Rattle.task_machine.specs.Fitting.{Block, blocks_of}
 use Rattle.task_machine.specs.Frames.{frame_of, frames_onto, frames_of}
 
 onto_push : (children : ℕ → List ℕ) (fs : List Frame) (f : Frame) (outer : List rest.Frame) →

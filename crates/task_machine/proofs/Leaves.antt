@@ -1,10 +1,10 @@
 -- The innermost scope of a task is left.
-use Rattle.std.proofs.Common.{◌≡◌, ◌≢◌, ℕ, suc, ◌+◌, ◌<◌, ◌≤◌, Bool, true, false, Option, Some, None, is_some, List, [], ◌∷◌, ◌++◌, map, length, append_assoc, refl, ap, sym, ◌∙◌, subst, arith, length-append}
-use Rattle.std.specs.Option.{ForSome, unwrap_or}
+use Rattle.std.proofs.Common.{◌≡◌, ◌≢◌, ℕ, suc, ◌+◌, ◌<◌, true, false, Option, Some, None, is_some, List, [], ◌∷◌, ◌++◌, length, append_assoc, refl, ap, sym, ◌∙◌, subst, arith, length-append}
+use Rattle.std.specs.Option.{unwrap_or}
 use Rattle.std.specs.List.{last_or}
 use Rattle.exc_groups.specs.Exceptions.{Label}
-use Rattle.cancel_scopes.specs.Sight.{Tick, Level}
-use Rattle.cancel_scopes.specs.Tree.{Stack, Tree, stack_of, outer_of, own_label, IsOpen, IsOwn, IsChain, OthersKeep}
+use Rattle.cancel_scopes.specs.Sight.{Level}
+use Rattle.cancel_scopes.specs.Tree.{Stack, Tree, stack_of, outer_of, IsOpen, IsOwn, IsChain, OthersKeep}
 use Rattle.job_meaning.specs.Log.{Table}
 use Rattle.task_turns.specs.Midway.{Place}
 use Rattle.task_machine.specs.declared.task.Own.{Own}
@@ -13,12 +13,12 @@ use Rattle.task_machine.specs.Stacked.{AreAt, SameOn}
 use Rattle.task_machine.specs.Left.{keys_of, keys_in, OwnFirst}
 use Rattle.task_machine.proofs.OwnLemmas.{ids}
 
-abbrev head_of : List ℕ → Option ℕ
+abbrev pub head_of : List ℕ → Option ℕ
 head_of [] = None
 head_of (k ∷ ks) = Some k
 
 -- the innermost key is that of the last scope
-first_is_last : (os : List Own) (r : List ℕ) → head_of (keys_in os ++ r) ≡ last_or (head_of r) (ids os)
+pub first_is_last : (os : List Own) (r : List ℕ) → head_of (keys_in os ++ r) ≡ last_or (head_of r) (ids os)
 first_is_last [] r = refl
 first_is_last (o ∷ os) r = ap head_of (append_assoc (keys_in os) (o.id ∷ []) r) ∙ first_is_last os (o.id ∷ r)
 

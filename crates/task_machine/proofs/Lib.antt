@@ -9,3 +9,7 @@ pub mod Leaves
 pub mod Exits
 pub mod FrameLemmas
 pub mod Starts
+pub mod Blocks
+pub mod Others
+pub mod Fits
+pub mod Taking

@@ -1,10 +1,10 @@
 -- Moves of the code, as those of the definitions.
-use Rattle.std.proofs.Common.{◌≡◌, ℕ, zero, suc, ◌+◌, Bool, true, false, Some, None, List, refl, ap, sym, ◌∙◌, subst}
+use Rattle.std.proofs.Common.{◌≡◌, ℕ, zero, suc, ◌+◌, Bool, false, None, List, refl, ◌∙◌, subst}
 use Rattle.cancel_scopes.specs.Sight.{seen}
 use Rattle.cancel_scopes.specs.Tree as scopes
 use Rattle.job_meaning.specs.Log.{Table}
 use Rattle.job_meaning.specs.Rest.{Frame}
-use Rattle.task_turns.specs.Midway.{Place, stack_at, Move}
+use Rattle.task_turns.specs.Midway.{Place, Move}
 use Rattle.task_turns.specs.Steps.{sleeps, falls_asleep}
 use Rattle.task_machine.specs.declared.stop.Stop.TheVariants.{Sleep}
 use Rattle.task_machine.specs.declared.stop.Halt.TheVariants.{Asleep}

@@ -1,10 +1,9 @@
 -- What a stack of open scopes shows is what its places show with the world's froms, and stays so.
-use Rattle.std.proofs.Common.{◌≡◌, ◌≢◌, ◌⊎◌, inl, inr, ℕ, ◌+◌, Bool, true, false, ◌&&◌, ◌||◌, not, Option, Some, None, List, [], ◌∷◌, map, refl, ap, sym, ◌∙◌, subst, ◌==◌, if◌then◌else◌}
+use Rattle.std.proofs.Common.{◌≡◌, ◌⊎◌, inl, inr, ℕ, ◌+◌, Bool, true, false, ◌&&◌, ◌||◌, not, Option, Some, None, List, [], ◌∷◌, refl, ap, sym, ◌∙◌, subst, ◌==◌, if◌then◌else◌}
 use Rattle.std.proofs.lemmas.Bool.{eqb-true, eq-eqb}
 use Rattle.std.specs.Str.{bytes_eq}
-use Rattle.std.specs.List.{All}
 use Rattle.exc_groups.specs.Exceptions.{Label}
-use Rattle.cancel_scopes.specs.Sight.{Tick, Level, earlier, next, reached, sight, seen, catches}
+use Rattle.cancel_scopes.specs.Sight.{Tick, Level, earlier, reached, sight, seen, catches}
 use Rattle.cancel_scopes.specs.Tree.{level_after_cancel, after_cancel}
 use Rattle.cancel_scopes.specs.Tree as scopes
 use Rattle.job_meaning.specs.Log.{Table, same_label}

@@ -3,11 +3,11 @@ use Rattle.std.specs.Prelude.{◌≡◌, ℕ, Bool, Option, Some, None, List, []
 use Rattle.job_tree.specs.Tree.{Steps}
 use Rattle.job_tree.specs.Blocks.{steps_of}
 use Rattle.nursery_book.specs.Nursery.{opened as opens}
-use Rattle.nursery_book.specs.Book.{nursery_at, Updates}
-use Rattle.task_records.specs.declared.entry.ScopeFrom.{ScopeFrom}
+use Rattle.nursery_book.specs.Book.{nursery_at}
+use Rattle.nursery_book.specs.Book as book
 use Rattle.exc_groups.specs.Exceptions.{Label}
-use Rattle.cancel_scopes.specs.Sight.{Tick}
-use Rattle.cancel_scopes.specs.Tree.{outer_of}
+use Rattle.cancel_scopes.specs.Sight.{Tick, Level}
+use Rattle.cancel_scopes.specs.Tree.{stack_of, outer_of, OthersKeep}
 use Rattle.job_meaning.specs.Log.{Table}
 use Rattle.task_turns.specs.Midway.{Place}
 use Rattle.task_turns.specs.Names.{IsName, names_at, OwnNames}
@@ -17,6 +17,7 @@ use Rattle.task_machine.specs.declared.frame.Frame.TheVariants as frame
 use Rattle.task_machine.specs.declared.task.Own.{Own}
 use Rattle.task_machine.specs.declared.task.Task.{Task}
 use Rattle.task_machine.specs.declared.world.World.{World}
+use Rattle.task_machine.specs.Labels.{Updates}
 use Rattle.task_machine.specs.Tasks.{scope_of}
 use Rattle.task_machine.specs.Worlds.{label_at}
 use Rattle.task_machine.specs.Stacked.{AreAt}
@@ -33,12 +34,19 @@ EntersAt before after outer inner label shield deadline =
 abbrev pub label_in : Task → List ℕ → Label
 label_in task name = record { name = name; indices = task.label.indices }
 
--- a scope was opened that was not open: the last of the task's own, behind the froms
-pub record EntersOne (before after : Task) (label : Label) : Type 0 where
+-- A scope was opened that was not open, inside those round the task: the last of its own, with a place behind its froms. Every
+-- other scope stays, and keeps its label.
+pub record EntersOne (before after : Task) (old new : World) (label : Label) : Type 0 where
   pub own : Own
   pub opened : after.own.items ≡ before.own.items ++ own ∷ []
   pub place : own.at ≡ length before.froms.items
   pub froms : after.froms.items ≡ before.froms.items ++ record { label = label; seen = None } ∷ []
+  pub fresh : stack_of old.scopes own.id ≡ None
+  pub level : Level ℕ
+  pub stack : stack_of new.scopes own.id ≡ Some (level ∷ outer_of old.scopes (scope_of before))
+  pub named : level.label ≡ own.id
+  pub others : OthersKeep old.scopes new.scopes own.id
+  pub labelled : Updates (label_at old) (label_at new) own.id (Some label)
 
 -- a frame that holds the steps of a block
 abbrev pub IsBlock : Frame → Steps → Type 0
@@ -57,7 +65,7 @@ pub record EntersNursery (me : ℕ) (before after : Task) (old new : World) (lab
   pub scope : ℕ
   pub inner : scope_of after ≡ Some scope
   pub fresh : nursery_at old.book id ≡ None
-  pub stands : Updates old.book new.book id (Some (opens scope me label))
+  pub stands : book.Updates old.book new.book id (Some (opens scope me label))
   pub frames : EntersBlock before after (frame.Nursery id) body
 
 -- The froms of the task's places are lowered by the sign of the place of this name, if there is one.

@@ -1,11 +1,13 @@
 -- What holds of a task and its world between moves: what is left can run, and its scopes and nurseries are open.
-use Rattle.std.specs.Prelude.{◌≡◌, ◌≢◌, ◌⊎◌, ℕ, zero, suc, ◌<◌, ◌≤◌, List, [], ◌∷◌, Option, Some, None, IsSome, All, length, slice_get}
+use Rattle.std.specs.Prelude.{◌≡◌, ◌≢◌, ◌⊎◌, ℕ, zero, suc, ◌<◌, ◌≤◌, List, [], ◌∷◌, Option, Some, None, IsSome, All, length, map, slice_get}
 use Rattle.std.specs.Option.{ForSome}
+use Rattle.std.specs.List.{last_or}
 use Rattle.job_tree.specs.Starting.{StartsIn, HandlerStarts, CleanupStarts}
 use Rattle.task_turns.specs.Placed.{in_body}
 use Rattle.job_tree.specs.Modest.{AreModest, IsModestHandler, IsModestCleanup}
 use Rattle.buffer_parts.specs.Lines.{bytes_of}
 use Rattle.buffer_parts.specs.Part.{buffer_of, range_of}
+use Rattle.buffer_parts.specs.declared.part.Part.{Part}
 use Rattle.cancel_scopes.specs.Tree.{Stack, Tree, stack_of, IsOpen}
 use Rattle.nursery_book.specs.Nursery.{End, Nursery as Members}
 use Rattle.nursery_book.specs.Book.{HasNursery}
@@ -22,7 +24,8 @@ use Rattle.task_machine.specs.declared.world.World.{World}
 use Rattle.task_machine.specs.Frames.{frames_of}
 use Rattle.task_machine.specs.Left.{OwnFirst}
 use Rattle.task_machine.specs.Stacked.{IsKey}
-use Rattle.task_machine.specs.Tasks.{scope_of, home_scope}
+use Rattle.task_machine.specs.Labels.{Labels}
+use Rattle.task_machine.specs.Tasks.{home_scope}
 use Rattle.task_machine.specs.Worlds.{label_at}
 
 -- all numbers of the steps left are in their ranges
@@ -65,25 +68,28 @@ abbrev pub AreOthers : ℕ → List Own → Type 0
 AreOthers key own = All (λ (o : Own). o.id ≢ key) own
 
 -- a nursery stands in the book with the scope of this one that the task opened, and its label
-pub record IsMine (world : World) (own : Own) (n : Members) : Type 0 where
+pub record IsMine (labels : Labels) (own : Own) (n : Members) : Type 0 where
   pub scope : n.scope ≡ own.id
-  pub label : label_at world own.id ≡ Some n.label
+  pub label : labels own.id ≡ Some n.label
 
 -- the scope of the nursery that the task waits for, if it does: the body of the nursery ended
-abbrev pub IsAwaited : World → List Own → Option ℕ → Type 0
-IsAwaited world [] None = Unit {0}
-IsAwaited world [] (Some id) = ⊥
-IsAwaited world (o ∷ own) None = ⊥
-IsAwaited world (o ∷ own) (Some id) = (own ≡ []) × HasNursery world.book id (λ n. IsMine world o n × IsSome n.body)
+abbrev pub IsAwaited : Labels → NurseryBook → List Own → Option ℕ → Type 0
+IsAwaited labels book [] None = Unit {0}
+IsAwaited labels book [] (Some id) = ⊥
+IsAwaited labels book (o ∷ own) None = ⊥
+IsAwaited labels book (o ∷ own) (Some id) = (own ≡ []) × HasNursery book id (λ n. IsMine labels o n × IsSome n.body)
+
+-- a scope that the task opened is that of this block: it has a label, and a nursery stands in the book and its body runs
+abbrev pub IsBlockOf : Labels → NurseryBook → Block → Own → Type 0
+IsBlockOf labels book a_scope o = IsSome (labels o.id)
+IsBlockOf labels book (a_nursery id) o = HasNursery book id (λ n. IsMine labels o n × (n.body ≡ None))
 
 -- The scopes that the task opened are those of its blocks, outermost first, and behind them that of the nursery that it
--- waits for. Each nursery stands in the book, and its body runs.
-abbrev pub Opened : World → List Block → List Own → Option ℕ → Type 0
-Opened world [] own waits = IsAwaited world own waits
-Opened world (b ∷ bs) [] waits = ⊥
-Opened world (a_scope ∷ bs) (o ∷ own) waits = IsSome (label_at world o.id) × AreOthers o.id own × Opened world bs own waits
-Opened world (a_nursery id ∷ bs) (o ∷ own) waits =
-    HasNursery world.book id (λ n. IsMine world o n × (n.body ≡ None)) × AreOthers o.id own × Opened world bs own waits
+-- waits for.
+abbrev pub Opened : Labels → NurseryBook → List Block → List Own → Option ℕ → Type 0
+Opened labels book [] own waits = IsAwaited labels book own waits
+Opened labels book (b ∷ bs) [] waits = ⊥
+Opened labels book (b ∷ bs) (o ∷ own) waits = IsBlockOf labels book b o × AreOthers o.id own × Opened labels book bs own waits
 
 -- a child of a nursery runs
 abbrev pub AnyRuns : List End → Type 0
@@ -111,18 +117,26 @@ waits_of (Awaits id since) = Some id
 waits_of Over = None
 
 -- a scope that another task opened has one of this task's round it only where a child of the task runs in there
-abbrev pub OthersRun : World → List Block → List Own → Option ℕ → Type 0
-OthersRun world bs own waits =
-    (key : ℕ) (st : Stack) → stack_of world.scopes key ≡ Some st → AreOthers key own → (i : ℕ) (o : Own) → slice_get own i ≡ Some o → IsKey o.id st →
-    RunsIn world.book bs i waits
+abbrev pub OthersRun : Tree → NurseryBook → List Block → List Own → Option ℕ → Type 0
+OthersRun tree book bs own waits =
+    (key : ℕ) (st : Stack) → stack_of tree key ≡ Some st → AreOthers key own → (i : ℕ) (o : Own) → slice_get own i ≡ Some o → IsKey o.id st →
+    RunsIn book bs i waits
 
--- What holds of a task with these frames and its world between moves. It waits for a nursery, or not.
-pub record Fits (frames : List Frame) (task : Task) (world : World) (waits : Option ℕ) : Type 0 where
-  pub modest : AreModestFrames (frames_of (λ id. []) frames)
-  pub starts : StartsFit (frames_of (λ id. []) frames)
-  pub small : length (bytes_of (buffer_of task.part) (range_of task.part)) ≤ MOST_INPUT
-  pub scope : ForSome (scope_of task) (IsOpen world.scopes)
-  pub first : OwnFirst world.scopes (home_scope task) task.own.items
-  pub froms : All (λ (o : Own). o.at < length task.froms.items) task.own.items
-  pub opened : Opened world (blocks_of frames) task.own.items waits
-  pub others : OthersRun world (blocks_of frames) task.own.items waits
+-- What holds between moves of a task that is on this part, has these frames, opened these scopes inside its home's, and entered
+-- so many, in a world with these scopes, labels and nurseries. It waits for a nursery, or not.
+pub record FitsIn
+    (frames : List Frame) (part : Part) (within : Option ℕ) (own : List Own) (entered : ℕ) (tree : Tree) (labels : Labels) (book : NurseryBook) (waits : Option ℕ) : Type 0
+  where
+    pub modest : AreModestFrames (frames_of (λ id. []) frames)
+    pub starts : StartsFit (frames_of (λ id. []) frames)
+    pub small : length (bytes_of (buffer_of part) (range_of part)) ≤ MOST_INPUT
+    pub home : ForSome within (IsOpen tree)
+    pub scope : ForSome (last_or within (map (λ (o : Own). o.id) own)) (IsOpen tree)
+    pub first : OwnFirst tree within own
+    pub froms : All (λ (o : Own). o.at < entered) own
+    pub opened : Opened labels book (blocks_of frames) own waits
+    pub others : OthersRun tree book (blocks_of frames) own waits
+
+abbrev pub Fits : List Frame → Task → World → Option ℕ → Type 0
+Fits frames task world waits =
+    FitsIn frames task.part (home_scope task) task.own.items (length task.froms.items) world.scopes (label_at world) world.book waits

@@ -1,5 +1,5 @@
 -- What the open scopes of a world show is what the places of a task show with the world's froms, and stays so.
-use Rattle.std.specs.Prelude.{◌≡◌, ℕ, Bool, Option, Some, None, List, ◌∷◌}
+use Rattle.std.specs.Prelude.{◌≡◌, ℕ, Bool, Some, List, ◌∷◌}
 use Rattle.exc_groups.specs.Exceptions.{Label}
 use Rattle.cancel_scopes.specs.Sight.{Tick, Level, seen, catches}
 use Rattle.cancel_scopes.specs.Tree as scopes

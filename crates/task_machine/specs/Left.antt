@@ -1,13 +1,11 @@
 -- A task that leaves the innermost of its scopes.
-use Rattle.std.specs.Prelude.{◌≡◌, ℕ, Option, Some, None, List, [], ◌∷◌, ◌++◌, map, reverse, slice_set, slice_get}
+use Rattle.std.specs.Prelude.{◌≡◌, ℕ, Option, List, [], ◌∷◌, ◌++◌, map}
 use Rattle.std.specs.Option.{ForSome}
 use Rattle.std.specs.List.{last_or}
-use Rattle.exc_groups.specs.Exceptions.{Label}
 use Rattle.cancel_scopes.specs.Sight.{Tick, Level, catches}
 use Rattle.cancel_scopes.specs.Tree.{Tree, Stack, stack_of, outer_of, own_from}
 use Rattle.job_meaning.specs.Log.{Table}
 use Rattle.task_turns.specs.Midway.{Place, stack_at}
-use Rattle.task_records.specs.declared.entry.ScopeFrom.{ScopeFrom}
 use Rattle.task_machine.specs.declared.leaving.Closed.{Closed}
 use Rattle.task_machine.specs.declared.task.Own.{Own}
 use Rattle.task_machine.specs.declared.task.Task.{Task}

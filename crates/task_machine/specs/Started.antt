@@ -1,5 +1,5 @@
 -- Children that a task starts.
-use Rattle.std.specs.Prelude.{◌≡◌, ℕ, zero, suc, ◌+◌, List, [], ◌∷◌, ◌++◌, Option, Some, None, length}
+use Rattle.std.specs.Prelude.{◌≡◌, ℕ, zero, suc, ◌+◌, List, [], ◌∷◌, ◌++◌, Some, None, length}
 use Rattle.buffer_parts.specs.Lines.{Range}
 use Rattle.buffer_parts.specs.Part.{buffer_of, range_of}
 use Rattle.buffer_parts.specs.Cuts.{cut_of}
@@ -8,7 +8,7 @@ use Rattle.exc_groups.specs.Exceptions.{Label}
 use Rattle.job_tree.specs.Tree.{Steps}
 use Rattle.job_meaning.specs.Rest.{steps_left}
 use Rattle.nursery_book.specs.Nursery.{End, Nursery, with_start}
-use Rattle.nursery_book.specs.Book.{nursery_at, HasNursery, Updates}
+use Rattle.nursery_book.specs.Book.{nursery_at, Updates}
 use Rattle.task_machine.specs.declared.stop.Halt.TheVariants.{ToBegin}
 use Rattle.task_machine.specs.declared.task.Home.{Home}
 use Rattle.task_machine.specs.declared.task.Task.{Task}

@@ -44,13 +44,11 @@ impl<'a> Task<'a> {
         requires scope { ForSome (scope_of self.old) (IsOpen world.old.scopes) }
         requires deadline { ForSome deadline (λ tick. tick < 2 ^ 41) }
         ensures stays { OnOk result (self.new ≡ record self.old { own = self.new.own; froms = self.new.froms }) }
-        ensures own { IfOk result (λ id. self.new.own.items
-            ≡ self.old.own.items ++ record { id = id; at = length self.old.froms.items } ∷ []) }
-        ensures froms { OnOk result (self.new.froms.items ≡ self.old.froms.items
-            ++ record { label = record { name = name; indices = self.old.label.indices }; seen = None } ∷ []) }
+        ensures inner { IfOk result (λ id. scope_of self.new ≡ Some id) }
+        ensures own { OnOk result (EntersOne self.old self.new world.old world.new (label_in self.old name)) }
         ensures world { OnOk result (world.new ≡ record world.old { scopes = world.new.scopes; labels = world.new.labels }) }
         ensures at { OnOk result (EntersAt world.old world.new (scope_of self.old) (scope_of self.new)
-            (record { name = name; indices = self.old.label.indices }) shield deadline) }
+            (label_in self.old name) shield deadline) }
     {
         stacks_are_chains(&world.scopes);
         let label = self.label.named(self.alloc, name)?;
@@ -77,7 +75,7 @@ impl<'a> Task<'a> {
         ensures stays { OnOk result (self.new
             ≡ record self.old { frames = self.new.frames; own = self.new.own; froms = self.new.froms }) }
         ensures frames { OnOk result (EntersBlock self.old self.new (Scope fail) block.entry.body.now) }
-        ensures own { OnOk result (EntersOne self.old self.new (label_in self.old block.entry.name)) }
+        ensures own { OnOk result (EntersOne self.old self.new world.old world.new (label_in self.old block.entry.name)) }
         ensures world { OnOk result (world.new ≡ record world.old { scopes = world.new.scopes; labels = world.new.labels }) }
         ensures at { OnOk result (EntersAt world.old world.new (scope_of self.old) (scope_of self.new)
             (label_in self.old block.entry.name) block.entry.shield (due block.entry.deadline world.old.tick)) }
@@ -101,7 +99,7 @@ impl<'a> Task<'a> {
         ensures stays { OnOk result (self.new
             ≡ record self.old { frames = self.new.frames; own = self.new.own; froms = self.new.froms }) }
         ensures nursery { OnOk result (EntersNursery me self.old self.new world.old world.new (label_in self.old name) body.now) }
-        ensures own { OnOk result (EntersOne self.old self.new (label_in self.old name)) }
+        ensures own { OnOk result (EntersOne self.old self.new world.old world.new (label_in self.old name)) }
         ensures world { OnOk result (world.new
             ≡ record world.old { scopes = world.new.scopes; labels = world.new.labels; book = world.new.book }) }
         ensures at { OnOk result (EntersAt world.old world.new (scope_of self.old) (scope_of self.new)

@@ -1,6 +1,6 @@
-use Rattle.std.proofs.Common.{◌≡◌, ℕ, Option, Some, None, ◌∷◌, refl, ap, sym, ◌∙◌, subst}
+use Rattle.std.proofs.Common.{ℕ, Option, Some, None, [], ◌∷◌, ◌++◌, refl, ap, ◌∙◌, subst}
 use Rattle.exc_groups.specs.Exceptions.{Label}
-use Rattle.cancel_scopes.specs.Tree.{stack_of, outer_of}
+use Rattle.cancel_scopes.specs.Tree.{outer_of}
 use Rattle.task_machine.specs.Labels.{Updates}
 use Rattle.task_machine.specs.Worlds.{label_at}
 use Rattle.task_machine.proofs.Enters.{enters_at}
@@ -17,3 +17,23 @@ returns-clause-at c =
     (entered.opened ∙ ap (λ (s : Option ℕ). Some (record { label = c.in_ok-id.id; shield = c.args.shield; from = c.args.deadline } ∷ outer_of world.scopes s)) c.scope.ensures)
     (subst (λ (l : Label). Updates (label_at world) (label_at c.enter.new.self) c.in_ok-id.id (Some l)) c.in_ok-label.ensures entered.label)
     (last_pushed _ _ _ _ c.in_ok-push-2.ensures.items) froms ps named a
+
+pub returns-clause-inner : goal.returns-clause-inner
+returns-clause-inner c = last_pushed _ _ _ _ c.in_ok-push-2.ensures.items
+
+pub returns-clause-own : goal.returns-clause-own
+returns-clause-own c =
+    let world = c.args.world.now in
+    let entered = c.in_ok-id.ensures in
+    record {
+      own = record { id = c.in_ok-id.id; at = c.len-at.result };
+      opened = c.in_ok-push-2.ensures.items;
+      place = (let e = c.len-at.ensures in let f = c.args.self.now.froms.ok in cc);
+      froms = c.in_ok-push.ensures.items ∙ ap (λ (l : Label). c.args.self.now.froms.items ++ record { label = l; seen = None } ∷ []) c.in_ok-named.ensures;
+      fresh = entered.fresh;
+      level = record { label = c.in_ok-id.id; shield = c.args.shield; from = c.args.deadline };
+      stack = entered.opened ∙ ap (λ (s : Option ℕ). Some (record { label = c.in_ok-id.id; shield = c.args.shield; from = c.args.deadline } ∷ outer_of world.scopes s)) c.scope.ensures;
+      named = refl;
+      others = entered.others;
+      labelled = subst (λ (l : Label). Updates (label_at world) (label_at c.enter.new.self) c.in_ok-id.id (Some l)) c.in_ok-label.ensures entered.label;
+    }

@@ -1,4 +1,4 @@
-use Rattle.std.proofs.Common.{◌≡◌, ℕ, Option, Some, None, List, [], ◌∷◌, ◌++◌, append_assoc, refl, ap, sym, ◌∙◌, subst}
+use Rattle.std.proofs.Common.{◌≡◌, Some, List, [], ◌∷◌, ◌++◌, append_assoc, ap, sym, ◌∙◌, subst}
 use Rattle.exc_groups.specs.Exceptions.{Label}
 use Rattle.nursery_book.specs.Nursery.{opened}
 use Rattle.nursery_book.specs.Book.{nursery_at, Updates}
@@ -7,19 +7,17 @@ use Rattle.task_machine.specs.declared.frame.Frame.{Frame}
 use Rattle.task_machine.specs.declared.frame.Frame.TheVariants.{Nursery, Steps}
 use Rattle.task_machine.specs.declared.task.Task.{Task}
 use Rattle.task_machine.specs.declared.world.World.{World}
-use Rattle.task_machine.specs.Tasks.{home_scope, scope_of}
-use Rattle.task_machine.proofs.OwnLemmas.{last_pushed}
+use Rattle.task_machine.specs.Tasks.{scope_of}
 use Rattle.task_machine.proofs.task.Task.enter_nursery.Goals as goal
 
 pub returns-clause-nursery : goal.returns-clause-nursery
 returns-clause-nursery c =
-    let entered = c.enter.ensures in
     let book : c.enter.new.world.book ≡ c.args.world.now.book = ap (λ (w : World). w.book) c.in_ok-scope.ensures.world in
     let label : Label = record { name = c.args.name; indices = c.args.self.now.label.indices } in
     record {
       id = c.in_ok-id.id;
       scope = c.in_ok-scope.scope;
-      inner = ap scope_of c.in_ok-push-2.ensures.stays ∙ ap scope_of c.in_ok-push.ensures.stays ∙ last_pushed (home_scope c.enter.new.self) _ _ _ c.in_ok-scope.ensures.own;
+      inner = ap scope_of c.in_ok-push-2.ensures.stays ∙ ap scope_of c.in_ok-push.ensures.stays ∙ c.in_ok-scope.ensures.inner;
       fresh = sym (ap (λ (b : NurseryBook). nursery_at b c.in_ok-id.id) book) ∙ c.in_ok-id.ensures.fresh;
       stands =
           subst (λ (b : NurseryBook). Updates b c.open.new.self c.in_ok-id.id (Some (opened c.in_ok-scope.scope c.args.me label))) book

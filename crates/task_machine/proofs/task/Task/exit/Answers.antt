@@ -1,8 +1,7 @@
-use Rattle.std.proofs.Common.{◌≡◌, List, Option, Some, ◌∷◌, [], ◌++◌, refl, ap, sym, ◌∙◌}
+use Rattle.std.proofs.Common.{◌≡◌, ◌∷◌, [], ◌++◌, ap, ◌∙◌}
 use Rattle.std.specs.Option.{option_map}
 use Rattle.exc_groups.specs.Held.{exc_of}
 use Rattle.buffer_parts.specs.Part.{buffer_of}
-use Rattle.task_records.specs.declared.entry.Entry.{Entry}
 use Rattle.task_machine.specs.declared.task.Task.{Task}
 use Rattle.task_machine.specs.declared.world.World.{World}
 use Rattle.task_machine.specs.Kinds.{kind_of, left_of}

@@ -1,4 +1,4 @@
-use Rattle.std.proofs.Common.{◌≡◌, Option, Some, refl, ap, sym, ◌∙◌}
+use Rattle.std.proofs.Common.{ap, sym, ◌∙◌}
 use Rattle.task_machine.specs.Worlds.{label_at}
 use Rattle.task_machine.proofs.Exits.{fails_if}
 use Rattle.task_machine.proofs.task.Task.fail.Goals as goal

@@ -1,12 +1,9 @@
-use Rattle.std.proofs.Common.{◌≡◌, ℕ, Bool, Option, Some, None, List, [], ◌∷◌, ◌++◌, refl, ap, sym, ◌∙◌, subst}
-use Rattle.std.specs.Option.{unwrap_or}
-use Rattle.exc_groups.specs.Exceptions.{Label}
-use Rattle.cancel_scopes.specs.Tree.{Stack, outer_of, IsOpen}
-use Rattle.task_machine.specs.Tasks.{scope_of, home_scope}
+use Rattle.std.proofs.Common.{◌≡◌, None, ◌∷◌, ap, sym, ◌∙◌}
+use Rattle.task_machine.specs.Tasks.{home_scope}
 use Rattle.task_machine.specs.Worlds.{label_at}
 use Rattle.task_machine.specs.Stacked.{AreAt}
 use Rattle.task_machine.proofs.Stacked.{one_of, catches_at}
-use Rattle.task_machine.proofs.OwnLemmas.{ids, last_pushed}
+use Rattle.task_machine.proofs.OwnLemmas.{last_pushed}
 use Rattle.task_machine.proofs.Leaves.{Top, top_of, first_after, places_after, left_from}
 use Rattle.task_machine.proofs.task.Task.leave.Goals as goal
 

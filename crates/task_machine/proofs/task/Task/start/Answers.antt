@@ -1,4 +1,4 @@
-use Rattle.std.proofs.Common.{◌≡◌, ap, ◌∙◌}
+use Rattle.std.proofs.Common.{ap}
 use Rattle.buffer_parts.specs.Part.{buffer_of, range_of}
 use Rattle.task_machine.proofs.Starts.{starts_one}
 use Rattle.task_machine.proofs.task.Task.start.Goals as goal

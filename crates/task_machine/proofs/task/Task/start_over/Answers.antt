@@ -1,4 +1,4 @@
-use Rattle.std.proofs.Common.{◌≡◌, ℕ, suc, ◌+◌, ◌∷◌, [], ◌++◌, ap, sym, ◌∙◌, subst, arith}
+use Rattle.std.proofs.Common.{◌≡◌, ℕ, suc, ◌+◌, ◌∷◌, [], ◌++◌, ap, ◌∙◌, subst, arith}
 use Rattle.exc_groups.specs.Exceptions.{Label}
 use Rattle.task_machine.specs.declared.world.World.{World}
 use Rattle.task_machine.specs.Started.{StartsOver}

@@ -1,4 +1,4 @@
-use Rattle.std.proofs.Common.{◌≡◌, ℕ, ◌≤◌, None}
+use Rattle.std.proofs.Common.{◌≡◌, ◌≤◌, None}
 use Rattle.nursery_book.specs.Book.{HasNursery}
 use Rattle.task_machine.specs.Started.{StartsOver}
 use Rattle.task_machine.proofs.task.Task.start_over.Given as goal

@@ -1,0 +1,405 @@
+-- Moves of the code, one after another.
+use Rattle.std.proofs.Common.{◌≡◌, inl, inr, ℕ, zero, suc, ◌+◌, Option, Some, None, List, [], ◌∷◌, ◌++◌, map, length, refl, ap, sym, ◌∙◌, subst, append_assoc, length-append, arith}
+use Rattle.std.proofs.lemmas.List.{append-nil, map-append}
+use Rattle.std.proofs.lemmas.List.Elements.{All-nil, All-append}
+use Rattle.std.specs.Option.{IsSomeAnd, option_map}
+use Rattle.std.specs.List.{slice_get}
+use Rattle.buffer_parts.specs.Part.{buffer_of}
+use Rattle.buffer_parts.specs.declared.part.Part.{Part}
+use Rattle.cancel_scopes.specs.Tree.{outer_of}
+use Rattle.exc_groups.specs.declared.exc.Exc as held
+use Rattle.exc_groups.specs.Held.{exc_of}
+use Rattle.exc_groups.specs.Exceptions.{Exc}
+use Rattle.nursery_book.specs.Nursery.{End, Nursery}
+use Rattle.nursery_book.specs.Book.{nursery_at, HasNursery}
+use Rattle.nursery_book.specs.declared.book.NurseryBook.{NurseryBook}
+use Rattle.job_meaning.specs.Log.{Table}
+use Rattle.job_meaning.specs.Shown.{shown_at}
+use Rattle.job_meaning.specs.Walk.{Here}
+use Rattle.job_meaning.specs.Rest as rest
+use Rattle.job_meaning.specs.Rest.{Event, noted, signs, enters, starts, Stopped}
+use Rattle.task_records.specs.declared.entry.Entry.{Entry}
+use Rattle.task_records.specs.Records.{entry_of, IsSlice}
+use Rattle.task_turns.specs.Midway.{Place, Midway, Begun, Move, moved, unmoved, then_move}
+use Rattle.task_turns.specs.Steps.{froms_after, step_of, turn_of}
+use Rattle.task_turns.specs.Placed.{PlacedAfter, places_behind}
+use Rattle.task_turns.specs.Names.{NewIn}
+use Rattle.task_turns.proofs.Events.{froms_append}
+use Rattle.task_turns.proofs.Turns.{turned_step}
+use Rattle.task_turns.proofs.Names.{step_stays_new}
+use Rattle.task_machine.specs.declared.frame.Frame.{Frame}
+use Rattle.task_machine.specs.declared.stop.Halt.{Halt}
+use Rattle.task_machine.specs.declared.stop.Moved.{Moved}
+use Rattle.task_machine.specs.declared.stop.Moved.TheVariants.{On, Stops}
+use Rattle.task_machine.specs.declared.task.Task.{Task}
+use Rattle.task_machine.specs.declared.world.World.{World}
+use Rattle.task_machine.specs.Fitting.{Block, blocks_of}
+use Rattle.task_machine.specs.Frames.{frames_of}
+use Rattle.task_machine.specs.Stacked.{AreAt}
+use Rattle.task_machine.specs.Standing.{HasBlock, HasNurseryOf, waits_by, Stands, shown_made, AreNoted, IsBegun, AreBegun, Grown, Grow, Took}
+use Rattle.task_machine.specs.Stops.{Numbers, StopsAs, MovesAs}
+use Rattle.task_machine.specs.Tasks.{scope_of}
+use Rattle.task_machine.specs.Worlds.{label_at}
+
+-- ---- one more step of a turn
+
+-- no move after one adds nothing
+nothing_more : (m : Midway) (o : Move) → o.stopped ≡ None → then_move None o (unmoved (moved m o)) ≡ o
+nothing_more m o e = by_made ∙ by_begun ∙ by_stopped
+  where
+    by_made : then_move None o (unmoved (moved m o)) ≡ record o { begun = o.begun ++ []; stopped = None }
+    by_made = ap (λ (es : List Event). record o { made = es; begun = o.begun ++ []; stopped = None }) (append-nil o.made)
+
+    by_begun : (let p : Move = record o { begun = o.begun ++ []; stopped = None } in p) ≡ record o { stopped = None }
+    by_begun = ap (λ (bs : List Begun). record o { begun = bs; stopped = None }) (append-nil o.begun)
+
+    by_stopped : (let p : Move = record o { stopped = None } in p) ≡ o
+    by_stopped = ap (λ (s : Option Stopped). record o { stopped = s }) (sym e)
+
+nothing_then : (m : Midway) (s : Option Stopped) (o : Move) → o.stopped ≡ s → then_move s o (unmoved (moved m o)) ≡ o
+nothing_then m None o e = nothing_more m o e
+nothing_then m (Some s) o e = refl
+
+-- a move after no move is that move
+after_nothing : (f : Table → Midway → Move) (froms : Table) (m : Midway) → f froms m ≡ then_move None (unmoved m) (f froms (moved m (unmoved m)))
+after_nothing f froms m = ap (f froms) by_count
+  where
+    zero_more : (n : ℕ) → n ≡ n + 0
+    zero_more n = omega arith
+
+    by_count : m ≡ moved m (unmoved m)
+    by_count = ap (λ (n : ℕ). record m { count = n }) (zero_more m.count)
+
+-- moves one after another are grouped as one likes
+grouped : (o p q : Move) (s : Option Stopped) → then_move None o (then_move s p q) ≡ then_move s (then_move None o p) q
+grouped o p q (Some s) = refl
+grouped o p q None =
+    ap (λ (es : List Event). record q { made = es; begun = o.begun ++ (p.begun ++ q.begun) }) (sym (append_assoc o.made p.made q.made))
+    ∙ ap (λ (bs : List Begun). record q { made = o.made ++ p.made ++ q.made; begun = bs }) (sym (append_assoc o.begun p.begun q.begun))
+
+-- the task after two moves, and the froms then
+after_both : (f : Table → Midway → Move) (froms : Table) (m : Midway) (o p : Move) →
+    f (froms_after (froms_after froms o.made) p.made) (moved (moved m o) p) ≡ f (froms_after froms (then_move None o p).made) (moved m (then_move None o p))
+after_both f froms m o p =
+    ap (λ (fr : Table). f fr (moved (moved m o) p)) (sym (froms_append o.made p.made froms))
+    ∙ ap (λ (n : ℕ). f (froms_after froms (o.made ++ p.made)) (record { frames = p.frames; places = p.places; exc = p.exc; count = n }))
+    (by_lengths m.count (length o.begun) (length p.begun) (length (o.begun ++ p.begun)) (length-append o.begun p.begun))
+  where
+    by_lengths : (n a b c : ℕ) → c ≡ a + b → n + a + b ≡ n + c
+    by_lengths n a b c e = omega arith
+
+then_both : (f : Table → Midway → Move) (froms : Table) (m : Midway) (s : Option Stopped) (o p : Move) → o.stopped ≡ s →
+    then_move s o (then_move p.stopped p (f (froms_after (froms_after froms o.made) p.made) (moved (moved m o) p)))
+    ≡ (let b = then_move s o p in then_move b.stopped b (f (froms_after froms b.made) (moved m b)))
+then_both f froms m None o p e =
+    grouped o p (f (froms_after (froms_after froms o.made) p.made) (moved (moved m o) p)) p.stopped
+    ∙ ap (λ (q : Move). then_move p.stopped (then_move None o p) q) (after_both f froms m o p)
+then_both f froms m (Some s) o p e = ap (λ (z : Option Stopped). then_move z o (f (froms_after froms o.made) (moved m o))) (sym e)
+
+-- a turn of one step more is the turn, and a step from where it led
+pub turn_snoc : (n : ℕ) (froms : Table) (t : ℕ) (here : Here) (m : Midway) →
+    (let o = turn_of n froms t here m in turn_of (suc n) froms t here m ≡ then_move o.stopped o (step_of (froms_after froms o.made) t here (moved m o)))
+unfolding turn_of
+turn_snoc zero froms t here m =
+    let o = step_of froms t here m in
+    nothing_then m o.stopped o refl ∙ after_nothing (λ (fr : Table) (k : Midway). step_of fr t here k) froms m
+turn_snoc (suc n) froms t here m =
+    let o = step_of froms t here m in
+    ap (λ (q : Move). then_move o.stopped o q) (turn_snoc n (froms_after froms o.made) t here (moved m o))
+    ∙ then_both (λ (fr : Table) (k : Midway). step_of fr t here k) froms m o.stopped o (turn_of n (froms_after froms o.made) t here (moved m o)) refl
+
+-- ---- what two moves noted and began
+
+-- what is shown of events, and of more of them
+pub shown_append : (input : List ℕ) (es fs : List Event) → shown_made input (es ++ fs) ≡ shown_made input es ++ shown_made input fs
+shown_append input [] fs = refl
+shown_append input (noted t e ∷ es) fs = ap (λ x. shown_at input t e ∷ x) (shown_append input es fs)
+shown_append input (signs l t ∷ es) fs = shown_append input es fs
+shown_append input (enters l t d ∷ es) fs = shown_append input es fs
+shown_append input (starts i l t ∷ es) fs = shown_append input es fs
+
+noted_append : (input : List ℕ) (xs ys : List Entry) (es fs : List Event) → AreNoted input xs es → AreNoted input ys fs → AreNoted input (xs ++ ys) (es ++ fs)
+noted_append input xs ys es fs h k =
+    record {
+      shown =
+          map-append entry_of xs ys ∙ ap (λ x. x ++ map entry_of ys) h.shown ∙ ap (λ x. shown_made input es ++ x) k.shown ∙ sym (shown_append input es fs);
+      slices = All-append (IsSlice input) xs ys h.slices k.slices;
+    }
+
+-- lists that grew twice
+grew_twice : {A : Type 0} (xs ys zs more rest : List A) → ys ≡ xs ++ more → zs ≡ ys ++ rest → zs ≡ xs ++ (more ++ rest)
+grew_twice xs ys zs more rest e f = f ∙ (ap (λ l. l ++ rest) e ∙ append_assoc xs more rest)
+
+begun_append : (numbers : Numbers) (book : NurseryBook) (blocks : List Block) (waits : Option ℕ) (ts us : List Task) (bs cs : List Begun) →
+    AreBegun numbers book blocks waits ts bs → AreBegun numbers book blocks waits us cs → AreBegun numbers book blocks waits (ts ++ us) (bs ++ cs)
+begun_append numbers book blocks waits [] us [] cs h k = k
+begun_append numbers book blocks waits [] us (b ∷ bs) cs h k = absurd h
+begun_append numbers book blocks waits (t ∷ ts) us [] cs h k = absurd h
+begun_append numbers book blocks waits (t ∷ ts) us (b ∷ bs) cs h k = (h.0, begun_append numbers book blocks waits ts us bs cs h.1 k)
+
+-- ---- nurseries that grew
+
+-- what stands in a list stands in a longer one
+got_longer : (xs ys : List ℕ) (i x : ℕ) → slice_get xs i ≡ Some x → slice_get (xs ++ ys) i ≡ Some x
+got_longer [] ys i x e = absurd (let f : None ≡ Some x = e in cc)
+got_longer (y ∷ xs) ys zero x e = e
+got_longer (y ∷ xs) ys (suc i) x e = got_longer xs ys i x e
+
+grown_number : (o : Option Nursery) (n : Nursery) (was are : List ℕ) (i x : ℕ) → IsSomeAnd o (λ m. Grown n m was are) → slice_get was i ≡ Some x → slice_get are i ≡ Some x
+grown_number None n was are i x h e = absurd h
+grown_number (Some m) n was are i x h e = subst (λ (l : List ℕ). slice_get l i ≡ Some x) (sym h.numbers) (got_longer was h.added i x e)
+
+grown_scope : (o : Option Nursery) (n : Nursery) (was are : List ℕ) (scope : ℕ) → IsSomeAnd o (λ m. Grown n m was are) → n.scope ≡ scope → IsSomeAnd o (λ m. m.scope ≡ scope)
+grown_scope None n was are scope h e = absurd h
+grown_scope (Some m) n was are scope h e = h.scope ∙ e
+
+grown_twice : (a b c : Nursery) (ns ms ks : List ℕ) → Grown a b ns ms → Grown b c ms ks → Grown a c ns ks
+grown_twice a b c ns ms ks h k =
+    record {
+      scope = k.scope ∙ h.scope;
+      waiter = k.waiter ∙ h.waiter;
+      label = k.label ∙ h.label;
+      more = h.more ++ k.more;
+      children = grew_twice a.children b.children c.children h.more k.more h.children k.children;
+      run = All-append (λ (e : End). e ≡ None) h.more k.more h.run k.run;
+      added = h.added ++ k.added;
+      numbers = grew_twice ns ms ks h.added k.added h.numbers k.numbers;
+    }
+
+grown_then : (o : Option Nursery) (a b : Nursery) (ns ms ks : List ℕ) → Grown a b ns ms → IsSomeAnd o (λ c. Grown b c ms ks) → IsSomeAnd o (λ c. Grown a c ns ks)
+grown_then None a b ns ms ks h k = absurd k
+grown_then (Some c) a b ns ms ks h k = grown_twice a b c ns ms ks h k
+
+-- a task that goes on waits for no nursery, so one that it has is among its blocks
+goes_with : (id : ℕ) (bs : List Block) → HasNurseryOf id bs None → HasBlock id bs
+goes_with id bs (inl h) = h
+goes_with id bs (inr e) = absurd (let f : None ≡ Some id = e in cc)
+
+-- ---- a move, and another from where it led
+
+-- nurseries that grew by both moves, where the first kept them
+grow_then : (fs gs : List Frame) (numbers between after : Numbers) (old mid new : NurseryBook) → Grow fs numbers between old mid →
+    ((id : ℕ) → HasBlock id (blocks_of fs) → HasBlock id (blocks_of gs)) → Grow gs between after mid new → Grow fs numbers after old new
+grow_then fs gs numbers between after old mid new h kept k id has n e = by_nursery (nursery_at mid id) refl (h id has n e)
+  where
+    by_nursery : (o : Option Nursery) → nursery_at mid id ≡ o → IsSomeAnd o (λ m. Grown n m (numbers id) (between id)) →
+        HasNursery new id (λ m. Grown n m (numbers id) (after id))
+    by_nursery None f g = absurd g
+    by_nursery (Some m) f g = grown_then (nursery_at new id) n m (numbers id) (between id) (after id) g (k id (kept id has) m f)
+
+-- a child that was begun is still the same after a move of its starter
+begun_on : (gs : List Frame) (between after : Numbers) (mid new : NurseryBook) (blocks : List Block) (waits : Option ℕ) → Grow gs between after mid new →
+    ((id : ℕ) → HasBlock id (blocks_of gs) → HasNurseryOf id blocks waits) → (task : Task) (b : Begun) → IsBegun between mid (blocks_of gs) None task b →
+    IsBegun after new blocks waits task b
+begun_on gs between after mid new blocks waits grow kept task b h =
+    record {
+      here = h.here;
+      frames = h.frames;
+      own = h.own;
+      halt = h.halt;
+      entries = h.entries;
+      froms = h.froms;
+      home = h.home;
+      at_home = h.at_home;
+      number = by_number (nursery_at mid h.home.nursery) refl h.nursery;
+      nursery = by_nursery (nursery_at mid h.home.nursery) refl h.nursery;
+      owned = kept h.home.nursery among;
+    }
+  where
+    among : HasBlock h.home.nursery (blocks_of gs)
+    among = goes_with h.home.nursery (blocks_of gs) h.owned
+
+    by_number : (o : Option Nursery) → nursery_at mid h.home.nursery ≡ o → IsSomeAnd o (λ n. n.scope ≡ h.home.scope) → slice_get (after h.home.nursery) h.home.place ≡ Some b.number
+    by_number None e s = absurd s
+    by_number (Some n) e s =
+        grown_number (nursery_at new h.home.nursery) n (between h.home.nursery) (after h.home.nursery) h.home.place b.number (grow h.home.nursery among n e) h.number
+
+    by_nursery : (o : Option Nursery) → nursery_at mid h.home.nursery ≡ o → IsSomeAnd o (λ n. n.scope ≡ h.home.scope) → HasNursery new h.home.nursery (λ n. n.scope ≡ h.home.scope)
+    by_nursery None e s = absurd s
+    by_nursery (Some n) e s =
+        grown_scope (nursery_at new h.home.nursery) n (between h.home.nursery) (after h.home.nursery) h.home.scope (grow h.home.nursery among n e) s
+
+all_begun_on : (gs : List Frame) (between after : Numbers) (mid new : NurseryBook) (blocks : List Block) (waits : Option ℕ) → Grow gs between after mid new →
+    ((id : ℕ) → HasBlock id (blocks_of gs) → HasNurseryOf id blocks waits) → (ts : List Task) (bs : List Begun) → AreBegun between mid (blocks_of gs) None ts bs →
+    AreBegun after new blocks waits ts bs
+all_begun_on gs between after mid new blocks waits grow kept [] [] h = tt
+all_begun_on gs between after mid new blocks waits grow kept [] (b ∷ bs) h = absurd h
+all_begun_on gs between after mid new blocks waits grow kept (t ∷ ts) [] h = absurd h
+all_begun_on gs between after mid new blocks waits grow kept (t ∷ ts) (b ∷ bs) h =
+    (begun_on gs between after mid new blocks waits grow kept t b h.0, all_begun_on gs between after mid new blocks waits grow kept ts bs h.1)
+
+-- how the second of two moves goes on is how both do
+moves_then : (numbers : Numbers) (book : NurseryBook) (was part : Part) (goes : Moved) (halt : Halt) (o q : Move) → part ≡ was → MovesAs numbers book part goes halt q →
+    MovesAs numbers book was goes halt (then_move None o q)
+moves_then numbers book was part (On exc) halt o q e h = h
+moves_then numbers book was part (Stops stop) halt o q e h = (h.0, subst (λ (p : Part). StopsAs numbers book p stop halt q.stopped) e h.1)
+
+-- a move after which the task goes on, and another from where it led: the move of both, with the numbers of the second
+took_both : (fs : List Frame) (before mid after : Task) (old w new : World) (exc : Option held.Exc) (goes : Moved) (froms : Table) (numbers : Numbers) (o q : Move) →
+    (first : Took fs before mid old w (On exc) froms numbers o) →
+    (second : Took mid.frames.items mid after w new goes (froms_after froms o.made) first.numbers_after q) → mid.part ≡ before.part →
+    (took : Took fs before after old new goes froms numbers (then_move None o q)) × (took.numbers_after ≡ second.numbers_after)
+took_both fs before mid after old w new exc goes froms numbers o q first second part = (both, refl)
+  where
+    kept : (id : ℕ) → HasBlock id (blocks_of fs) → HasBlock id (blocks_of mid.frames.items)
+    kept id has = goes_with id (blocks_of mid.frames.items) (first.kept id has)
+
+    noted_there : AreNoted (buffer_of before.part) second.entries q.made
+    noted_there = subst (λ (p : Part). AreNoted (buffer_of p) second.entries q.made) part second.shown
+
+    both : Took fs before after old new goes froms numbers (then_move None o q)
+    both =
+        record {
+          numbers_after = second.numbers_after;
+          frames_after = second.frames_after;
+          places = subst (λ (f : Table). AreAt (label_at new) f (outer_of new.scopes (scope_of after)) q.places) (sym (froms_append o.made q.made froms)) second.places;
+          moves = moves_then second.numbers_after new.book before.part mid.part goes after.halt o q part second.moves;
+          entries = first.entries ++ second.entries;
+          noted = grew_twice before.entries.items mid.entries.items after.entries.items first.entries second.entries first.noted second.noted;
+          shown = noted_append (buffer_of before.part) first.entries second.entries o.made q.made first.shown noted_there;
+          tasks = first.tasks ++ second.tasks;
+          started = grew_twice old.started.items w.started.items new.started.items first.tasks second.tasks first.started second.started;
+          begun =
+              begun_append second.numbers_after new.book (blocks_of after.frames.items) (waits_by goes after.halt) first.tasks second.tasks o.begun q.begun
+              (all_begun_on mid.frames.items first.numbers_after second.numbers_after w.book new.book (blocks_of after.frames.items) (waits_by goes after.halt)
+              second.grow second.kept first.tasks o.begun first.begun)
+              second.begun;
+          grow = grow_then fs mid.frames.items numbers first.numbers_after second.numbers_after old.book w.book new.book first.grow kept second.grow;
+          kept = λ id has. second.kept id (kept id has);
+          numbered = second.numbered;
+        }
+
+-- A move of the code after which the task goes on, and another from where it led, are the move of both.
+pub took_then : (fs : List Frame) (before mid after : Task) (old w new : World) (exc : Option held.Exc) (goes : Moved) (froms : Table) (numbers : Numbers) (o q : Move) →
+    (first : Took fs before mid old w (On exc) froms numbers o) → Took mid.frames.items mid after w new goes (froms_after froms o.made) first.numbers_after q →
+    mid.part ≡ before.part → Took fs before after old new goes froms numbers (then_move o.stopped o q)
+took_then fs before mid after old w new exc goes froms numbers o q first second part =
+    subst (λ (s : Option Stopped). Took fs before after old new goes froms numbers (then_move s o q)) (sym first.moves.1)
+    (took_both fs before mid after old w new exc goes froms numbers o q first second part).0
+
+-- ---- where a task stands after a step
+
+-- a task stands where a step led, whether it goes on or stops
+pub stands_where : (fs : List Frame) (before after : Task) (old new : World) (froms : Table) (numbers : Numbers) (ps : List Place) (t : ℕ) (here : Here) →
+    Stands fs before old froms numbers None ps → (count : ℕ) (exc : Option Exc) (goes : Moved) →
+    (let o = step_of froms t here (record { frames = frames_of numbers fs; places = ps; exc = exc; count = count }) in
+    (took : Took fs before after old new goes froms numbers o) → Stands after.frames.items after new (froms_after froms o.made) took.numbers_after o.stopped o.places)
+stands_where fs before after old new froms numbers ps t here stands count exc goes took =
+    let m : Midway = record { frames = frames_of numbers fs; places = ps; exc = exc; count = count } in
+    let o = step_of froms t here m in
+    let step = turned_step t here froms m stands.placed in
+    let names = step_stays_new froms t here m stands.new stands.own in
+    record {
+      places = took.places;
+      numbered = took.numbered;
+      placed = subst (λ (gs : List rest.Frame). PlacedAfter o.stopped gs o.places) (sym took.frames_after) step.placed;
+      new = subst (λ (gs : List rest.Frame). NewIn gs (places_behind o.stopped o.places)) (sym took.frames_after) names.frames;
+      own = names.own;
+    }
+
+-- and one that goes on is in the middle of its turn there
+pub stands_after : (fs : List Frame) (before after : Task) (old new : World) (froms : Table) (numbers : Numbers) (ps : List Place) (t : ℕ) (here : Here) →
+    Stands fs before old froms numbers None ps → (count : ℕ) (exc : Option Exc) (goes : Option held.Exc) →
+    (let o = step_of froms t here (record { frames = frames_of numbers fs; places = ps; exc = exc; count = count }) in
+    (took : Took fs before after old new (On goes) froms numbers o) → Stands after.frames.items after new (froms_after froms o.made) took.numbers_after None o.places)
+stands_after fs before after old new froms numbers ps t here stands count exc goes took =
+    let o = step_of froms t here (record { frames = frames_of numbers fs; places = ps; exc = exc; count = count }) in
+    subst (λ (s : Option Stopped). Stands after.frames.items after new (froms_after froms o.made) took.numbers_after s o.places) took.moves.1
+    (stands_where fs before after old new froms numbers ps t here stands count exc (On goes) took)
+
+-- ---- the steps of a turn of the code, one after another
+
+-- a nursery that stays as it was
+not_grown : (n : Nursery) (ns : List ℕ) → Grown n n ns ns
+not_grown n ns =
+    record {
+      scope = refl;
+      waiter = refl;
+      label = refl;
+      more = [];
+      children = sym (append-nil n.children);
+      run = All-nil (λ (e : End). e ≡ None);
+      added = [];
+      numbers = sym (append-nil ns);
+    }
+
+-- Before its first step a task has taken a turn of no steps.
+pub took_nothing : (task : Task) (world : World) (exc : Option held.Exc) (froms : Table) (numbers : Numbers) (t : ℕ) (here : Here) (ps : List Place) (count : ℕ) →
+    Stands task.frames.items task world froms numbers None ps →
+    Took task.frames.items task task world world (On exc) froms numbers
+    (turn_of zero froms t here (record { frames = frames_of numbers task.frames.items; places = ps; exc = option_map exc_of exc; count = count }))
+unfolding turn_of
+took_nothing task world exc froms numbers t here ps count stands =
+    record {
+      numbers_after = numbers;
+      frames_after = refl;
+      places = stands.places;
+      moves = (refl, refl);
+      entries = [];
+      noted = sym (append-nil task.entries.items);
+      shown = record { shown = refl; slices = All-nil (IsSlice (buffer_of task.part)) };
+      tasks = [];
+      started = sym (append-nil world.started.items);
+      begun = tt;
+      grow = λ id has n e. subst (λ (o : Option Nursery). IsSomeAnd o (λ m. Grown n m (numbers id) (numbers id))) (sym e) (not_grown n (numbers id));
+      kept = λ id has. inl has;
+      numbered = stands.numbered;
+    }
+
+-- the definitions' turn of one step more, by what the code holds after the turn so far
+one_more : (n : ℕ) (froms : Table) (t : ℕ) (here : Here) (m : Midway) (gs : List rest.Frame) (exc : Option Exc) →
+    (let o = turn_of n froms t here m in
+    gs ≡ o.frames → exc ≡ o.exc → o.stopped ≡ None →
+    then_move None o (step_of (froms_after froms o.made) t here (record { frames = gs; places = o.places; exc = exc; count = m.count + length o.begun }))
+    ≡ turn_of (suc n) froms t here m)
+one_more n froms t here m gs exc frames raised going =
+    let o = turn_of n froms t here m in
+    let step : Midway → Move = λ k. step_of (froms_after froms o.made) t here k in
+    ap (λ (s : Option Stopped). then_move s o (step (record { frames = gs; places = o.places; exc = exc; count = m.count + length o.begun }))) (sym going)
+    ∙ ap (λ (fs : List rest.Frame). then_move o.stopped o (step (record { frames = fs; places = o.places; exc = exc; count = m.count + length o.begun }))) frames
+    ∙ ap (λ (e : Option Exc). then_move o.stopped o (step (record { frames = o.frames; places = o.places; exc = e; count = m.count + length o.begun }))) raised
+    ∙ sym (turn_snoc n froms t here m)
+
+-- A turn of so many steps, and a step from where it led, are the turn of one step more.
+pub goes_once_more : (n : ℕ) (fs : List Frame) (before mid after : Task) (old w new : World) (exc : Option held.Exc) (goes : Moved) (froms : Table) (numbers : Numbers)
+    (t : ℕ) (here : Here) (ps : List Place) (count : ℕ) (exc0 : Option Exc) →
+    (let m : Midway = record { frames = frames_of numbers fs; places = ps; exc = exc0; count = count } in
+    let o = turn_of n froms t here m in
+    (first : Took fs before mid old w (On exc) froms numbers o) → mid.part ≡ before.part →
+    Took mid.frames.items mid after w new goes (froms_after froms o.made) first.numbers_after
+    (step_of (froms_after froms o.made) t here
+    (record { frames = frames_of first.numbers_after mid.frames.items; places = o.places; exc = option_map exc_of exc; count = count + length o.begun })) →
+    Took fs before after old new goes froms numbers (turn_of (suc n) froms t here m))
+goes_once_more n fs before mid after old w new exc goes froms numbers t here ps count exc0 first part second =
+    let m : Midway = record { frames = frames_of numbers fs; places = ps; exc = exc0; count = count } in
+    let o = turn_of n froms t here m in
+    subst (λ (p : Move). Took fs before after old new goes froms numbers p)
+    (one_more n froms t here m (frames_of first.numbers_after mid.frames.items) (option_map exc_of exc) first.frames_after first.moves.0 first.moves.1)
+    (took_both fs before mid after old w new exc goes froms numbers o _ first second part).0
+
+-- And the task stands where they led, with the same numbers, whether it goes on or stops.
+pub goes_and_stands : (n : ℕ) (fs : List Frame) (before mid after : Task) (old w new : World) (exc : Option held.Exc) (goes : Moved) (froms : Table) (numbers : Numbers)
+    (t : ℕ) (here : Here) (ps : List Place) (count : ℕ) (exc0 : Option Exc) →
+    (let m : Midway = record { frames = frames_of numbers fs; places = ps; exc = exc0; count = count } in
+    let o = turn_of n froms t here m in
+    let more = turn_of (suc n) froms t here m in
+    (first : Took fs before mid old w (On exc) froms numbers o) → Stands mid.frames.items mid w (froms_after froms o.made) first.numbers_after None o.places →
+    mid.part ≡ before.part →
+    Took mid.frames.items mid after w new goes (froms_after froms o.made) first.numbers_after
+    (step_of (froms_after froms o.made) t here
+    (record { frames = frames_of first.numbers_after mid.frames.items; places = o.places; exc = option_map exc_of exc; count = count + length o.begun })) →
+    (took : Took fs before after old new goes froms numbers more) × Stands after.frames.items after new (froms_after froms more.made) took.numbers_after more.stopped more.places)
+goes_and_stands n fs before mid after old w new exc goes froms numbers t here ps count exc0 first stands part second =
+    let m : Midway = record { frames = frames_of numbers fs; places = ps; exc = exc0; count = count } in
+    let o = turn_of n froms t here m in
+    let q = step_of (froms_after froms o.made) t here
+    (record { frames = frames_of first.numbers_after mid.frames.items; places = o.places; exc = option_map exc_of exc; count = count + length o.begun }) in
+    let both = took_both fs before mid after old w new exc goes froms numbers o q first second part in
+    let there = stands_where mid.frames.items mid after w new (froms_after froms o.made) first.numbers_after o.places t here stands (count + length o.begun) _ goes second in
+    subst
+    (λ (p : Move). (took : Took fs before after old new goes froms numbers p) × Stands after.frames.items after new (froms_after froms p.made) took.numbers_after p.stopped p.places)
+    (one_more n froms t here m (frames_of first.numbers_after mid.frames.items) (option_map exc_of exc) first.frames_after first.moves.0 first.moves.1) (
+      both.0,
+      subst (λ (ns : Numbers). Stands after.frames.items after new (froms_after froms (o.made ++ q.made)) ns q.stopped q.places) (sym both.1)
+          (subst (λ (f : Table). Stands after.frames.items after new f second.numbers_after q.stopped q.places) (sym (froms_append o.made q.made froms)) there),
+    )
