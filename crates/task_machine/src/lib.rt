@@ -26,8 +26,6 @@ mod task;
 #[cfg(test)]
 mod tests;
 mod trying;
-mod turning;
-mod waking;
 mod world;
 
 pub use laws::law_places;
