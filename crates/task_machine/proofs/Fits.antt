@@ -95,7 +95,7 @@ ready_scope fs fail part home own n tree labels book chain owns apart h =
 
 -- ---- the tree once the innermost scope was left
 
-first_key : (tree : Tree) (home : Option ℕ) → IsOwn tree → ForSome home (IsOpen tree) → head_of (keys_of (outer_of tree home)) ≡ home
+pub first_key : (tree : Tree) (home : Option ℕ) → IsOwn tree → ForSome home (IsOpen tree) → head_of (keys_of (outer_of tree home)) ≡ home
 first_key tree None owns opened = refl
 first_key tree (Some k) owns opened = by_stack (stack_of tree k) refl (opened k refl)
   where
@@ -107,7 +107,7 @@ first_key tree (Some k) owns opened = by_stack (stack_of tree k) refl (opened k 
     by_stack None e s = absurd (let f : false ≡ true = s in cc)
     by_stack (Some st) e s = by_label st (owns k st e)
 
-head_among : (ks : List ℕ) (k : ℕ) → head_of ks ≡ Some k → IsAmong k ks
+pub head_among : (ks : List ℕ) (k : ℕ) → head_of ks ≡ Some k → IsAmong k ks
 head_among [] k e = absurd (let f : None ≡ Some k = e in cc)
 head_among (x ∷ ks) k e = inl (sym (one_of x k e))
 

@@ -2,6 +2,8 @@
 use Rattle.std.proofs.Common.{◌≡◌, ℕ, List, [], ◌∷◌, ◌++◌, refl, ap, ◌∙◌}
 use Rattle.job_meaning.specs.Rest as rest
 use Rattle.task_machine.specs.declared.frame.Frame.{Frame}
+use Rattle.task_machine.specs.declared.frame.Frame.TheVariants.{Steps, Scope, Nursery, Try, Handler, Cleanup}
+use Rattle.task_machine.specs.Fitting.{Block, a_scope, a_nursery, blocks_of, block_in}
 use Rattle.task_machine.specs.Frames.{frame_of, frames_onto, frames_of}
 
 onto_push : (children : ℕ → List ℕ) (fs : List Frame) (f : Frame) (outer : List rest.Frame) →
@@ -15,3 +17,32 @@ frames_push children fs f = onto_push children fs f []
 
 pub frames_pushed : (children : ℕ → List ℕ) (fs gs : List Frame) (f : Frame) → gs ≡ fs ++ f ∷ [] → frames_of children gs ≡ frame_of children f ∷ frames_of children fs
 frames_pushed children fs gs f e = ap (frames_of children) e ∙ frames_push children fs f
+
+-- the blocks with one more frame
+pub blocks_pushed : (fs gs : List Frame) (f : Frame) → gs ≡ fs ++ f ∷ [] → blocks_of gs ≡ block_in f (blocks_of fs)
+blocks_pushed fs gs f e = ap blocks_of e ∙ by_frames fs
+  where
+    by_frame : (h : Frame) → blocks_of (h ∷ []) ≡ block_in h []
+    by_frame (Steps steps) = refl
+    by_frame (Scope fail) = refl
+    by_frame (Nursery id) = refl
+    by_frame (Try handler cleanup) = refl
+    by_frame (Handler others cleanup) = refl
+    by_frame (Cleanup outcome) = refl
+
+    block_behind : (b : Block) (h : Frame) (bs : List Block) → b ∷ block_in h bs ≡ block_in h (b ∷ bs)
+    block_behind b (Steps steps) bs = refl
+    block_behind b (Scope fail) bs = refl
+    block_behind b (Nursery id) bs = refl
+    block_behind b (Try handler cleanup) bs = refl
+    block_behind b (Handler others cleanup) bs = refl
+    block_behind b (Cleanup outcome) bs = refl
+
+    by_frames : (hs : List Frame) → blocks_of (hs ++ f ∷ []) ≡ block_in f (blocks_of hs)
+    by_frames [] = by_frame f
+    by_frames (Steps steps ∷ hs) = by_frames hs
+    by_frames (Scope fail ∷ hs) = ap (λ (bs : List Block). a_scope ∷ bs) (by_frames hs) ∙ block_behind a_scope f (blocks_of hs)
+    by_frames (Nursery id ∷ hs) = ap (λ (bs : List Block). a_nursery id ∷ bs) (by_frames hs) ∙ block_behind (a_nursery id) f (blocks_of hs)
+    by_frames (Try handler cleanup ∷ hs) = by_frames hs
+    by_frames (Handler others cleanup ∷ hs) = by_frames hs
+    by_frames (Cleanup outcome ∷ hs) = by_frames hs

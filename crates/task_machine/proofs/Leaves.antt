@@ -1,5 +1,7 @@
 -- The innermost scope of a task is left.
 use Rattle.std.proofs.Common.{◌≡◌, ◌≢◌, ℕ, suc, ◌+◌, ◌<◌, true, false, Option, Some, None, is_some, List, [], ◌∷◌, ◌++◌, length, append_assoc, refl, ap, sym, ◌∙◌, subst, arith, length-append}
+use Rattle.std.proofs.lemmas.List.Elements.{All-head, All-tail}
+use Rattle.std.specs.List.{All}
 use Rattle.std.specs.Option.{unwrap_or}
 use Rattle.std.specs.List.{last_or}
 use Rattle.exc_groups.specs.Exceptions.{Label}
@@ -22,7 +24,7 @@ pub first_is_last : (os : List Own) (r : List ℕ) → head_of (keys_in os ++ r)
 first_is_last [] r = refl
 first_is_last (o ∷ os) r = ap head_of (append_assoc (keys_in os) (o.id ∷ []) r) ∙ first_is_last os (o.id ∷ r)
 
-keys_pushed : (os : List Own) (x : Own) → keys_in (os ++ x ∷ []) ≡ x.id ∷ keys_in os
+pub keys_pushed : (os : List Own) (x : Own) → keys_in (os ++ x ∷ []) ≡ x.id ∷ keys_in os
 keys_pushed [] x = refl
 keys_pushed (o ∷ os) x = ap (λ (ks : List ℕ). ks ++ o.id ∷ []) (keys_pushed os x)
 
@@ -149,3 +151,8 @@ pub left_from : (labels : Labels) (froms : Table) (tree : Tree) (home outer : Op
     outer ≡ Some x.id → AreAt labels froms (outer_of tree outer) (p ∷ ps) → AreAt labels froms (top.level ∷ top.behind) (p ∷ ps)
 left_from labels froms tree home outer os x p ps top last a =
     subst (λ (st : Stack). AreAt labels froms st (p ∷ ps)) (ap (outer_of tree) last ∙ ap (λ (o : Option Stack). unwrap_or o []) top.at) a
+
+-- what holds of each scope holds of the last
+pub last_below : (n : ℕ) (os : List Own) (o : Own) → All (λ (x : Own). x.at < n) (os ++ o ∷ []) → o.at < n
+last_below n [] o a = All-head (λ (x : Own). x.at < n) o [] a
+last_below n (x ∷ os) o a = last_below n os o (All-tail (λ (y : Own). y.at < n) x (os ++ o ∷ []) a)

@@ -19,17 +19,17 @@ use Rattle.task_machine.proofs.Stacked.{one_of}
 
 -- ---- places in lists
 
-among_left : (k : ℕ) (ks ms : List ℕ) → IsAmong k ks → IsAmong k (ks ++ ms)
+pub among_left : (k : ℕ) (ks ms : List ℕ) → IsAmong k ks → IsAmong k (ks ++ ms)
 among_left k [] ms i = absurd i
 among_left k (x ∷ ks) ms (inl e) = inl e
 among_left k (x ∷ ks) ms (inr i) = inr (among_left k ks ms i)
 
-among_right : (k : ℕ) (ks ms : List ℕ) → IsAmong k ms → IsAmong k (ks ++ ms)
+pub among_right : (k : ℕ) (ks ms : List ℕ) → IsAmong k ms → IsAmong k (ks ++ ms)
 among_right k [] ms i = i
 among_right k (x ∷ ks) ms i = inr (among_right k ks ms i)
 
 -- a key is that of one of a task's scopes, or of none
-is_mine : (key : ℕ) (own : List Own) → AreOthers key own ⊎ IsAmong key (keys_in own)
+pub is_mine : (key : ℕ) (own : List Own) → AreOthers key own ⊎ IsAmong key (keys_in own)
 is_mine key [] = inl (All-nil (λ (o : Own). o.id ≢ key))
 is_mine key (o ∷ own) = by_test (o.id == key) refl (is_mine key own)
   where
@@ -62,7 +62,7 @@ all_else : (key : ℕ) (st : Stack) → (IsKey key st → ⊥) → All (λ (l : 
 all_else key [] never = All-nil (λ (l : Level ℕ). l.label ≢ key)
 all_else key (l ∷ ls) never = All-cons (λ (m : Level ℕ). m.label ≢ key) l ls (λ e. never (inl (sym e))) (all_else key ls (λ i. never (inr i)))
 
-got_before : (own : List Own) (o x : Own) (i : ℕ) → slice_get own i ≡ Some x → slice_get (own ++ o ∷ []) i ≡ Some x
+pub got_before : (own : List Own) (o x : Own) (i : ℕ) → slice_get own i ≡ Some x → slice_get (own ++ o ∷ []) i ≡ Some x
 got_before [] o x i e = absurd (let f : None ≡ Some x = e in cc)
 got_before (y ∷ own) o x zero e = e
 got_before (y ∷ own) o x (suc i) e = got_before own o x i e
@@ -77,7 +77,7 @@ got_one [] o x (suc i) e = absurd (let f : None ≡ Some x = e in cc)
 got_one (y ∷ own) o x zero e = inl e
 got_one (y ∷ own) o x (suc i) e = got_one own o x i e
 
-others_but : (key : ℕ) (own : List Own) (o : Own) → AreOthers key own → o.id ≢ key → AreOthers key (own ++ o ∷ [])
+pub others_but : (key : ℕ) (own : List Own) (o : Own) → AreOthers key own → o.id ≢ key → AreOthers key (own ++ o ∷ [])
 others_but key own o a differs = All-append (λ (x : Own). x.id ≢ key) own (o ∷ []) a (All-cons (λ (x : Own). x.id ≢ key) o [] differs (All-nil (λ (x : Own). x.id ≢ key)))
 
 others_first : (key : ℕ) (own : List Own) (o : Own) → AreOthers key (own ++ o ∷ []) → AreOthers key own

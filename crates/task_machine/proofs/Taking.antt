@@ -310,7 +310,7 @@ stands_after fs before after old new froms numbers ps t here stands count exc go
 -- ---- the steps of a turn of the code, one after another
 
 -- a nursery that stays as it was
-not_grown : (n : Nursery) (ns : List ℕ) → Grown n n ns ns
+pub not_grown : (n : Nursery) (ns : List ℕ) → Grown n n ns ns
 not_grown n ns =
     record {
       scope = refl;

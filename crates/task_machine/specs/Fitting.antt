@@ -1,6 +1,6 @@
 -- What holds of a task and its world between moves: what is left can run, and its scopes and nurseries are open.
-use Rattle.std.specs.Prelude.{◌≡◌, ◌≢◌, ◌⊎◌, ℕ, zero, suc, ◌<◌, ◌≤◌, List, [], ◌∷◌, Option, Some, None, IsSome, All, length, map, slice_get}
-use Rattle.std.specs.Option.{ForSome}
+use Rattle.std.specs.Prelude.{◌≡◌, ◌≢◌, ◌⊎◌, ℕ, zero, suc, ◌<◌, ◌≤◌, List, [], ◌∷◌, ◌++◌, Option, Some, None, IsSome, All, length, map, slice_get}
+use Rattle.std.specs.Option.{ForSome, option_map}
 use Rattle.std.specs.List.{last_or}
 use Rattle.job_tree.specs.Starting.{StartsIn, HandlerStarts, CleanupStarts}
 use Rattle.task_turns.specs.Placed.{in_body}
@@ -22,7 +22,7 @@ use Rattle.task_machine.specs.declared.task.Own.{Own}
 use Rattle.task_machine.specs.declared.task.Task.{Task}
 use Rattle.task_machine.specs.declared.world.World.{World}
 use Rattle.task_machine.specs.Frames.{frames_of}
-use Rattle.task_machine.specs.Left.{OwnFirst}
+use Rattle.task_machine.specs.Left.{keys_of, OwnFirst}
 use Rattle.task_machine.specs.Stacked.{IsKey}
 use Rattle.task_machine.specs.Labels.{Labels}
 use Rattle.task_machine.specs.Tasks.{home_scope}
@@ -48,6 +48,11 @@ StartsFit (rest.in_try handler cleanup ∷ fs) = HandlerStarts handler × Cleanu
 StartsFit (rest.in_handler others cleanup ∷ fs) = CleanupStarts cleanup × StartsFit fs
 StartsFit (rest.in_cleanup outcome ∷ fs) = StartsFit fs
 
+-- the frames round the innermost one
+abbrev pub frames_behind : List rest.Frame → List rest.Frame
+frames_behind [] = []
+frames_behind (f ∷ fs) = fs
+
 -- a block with a scope of its own: a scope, or a nursery with its key
 pub data Block : Type 0 where
   a_scope : Block
@@ -62,6 +67,21 @@ blocks_of (Nursery id ∷ fs) = a_nursery id ∷ blocks_of fs
 blocks_of (Try handler cleanup ∷ fs) = blocks_of fs
 blocks_of (Handler others cleanup ∷ fs) = blocks_of fs
 blocks_of (Cleanup outcome ∷ fs) = blocks_of fs
+
+-- the innermost frame is in the body of this nursery
+pub record InBody (fs : List Frame) (id : ℕ) : Type 0 where
+  pub outer : List Frame
+  pub top : Frame
+  pub is : fs ≡ outer ++ Nursery id ∷ top ∷ []
+
+-- and with one more frame inside them
+abbrev pub block_in : Frame → List Block → List Block
+block_in (Steps steps) bs = bs
+block_in (Scope fail) bs = bs ++ a_scope ∷ []
+block_in (Nursery id) bs = bs ++ a_nursery id ∷ []
+block_in (Try handler cleanup) bs = bs
+block_in (Handler others cleanup) bs = bs
+block_in (Cleanup outcome) bs = bs
 
 -- each of these scopes is another than that of a key
 abbrev pub AreOthers : ℕ → List Own → Type 0
@@ -121,6 +141,10 @@ abbrev pub OthersRun : Tree → NurseryBook → List Block → List Own → Opti
 OthersRun tree book bs own waits =
     (key : ℕ) (st : Stack) → stack_of tree key ≡ Some st → AreOthers key own → (i : ℕ) (o : Own) → slice_get own i ≡ Some o → IsKey o.id st →
     RunsIn book bs i waits
+
+-- each scope stays open, or closed, inside the same ones
+abbrev pub SameKeys : Tree → Tree → Type 0
+SameKeys old new = (key : ℕ) → option_map keys_of (stack_of new key) ≡ option_map keys_of (stack_of old key)
 
 -- What holds between moves of a task that is on this part, has these frames, opened these scopes inside its home's, and entered
 -- so many, in a world with these scopes, labels and nurseries. It waits for a nursery, or not.

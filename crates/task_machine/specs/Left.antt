@@ -1,15 +1,17 @@
 -- A task that leaves the innermost of its scopes.
-use Rattle.std.specs.Prelude.{◌≡◌, ℕ, Option, List, [], ◌∷◌, ◌++◌, map}
+use Rattle.std.specs.Prelude.{◌≡◌, ℕ, Option, Some, None, List, [], ◌∷◌, ◌++◌, map, slice_set, slice_get}
 use Rattle.std.specs.Option.{ForSome}
 use Rattle.std.specs.List.{last_or}
 use Rattle.cancel_scopes.specs.Sight.{Tick, Level, catches}
-use Rattle.cancel_scopes.specs.Tree.{Tree, Stack, stack_of, outer_of, own_from}
+use Rattle.cancel_scopes.specs.Tree.{Tree, Stack, stack_of, outer_of, own_from, OthersKeep}
 use Rattle.job_meaning.specs.Log.{Table}
 use Rattle.task_turns.specs.Midway.{Place, stack_at}
+use Rattle.task_records.specs.declared.entry.ScopeFrom.{ScopeFrom}
 use Rattle.task_machine.specs.declared.leaving.Closed.{Closed}
 use Rattle.task_machine.specs.declared.task.Own.{Own}
 use Rattle.task_machine.specs.declared.task.Task.{Task}
 use Rattle.task_machine.specs.declared.world.World.{World}
+use Rattle.task_machine.specs.Labels.{Updates}
 use Rattle.task_machine.specs.Worlds.{label_at}
 use Rattle.task_machine.specs.Stacked.{AreAt}
 
@@ -26,12 +28,18 @@ keys_in (o ∷ os) = keys_in os ++ o.id ∷ []
 abbrev pub OwnFirst : Tree → Option ℕ → List Own → Type 0
 OwnFirst tree home own = keys_of (outer_of tree (last_or home (map (λ (o : Own). o.id) own))) ≡ keys_in own ++ keys_of (outer_of tree home)
 
--- the last scope is taken off, and its from is kept
-pub record LeavesOne (before after : Task) (world : World) : Type 0 where
+-- the last scope is taken off and closed, and its from is kept at its place; every other scope stays, and keeps its label
+pub record LeavesOne (before after : Task) (old new : World) : Type 0 where
   pub last : Own
   pub taken : before.own.items ≡ after.own.items ++ last ∷ []
   pub from : Tick
-  pub seen : ForSome (stack_of world.scopes last.id) (λ st. from ≡ own_from st)
+  pub seen : ForSome (stack_of old.scopes last.id) (λ st. from ≡ own_from st)
+  pub entry : ScopeFrom
+  pub was : slice_get before.froms.items last.at ≡ Some entry
+  pub froms : after.froms.items ≡ slice_set before.froms.items last.at (record entry { seen = from })
+  pub closed : stack_of new.scopes last.id ≡ None
+  pub others : OthersKeep old.scopes new.scopes last.id
+  pub unlabelled : Updates (label_at old) (label_at new) last.id None
 
 -- The innermost place is left: the task is in those round it, with the same froms, and the scope that was left catches as
 -- its place does.

@@ -10,6 +10,7 @@ pub mod Stops
 pub mod Entered
 pub mod Left
 pub mod Fitting
+pub mod Started
+pub mod Waking
 pub mod Standing
 pub mod Exits
-pub mod Started

@@ -1,10 +1,13 @@
 -- Where a task stands between two moves, and what a move of the code makes of it.
 use Rattle.std.specs.Prelude.{◌≡◌, ◌⊎◌, ℕ, List, [], ◌∷◌, ◌++◌, Option, Some, None, map, All, length, slice_get}
+use Rattle.std.specs.Borrow.{Bor}
 use Rattle.buffer_parts.specs.Part.{buffer_of, range_of}
 use Rattle.cancel_scopes.specs.Tree.{outer_of}
 use Rattle.nursery_book.specs.Nursery.{End, Nursery}
 use Rattle.nursery_book.specs.Book.{nursery_at, HasNursery}
 use Rattle.nursery_book.specs.declared.book.NurseryBook.{NurseryBook}
+use Rattle.exc_groups.specs.Exceptions.{Exc}
+use Rattle.job_tree.specs.declared.step.Step as held
 use Rattle.job_meaning.specs.Log.{Table}
 use Rattle.job_meaning.specs.Walk.{Here}
 use Rattle.job_meaning.specs.Shown.{Shown, shown_at}
@@ -15,20 +18,26 @@ use Rattle.task_records.specs.Records.{entry_of, IsSlice}
 use Rattle.task_turns.specs.Midway.{Place, Begun, Move}
 use Rattle.task_turns.specs.Placed.{PlacedAfter, places_behind}
 use Rattle.task_turns.specs.Names.{NewIn, OwnNames, names_at}
-use Rattle.task_turns.specs.Steps.{froms_after}
+use Rattle.task_turns.specs.Steps.{froms_after, step_of, turn_of}
+use Rattle.task_turns.specs.Wakes as wakes
+use Rattle.task_turns.specs.Wakes.{wake_of, turn_from}
 use Rattle.task_machine.specs.declared.frame.Frame.{Frame}
+use Rattle.task_machine.specs.declared.frame.Frame.TheVariants as code
 use Rattle.task_machine.specs.declared.stop.Halt.{Halt}
 use Rattle.task_machine.specs.declared.stop.Halt.TheVariants.{ToBegin}
 use Rattle.task_machine.specs.declared.stop.Moved.TheVariants.{On, Stops}
 use Rattle.task_machine.specs.declared.stop.Moved.{Moved}
+use Rattle.task_machine.specs.declared.stop.Stop.{Stop}
+use Rattle.task_machine.specs.declared.stop.Wake.{Wake}
 use Rattle.task_machine.specs.declared.task.Home.{Home}
 use Rattle.task_machine.specs.declared.task.Task.{Task}
 use Rattle.task_machine.specs.declared.world.World.{World}
 use Rattle.task_machine.specs.Fitting.{Block, a_scope, a_nursery, blocks_of, waits_of}
 use Rattle.task_machine.specs.Frames.{frames_of}
 use Rattle.task_machine.specs.Stacked.{AreAt}
-use Rattle.task_machine.specs.Stops.{Numbers, MovesAs}
+use Rattle.task_machine.specs.Stops.{Numbers, IsHalt, MovesAs}
 use Rattle.task_machine.specs.Tasks.{scope_of}
+use Rattle.task_machine.specs.Waking.{wake_in}
 use Rattle.task_machine.specs.Worlds.{label_at}
 
 -- where a task is
@@ -49,6 +58,11 @@ HasNurseryOf id bs waits = HasBlock id bs ⊎ (waits ≡ Some id)
 abbrev pub waits_by : Moved → Halt → Option ℕ
 waits_by (On exc) halt = None
 waits_by (Stops stop) halt = waits_of halt
+
+-- a move that is no stop
+abbrev pub GoesOn : Moved → Type 0
+GoesOn (On exc) = Unit {0}
+GoesOn (Stops stop) = ⊥
 
 -- each nursery among the frames has as many children in the book as the task numbered there
 abbrev pub AreNumbered : Numbers → NurseryBook → List Frame → Type 0
@@ -138,3 +152,70 @@ abbrev pub Takes :
 Takes frames before after old new moved move =
     (froms : Table) (numbers : Numbers) (ps : List Place) (count : ℕ) → Stands frames before old froms numbers None ps →
     Took frames before after old new moved froms numbers (move froms numbers ps count)
+
+-- one step of the definitions in this world, of a task with these frames and this exception
+abbrev pub step_at : Task → World → List Frame → Option Exc → Table → Numbers → List Place → ℕ → Move
+step_at task world frames exc froms numbers ps count =
+    step_of froms world.tick (here_of task) (record { frames = frames_of numbers frames; places = ps; exc = exc; count = count })
+
+-- one step of the code is that of the definitions
+abbrev pub StepsAs : Task → Task → World → World → Option Exc → Moved → Type 0
+StepsAs before after old new exc moved = Takes before.frames.items before after old new moved (step_at before old before.frames.items exc)
+
+-- the same of a task whose innermost frame, the steps of a block, was taken off
+abbrev pub BlockStepsAs : Bor (List held.Step) → Task → Task → World → World → Option Exc → Moved → Type 0
+BlockStepsAs steps before after old new exc moved =
+    (frames : List Frame) (task : Task) → frames ≡ before.frames.items ++ code.Steps steps ∷ [] → before ≡ record task { frames = before.frames } →
+    Takes frames task after old new moved (step_at task old frames exc)
+
+-- The innermost frame of a task was taken off, which held this step first, and the steps that come after it were put back.
+pub record AtStep (frames : List Frame) (task before : Task) (first : held.Step) : Type 0 where
+  pub outer : List Frame
+  pub steps : Bor (List held.Step)
+  pub left : Bor (List held.Step)
+  pub popped : frames ≡ outer ++ code.Steps steps ∷ []
+  pub first_is : steps.now ≡ first ∷ left.now
+  pub held : before.frames.items ≡ outer ++ code.Steps left ∷ []
+  pub same : before ≡ record task { frames = before.frames }
+
+abbrev pub RunsAs : Task → Task → World → World → held.Step → Moved → Type 0
+RunsAs before after old new first moved =
+    (frames : List Frame) (task : Task) → AtStep frames task before first → Takes frames task after old new moved (step_at task old frames None)
+
+-- steps of the code until it stops are so many of the definitions
+pub record TookSteps
+    (before after : Task) (old new : World) (exc : Option Exc) (stop : Stop) (froms : Table) (numbers : Numbers) (ps : List Place) (count : ℕ) : Type 0
+  where
+    pub steps : ℕ
+    pub took :
+        Took before.frames.items before after old new (Stops stop) froms numbers
+        (turn_of steps froms old.tick (here_of before) (record { frames = frames_of numbers before.frames.items; places = ps; exc = exc; count = count }))
+
+abbrev pub StopsAfter : Task → Task → World → World → Option Exc → Stop → Type 0
+StopsAfter before after old new exc stop =
+    (froms : Table) (numbers : Numbers) (ps : List Place) (count : ℕ) → Stands before.frames.items before old froms numbers None ps →
+    TookSteps before after old new exc stop froms numbers ps count
+
+-- the wake of the definitions of a task in this world
+abbrev pub wake_at : Task → World → wakes.Wake → Stopped → Table → Numbers → List Place → Move
+wake_at task world w stopped froms numbers ps = wake_of froms world.tick (here_of task) w stopped (frames_of numbers task.frames.items) ps
+
+-- The code does what the wake does, wherever the task stopped that goes on with its halt.
+abbrev pub Wakens : Task → Task → World → World → Moved → wakes.Wake → Type 0
+Wakens task after old new goes w =
+    (froms : Table) (numbers : Numbers) (stopped : Stopped) (ps : List Place) → Stands task.frames.items task old froms numbers (Some stopped) ps →
+    IsHalt numbers old.book task.halt stopped → Took task.frames.items task after old new goes froms numbers (wake_at task old w stopped froms numbers ps)
+
+-- A turn of the code is one of the definitions, with so many steps at most.
+pub record TookTurn
+    (before after : Task) (old new : World) (wake : Wake) (stop : Stop) (froms : Table) (numbers : Numbers) (stopped : Stopped) (ps : List Place) (count : ℕ) : Type 0
+  where
+    pub steps : ℕ
+    pub took :
+        Took before.frames.items before after old new (Stops stop) froms numbers
+        (turn_from steps froms old.tick (here_of before) (wake_in old.book before.halt wake) stopped (frames_of numbers before.frames.items) ps count)
+
+abbrev pub TurnsAs : Task → Task → World → World → Wake → Stop → Type 0
+TurnsAs before after old new wake stop =
+    (froms : Table) (numbers : Numbers) (ps : List Place) (count : ℕ) (stopped : Stopped) → IsHalt numbers old.book before.halt stopped →
+    Stands before.frames.items before old froms numbers (Some stopped) ps → TookTurn before after old new wake stop froms numbers stopped ps count

@@ -1,5 +1,5 @@
 -- Children that a task starts.
-use Rattle.std.specs.Prelude.{◌≡◌, ℕ, zero, suc, ◌+◌, List, [], ◌∷◌, ◌++◌, Some, None, length}
+use Rattle.std.specs.Prelude.{◌≡◌, ℕ, zero, suc, ◌+◌, Option, List, [], ◌∷◌, ◌++◌, Some, None, length}
 use Rattle.buffer_parts.specs.Lines.{Range}
 use Rattle.buffer_parts.specs.Part.{buffer_of, range_of}
 use Rattle.buffer_parts.specs.Cuts.{cut_of}
@@ -13,6 +13,7 @@ use Rattle.task_machine.specs.declared.stop.Halt.TheVariants.{ToBegin}
 use Rattle.task_machine.specs.declared.task.Home.{Home}
 use Rattle.task_machine.specs.declared.task.Task.{Task}
 use Rattle.task_machine.specs.declared.world.World.{World}
+use Rattle.task_machine.specs.Fitting.{InBody}
 use Rattle.task_machine.specs.Frames.{frames_of}
 use Rattle.task_machine.specs.Stops.{Numbers}
 
@@ -62,3 +63,13 @@ pub record StartsOver (self : Task) (old new : World) (id : ℕ) (name : List �
   pub tasks : List Task
   pub started : new.started.items ≡ old.started.items ++ tasks
   pub children : AreChildren self id nursery name k body tasks i
+
+-- the children of a `start`, in the nursery in whose body the task is
+abbrev pub StartsAll : Task → World → World → ℕ → List ℕ → Option ℕ → Steps → Type 0
+StartsAll self old new id name None body = StartsOne old new id (record { name = name; indices = self.label.indices }) self.part body
+StartsAll self old new id name (Some k) body = StartsOver self old new id name k body k
+
+pub record StartsChildren (self : Task) (old new : World) (name : List ℕ) (over : Option ℕ) (body : Steps) : Type 0 where
+  pub id : ℕ
+  pub at : InBody self.frames.items id
+  pub started : StartsAll self old new id name over body

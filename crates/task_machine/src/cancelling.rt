@@ -3,6 +3,7 @@ ghost use Rattle.std.specs.Option.{ForSome};
 ghost use Rattle.cancel_scopes.specs.Tree.{IsOpen};
 ghost use Rattle.task_machine.specs.Tasks.{scope_of};
 ghost use Rattle.task_machine.specs.Entered.{CancelsAt};
+ghost use Rattle.task_machine.specs.Fitting.{SameKeys};
 
 use crate::task::Task;
 use crate::world::World;
@@ -15,6 +16,7 @@ impl<'a> Task<'a> {
         requires scope { ForSome (scope_of self.now) (IsOpen world.old.scopes) }
         requires tick { world.old.tick + 1 < 2 ^ 41 }
         ensures rest { world.new ≡ record world.old { scopes = world.new.scopes } }
+        ensures keys { SameKeys world.old.scopes world.new.scopes }
         ensures at { CancelsAt world.old world.new (scope_of self.now) name }
     {
         stacks_are_chains(&world.scopes);

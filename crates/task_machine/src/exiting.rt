@@ -12,6 +12,7 @@ ghost use Rattle.task_machine.specs.Tasks.{scope_of, home_scope};
 ghost use Rattle.task_machine.specs.Worlds.{label_at};
 ghost use Rattle.task_machine.specs.Left.{OwnFirst, LeavesOne};
 ghost use Rattle.task_machine.specs.Exits.{ExitsAt, FailsAt};
+ghost use Rattle.task_machine.specs.Fitting.{SameKeys};
 
 use crate::leaving::Closed;
 use crate::outcome::{Kind, exc_after, left_with};
@@ -41,7 +42,7 @@ impl<'a> Task<'a> {
         ensures stays { OnOk result (self.new
             ≡ record self.old { own = self.new.own; froms = self.new.froms; entries = self.new.entries }) }
         ensures world { OnOk result (world.new ≡ record world.old { scopes = world.new.scopes; labels = world.new.labels }) }
-        ensures left { OnOk result (LeavesOne self.old self.new world.old) }
+        ensures left { OnOk result (LeavesOne self.old self.new world.old world.new) }
         ensures own { OnOk result (OwnFirst world.new.scopes (home_scope self.old) self.new.own.items) }
         ensures at { IfOk result (λ after. ExitsAt self.old self.new world.old world.new kind (option_map exc_of exc) (option_map exc_of after)) }
     {
@@ -58,6 +59,7 @@ impl<'a> Task<'a> {
         requires scope { ForSome (scope_of self.now) (IsOpen world.old.scopes) }
         requires tick { world.old.tick + 1 < 2 ^ 41 }
         ensures rest { world.new ≡ record world.old { scopes = world.new.scopes } }
+        ensures keys { SameKeys world.old.scopes world.new.scopes }
         ensures at { FailsAt world.old world.new (scope_of self.now) (option_map exc_of exc.now) }
     {
         stacks_are_chains(&world.scopes);
@@ -83,6 +85,7 @@ impl<'a> Task<'a> {
         ensures stays { self.new ≡ record self.old { halt = Awaits nursery world.old.tick } }
         ensures rest { world.new ≡ record world.old { scopes = world.new.scopes; book = world.new.book } }
         ensures ended { Changes world.old.book world.new.book nursery (with_body (option_map exc_of exc)) }
+        ensures keys { SameKeys world.old.scopes world.new.scopes }
         ensures at { FailsAt world.old world.new (scope_of self.old) (option_map exc_of exc) }
     {
         self.fail(&exc, world);
@@ -101,6 +104,7 @@ impl<'a> Task<'a> {
         ensures moved { result ≡ Stops (Ended exc) }
         ensures stays { self.new ≡ record self.old { halt = Over } }
         ensures rest { world.new ≡ record world.old { scopes = world.new.scopes } }
+        ensures keys { SameKeys world.old.scopes world.new.scopes }
         ensures at { FailsAt world.old world.new (scope_of self.old) (option_map exc_of exc) }
     {
         self.fail(&exc, world);

@@ -29,7 +29,7 @@ impl<'a> Task<'a> {
         requires own { OwnFirst world.old.scopes (home_scope self.old) self.old.own.items }
         ensures stays { self.new ≡ record self.old { own = self.new.own; froms = self.new.froms } }
         ensures world { world.new ≡ record world.old { scopes = world.new.scopes; labels = world.new.labels } }
-        ensures left { LeavesOne self.old self.new world.old }
+        ensures left { LeavesOne self.old self.new world.old world.new }
         ensures own { OwnFirst world.new.scopes (home_scope self.old) self.new.own.items }
         ensures at { LeavesAt world.old world.new (scope_of self.old) (scope_of self.new) result }
     {

@@ -26,6 +26,8 @@ mod task;
 #[cfg(test)]
 mod tests;
 mod trying;
+mod turning;
+mod waking;
 mod world;
 
 pub use laws::law_places;

@@ -7,7 +7,9 @@ ghost use Rattle.job_meaning.specs.Log.{Table};
 ghost use Rattle.job_meaning.specs.Rest.{Frame as Left, asking};
 ghost use Rattle.task_turns.specs.Midway.{Place};
 ghost use Rattle.task_turns.specs.Steps.{sleeps, onward, halts};
+ghost use Rattle.task_machine.specs.Standing.{waits_by};
 ghost use Rattle.task_machine.specs.Tasks.{scope_of};
+ghost use Rattle.task_machine.specs.Waking.{IsModestHalt, IsModestPurpose};
 ghost use Rattle.task_machine.specs.Worlds.{label_at};
 ghost use Rattle.task_machine.specs.Stacked.{AreAt};
 ghost use Rattle.task_machine.specs.Stops.{Numbers, MovesAs, kernel_in, purpose_in};
@@ -26,6 +28,8 @@ impl<'a> Task<'a> {
         requires scope { ForSome (scope_of self.old) (IsOpen world.now.scopes) }
         requires due { world.now.tick + ticks < 2 ^ 64 }
         ensures stays { self.new ≡ record self.old { halt = self.new.halt } }
+        ensures halt { IsModestHalt self.old.halt → IsModestHalt self.new.halt }
+        ensures waits { waits_by result self.new.halt ≡ None }
         ensures sleeps { (froms : Table) (numbers : Numbers) (book : Book) (fs : List Left) (ps : List Place) →
             AreAt (label_at world.now) froms (outer_of world.now.scopes (scope_of self.old)) ps →
             MovesAs numbers book self.old.part result self.new.halt (sleeps froms ticks world.now.tick fs ps) }
@@ -43,7 +47,8 @@ impl<'a> Task<'a> {
 
     // An exception of that name is raised.
     pub(crate) fn raise(&self, name: Name, world: &World<'a>) -> Result<Moved<'a>, AllocError>
-        ensures { IfOk result (λ moved. (numbers : Numbers) (book : Book) (fs : List Left) (ps : List Place) →
+        ensures on { IfOk result (λ moved. waits_by moved self.now.halt ≡ None) }
+        ensures raises { IfOk result (λ moved. (numbers : Numbers) (book : Book) (fs : List Left) (ps : List Place) →
             MovesAs numbers book self.now.part moved self.now.halt
             (onward fs ps (Some (raised name self.now.label world.now.tick)))) }
     {
@@ -58,6 +63,8 @@ impl<'a> Task<'a> {
     // A kernel is asked for an answer on the task's part.
     pub(crate) fn ask(&mut self, kernel: Kernel<'a>, purpose: Purpose) -> Moved<'a>
         ensures stays { self.new ≡ record self.old { halt = self.new.halt } }
+        ensures halt { IsModestPurpose purpose → IsModestHalt self.new.halt }
+        ensures waits { waits_by result self.new.halt ≡ None }
         ensures asks { (numbers : Numbers) (book : Book) (fs : List Left) (ps : List Place) →
             MovesAs numbers book self.old.part result self.new.halt
             (halts (asking (kernel_in kernel.entry) (purpose_in purpose)) fs ps) }

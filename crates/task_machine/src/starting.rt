@@ -1,12 +1,15 @@
-ghost use Rattle.std.specs.Prelude.{◌≡◌, ◌≤◌, ◌<◌, ◌++◌, ℕ, List, [], ◌∷◌, Some, None, OnOk, IfOk, length};
+ghost use Rattle.std.specs.Prelude.{◌≡◌, ◌≤◌, ◌<◌, ◌++◌, ℕ, List, [], ◌∷◌, Some, None, OnOk, IfOk, IsTrue, length};
 ghost use Rattle.buffer_parts.specs.Part.{buffer_of, range_of};
 ghost use Rattle.exc_groups.specs.Exceptions.{Label as Named};
 ghost use Rattle.job_meaning.specs.Rest.{steps_left};
 ghost use Rattle.nursery_book.specs.Book.{HasNursery};
 ghost use Rattle.task_machine.specs.declared.stop.Halt.TheVariants.{ToBegin};
+ghost use Rattle.job_tree.specs.Modest.{IsModestOver};
+ghost use Rattle.task_turns.specs.Placed.{in_body};
+ghost use Rattle.task_machine.specs.Fitting.{Fits, frames_behind, InBody};
 ghost use Rattle.task_machine.specs.Frames.{frames_of};
 ghost use Rattle.task_machine.specs.Stops.{Numbers};
-ghost use Rattle.task_machine.specs.Started.{StartsOne, StartsOver};
+ghost use Rattle.task_machine.specs.Started.{StartsOne, StartsOver, StartsChildren};
 
 use crate::frame::Frame;
 use crate::stop::Halt;
@@ -99,5 +102,46 @@ impl<'a> Task<'a> {
             self.start(nursery, label, part, body, world)?;
         }
         Ok(())
+    }
+
+    // The children of a `start`: one on the task's part, or one for each of so many cuts.
+    pub(crate) fn begin_children(
+        &self,
+        name: Name,
+        over: Option<u64>,
+        body: &'a Body,
+        world: &mut World<'a>,
+    ) -> Result<(), AllocError>
+        requires fits { Fits self.now.frames.items self.now world.old None }
+        requires over { IsModestOver over }
+        requires body { IsTrue (in_body (frames_behind (frames_of (λ id. []) self.now.frames.items))) }
+        ensures rest { OnOk result (world.new ≡ record world.old { book = world.new.book; started = world.new.started }) }
+        ensures fits { OnOk result (Fits self.now.frames.items self.now world.new None) }
+        ensures children { OnOk result (StartsChildren self.now world.old world.new name over body.now) }
+    {
+        let nursery = self.nursery();
+        match over {
+            None => {
+                let label = self.label.named(self.alloc, name)?;
+                self.start(nursery, label, self.part, body, world)?;
+            }
+            Some(copies) => self.start_over(nursery, name, copies, body, world)?,
+        }
+        Ok(())
+    }
+
+    // The nursery in whose body the task is: the frame round the steps that it is in.
+    fn nursery(&self) -> NurseryId
+        requires { IsTrue (in_body (frames_behind (frames_of (λ id. []) self.now.frames.items))) }
+        ensures { InBody self.now.frames.items result }
+    {
+        let frames = self.frames.as_slice();
+        let Some(frame) = frames.get(frames.len() - 2) else {
+            unreachable!()
+        };
+        let Frame::Nursery { id } = frame else {
+            unreachable!()
+        };
+        *id
     }
 }

@@ -7,6 +7,7 @@ ghost use Rattle.job_meaning.specs.Walk.{handler_exc as raised_in_handler};
 ghost use Rattle.job_tree.specs.Tree.{unhandled};
 ghost use Rattle.task_turns.specs.Midway.{Place};
 ghost use Rattle.task_turns.specs.Steps.{onward, step_try};
+ghost use Rattle.task_machine.specs.Fitting.{blocks_of};
 ghost use Rattle.task_machine.specs.Frames.{frames_of};
 ghost use Rattle.task_machine.specs.Stops.{Numbers};
 
@@ -26,6 +27,7 @@ impl<'a> Task<'a> {
         cleanup: &'a Option<Body>,
     ) -> Result<(), AllocError>
         ensures stays { OnOk result (self.new ≡ record self.old { frames = self.new.frames }) }
+        ensures blocks { OnOk result (blocks_of self.new.frames.items ≡ blocks_of self.old.frames.items) }
         ensures frames { OnOk result ((numbers : Numbers) → frames_of numbers self.new.frames.items
             ≡ steps_left body.now ∷ in_try (handled_of handler.now) (cleaned_of cleanup.now) ∷ frames_of numbers self.old.frames.items) }
     {
@@ -45,6 +47,7 @@ impl<'a> Task<'a> {
         exc: Option<Exc>,
     ) -> Result<Option<Exc>, AllocError>
         ensures stays { OnOk result (self.new ≡ record self.old { frames = self.new.frames }) }
+        ensures blocks { OnOk result (blocks_of self.new.frames.items ≡ blocks_of self.old.frames.items) }
         ensures step { IfOk result (λ after. (numbers : Numbers) (ps : List Place) →
             step_try (handled_of (option_copied handler.entry)) (cleaned_of cleanup.now) (frames_of numbers self.old.frames.items) ps (option_map exc_of exc)
             ≡ onward (frames_of numbers self.new.frames.items) ps (option_map exc_of after)) }
@@ -78,6 +81,7 @@ impl<'a> Task<'a> {
         exc: Option<Exc>,
     ) -> Result<Option<Exc>, AllocError>
         ensures stays { OnOk result (self.new ≡ record self.old { frames = self.new.frames }) }
+        ensures blocks { OnOk result (blocks_of self.new.frames.items ≡ blocks_of self.old.frames.items) }
         ensures frames { OnOk result ((numbers : Numbers) → frames_of numbers self.new.frames.items
             ≡ in_try unhandled (cleaned_of cleanup.now) ∷ frames_of numbers self.old.frames.items) }
         ensures exc { IfOk result (λ after. option_map exc_of after ≡ raised_in_handler (option_map exc_of exc) (option_map exc_of rest)) }
@@ -89,6 +93,7 @@ impl<'a> Task<'a> {
     // Goes on behind the handler of a `try`.
     fn without_handler(&mut self, cleanup: &'a Option<Body>) -> Result<(), AllocError>
         ensures stays { OnOk result (self.new ≡ record self.old { frames = self.new.frames }) }
+        ensures blocks { OnOk result (blocks_of self.new.frames.items ≡ blocks_of self.old.frames.items) }
         ensures frames { OnOk result ((numbers : Numbers) → frames_of numbers self.new.frames.items
             ≡ in_try unhandled (cleaned_of cleanup.now) ∷ frames_of numbers self.old.frames.items) }
     {
@@ -105,6 +110,7 @@ impl<'a> Task<'a> {
         exc: Option<Exc>,
     ) -> Result<Option<Exc>, AllocError>
         ensures stays { OnOk result (self.new ≡ record self.old { frames = self.new.frames }) }
+        ensures blocks { OnOk result (blocks_of self.new.frames.items ≡ blocks_of self.old.frames.items) }
         ensures step { IfOk result (λ after. (numbers : Numbers) (ps : List Place) →
             step_try unhandled (cleaned_of cleanup.now) (frames_of numbers self.old.frames.items) ps (option_map exc_of exc)
             ≡ onward (frames_of numbers self.new.frames.items) ps (option_map exc_of after)) }

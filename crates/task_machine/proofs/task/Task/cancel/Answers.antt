@@ -3,6 +3,7 @@ use Rattle.cancel_scopes.specs.Tree.{outer_of}
 use Rattle.task_machine.specs.Labels.{scope_named}
 use Rattle.task_machine.specs.Worlds.{label_at}
 use Rattle.task_machine.proofs.Cancels.{found_open, cancels_at, cancels_none}
+use Rattle.task_machine.proofs.Kept.{signed_keys}
 use Rattle.task_machine.proofs.task.Task.cancel.Goals as goal
 
 pub sign-requires-clause-id : goal.sign-requires-clause-id
@@ -23,3 +24,6 @@ returns-in_default-clause-at c =
     λ froms ps own a.
     cancels_none (label_at world) _ c.args.name world.tick
     (ap (λ (s : Option ℕ). scope_named (label_at world) c.args.name (outer_of world.scopes s)) (sym c.scope.ensures) ∙ sym c.find.ensures ∙ c.in_default.is) froms ps a
+
+pub returns-in-Some-clause-keys : goal.returns-in-Some-clause-keys
+returns-in-Some-clause-keys c = signed_keys c.args.world.now.scopes c.sign.new.self.scopes c.in-Some.id c.args.world.now.tick c.sign.ensures.stacks

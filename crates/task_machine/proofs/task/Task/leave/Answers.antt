@@ -1,10 +1,14 @@
-use Rattle.std.proofs.Common.{◌≡◌, None, ◌∷◌, ap, sym, ◌∙◌}
+use Rattle.std.proofs.Common.{◌≡◌, ◌<◌, Some, None, List, ◌∷◌, length, refl, ap, sym, ◌∙◌, subst}
 use Rattle.task_machine.specs.Tasks.{home_scope}
 use Rattle.task_machine.specs.Worlds.{label_at}
 use Rattle.task_machine.specs.Stacked.{AreAt}
 use Rattle.task_machine.proofs.Stacked.{one_of, catches_at}
+use Rattle.std.proofs.lemmas.Option.{slice_get-get_or}
+use Rattle.std.specs.List.{All}
+use Rattle.task_records.specs.declared.entry.ScopeFrom.{ScopeFrom}
+use Rattle.task_machine.specs.declared.task.Own.{Own}
 use Rattle.task_machine.proofs.OwnLemmas.{last_pushed}
-use Rattle.task_machine.proofs.Leaves.{Top, top_of, first_after, places_after, left_from}
+use Rattle.task_machine.proofs.Leaves.{last_below, Top, top_of, first_after, places_after, left_from}
 use Rattle.task_machine.proofs.task.Task.leave.Goals as goal
 
 pub catches-catches-requires : goal.catches-catches-requires
@@ -21,7 +25,21 @@ leave-label-requires-clause-label c = c.requires.labelled c.in-Some.own.id (last
 
 pub returns-clause-left : goal.returns-clause-left
 returns-clause-left c =
-    record { last = c.in-Some.own; taken = c.in-Some.ensures.items; from = c.leave-label.result.1; seen = c.leave-label.ensures.from }
+    let froms = c.args.self.now.froms.items in
+    let at = c.in-Some.own.at in
+    let below = last_below (length froms) c.pop.new.self.items c.in-Some.own (subst (λ (own : List Own). All (λ (o : Own). o.at < length froms) own) c.in-Some.ensures.items c.requires.froms) in
+    record {
+      last = c.in-Some.own;
+      taken = c.in-Some.ensures.items;
+      from = c.leave-label.result.1;
+      seen = c.leave-label.ensures.from;
+      entry = c.index_mut.result.now;
+      was = slice_get-get_or froms at c.index_mut.result.now below ∙ ap (λ (f : ScopeFrom). Some f) (sym c.index_mut.ensures.value);
+      froms = refl;
+      closed = c.leave-label.ensures.closed;
+      others = c.leave-label.ensures.others;
+      unlabelled = c.leave-label.ensures.taken;
+    }
 
 pub returns-clause-own : goal.returns-clause-own
 returns-clause-own c =

@@ -1,0 +1,51 @@
+-- What wakes a task.
+use Rattle.std.proofs.Common.{◌≡◌, ◌≤◌, ℕ, zero, suc, ◌+◌, ◌-◌, ◌/◌, Option, Some, None, List, [], ◌∷◌, map, length, refl, ap, sym, arith}
+use Rattle.std.specs.Prelude.{MatchOption}
+use Rattle.std.specs.Option.{IsSomeAnd}
+use Rattle.buffer_parts.specs.declared.line.Line.{Line}
+use Rattle.exc_groups.specs.Exceptions.{Exc}
+use Rattle.nursery_book.specs.Nursery.{Nursery, raised_by}
+use Rattle.job_meaning.specs.Walk.{paced}
+use Rattle.task_machine.specs.Waking.{raised_in}
+use Rattle.buffer_parts.specs.Lines.{Range, Span, bytes_of}
+use Rattle.buffer_parts.specs.Part.{buffer_of, range_of, span_of}
+use Rattle.buffer_parts.specs.declared.part.Part.{Part}
+use Rattle.buffer_parts.proofs.JoinLemmas.{length-lines_from}
+use Rattle.job_meaning.specs.declared.limits.TheConstants.{MOST_INPUT}
+use Rattle.line_kernels.specs.Answers.{AreLinesAt, IsAnswer}
+use Rattle.line_kernels.specs.Kernels.{needed_in, count_in}
+use Rattle.line_kernels.specs.declared.answers.Answer.TheVariants as answers
+use Rattle.line_kernels.specs.declared.kernel.Kernel.{Kernel}
+use Rattle.line_kernels.specs.declared.kernel.Kernel.TheVariants.{Find, Head, Longest, Need, Count}
+
+-- a part has no more lines than bytes
+count_le : (input : List ℕ) (r : Range) → count_in input r ≤ length (bytes_of input r)
+count_le input r = length-lines_from r.from (bytes_of input r)
+
+pub count_few : (kernel : Kernel) (part : Part) (n : ℕ) → length (bytes_of (buffer_of part) (range_of part)) ≤ MOST_INPUT → IsAnswer kernel part (answers.Count n) → n ≤ MOST_INPUT
+count_few (Find needle) part n small a = absurd a
+count_few (Head count) part n small a = absurd a
+count_few Longest part n small a = absurd a
+count_few (Need needle) part n small a = absurd a
+count_few Count part n small a = omega (arith, small, a, count_le (buffer_of part) (range_of part))
+
+-- what a nursery's members raised, by what closing it gave
+pub raised_is : (o : Option Nursery) (e : Option Exc) → IsSomeAnd o (λ n. e ≡ raised_by n) → raised_in o ≡ e
+raised_is None e h = absurd h
+raised_is (Some n) e h = sym h
+
+-- lines that a kernel answered stand where they say
+pub lines_at : (kernel : Kernel) (part : Part) (lines : List Line) → IsAnswer kernel part (answers.Lines lines) → AreLinesAt (buffer_of part) (map span_of lines) lines
+lines_at (Find needle) part lines a = record { places = refl; texts = a.texts }
+lines_at (Head count) part lines a = record { places = refl; texts = a.texts }
+lines_at Longest part lines a = record { places = refl; texts = a.texts }
+lines_at (Need needle) part lines a = by_line (needed_in (buffer_of part) needle.now (range_of part)) a
+  where
+    by_line : (o : Option Span) → MatchOption o ⊥ (λ l. AreLinesAt (buffer_of part) (l ∷ []) lines) → AreLinesAt (buffer_of part) (map span_of lines) lines
+    by_line None a = absurd a
+    by_line (Some l) a = record { places = refl; texts = a.texts }
+lines_at Count part lines a = absurd a
+
+pub paced_is : (n k : ℕ) → 1 ≤ k → (n + (k - 1)) / k ≡ paced n k
+paced_is n zero le = absurd (omega (arith, le))
+paced_is n (suc j) le = (let e : suc j - 1 ≡ j = omega arith in ap (λ (x : ℕ). (n + x) / suc j) e)

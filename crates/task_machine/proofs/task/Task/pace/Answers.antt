@@ -1,0 +1,32 @@
+use Rattle.std.proofs.Common.{◌≡◌, List, None, refl, ap, subst}
+use Rattle.job_meaning.specs.Asking as ask
+use Rattle.task_turns.specs.Wakes.{goes_on_with}
+use Rattle.task_machine.specs.declared.stop.Purpose.{Purpose}
+use Rattle.task_machine.specs.Standing.{here_of}
+use Rattle.task_machine.specs.Stops.{purpose_in}
+use Rattle.task_machine.specs.Waking.{IsModestPurpose}
+use Rattle.task_machine.proofs.Wakens.{wakes_answered, wakes_counted}
+use Rattle.task_machine.proofs.Wakes.{paced_is}
+use Rattle.task_machine.proofs.task.Task.pace.Goals as goal
+
+pub returns-in-Paces-clause-wakes : goal.returns-in-Paces-clause-wakes
+returns-in-Paces-clause-wakes c =
+    let self = c.args.self.now in
+    let k = c.in-Paces.per_tick in
+    λ kernel asked.
+    wakes_counted self self c.sleep.new.self c.args.world.now c.sleep.result kernel c.args.purpose k c.args.count _ refl asked (ap purpose_in c.in-Paces.is)
+    (paced_is c.args.count k (subst IsModestPurpose c.in-Paces.is c.requires.purpose).0) c.sleep.ensures.stays c.sleep.ensures.sleeps
+
+pub returns-in-Shows-clause-wakes : goal.returns-in-Shows-clause-wakes
+returns-in-Shows-clause-wakes c =
+    let self = c.args.self.now in
+    λ kernel asked.
+    wakes_answered self self c.args.world.now kernel c.args.purpose (ask.counted c.args.count) refl asked
+    (λ froms fs ps. ap (λ (p : Purpose). goes_on_with froms c.args.world.now.tick (here_of self) (ask.counted c.args.count) (purpose_in p) fs ps) c.in-Shows.is)
+
+pub returns-in-Needs-clause-wakes : goal.returns-in-Needs-clause-wakes
+returns-in-Needs-clause-wakes c =
+    let self = c.args.self.now in
+    λ kernel asked.
+    wakes_answered self self c.args.world.now kernel c.args.purpose (ask.counted c.args.count) refl asked
+    (λ froms fs ps. ap (λ (p : Purpose). goes_on_with froms c.args.world.now.tick (here_of self) (ask.counted c.args.count) (purpose_in p) fs ps) c.in-Needs.is)

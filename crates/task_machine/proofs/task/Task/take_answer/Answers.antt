@@ -1,0 +1,45 @@
+use Rattle.std.proofs.Common.{◌≡◌, None, List, ◌++◌, map, refl, ap, sym, ◌∙◌, subst}
+use Rattle.buffer_parts.specs.Part.{span_of}
+use Rattle.buffer_parts.specs.declared.line.Line.{Line}
+use Rattle.task_records.specs.declared.entry.Entry.TheVariants as entries
+use Rattle.task_turns.specs.Wakes.{has_answer}
+use Rattle.task_machine.specs.declared.stop.Moved.TheVariants.{On}
+use Rattle.task_machine.specs.Standing.{Wakens}
+use Rattle.line_kernels.specs.Answers.{IsAnswer}
+use Rattle.line_kernels.specs.declared.answers.Answer as held
+use Rattle.task_machine.specs.declared.stop.Halt.{Halt}
+use Rattle.task_machine.specs.declared.stop.Wake.TheVariants.{Answer}
+use Rattle.task_machine.specs.Waking.{WakesFrom, answer_in}
+use Rattle.task_machine.proofs.Wakens.{wakes_lines}
+use Rattle.task_machine.proofs.Wakes.{count_few, lines_at}
+use Rattle.task_machine.proofs.task.Task.take_answer.Goals as goal
+
+pub pace-requires-clause-few : goal.pace-requires-clause-few
+pace-requires-clause-few c =
+    let part = c.args.self.now.part in
+    count_few c.in-Asked.kernel part c.in-Count.count c.requires.small
+    (subst (λ (a : held.Answer). IsAnswer c.in-Asked.kernel part a) c.in-Count.is
+    (subst (λ (h : Halt). WakesFrom h part c.args.world.now.book (Answer c.args.answer)) c.in-Asked.is c.requires.wake))
+
+pub returns-in_ok-push_lines-in-Lines-clause-wakes : goal.returns-in_ok-push_lines-in-Lines-clause-wakes
+returns-in_ok-push_lines-in-Lines-clause-wakes c =
+    let self = c.args.self.now in
+    let lines = c.in-Lines.lines in
+    subst (λ (a : held.Answer). Wakens self (record self { entries = c.push_lines.new.entries }) c.args.world.now c.args.world.now (On None) (has_answer (answer_in a))) (sym c.in-Lines.is)
+    (wakes_lines self self (record self { entries = c.push_lines.new.entries }) c.args.world.now c.in-Asked.kernel c.in-Asked.purpose (map span_of lines) lines refl c.in-Asked.is refl
+    (c.in_ok-push_lines-in-Lines.ensures ∙ ap (λ (ls : List Line). self.entries.items ++ map entries.Line ls) c.as_slice.ensures)
+    (lines_at c.in-Asked.kernel self.part lines
+    (subst (λ (a : held.Answer). IsAnswer c.in-Asked.kernel self.part a) c.in-Lines.is
+    (subst (λ (h : Halt). WakesFrom h self.part c.args.world.now.book (Answer c.args.answer)) c.in-Asked.is c.requires.wake))))
+
+pub returns-in_ok-moved-in-Missing-clause-wakes : goal.returns-in_ok-moved-in-Missing-clause-wakes
+returns-in_ok-moved-in-Missing-clause-wakes c =
+    let self = c.args.self.now in
+    subst (λ (a : held.Answer). Wakens self self c.args.world.now c.args.world.now c.in_ok-moved-in-Missing.moved (has_answer (answer_in a))) (sym c.in-Missing.is)
+    (c.in_ok-moved-in-Missing.ensures.wakes c.in-Asked.kernel c.in-Asked.is)
+
+pub returns-in-Count-clause-wakes : goal.returns-in-Count-clause-wakes
+returns-in-Count-clause-wakes c =
+    let self = c.args.self.now in
+    subst (λ (a : held.Answer). Wakens self c.pace.new.self c.args.world.now c.args.world.now c.pace.result (has_answer (answer_in a))) (sym c.in-Count.is)
+    (c.pace.ensures.wakes c.in-Asked.kernel c.in-Asked.is)

@@ -1,0 +1,160 @@
+ghost use Rattle.std.specs.Prelude.{◌≡◌, ◌+◌, ◌<◌, ◌≤◌, ◌^◌, ◌++◌, true, None, Some, IfOk, OnOk, length, map};
+ghost use Rattle.std.specs.Option.{ForSome};
+ghost use Rattle.buffer_parts.specs.Lines.{bytes_of};
+ghost use Rattle.buffer_parts.specs.Part.{buffer_of, range_of};
+ghost use Rattle.cancel_scopes.specs.Tree.{IsOpen};
+ghost use Rattle.job_meaning.specs.declared.limits.TheConstants.{MOST_INPUT};
+ghost use Rattle.task_machine.specs.declared.stop.Wake.TheVariants as wakes;
+ghost use Rattle.line_kernels.specs.declared.kernel.Kernel.{Kernel};
+ghost use Rattle.job_meaning.specs.Asking.{missing, counted};
+ghost use Rattle.task_machine.specs.declared.stop.Halt.TheVariants.{Asked};
+ghost use Rattle.task_turns.specs.Wakes.{has_answer, settles};
+ghost use Rattle.task_machine.specs.Fitting.{Fits, waits_of};
+ghost use Rattle.task_machine.specs.Standing.{waits_by, Wakens};
+ghost use Rattle.task_machine.specs.Tasks.{scope_of};
+ghost use Rattle.task_machine.specs.Waking.{WakesFrom, wake_in, answer_in, settled_exc, IsModestHalt, IsModestPurpose};
+
+use crate::outcome::Kind;
+use crate::stop::{Halt, Moved, Purpose, Wake};
+use crate::task::Task;
+use crate::world::World;
+use buffer_parts::Line;
+use cancel_scopes::stacks_are_chains;
+use exc_groups::Exc;
+use line_kernels::Answer;
+use std::alloc::AllocError;
+use task_records::Entry;
+
+impl<'a> Task<'a> {
+    // What a task does first that wakes. After an error the task and the world may only be dropped.
+    pub(crate) fn wake(
+        &mut self,
+        wake: Wake<'a>,
+        world: &mut World<'a>,
+    ) -> Result<Moved<'a>, AllocError>
+        requires fits { Fits self.old.frames.items self.old world.old (waits_of self.old.halt) }
+        requires tick { world.old.tick ≤ 2 ^ 40 }
+        requires halt { IsModestHalt self.old.halt }
+        requires wake { WakesFrom self.old.halt self.old.part world.old.book wake }
+        ensures stays { OnOk result (self.new
+            ≡ record self.old { own = self.new.own; halt = self.new.halt; entries = self.new.entries; froms = self.new.froms }) }
+        ensures world { OnOk result (world.new
+            ≡ record world.old { scopes = world.new.scopes; labels = world.new.labels; book = world.new.book }) }
+        ensures halt { OnOk result (IsModestHalt self.new.halt) }
+        ensures fits { IfOk result (λ moved. Fits self.new.frames.items self.new world.new (waits_by moved self.new.halt)) }
+        ensures wakes { IfOk result (λ moved. Wakens self.old self.new world.old world.new moved (wake_in world.old.book self.old.halt wake.entry)) }
+    {
+        match wake {
+            Wake::Begin => Ok(Moved::On(None)),
+            Wake::Due => Ok(Moved::On(None)),
+            Wake::Seen => Ok(Moved::On(Some(Exc::Cancelled))),
+            Wake::Answer(answer) => {
+                let moved = self.take_answer(answer, world)?;
+                Ok(moved)
+            }
+            Wake::Settled => {
+                let moved = self.settle(world)?;
+                Ok(moved)
+            }
+        }
+    }
+
+    // The kernel's answer has come: its lines are noted, a line that is missing raises, and a count is slept by.
+    fn take_answer(
+        &mut self,
+        answer: Answer<'a>,
+        world: &World<'a>,
+    ) -> Result<Moved<'a>, AllocError>
+        requires scope { ForSome (scope_of self.old) (IsOpen world.now.scopes) }
+        requires small { length (bytes_of (buffer_of self.old.part) (range_of self.old.part)) ≤ MOST_INPUT }
+        requires tick { world.now.tick ≤ 2 ^ 40 }
+        requires halt { IsModestHalt self.old.halt }
+        requires wake { WakesFrom self.old.halt self.old.part world.now.book (wakes.Answer answer) }
+        ensures stays { OnOk result (self.new ≡ record self.old { halt = self.new.halt; entries = self.new.entries }) }
+        ensures halt { OnOk result (IsModestHalt self.new.halt) }
+        ensures waits { IfOk result (λ moved. waits_by moved self.new.halt ≡ None) }
+        ensures wakes { IfOk result (λ moved. Wakens self.old self.new world.now world.now moved (has_answer (answer_in answer.entry))) }
+    {
+        let Halt::Asked { purpose, .. } = &self.halt else {
+            unreachable!()
+        };
+        let purpose = *purpose;
+        match answer {
+            Answer::Lines(lines) => {
+                push_lines(&mut self.entries, lines.as_slice())?;
+                Ok(Moved::On(None))
+            }
+            Answer::Missing => {
+                let moved = self.miss(purpose, world)?;
+                Ok(moved)
+            }
+            Answer::Count(count) => Ok(self.pace(count, purpose, world)),
+        }
+    }
+
+    // There is no such line: who needs it raises.
+    fn miss(&self, purpose: Purpose, world: &World<'a>) -> Result<Moved<'a>, AllocError>
+        ensures waits { IfOk result (λ moved. waits_by moved self.now.halt ≡ None) }
+        ensures wakes { IfOk result (λ moved. (kernel : Kernel) → self.now.halt ≡ Asked kernel purpose →
+            Wakens self.now self.now world.now world.now moved (has_answer missing)) }
+    {
+        match purpose {
+            Purpose::Needs(name) => {
+                let moved = self.raise(name, world)?;
+                Ok(moved)
+            }
+            Purpose::Shows => Ok(Moved::On(None)),
+            Purpose::Paces(_) => Ok(Moved::On(None)),
+        }
+    }
+
+    // There are so many lines: who paces sleeps by that.
+    fn pace(&mut self, count: u64, purpose: Purpose, world: &World<'a>) -> Moved<'a>
+        requires scope { ForSome (scope_of self.old) (IsOpen world.now.scopes) }
+        requires few { count ≤ MOST_INPUT }
+        requires tick { world.now.tick ≤ 2 ^ 40 }
+        requires purpose { IsModestPurpose purpose }
+        ensures stays { self.new ≡ record self.old { halt = self.new.halt } }
+        ensures halt { IsModestHalt self.old.halt → IsModestHalt self.new.halt }
+        ensures waits { waits_by result self.new.halt ≡ None }
+        ensures wakes { (kernel : Kernel) → self.old.halt ≡ Asked kernel purpose →
+            Wakens self.old self.new world.now world.now result (has_answer (counted count)) }
+    {
+        match purpose {
+            Purpose::Paces(per_tick) => self.sleep((count + (per_tick - 1)) / per_tick, world),
+            Purpose::Shows => Moved::On(None),
+            Purpose::Needs(_) => Moved::On(None),
+        }
+    }
+
+    // The nursery that the task waits for is settled: it is left with the group of what its members raised.
+    fn settle(&mut self, world: &mut World<'a>) -> Result<Moved<'a>, AllocError>
+        requires fits { Fits self.old.frames.items self.old world.old (waits_of self.old.halt) }
+        requires wake { WakesFrom self.old.halt self.old.part world.old.book wakes.Settled }
+        ensures stays { OnOk result (self.new
+            ≡ record self.old { own = self.new.own; entries = self.new.entries; froms = self.new.froms }) }
+        ensures world { OnOk result (world.new
+            ≡ record world.old { scopes = world.new.scopes; labels = world.new.labels; book = world.new.book }) }
+        ensures fits { IfOk result (λ moved. Fits self.new.frames.items self.new world.new (waits_by moved self.new.halt)) }
+        ensures wakes { IfOk result (λ moved. Wakens self.old self.new world.old world.new moved (settles (settled_exc world.old.book self.old.halt))) }
+    {
+        stacks_are_chains(&world.scopes);
+        let Halt::Awaits { nursery, .. } = &self.halt else {
+            unreachable!()
+        };
+        let nursery = *nursery;
+        let exc = world.book.close(nursery)?;
+        let exc = self.exit(Kind::Nursery, exc, world)?;
+        Ok(Moved::On(exc))
+    }
+}
+
+// Lines are noted in the order in which a kernel answers them.
+fn push_lines<'a>(entries: &mut Vec<Entry<'a>>, lines: &[Line<'a>]) -> Result<(), AllocError>
+    ensures { OnOk result (entries.new.items ≡ entries.old.items ++ map Entry.Line lines.now) }
+{
+    'lines: for line in lines {
+        entries.push(Entry::Line(*line))?;
+    }
+    Ok(())
+}
