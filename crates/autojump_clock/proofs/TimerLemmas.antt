@@ -1,193 +1,163 @@
--- A list of timers as a map.
-use Rattle.std.proofs.Common.{◌≡◌, ◌≢◌, ◌⊎◌, ℕ, zero, suc, ◌≤◌, List, [], ◌∷◌, ◌++◌, Option, Some, None, true, false, cond, eqb, ltb, min, refl, ap, sym, ◌∙◌, inl, inr, arith, eq-eqb}
-use Rattle.std.specs.Prelude.{Contains}
-use Rattle.std.proofs.lemmas.Bool.{cases_eq, cases_Bool, cases_lt, ne_eqb, ltb-false, le-ltb}
-use Rattle.autojump_clock.specs.declared.timers.Timer.{Timer}
-use Rattle.autojump_clock.specs.Timers.{due_in, Apart, dues, lesser_of, lesser_due_of, least_due_from, without}
+-- The tasks' ticks in a map and in a queue.
+use Rattle.std.proofs.Common.{◌≡◌, ◌≢◌, ◌⊎◌, ℕ, ◌<◌, ◌≤◌, List, [], ◌∷◌, Option, Some, None, true, false, refl, ap, sym, ◌∙◌, inl, inr, arith, eq-eqb, Bor}
+use Rattle.std.proofs.lemmas.Bool.{cases_eq, cases_lt, ne_eqb, eqb-true}
+use Rattle.std.specs.Prelude.{IsTrue, IsSome, IfSome, MatchOption, ◌↔◌, length}
+use Rattle.std.specs.Option.{option_copied}
+use Rattle.std.specs.Cmp.{nat_cmp_is}
+use Rattle.std.specs.declared.cmp.Ordering.TheVariants.{Less, Equal, Greater}
+use Rattle.std.specs.Ordering.{nat_cmp, is_gt}
+use Rattle.std.specs.BTreeMap as tree
+use Rattle.std.specs.BTreeMap.{BTreeMap, is_at, get}
+use Rattle.std.specs.BTreeSet as sorted
+use Rattle.std.specs.BTreeSet.{BTreeSet, contains}
+use Rattle.autojump_clock.specs.Timers.{due_in, HasNone, IsFirst, is_due_at, tick_cmp, Agree}
 
--- the first timer is the task's
-due_in-here : (t : Timer) (ts : List Timer) (task : ℕ) → t.task ≡ task → due_in (t ∷ ts) task ≡ Some t.due
-due_in-here t ts task e = rw (eq-eqb t.task task e)
+-- numbers in order
+cmp-less : (a b : ℕ) → a < b → nat_cmp a b ≡ Less
+cmp-less a b less = sym (nat_cmp_is a b Less less)
 
--- the first timer is another task's
-due_in-there : (t : Timer) (ts : List Timer) (task : ℕ) → t.task ≢ task → due_in (t ∷ ts) task ≡ due_in ts task
-due_in-there t ts task ne = rw (ne_eqb t.task task ne)
+cmp-same : (a b : ℕ) → a ≡ b → nat_cmp a b ≡ Equal
+cmp-same a b same = sym (nat_cmp_is a b Equal same)
 
--- a task that has no timer is not that of the first
-none_here : (t : Timer) (ts : List Timer) (task : ℕ) → due_in (t ∷ ts) task ≡ None → t.task ≢ task
-none_here t ts task none e = let some = due_in-here t ts task e in cc
+cmp-greater : (a b : ℕ) → b < a → nat_cmp a b ≡ Greater
+cmp-greater a b more = sym (nat_cmp_is a b Greater more)
 
--- one more timer, of a task that had none
-pub due_in-push_same : (ts : List Timer) (t : Timer) → due_in ts t.task ≡ None → due_in (ts ++ t ∷ []) t.task ≡ Some t.due
-due_in-push_same [] t none = due_in-here t [] t.task refl
-due_in-push_same (x ∷ ts) t none =
-    let ne = none_here x ts t.task none in
-    due_in-there x (ts ++ t ∷ []) t.task ne ∙ due_in-push_same ts t (sym (due_in-there x ts t.task ne) ∙ none)
-
-pub due_in-push_other : (ts : List Timer) (t : Timer) (task : ℕ) → task ≢ t.task → due_in (ts ++ t ∷ []) task ≡ due_in ts task
-due_in-push_other [] t task ne = due_in-there t [] task (λ e. ne (sym e))
-due_in-push_other (x ∷ ts) t task ne =
-    elim (cases_eq x.task task) [
-      | inl e ↦ due_in-here x (ts ++ t ∷ []) task e ∙ sym (due_in-here x ts task e)
-      | inr other ↦ due_in-there x (ts ++ t ∷ []) task other ∙ due_in-push_other ts t task ne ∙ sym (due_in-there x ts task other)
-    ]
-
-pub Apart-push : (ts : List Timer) (t : Timer) → Apart ts → due_in ts t.task ≡ None → Apart (ts ++ t ∷ [])
-Apart-push [] t apart none = (refl, tt)
-Apart-push (x ∷ ts) t apart none =
-    let ne = none_here x ts t.task none in
-    (due_in-push_other ts t x.task ne ∙ apart.0, Apart-push ts t apart.1 (sym (due_in-there x ts t.task ne) ∙ none))
-
--- the timers without one task's
-without-here : (t : Timer) (ts : List Timer) (task : ℕ) → t.task ≡ task → without task (t ∷ ts) ≡ without task ts
-without-here t ts task e = rw (eq-eqb t.task task e)
-
-without-there : (t : Timer) (ts : List Timer) (task : ℕ) → t.task ≢ task → without task (t ∷ ts) ≡ t ∷ without task ts
-without-there t ts task ne = rw (ne_eqb t.task task ne)
-
-pub due_in-without_same : (ts : List Timer) (task : ℕ) → due_in (without task ts) task ≡ None
-due_in-without_same [] task = refl
-due_in-without_same (t ∷ ts) task =
-    elim (cases_eq t.task task) [
-      | inl e ↦ ap (λ l. due_in l task) (without-here t ts task e) ∙ due_in-without_same ts task
-      | inr ne ↦ ap (λ l. due_in l task) (without-there t ts task ne) ∙ due_in-there t (without task ts) task ne ∙ due_in-without_same ts task
-    ]
-
-pub due_in-without_other : (ts : List Timer) (task other : ℕ) → other ≢ task → due_in (without task ts) other ≡ due_in ts other
-due_in-without_other [] task other apart = refl
-due_in-without_other (t ∷ ts) task other apart =
-    elim (cases_eq t.task task) [
-      | inl e ↦
-          ap (λ l. due_in l other) (without-here t ts task e)
-          ∙ due_in-without_other ts task other apart
-          ∙ sym (due_in-there t ts other (λ same. apart (sym same ∙ e)))
-      | inr ne ↦
-          ap (λ l. due_in l other) (without-there t ts task ne)
-          ∙ ap (λ o. cond (eqb t.task other) (Some t.due) o) (due_in-without_other ts task other apart)
-    ]
-
-pub Apart-without : (ts : List Timer) (task : ℕ) → Apart ts → Apart (without task ts)
-Apart-without [] task apart = tt
-Apart-without (t ∷ ts) task apart =
-    elim (cases_eq t.task task) [
-      | inl e ↦ rw (without-here t ts task e) (Apart-without ts task apart.1)
-      | inr ne ↦
-          rw (without-there t ts task ne)
-          ((due_in-without_other ts task t.task ne ∙ apart.0, Apart-without ts task apart.1))
-    ]
-
-Contains-here : {X : Type 0} (x y : X) (xs : List X) → y ≡ x → Contains (y ∷ xs) x
-Contains-here x y xs e = (0, omega arith, e)
-
-Contains-there : {X : Type 0} (x y : X) (xs : List X) → Contains xs x → Contains (y ∷ xs) x
-Contains-there x y xs found = (suc found.0, omega (arith, found.1), found.2)
-
-Contains-cases : {X : Type 0} (x y : X) (xs : List X) → Contains (y ∷ xs) x → (y ≡ x) ⊎ Contains xs x
-Contains-cases x y xs (zero, within, at) = inl at
-Contains-cases x y xs (suc i, within, at) = inr (i, omega (arith, within), at)
-
--- the ticks are those of the tasks' timers
-pub due_among : (ts : List Timer) (task due : ℕ) → due_in ts task ≡ Some due → Contains (dues ts) due
-due_among [] task due has = absurd (cc)
-due_among (t ∷ ts) task due has =
-    elim (cases_eq t.task task) [
-      | inl e ↦ let at = due_in-here t ts task e in Contains-here due t.due (dues ts) (cc)
-      | inr ne ↦ Contains-there due t.due (dues ts) (due_among ts task due (sym (due_in-there t ts task ne) ∙ has))
-    ]
-
--- what the rest of the timers has is a task's other than the first
-in_rest : (t : Timer) (ts : List Timer) (task due : ℕ) → due_in ts t.task ≡ None → due_in ts task ≡ Some due → due_in (t ∷ ts) task ≡ Some due
-in_rest t ts task due none has =
-    due_in-there t ts task (λ e. let same = ap (due_in ts) e in cc) ∙ has
-
-pub due_has_task : (ts : List Timer) (due : ℕ) → Apart ts → Contains (dues ts) due → (task : ℕ) × (due_in ts task ≡ Some due)
-due_has_task [] due apart among = absurd (omega (arith, among.1))
-due_has_task (t ∷ ts) due apart among =
-    elim (Contains-cases due t.due (dues ts) among) [
-      | inl at ↦ (t.task, due_in-here t ts t.task refl ∙ ap Some at)
-      | inr later ↦ let found = due_has_task ts due apart.1 later in (found.0, in_rest t ts found.0 due apart.0 found.1)
-    ]
-
--- a timer that is due later changes nothing, and another one does
-lesser-late : (now : ℕ) (o : Option ℕ) (t : Timer) → ltb now t.due ≡ true → lesser_due_of now o t ≡ o
-lesser-late now o t late = rw late
-
-lesser-due : (now : ℕ) (o : Option ℕ) (t : Timer) → ltb now t.due ≡ false → lesser_due_of now o t ≡ Some (lesser_of o t.task)
-lesser-due now o t due = rw due
-
-lesser_le : (o : Option ℕ) (task : ℕ) → lesser_of o task ≤ task
-lesser_le None task = omega arith
-lesser_le (Some least) task = omega arith
-
-lesser_is : (o : Option ℕ) (task : ℕ) → (o ≡ Some (lesser_of o task)) ⊎ (lesser_of o task ≡ task)
-lesser_is None task = inr refl
-lesser_is (Some least) task =
-    elim (cases_lt least task) [
-      | inl less ↦ inl (let same : least ≡ min least task = omega arith in ap Some same)
-      | inr more ↦ inr (omega arith)
-    ]
-
-never_none : (ts : List Timer) (now : ℕ) (o : Option ℕ) (m : ℕ) → o ≡ Some m → least_due_from now o ts ≡ None → ⊥
-never_none [] now o m is none = cc
-never_none (t ∷ ts) now o m is none =
-    elim (cases_Bool (ltb now t.due)) [
-      | inl late ↦ never_none ts now (lesser_due_of now o t) m (lesser-late now o t late ∙ is) none
-      | inr due ↦ never_none ts now (lesser_due_of now o t) (lesser_of o t.task) (lesser-due now o t due) none
-    ]
-
-at_most_start : (ts : List Timer) (now : ℕ) (o : Option ℕ) (m n : ℕ) → o ≡ Some m → least_due_from now o ts ≡ Some n → n ≤ m
-at_most_start [] now o m n is least = let same : n ≡ m = cc in omega arith
-at_most_start (t ∷ ts) now o m n is least =
-    elim (cases_Bool (ltb now t.due)) [
-      | inl late ↦ at_most_start ts now (lesser_due_of now o t) m n (lesser-late now o t late ∙ is) least
-      | inr due ↦
-          let below = at_most_start ts now (lesser_due_of now o t) (lesser_of o t.task) n (lesser-due now o t due) least in
-          let is_min : lesser_of o t.task ≡ min m t.task = ap (λ x. lesser_of x t.task) is in
-          omega arith
-    ]
-
--- the task's timer is not late
-not_late : (t : Timer) (ts : List Timer) (now task due : ℕ) → t.task ≡ task → due_in (t ∷ ts) task ≡ Some due → due ≤ now → ltb now t.due ≡ false
-not_late t ts now task due e has by_now =
-    let at = due_in-here t ts task e in
-    let same : t.due ≡ due = cc in
-    le-ltb now t.due (omega arith)
-
--- no due task is less than the least
-pub at_most_task : (ts : List Timer) (now : ℕ) (o : Option ℕ) (task due n : ℕ) → due_in ts task ≡ Some due → due ≤ now → least_due_from now o ts ≡ Some n → n ≤ task
-at_most_task [] now o task due n has by_now least = absurd (cc)
-at_most_task (t ∷ ts) now o task due n has by_now least =
-    elim (cases_eq t.task task) [
-      | inl e ↦
-          let below = at_most_start ts now (lesser_due_of now o t) (lesser_of o t.task) n (lesser-due now o t (not_late t ts now task due e has by_now)) least in
-          omega (arith, lesser_le o t.task)
-      | inr ne ↦ at_most_task ts now (lesser_due_of now o t) task due n (sym (due_in-there t ts task ne) ∙ has) by_now least
-    ]
-
--- where a task is due there is a least one
-pub some_least : (ts : List Timer) (now : ℕ) (o : Option ℕ) (task due : ℕ) → due_in ts task ≡ Some due → due ≤ now → least_due_from now o ts ≡ None → ⊥
-some_least [] now o task due has by_now none = cc
-some_least (t ∷ ts) now o task due has by_now none =
-    elim (cases_eq t.task task) [
-      | inl e ↦ never_none ts now (lesser_due_of now o t) (lesser_of o t.task) (lesser-due now o t (not_late t ts now task due e has by_now)) none
-      | inr ne ↦ some_least ts now (lesser_due_of now o t) task due (sym (due_in-there t ts task ne) ∙ has) by_now none
-    ]
-
--- the least due task is due
-pub least_has_due : (ts : List Timer) (now : ℕ) (o : Option ℕ) (n : ℕ) → Apart ts → least_due_from now o ts ≡ Some n → (o ≡ Some n) ⊎ ((due : ℕ) × (due_in ts n ≡ Some due) × (due ≤ now))
-least_has_due [] now o n apart least = inl least
-least_has_due (t ∷ ts) now o n apart least =
-    elim (least_has_due ts now (lesser_due_of now o t) n apart.1 least) [
-      | inl first ↦
-          elim (cases_Bool (ltb now t.due)) [
-            | inl late ↦ inl (sym (lesser-late now o t late) ∙ first)
-            | inr due ↦
-                let is = lesser-due now o t due in
-                let same : lesser_of o t.task ≡ n = cc in
-                elim (lesser_is o t.task) [
-                  | inl old ↦ inl (old ∙ ap Some same)
-                  | inr new ↦ inr (t.due, due_in-here t ts n (sym new ∙ same), ltb-false now t.due due)
-                ]
+cases_cmp : (a b : ℕ) → (a < b) ⊎ (a ≡ b) ⊎ (b < a)
+cases_cmp a b =
+    elim (cases_lt a b) [
+      | inl less ↦ inl less
+      | inr upto ↦
+          elim (cases_eq a b) [
+            | inl same ↦ inr (inl same)
+            | inr apart ↦ inr (inr (omega (arith, apart, upto)))
           ]
-      | inr found ↦ inr (found.0, in_rest t ts n found.0 apart.0 found.1, found.2)
     ]
+
+-- a task is found by no other
+at_other : (a b : ℕ) → b ≢ a → is_at (nat_cmp a) b ≡ false
+at_other a b apart =
+    elim (cases_cmp a b) [
+      | inl less ↦ rw (cmp-less a b less) refl
+      | inr (inl same) ↦ absurd (apart (sym same))
+      | inr (inr more) ↦ rw (cmp-greater a b more) refl
+    ]
+
+-- a tick with a task is found by no other tick, and by no other task
+at_other_tick : (due task tick other : ℕ) → tick ≢ due → is_at (tick_cmp (due, task)) (tick, other) ≡ false
+at_other_tick due task tick other apart =
+    elim (cases_cmp due tick) [
+      | inl less ↦ rw (cmp-less due tick less) refl
+      | inr (inl same) ↦ absurd (apart (sym same))
+      | inr (inr more) ↦ rw (cmp-greater due tick more) refl
+    ]
+
+at_other_task : (due task tick other : ℕ) → other ≢ task → is_at (tick_cmp (due, task)) (tick, other) ≡ false
+at_other_task due task tick other apart =
+    elim (cases_cmp due tick) [
+      | inl less ↦ rw (cmp-less due tick less) refl
+      | inr (inl same) ↦ rw (cmp-same due tick same) (at_other task other apart)
+      | inr (inr more) ↦ rw (cmp-greater due tick more) refl
+    ]
+
+-- what is not above comes later, or at the same tick with a task that is not less
+tick_upto : (due task tick other : ℕ) → is_gt (tick_cmp (due, task) (tick, other)) ≡ false → due ≤ tick
+tick_upto due task tick other upto =
+    elim (cases_cmp due tick) [
+      | inl less ↦ omega (arith, less)
+      | inr (inl same) ↦ omega (arith, same)
+      | inr (inr more) ↦ absurd (let above : is_gt (tick_cmp (due, task) (tick, other)) ≡ true = rw (cmp-greater due tick more) refl in cc)
+    ]
+
+task_upto : (due task tick other : ℕ) → is_gt (tick_cmp (due, task) (tick, other)) ≡ false → tick ≤ due → task ≤ other
+task_upto due task tick other upto by =
+    elim (cases_lt other task) [
+      | inl less ↦
+          let same : due ≡ tick = omega (arith, by, tick_upto due task tick other upto) in
+          absurd (let above : is_gt (tick_cmp (due, task) (tick, other)) ≡ true = rw (cmp-same due tick same, cmp-greater task other less) refl in cc)
+      | inr more ↦ more
+    ]
+
+is_due-same : (due : ℕ) → is_due_at (Some due) due ≡ true
+is_due-same due = eq-eqb due due refl
+
+is_due-other : (due tick : ℕ) → tick ≢ due → is_due_at (Some due) tick ≡ false
+is_due-other due tick apart = ne_eqb due tick (λ e. apart (sym e))
+
+is_due-is : (o : Option ℕ) (tick : ℕ) → is_due_at o tick ≡ true → o ≡ Some tick
+is_due-is None tick e = absurd (cc)
+is_due-is (Some due) tick e = ap Some (eqb-true due tick e)
+
+-- A map and a queue that agree still do after a change at one task and one tick, if they agree there and the task's other ticks stay.
+agree_but : (dues later_dues : BTreeMap ℕ ℕ) (queue later_queue : BTreeSet (ℕ × ℕ)) (task due : ℕ) → Agree dues queue
+    → ((other : ℕ) → is_at (nat_cmp task) other ≡ false → get nat_cmp later_dues other ≡ get nat_cmp dues other)
+    → ((q : ℕ × ℕ) → is_at (tick_cmp (due, task)) q ≡ false → contains tick_cmp later_queue q ≡ contains tick_cmp queue q)
+    → contains tick_cmp later_queue (due, task) ≡ is_due_at (get nat_cmp later_dues task) due
+    → ((tick : ℕ) → tick ≢ due → is_due_at (get nat_cmp dues task) tick ≡ is_due_at (get nat_cmp later_dues task) tick)
+    → Agree later_dues later_queue
+agree_but dues later_dues queue later_queue task due agree tasks ticks here stay other tick =
+    elim (cases_eq other task) [
+      | inl same ↦
+          elim (cases_eq tick due) [
+            | inl at ↦ rw (same, at) here
+            | inr late ↦ ticks (tick, other) (at_other_tick due task tick other late) ∙ agree other tick ∙ rw same (stay tick late)
+          ]
+      | inr apart ↦
+          ticks (tick, other) (at_other_task due task tick other apart)
+          ∙ agree other tick
+          ∙ ap (λ o. is_due_at o tick) (sym (tasks other (at_other task other apart)))
+    ]
+
+-- a timer more
+pub agree_added : (dues later_dues : BTreeMap ℕ ℕ) (queue later_queue : BTreeSet (ℕ × ℕ)) (task due : ℕ) → Agree dues queue → get nat_cmp dues task ≡ None → sorted.Updates tick_cmp queue later_queue (due, task) true → tree.Updates nat_cmp dues later_dues task (Some due) → Agree later_dues later_queue
+agree_added dues later_dues queue later_queue task due agree none ticks tasks =
+    agree_but dues later_dues queue later_queue task due agree tasks.2 ticks.2
+    (ticks.1 ∙ rw tasks.1 (sym (is_due-same due)))
+    (λ tick late. rw (none, tasks.1) (sym (is_due-other due tick late)))
+
+-- a timer less
+pub agree_removed : (dues later_dues : BTreeMap ℕ ℕ) (queue later_queue : BTreeSet (ℕ × ℕ)) (task due : ℕ) → Agree dues queue → Some due ≡ get nat_cmp dues task → sorted.Updates tick_cmp queue later_queue (due, task) false → tree.Updates nat_cmp dues later_dues task None → Agree later_dues later_queue
+agree_removed dues later_dues queue later_queue task due agree has ticks tasks =
+    agree_but dues later_dues queue later_queue task due agree tasks.2 ticks.2
+    (ticks.1 ∙ rw tasks.1 refl)
+    (λ tick late. rw (← has, tasks.1) (is_due-other due tick late))
+
+-- a timer more in the queue alone, which is taken back
+pub agree_undone : (dues later_dues : BTreeMap ℕ ℕ) (queue more later_queue : BTreeSet (ℕ × ℕ)) (task due : ℕ) → Agree dues queue → get nat_cmp dues task ≡ None → sorted.Updates tick_cmp queue more (due, task) true → tree.IsUnchanged dues later_dues → sorted.Updates tick_cmp more later_queue (due, task) false → Agree later_dues later_queue
+agree_undone dues later_dues queue more later_queue task due agree none added stay removed =
+    let same : (other : ℕ) → get nat_cmp later_dues other ≡ get nat_cmp dues other = λ other. ap (λ es. due_in es other) stay in
+    agree_but dues later_dues queue later_queue task due agree (λ other apart. same other)
+    (λ q apart. removed.2 q apart ∙ added.2 q apart)
+    (removed.1 ∙ rw (same task, none) refl)
+    (λ tick late. ap (λ o. is_due_at o tick) (sym (same task)))
+
+-- an empty queue: no task has a timer
+none_first : (dues : BTreeMap ℕ ℕ) (queue : BTreeSet (ℕ × ℕ)) → Agree dues queue → queue.keys ≡ [] → HasNone dues.entries
+none_first dues queue agree empty task = none_at (get nat_cmp dues task) refl
+  where
+    none_at : (o : Option ℕ) → get nat_cmp dues task ≡ o → get nat_cmp dues task ≡ None
+    none_at None e = e
+    none_at (Some due) e =
+        absurd (
+        let out : contains tick_cmp queue (due, task) ≡ false = rw empty refl in
+        let among : contains tick_cmp queue (due, task) ≡ true = agree task due ∙ ap (λ o. is_due_at o due) e ∙ is_due-same due in
+        cc
+        )
+
+-- the least of a queue: its first timer
+is_first : (dues : BTreeMap ℕ ℕ) (queue : BTreeSet (ℕ × ℕ)) (first : ℕ × ℕ) → Agree dues queue → contains tick_cmp queue first ≡ true → sorted.IsLowerBound tick_cmp queue first → IsFirst dues.entries first.0 first.1
+is_first dues queue first agree among below =
+    let upto = λ (other tick : ℕ) (has : get nat_cmp dues other ≡ Some tick). below (tick, other) (agree other tick ∙ ap (λ o. is_due_at o tick) has ∙ is_due-same tick) in
+    record {
+      has = is_due-is _ first.0 (sym (agree first.1 first.0) ∙ among);
+      earliest = λ other tick has. tick_upto first.0 first.1 tick other (upto other tick has);
+      least = λ other tick has by. task_upto first.0 first.1 tick other (upto other tick has) by;
+    }
+
+-- what `first` answers
+pub first_seen : (dues : BTreeMap ℕ ℕ) (queue : BTreeSet (ℕ × ℕ)) (o : Option (Bor (ℕ × ℕ))) → Agree dues queue → IsSome o ↔ (0 < length queue.keys) → IfSome o (λ k. IsTrue (contains tick_cmp queue k.now)) → IfSome o (λ k. sorted.IsLowerBound tick_cmp queue k.now) → MatchOption (option_copied o) (HasNone dues.entries) (λ first. IsFirst dues.entries first.0 first.1)
+first_seen dues queue None agree some among below = none_first dues queue agree (empty_keys queue.keys some.1)
+  where
+    empty_keys : (ks : List (ℕ × ℕ)) → (0 < length ks → IsSome {T = Bor (ℕ × ℕ)} None) → ks ≡ []
+    empty_keys [] some = refl
+    empty_keys (k ∷ ks) some = absurd (let e = some (omega arith) in cc)
+first_seen dues queue (Some k) agree some among below = is_first dues queue k.now agree among below

@@ -2,12 +2,11 @@
 -- timers are due. No clause says how the clock keeps that map.
 use Rattle.std.specs.Prelude.{◌≡◌, ◌≢◌, ◌⊎◌, ℕ, ◌<◌, ◌≤◌, List, Option, Some, None}
 use Rattle.autojump_clock.specs.Timers.{due_in}
-use Rattle.autojump_clock.specs.declared.timers.Timer.{Timer}
 
 pub record Clock : Type 0 where
   pub tick : ℕ
   pub limit : ℕ
-  pub timers : List Timer
+  pub timers : List (ℕ × ℕ)
 
 -- the clock's tick
 abbrev pub now_of : Clock → ℕ

@@ -1,7 +1,7 @@
 ghost use Rattle.std.specs.Prelude.{◌≡◌, ℕ, ◌<◌, ◌^◌, ◌≤◌, Some, None, OnOk, OnErr, IsSome, MatchOption};
 
 use crate::task_id::TaskId;
-use crate::timers::{Timer, earlier, least_due, least_due_task, remove_task};
+use crate::timers::{Timers, earlier};
 use std::alloc::{AllocError, Global};
 use std::marker::Model;
 
@@ -19,7 +19,7 @@ pub enum Jump {
 pub struct MockClock {
     tick: u64,
     limit: u64,
-    timers: Vec<Timer>,
+    timers: Timers,
 }
 
 impl Model for MockClock {
@@ -27,11 +27,12 @@ impl Model for MockClock {
 
     ghost Value = { Clock };
 
-    ghost use Rattle.autojump_clock.specs.Timers.{Apart};
+    ghost use Rattle.autojump_clock.specs.Timers.{NoneBefore};
 
-    ghost view = { λ c. record { tick = c.tick; limit = c.limit; timers = c.timers.items } };
+    ghost view = { λ c. record { tick = c.tick; limit = c.limit; timers = c.timers } };
 
-    ghost invariant = { λ c. Apart c.timers.items };
+    // Whatever is due is due now, so the first of the timers is the least task that is due.
+    ghost invariant = { λ c. NoneBefore c.timers c.tick };
 }
 
 impl MockClock {
@@ -47,7 +48,7 @@ impl MockClock {
         MockClock {
             tick: 0,
             limit,
-            timers: Vec::new(alloc),
+            timers: Timers::new(alloc),
         }
     }
 
@@ -68,10 +69,7 @@ impl MockClock {
         ensures time { OnOk result (SameTime self.old self.new) }
         ensures err { OnErr result (IsUnchanged self.old self.new) }
     {
-        self.timers.push(Timer {
-            task: task.key(),
-            due,
-        })?;
+        self.timers.add(task.key(), due)?;
         Ok(())
     }
 
@@ -81,7 +79,7 @@ impl MockClock {
         ensures timers { Updates self.old self.new task None }
         ensures time { SameTime self.old self.new }
     {
-        remove_task(&mut self.timers, task.key());
+        self.timers.remove(task.key());
     }
 
     /// Jumps to the next tick, once every task is blocked: the least of the ticks at which timers are due and of the
@@ -93,7 +91,7 @@ impl MockClock {
         requires later { (cancel : ℕ) → next_cancel ≡ Some cancel → now_of self.old < cancel }
         ensures { Jumps self.old next_cancel result self.new }
     {
-        let due = least_due(self.timers.as_slice()).unwrap();
+        let (due, _) = self.timers.first().unwrap();
         let next = earlier(due, next_cancel);
         if next > self.limit {
             return Jump::Limit;
@@ -107,10 +105,13 @@ impl MockClock {
     pub fn take_due(&mut self) -> Option<TaskId>
         ensures { MatchOption result (NoneDue self.old self.new) (λ task. TakesDue self.old task self.new) }
     {
-        let Some(task) = least_due_task(self.timers.as_slice(), self.tick) else {
+        let Some((due, task)) = self.timers.first() else {
             return None;
         };
-        remove_task(&mut self.timers, task);
+        if due > self.tick {
+            return None;
+        }
+        self.timers.remove(task);
         Some(TaskId::of(task))
     }
 }
