@@ -31,11 +31,13 @@ use Rattle.task_machine.specs.declared.stop.Moved.TheVariants.{On, Stops}
 use Rattle.task_machine.specs.declared.stop.Stop.TheVariants.{Wait, Ended}
 use Rattle.task_machine.specs.declared.task.Task.{Task}
 use Rattle.task_machine.specs.declared.world.World.{World}
+use Rattle.task_machine.specs.Acts.{Scoping, scoping_of, Acts}
 use Rattle.task_machine.specs.Exits.{ExitsAt, FailsAt}
+use Rattle.task_machine.specs.Left.{LeavesOne}
 use Rattle.task_machine.specs.Fitting.{Block, a_scope, a_nursery, blocks_of}
 use Rattle.task_machine.specs.Frames.{frame_of, frames_onto, frames_of}
 use Rattle.task_machine.specs.Stacked.{AreAt}
-use Rattle.task_machine.specs.Standing.{step_at, here_of, Stands, AreNoted, Took, Takes}
+use Rattle.task_machine.specs.Standing.{step_at, here_of, waits_by, Stands, AreNoted, Owns, OthersStay, Took, Takes}
 use Rattle.task_machine.specs.Stops.{Numbers, MovesAs}
 use Rattle.task_machine.specs.Tasks.{scope_of}
 use Rattle.task_machine.specs.Worlds.{label_at}
@@ -59,8 +61,8 @@ stands_as frames task before world froms numbers stopped ps same stands =
 
 -- and what it does from there is what the whole task does
 pub took_as : (frames : List Frame) (task before after : Task) (old new : World) (goes : Moved) (froms : Table) (numbers : Numbers) (o : Move) → before.part ≡ task.part →
-    before.entries.items ≡ task.entries.items → Took frames before after old new goes froms numbers o → Took frames task after old new goes froms numbers o
-took_as frames task before after old new goes froms numbers o part noted took =
+    before.entries.items ≡ task.entries.items → scoping_of before old ≡ scoping_of task old → Took frames before after old new goes froms numbers o → Took frames task after old new goes froms numbers o
+took_as frames task before after old new goes froms numbers o part noted scoping took =
     record {
       numbers_after = took.numbers_after;
       frames_after = took.frames_after;
@@ -75,6 +77,10 @@ took_as frames task before after old new goes froms numbers o part noted took =
       grow = took.grow;
       kept = took.kept;
       numbered = took.numbered;
+      owned = subst (λ (s : Scoping). Owns (blocks_of frames) s.own s.tree old.book (blocks_of after.frames.items) (waits_by goes after.halt)) scoping took.owned;
+      covered = took.covered;
+      others = subst (λ (s : Scoping). OthersStay (blocks_of frames) s.own s.tree old.book new.book) scoping took.others;
+      acts = subst (λ (s : Scoping). Acts old.tick s o.made (scoping_of after new)) scoping took.acts;
     }
 
 -- its innermost frame was taken off
@@ -86,7 +92,7 @@ took_popped : (frames : List Frame) (task before after : Task) (old new : World)
     before ≡ record task { frames = before.frames } →
     Took frames before after old new goes froms numbers o → Took frames task after old new goes froms numbers o
 took_popped frames task before after old new goes froms numbers o same took =
-    took_as frames task before after old new goes froms numbers o (ap (λ (t : Task). t.part) same) (ap (λ (t : Task). t.entries.items) same) took
+    took_as frames task before after old new goes froms numbers o (ap (λ (t : Task). t.part) same) (ap (λ (t : Task). t.entries.items) same) (ap (λ (t : Task). scoping_of t old) same) took
 
 -- what the definitions do by the innermost frame is their step
 pub takes_step : (frames fs : List Frame) (f : Frame) (task before after : Task) (old new : World) (goes : Moved) (exc : Option Exc) → frames ≡ fs ++ f ∷ [] →
@@ -168,10 +174,10 @@ takes_end frames task before after old new exc goes popped none same goes_is sta
 pub takes_exit : (frames : List Frame) (fail : Bool) (task before after : Task) (old new : World) (exc goes : Option held.Exc) → frames ≡ before.frames.items ++ Scope fail ∷ [] →
     before ≡ record task { frames = before.frames } → after ≡ record before { own = after.own; froms = after.froms; entries = after.entries } →
     new ≡ record old { scopes = new.scopes; labels = new.labels } → ExitsAt before after old new (kind.Scope fail) (option_map exc_of exc) (option_map exc_of goes) →
-    Takes frames task after old new (On goes) (step_at task old frames (option_map exc_of exc))
-takes_exit frames fail task before after old new exc goes popped same stays world exits =
+    LeavesOne before after old new → Takes frames task after old new (On goes) (step_at task old frames (option_map exc_of exc))
+takes_exit frames fail task before after old new exc goes popped same stays world exits one =
     takes_step frames before.frames.items (Scope fail) task before after old new (On goes) (option_map exc_of exc) popped same
-    (λ froms numbers ps count stands. took_exit frames fail before after old new exc goes froms numbers ps (here_of before) count stands popped stays world exits)
+    (λ froms numbers ps count stands. took_exit frames fail before after old new exc goes froms numbers ps (here_of before) count stands popped stays world exits one)
 
 -- the body of the innermost nursery has ended
 pub takes_body : (frames : List Frame) (id : ℕ) (task before after : Task) (old new : World) (exc : Option held.Exc) (goes : Moved) → frames ≡ before.frames.items ++ Nursery id ∷ [] →

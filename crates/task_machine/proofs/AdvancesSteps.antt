@@ -4,6 +4,7 @@ use Rattle.std.specs.List.{slice_get}
 use Rattle.cancel_scopes.specs.Tree.{outer_of}
 use Rattle.exc_groups.specs.Exceptions.{raised}
 use Rattle.job_tree.specs.Tree as tree
+use Rattle.job_tree.specs.Modest.{AreModest}
 use Rattle.job_tree.specs.Blocks.{steps_of, step_of as step_in, handled_of, cleaned_of}
 use Rattle.job_tree.specs.declared.deadline.Deadline.{Deadline}
 use Rattle.job_tree.specs.declared.step.Step.{Step}
@@ -24,7 +25,7 @@ use Rattle.task_machine.specs.declared.stop.Moved.{Moved}
 use Rattle.task_machine.specs.declared.stop.Moved.TheVariants.{On}
 use Rattle.task_machine.specs.declared.task.Task.{Task}
 use Rattle.task_machine.specs.declared.world.World.{World}
-use Rattle.task_machine.specs.Entered.{EntersAt, EntersBlock, EntersNursery, CancelsAt, label_in}
+use Rattle.task_machine.specs.Entered.{EntersAt, EntersOne, EntersBlock, EntersNursery, CancelsAt, label_in}
 use Rattle.task_machine.specs.Fitting.{blocks_of}
 use Rattle.task_machine.specs.Frames.{frames_of}
 use Rattle.task_machine.specs.Stacked.{AreAt}
@@ -135,7 +136,7 @@ takes_asks frames first task before after world goes kernel purpose a is stays a
     (took_halts frames before after world goes froms numbers None ps (halts (asking kernel purpose) (rest.steps_left (steps_of a.left.now) ∷ frames_of numbers a.outer) ps) stands
     (stays ∙ ap (λ (t : Task). record before { frames = t.frames; halt = after.halt }) (sym stays))
     (ap (λ (t : Task). blocks_of t.frames.items) stays ∙ blocks_put frames task before first a)
-    (sym (ap (λ (t : Task). frames_of numbers t.frames.items) stays ∙ frames_put frames task before first a numbers)) refl refl refl
+    (sym (ap (λ (t : Task). frames_of numbers t.frames.items) stays ∙ frames_put frames task before first a numbers)) refl refl refl tt
     (asks numbers world.book (rest.steps_left (steps_of a.left.now) ∷ frames_of numbers a.outer) ps)))
 
 pub takes_pace : (frames : List Frame) (first : Step) (task before after : Task) (world : World) (goes : Moved) (k : ℕ) → AtStep frames task before first → first ≡ code.Pace k →
@@ -200,7 +201,7 @@ takes_raise frames first task before world goes name a is raises =
     (sym (ap (λ (s : Step). step_on froms world.tick (here_of before) (step_in s) (steps_of a.left.now) (frames_of numbers a.outer) ps count) is))
     (took_halts frames before before world goes froms numbers None ps (onward (rest.steps_left (steps_of a.left.now) ∷ frames_of numbers a.outer) ps (Some
     (raised name before.label world.tick))) stands refl
-    (blocks_put frames task before first a) (sym (frames_put frames task before first a numbers)) refl refl refl
+    (blocks_put frames task before first a) (sym (frames_put frames task before first a numbers)) refl refl refl tt
     (raises numbers world.book (rest.steps_left (steps_of a.left.now) ∷ frames_of numbers a.outer) ps)))
 
 pub takes_cancel : (frames : List Frame) (first : Step) (task before : Task) (old new : World) (name : List ℕ) → AtStep frames task before first → first ≡ code.Cancel name →
@@ -218,8 +219,9 @@ takes_cancel frames first task before old new name a is world cancels =
 pub takes_scope : (frames : List Frame) (first : Step) (task before after : Task) (old new : World) (name : List ℕ) (deadline : Deadline) (shield fail : Bool) (body : tree.Steps) →
     AtStep frames task before first → first ≡ code.Scope name deadline shield fail body → after ≡ record before { frames = after.frames; own = after.own; froms = after.froms } →
     EntersBlock before after (Scope fail) body → new ≡ record old { scopes = new.scopes; labels = new.labels } →
-    EntersAt old new (scope_of before) (scope_of after) (label_in before name) shield (due deadline old.tick) → Takes frames task after old new (On None) (step_at task old frames None)
-takes_scope frames first task before after old new name deadline shield fail body a is stays block world enters =
+    EntersAt old new (scope_of before) (scope_of after) (label_in before name) shield (due deadline old.tick) → EntersOne before after old new (label_in before name) (due deadline old.tick) →
+    Takes frames task after old new (On None) (step_at task old frames None)
+takes_scope frames first task before after old new name deadline shield fail body a is stays block world enters one =
     takes_on frames first task before after old new (On None) a
     (λ froms numbers ps count stands fresh.
     subst (λ (o : Move). Took frames before after old new (On None) froms numbers o)
@@ -230,13 +232,14 @@ takes_scope frames first task before after old new name deadline shield fail bod
     (record { label = label_in before name; shield = shield } ∷ ps)))
     (frames_put frames task before first a numbers)
     (took_scope frames before after old new froms numbers None ps (label_in before name) shield fail (due deadline old.tick) body stands (blocks_put frames task before first a)
-    (subst (λ (s : Step). IsNew (names_at ps) (step_in s)) is fresh).0 stays block world enters)))
+    (subst (λ (s : Step). IsNew (names_at ps) (step_in s)) is fresh).0 stays block world enters one)))
 
 pub takes_nursery : (me : ℕ) (frames : List Frame) (first : Step) (task before after : Task) (old new : World) (name : List ℕ) (body : tree.Steps) → AtStep frames task before first →
     first ≡ code.Nursery name body → after ≡ record before { frames = after.frames; own = after.own; froms = after.froms } →
     EntersNursery me before after old new (label_in before name) body → new ≡ record old { scopes = new.scopes; labels = new.labels; book = new.book } →
-    EntersAt old new (scope_of before) (scope_of after) (label_in before name) false None → Takes frames task after old new (On None) (step_at task old frames None)
-takes_nursery me frames first task before after old new name body a is stays block world enters =
+    EntersAt old new (scope_of before) (scope_of after) (label_in before name) false None → EntersOne before after old new (label_in before name) None →
+    Takes frames task after old new (On None) (step_at task old frames None)
+takes_nursery me frames first task before after old new name body a is stays block world enters one =
     takes_on frames first task before after old new (On None) a
     (λ froms numbers ps count stands fresh.
     subst (λ (o : Move). Took frames before after old new (On None) froms numbers o)
@@ -246,7 +249,7 @@ takes_nursery me frames first task before after old new name body a is stays blo
     (making (rest.enters (label_in before name) old.tick None ∷ []) (rest.steps_left body ∷ rest.in_nursery [] ∷ gs) (record { label = label_in before name; shield = false } ∷ ps)))
     (frames_put frames task before first a numbers)
     (took_nursery me frames before after old new froms numbers None ps (label_in before name) body stands (blocks_put frames task before first a)
-    (subst (λ (s : Step). IsNew (names_at ps) (step_in s)) is fresh).0 stays block world enters)))
+    (subst (λ (s : Step). IsNew (names_at ps) (step_in s)) is fresh).0 stays block world enters one)))
 
 -- ---- children are started
 
@@ -277,8 +280,8 @@ in_body fs outer gs id left e f = e ∙ ap (λ (hs : List Frame). hs ++ Steps le
 -- one child is started; no other block of the task has the nursery
 pub takes_start : (frames fs : List Frame) (id : ℕ) (first : Step) (task before : Task) (old new : World) (name : List ℕ) (body : tree.Steps) → (a : AtStep frames task before first) →
     first ≡ code.Start name None body → a.outer ≡ fs ++ Nursery id ∷ [] → (HasBlock id (blocks_of fs) → ⊥) → new ≡ record old { book = new.book; started = new.started } →
-    StartsOne old new id (label_in before name) before.part body → Takes frames task before old new (On None) (step_at task old frames None)
-takes_start frames fs id first task before old new name body a is within apart world starts =
+    StartsOne old new id (label_in before name) before.part body → AreModest body → Takes frames task before old new (On None) (step_at task old frames None)
+takes_start frames fs id first task before old new name body a is within apart world starts modest =
     takes_on frames first task before before old new (On None) a
     (λ froms numbers ps count stands new_name.
     subst (λ (o : Move). Took frames before before old new (On None) froms numbers o)
@@ -286,14 +289,14 @@ takes_start frames fs id first task before old new name body a is within apart w
     (Nursery id) within))
     ∙ sym (ap (λ (s : Step). step_on froms old.tick (here_of before) (step_in s) (steps_of a.left.now) (frames_of numbers a.outer) ps count) is))
     (took_start frames fs id a.left before old new froms numbers None ps name body count stands (in_body fs a.outer before.frames.items id a.left a.held within)
-    (blocks_put frames task before first a) apart world starts))
+    (blocks_put frames task before first a) apart world starts modest))
 
 -- and so many over the cuts of its part
 pub takes_start_over : (frames fs : List Frame) (id : ℕ) (first : Step) (task before : Task) (old new : World) (name : List ℕ) (k : ℕ) (body : tree.Steps) →
     (a : AtStep frames task before first) →
     first ≡ code.Start name (Some k) body → a.outer ≡ fs ++ Nursery id ∷ [] → (HasBlock id (blocks_of fs) → ⊥) → new ≡ record old { book = new.book; started = new.started } →
-    StartsOver before old new id name k body k → Takes frames task before old new (On None) (step_at task old frames None)
-takes_start_over frames fs id first task before old new name k body a is within apart world starts =
+    StartsOver before old new id name k body k → AreModest body → Takes frames task before old new (On None) (step_at task old frames None)
+takes_start_over frames fs id first task before old new name k body a is within apart world starts modest =
     takes_on frames first task before before old new (On None) a
     (λ froms numbers ps count stands new_name.
     subst (λ (o : Move). Took frames before before old new (On None) froms numbers o)
@@ -301,7 +304,7 @@ takes_start_over frames fs id first task before old new name k body a is within 
     (frames_pushed numbers fs a.outer (Nursery id) within))
     ∙ sym (ap (λ (s : Step). step_on froms old.tick (here_of before) (step_in s) (steps_of a.left.now) (frames_of numbers a.outer) ps count) is))
     (took_start_over frames fs id a.left before old new froms numbers None ps name k body count stands (in_body fs a.outer before.frames.items id a.left a.held within)
-    (blocks_put frames task before first a) apart world starts))
+    (blocks_put frames task before first a) apart world starts modest))
 
 -- ---- a `try` begins
 

@@ -31,7 +31,7 @@ not_first labels Q (Some m) o own n e others i =
     one_at a b h = cc
 
 -- a nursery of a task has the scope of one that the task opened
-has_scope : (labels : Labels) (book : NurseryBook) (bs : List Block) (own : List Own) (waits : Option ℕ) (id : ℕ) (n : Members) → Opened labels book bs own waits →
+pub has_scope : (labels : Labels) (book : NurseryBook) (bs : List Block) (own : List Own) (waits : Option ℕ) (id : ℕ) (n : Members) → Opened labels book bs own waits →
     HasNurseryOf id bs waits →
     nursery_at book id ≡ Some n → AreOthers n.scope own → ⊥
 has_scope labels book [] own waits id n h (inl has) e others = has

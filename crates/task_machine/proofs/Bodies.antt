@@ -1,5 +1,5 @@
 -- The nursery in whose body a task is, by its frames.
-use Rattle.std.proofs.Common.{◌≡◌, ◌⊎◌, inl, inr, ℕ, ◌+◌, ◌-◌, ◌≤◌, Bool, true, false, Option, Some, None, List, [], ◌∷◌, ◌++◌, length, length-append, append_assoc, refl, ap, sym, ◌∙◌, subst, arith}
+use Rattle.std.proofs.Common.{◌≡◌, ℕ, ◌-◌, ◌≤◌, true, false, Option, Some, None, List, [], ◌∷◌, ◌++◌, length, length-append, append_assoc, refl, ap, sym, ◌∙◌, subst, arith}
 use Rattle.std.proofs.lemmas.Option.{get_or_from_slice_get}
 use Rattle.std.specs.Prelude.{IsTrue, slice_get, get_or}
 use Rattle.std.specs.Option.{IsSomeAnd}
@@ -11,7 +11,7 @@ use Rattle.task_turns.specs.Placed.{in_body}
 use Rattle.task_machine.specs.declared.frame.Frame.{Frame}
 use Rattle.task_machine.specs.declared.frame.Frame.TheVariants.{Steps, Scope, Nursery, Try, Handler, Cleanup}
 use Rattle.task_machine.specs.declared.task.Own.{Own}
-use Rattle.task_machine.specs.Fitting.{Block, a_nursery, blocks_of, frames_behind, InBody, IsMine, IsBlockOf, Opened}
+use Rattle.task_machine.specs.Fitting.{Block, a_nursery, blocks_of, frames_behind, InBody, IsMine, Opened}
 use Rattle.task_machine.specs.Frames.{frame_of, frames_of}
 use Rattle.task_machine.specs.Labels.{Labels}
 use Rattle.task_machine.proofs.Blocks.{blocks_append}

@@ -16,6 +16,7 @@ use Rattle.task_records.specs.Records.{entry_of, IsSlice}
 use Rattle.task_turns.specs.Midway.{Place}
 use Rattle.task_turns.specs.Names.{names_at, OwnNames}
 use Rattle.task_turns.specs.Steps.{signs_home, froms_after}
+use Rattle.task_machine.specs.Acts.{key_failed}
 use Rattle.task_machine.specs.Labels.{Labels}
 use Rattle.task_machine.specs.Stacked.{AreAt}
 use Rattle.task_machine.specs.Standing.{AreNoted}
@@ -60,6 +61,21 @@ signed_first labels froms (l ∷ ls) (p ∷ ps) key t e top own a =
     let same : key ≡ l.label = sym (one_of l.label key top) in
     signed_alike labels froms (l ∷ ls) (p ∷ ps) key t p.label (ap labels same ∙ a.0) (inl same) own a
 
+-- the innermost scope of a stack is the scope whose stack it is
+top_at : (tree : Tree) (scope : Option ℕ) (key : ℕ) → IsOwn tree → scope ≡ Some key → IsSome (stack_of tree key) → own_label (outer_of tree scope) ≡ Some key
+top_at tree scope key own within is_open =
+    subst (λ (s : Option ℕ). own_label (outer_of tree s) ≡ Some key) (sym within) (by_stack (stack_of tree key) refl is_open)
+  where
+    by_stack : (o : Option Stack) → stack_of tree key ≡ o → IsSome o → own_label (unwrap_or o []) ≡ Some key
+    by_stack None f s = absurd (let g : false ≡ true = s in cc)
+    by_stack (Some st) f s = own key st f
+
+-- who fails signs for that
+pub failed_at : (tree : Tree) (scope : Option ℕ) (key : ℕ) (o : Option held.Exc) (b : Bool) → is_some o ≡ not b → b ≡ false → IsOwn tree → scope ≡ Some key → IsSome (stack_of tree key) →
+    key_failed (option_map exc_of o) (outer_of tree scope) ≡ Some key
+failed_at tree scope key None b h i own within is_open = absurd (let f : false ≡ true = h ∙ ap not i in cc)
+failed_at tree scope key (Some e) b h i own within is_open = top_at tree scope key own within is_open
+
 -- the innermost place is signed by the scope of that
 pub fails_at : (labels more : Labels) (old new : Tree) (scope : Option ℕ) (key t : ℕ) (e : Exc) → more ≡ labels → IsOwn old → scope ≡ Some key → IsSome (stack_of old key) →
     ((at : ℕ) → stack_of new at ≡ option_map (after_cancel key t) (stack_of old at)) → (froms : Table) (ps : List Place) → OwnNames (names_at ps) →
@@ -67,14 +83,7 @@ pub fails_at : (labels more : Labels) (old new : Tree) (scope : Option ℕ) (key
 fails_at labels more old new scope key t e same own within is_open after froms ps names a =
     subst (λ (ls : Labels). AreAt ls (froms_after froms (signs_home (Some e) ps t)) (outer_of new scope) ps) (sym same)
     (subst (λ (st : Stack). AreAt labels (froms_after froms (signs_home (Some e) ps t)) st ps) (sym (round_after old new key t scope after))
-    (signed_first labels froms (outer_of old scope) ps key t e top names a))
-  where
-    top : own_label (outer_of old scope) ≡ Some key
-    top = subst (λ (s : Option ℕ). own_label (outer_of old s) ≡ Some key) (sym within) (by_stack (stack_of old key) refl is_open)
-      where
-        by_stack : (o : Option Stack) → stack_of old key ≡ o → IsSome o → own_label (unwrap_or o []) ≡ Some key
-        by_stack None f s = absurd (let g : false ≡ true = s in cc)
-        by_stack (Some st) f s = own key st f
+    (signed_first labels froms (outer_of old scope) ps key t e (top_at old scope key own within is_open) names a))
 
 pub fails_if : (labels more : Labels) (old new : Tree) (scope : Option ℕ) (key t : ℕ) (o : Option held.Exc) (b : Bool) → is_some o ≡ not b → b ≡ false → more ≡ labels → IsOwn old → scope ≡ Some key →
     IsSome (stack_of old key) → ((at : ℕ) → stack_of new at ≡ option_map (after_cancel key t) (stack_of old at)) → (froms : Table) (ps : List Place) → OwnNames (names_at ps) →

@@ -1,6 +1,7 @@
 pub mod LabelLemmas
 pub mod OwnLemmas
 pub mod FindLemmas
+pub mod Acting
 pub mod Stacked
 pub mod Moves
 pub mod Enters
@@ -12,6 +13,7 @@ pub mod Starts
 pub mod Blocks
 pub mod Others
 pub mod Fits
+pub mod Begins
 pub mod Taking
 pub mod Kept
 pub mod Settles

@@ -1,22 +1,21 @@
 -- A nursery that a task waits for is settled, and one that gets children.
-use Rattle.std.proofs.Common.{◌≡◌, ◌≢◌, ◌⊎◌, inl, inr, ℕ, zero, suc, ◌+◌, ◌<◌, Bool, true, false, ◌&&◌, ◌==◌, Option, Some, None, List, [], ◌∷◌, ◌++◌, length, refl, ap, sym, ◌∙◌, subst, arith}
+use Rattle.std.proofs.Common.{◌≡◌, ◌≢◌, inl, inr, ℕ, zero, suc, ◌<◌, Bool, true, false, ◌&&◌, ◌==◌, Option, Some, None, List, [], ◌∷◌, ◌++◌, length, refl, ap, sym, ◌∙◌, subst, arith}
 use Rattle.std.proofs.lemmas.Bool.{eqb-true, eq-eqb}
 use Rattle.std.proofs.lemmas.List.Elements.{All-nil, All-cons, All-head, All-tail}
-use Rattle.std.specs.Prelude.{All, IsSome, is_some, slice_get}
-use Rattle.std.specs.Option.{IsSomeAnd, ForSome}
+use Rattle.std.specs.Prelude.{IsSome, is_some}
+use Rattle.std.specs.Option.{IsSomeAnd}
 use Rattle.std.specs.List.{last_or, list_all}
 use Rattle.buffer_parts.specs.declared.part.Part.{Part}
-use Rattle.cancel_scopes.specs.Tree.{Stack, Tree, stack_of, IsOpen, IsOwn, IsChain, IsApart, IsInnermost, OthersKeep}
+use Rattle.cancel_scopes.specs.Tree.{Stack, Tree, stack_of, IsOwn, IsChain, IsApart, IsInnermost, OthersKeep}
 use Rattle.nursery_book.specs.Nursery.{End, Nursery as Members, is_settled}
 use Rattle.nursery_book.specs.Book.{nursery_at, HasNursery, Updates}
 use Rattle.nursery_book.specs.declared.book.NurseryBook.{NurseryBook}
 use Rattle.task_machine.specs.declared.frame.Frame.{Frame}
 use Rattle.task_machine.specs.declared.task.Own.{Own}
-use Rattle.task_machine.specs.Fitting.{Block, a_scope, a_nursery, blocks_of, AreOthers, IsMine, IsAwaited, IsBlockOf, Opened, AnyRuns, HasRunning, RunsIn, OthersRun, FitsIn}
+use Rattle.task_machine.specs.Fitting.{Block, a_scope, a_nursery, blocks_of, AreOthers, IsMine, IsBlockOf, Opened, AnyRuns, HasRunning, RunsIn, OthersRun, FitsIn}
 use Rattle.task_machine.specs.Labels.{Labels}
 use Rattle.task_machine.specs.Labels as label
 use Rattle.task_machine.specs.Left.{OwnFirst}
-use Rattle.task_machine.specs.Stacked.{IsKey}
 use Rattle.task_machine.proofs.Blocks.{opened_length, opened_stays, runs_behind, runs_in_later}
 use Rattle.task_machine.proofs.Fits.{LastOf, last_of, Ready, round_open}
 use Rattle.task_machine.proofs.Kept.{stays_but, first_below, home_open}

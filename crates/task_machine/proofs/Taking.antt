@@ -1,5 +1,5 @@
 -- Moves of the code, one after another.
-use Rattle.std.proofs.Common.{◌≡◌, inl, inr, ℕ, zero, suc, ◌+◌, Option, Some, None, List, [], ◌∷◌, ◌++◌, map, length, refl, ap, sym, ◌∙◌, subst, append_assoc, length-append, arith}
+use Rattle.std.proofs.Common.{◌≡◌, ◌⊎◌, inl, inr, ℕ, zero, suc, ◌+◌, Option, Some, None, List, [], ◌∷◌, ◌++◌, map, length, refl, ap, sym, ◌∙◌, subst, append_assoc, length-append, arith}
 use Rattle.std.proofs.lemmas.List.{append-nil, map-append}
 use Rattle.std.proofs.lemmas.List.Elements.{All-nil, All-append}
 use Rattle.std.specs.Option.{IsSomeAnd, option_map}
@@ -33,13 +33,16 @@ use Rattle.task_machine.specs.declared.stop.Moved.{Moved}
 use Rattle.task_machine.specs.declared.stop.Moved.TheVariants.{On, Stops}
 use Rattle.task_machine.specs.declared.task.Task.{Task}
 use Rattle.task_machine.specs.declared.world.World.{World}
+use Rattle.task_machine.specs.Acts.{Acts, no_act, scoping_of}
 use Rattle.task_machine.specs.Fitting.{Block, blocks_of}
 use Rattle.task_machine.specs.Frames.{frames_of}
 use Rattle.task_machine.specs.Stacked.{AreAt}
-use Rattle.task_machine.specs.Standing.{HasBlock, HasNurseryOf, waits_by, Stands, shown_made, AreNoted, IsBegun, AreBegun, Grown, Grow, Took}
+use Rattle.task_machine.specs.Standing.{HasBlock, HasNurseryOf, waits_by, Stands, shown_made, AreNoted, IsBegun, AreBegun, BeginsAt, Grown, Grow, IsOfOther, Owns, Covers, OthersStay, Took}
 use Rattle.task_machine.specs.Stops.{Numbers, StopsAs, MovesAs}
 use Rattle.task_machine.specs.Tasks.{scope_of}
 use Rattle.task_machine.specs.Worlds.{label_at}
+use Rattle.task_machine.proofs.Acting.{has_or_not, acts_append, acts_stay}
+use Rattle.task_machine.proofs.Begins.{begins_more, begins_last}
 
 -- ---- one more step of a turn
 
@@ -140,7 +143,7 @@ begun_append numbers book blocks waits (t ∷ ts) us (b ∷ bs) cs h k = (h.0, b
 -- ---- nurseries that grew
 
 -- what stands in a list stands in a longer one
-got_longer : (xs ys : List ℕ) (i x : ℕ) → slice_get xs i ≡ Some x → slice_get (xs ++ ys) i ≡ Some x
+got_longer : {A : Type 0} (xs ys : List A) (i : ℕ) (x : A) → slice_get xs i ≡ Some x → slice_get (xs ++ ys) i ≡ Some x
 got_longer [] ys i x e = absurd (let f : None ≡ Some x = e in cc)
 got_longer (y ∷ xs) ys zero x e = e
 got_longer (y ∷ xs) ys (suc i) x e = got_longer xs ys i x e
@@ -149,9 +152,11 @@ grown_number : (o : Option Nursery) (n : Nursery) (was are : List ℕ) (i x : �
 grown_number None n was are i x h e = absurd h
 grown_number (Some m) n was are i x h e = subst (λ (l : List ℕ). slice_get l i ≡ Some x) (sym h.numbers) (got_longer was h.added i x e)
 
-grown_scope : (o : Option Nursery) (n : Nursery) (was are : List ℕ) (scope : ℕ) → IsSomeAnd o (λ m. Grown n m was are) → n.scope ≡ scope → IsSomeAnd o (λ m. m.scope ≡ scope)
-grown_scope None n was are scope h e = absurd h
-grown_scope (Some m) n was are scope h e = h.scope ∙ e
+grown_home : (o : Option Nursery) (n : Nursery) (was are : List ℕ) (scope place : ℕ) → IsSomeAnd o (λ m. Grown n m was are) →
+    (n.scope ≡ scope) × (slice_get n.children place ≡ Some None) → IsSomeAnd o (λ m. (m.scope ≡ scope) × (slice_get m.children place ≡ Some None))
+grown_home None n was are scope place h e = absurd h
+grown_home (Some m) n was are scope place h e =
+    (h.scope ∙ e.0, subst (λ (es : List End). slice_get es place ≡ Some None) (sym h.children) (got_longer n.children h.more place None e.1))
 
 grown_twice : (a b c : Nursery) (ns ms ks : List ℕ) → Grown a b ns ms → Grown b c ms ks → Grown a c ns ks
 grown_twice a b c ns ms ks h k =
@@ -204,20 +209,22 @@ begun_on gs between after mid new blocks waits grow kept task b h =
       number = by_number (nursery_at mid h.home.nursery) refl h.nursery;
       nursery = by_nursery (nursery_at mid h.home.nursery) refl h.nursery;
       owned = kept h.home.nursery among;
+      modest = h.modest;
     }
   where
     among : HasBlock h.home.nursery (blocks_of gs)
     among = goes_with h.home.nursery (blocks_of gs) h.owned
 
-    by_number : (o : Option Nursery) → nursery_at mid h.home.nursery ≡ o → IsSomeAnd o (λ n. n.scope ≡ h.home.scope) → slice_get (after h.home.nursery) h.home.place ≡ Some b.number
+    by_number : (o : Option Nursery) → nursery_at mid h.home.nursery ≡ o → IsSomeAnd o (λ n. (n.scope ≡ h.home.scope) × (slice_get n.children h.home.place ≡ Some None)) → slice_get (after h.home.nursery) h.home.place ≡ Some b.number
     by_number None e s = absurd s
     by_number (Some n) e s =
         grown_number (nursery_at new h.home.nursery) n (between h.home.nursery) (after h.home.nursery) h.home.place b.number (grow h.home.nursery among n e) h.number
 
-    by_nursery : (o : Option Nursery) → nursery_at mid h.home.nursery ≡ o → IsSomeAnd o (λ n. n.scope ≡ h.home.scope) → HasNursery new h.home.nursery (λ n. n.scope ≡ h.home.scope)
+    by_nursery : (o : Option Nursery) → nursery_at mid h.home.nursery ≡ o → IsSomeAnd o (λ n. (n.scope ≡ h.home.scope) × (slice_get n.children h.home.place ≡ Some None)) →
+        HasNursery new h.home.nursery (λ n. (n.scope ≡ h.home.scope) × (slice_get n.children h.home.place ≡ Some None))
     by_nursery None e s = absurd s
     by_nursery (Some n) e s =
-        grown_scope (nursery_at new h.home.nursery) n (between h.home.nursery) (after h.home.nursery) h.home.scope (grow h.home.nursery among n e) s
+        grown_home (nursery_at new h.home.nursery) n (between h.home.nursery) (after h.home.nursery) h.home.scope h.home.place (grow h.home.nursery among n e) s
 
 all_begun_on : (gs : List Frame) (between after : Numbers) (mid new : NurseryBook) (blocks : List Block) (waits : Option ℕ) → Grow gs between after mid new →
     ((id : ℕ) → HasBlock id (blocks_of gs) → HasNurseryOf id blocks waits) → (ts : List Task) (bs : List Begun) → AreBegun between mid (blocks_of gs) None ts bs →
@@ -237,12 +244,54 @@ moves_then numbers book was part (Stops stop) halt o q e h = (h.0, subst (λ (p 
 -- a move after which the task goes on, and another from where it led: the move of both, with the numbers of the second
 took_both : (fs : List Frame) (before mid after : Task) (old w new : World) (exc : Option held.Exc) (goes : Moved) (froms : Table) (numbers : Numbers) (o q : Move) →
     (first : Took fs before mid old w (On exc) froms numbers o) →
-    (second : Took mid.frames.items mid after w new goes (froms_after froms o.made) first.numbers_after q) → mid.part ≡ before.part →
+    (second : Took mid.frames.items mid after w new goes (froms_after froms o.made) first.numbers_after q) → mid.part ≡ before.part → w.tick ≡ old.tick →
     (took : Took fs before after old new goes froms numbers (then_move None o q)) × (took.numbers_after ≡ second.numbers_after)
-took_both fs before mid after old w new exc goes froms numbers o q first second part = (both, refl)
+took_both fs before mid after old w new exc goes froms numbers o q first second part tick = (both, refl)
   where
     kept : (id : ℕ) → HasBlock id (blocks_of fs) → HasBlock id (blocks_of mid.frames.items)
     kept id has = goes_with id (blocks_of mid.frames.items) (first.kept id has)
+
+    -- a nursery of another task is one where the first move led
+    still_other : (n : Nursery) → IsOfOther before.own.items old.scopes n → IsOfOther mid.own.items w.scopes n
+    still_other n other = acts_stay old.tick (scoping_of before old) (scoping_of mid w) o.made n.scope first.acts other
+
+    stays_there : (id : ℕ) (n : Nursery) → nursery_at old.book id ≡ Some n → (HasBlock id (blocks_of fs) → ⊥) → IsOfOther before.own.items old.scopes n →
+        HasBlock id (blocks_of mid.frames.items) → ⊥
+    stays_there id n at apart other has = by_owned (first.owned id (inl has))
+      where
+        by_owned : HasBlock id (blocks_of fs) ⊎ ((m : Nursery) → nursery_at old.book id ≡ Some m → IsOfOther before.own.items old.scopes m → ⊥) → ⊥
+        by_owned (inl h) = apart h
+        by_owned (inr h) = h n at other
+
+    others_then : OthersStay (blocks_of fs) before.own.items old.scopes old.book new.book
+    others_then id n at apart other = second.others id n (first.others id n at apart other) (stays_there id n at apart other) (still_other n other)
+
+    owned_then : Owns (blocks_of fs) before.own.items old.scopes old.book (blocks_of after.frames.items) (waits_by goes after.halt)
+    owned_then id has = by_second (second.owned id has)
+      where
+        by_old : ((n : Nursery) → nursery_at w.book id ≡ Some n → IsOfOther mid.own.items w.scopes n → ⊥) → HasBlock id (blocks_of fs) ⊎ (HasBlock id (blocks_of fs) → ⊥) →
+            HasBlock id (blocks_of fs) ⊎ ((n : Nursery) → nursery_at old.book id ≡ Some n → IsOfOther before.own.items old.scopes n → ⊥)
+        by_old h (inl f) = inl f
+        by_old h (inr f) = inr (λ n at other. h n (first.others id n at f other) (still_other n other))
+
+        by_second : HasBlock id (blocks_of mid.frames.items) ⊎ ((n : Nursery) → nursery_at w.book id ≡ Some n → IsOfOther mid.own.items w.scopes n → ⊥) →
+            HasBlock id (blocks_of fs) ⊎ ((n : Nursery) → nursery_at old.book id ≡ Some n → IsOfOther before.own.items old.scopes n → ⊥)
+        by_second (inl h) = first.owned id (inl h)
+        by_second (inr h) = by_old h (has_or_not id (blocks_of fs))
+
+    covered_then : Covers (blocks_of fs) numbers second.numbers_after (blocks_of after.frames.items) (waits_by goes after.halt) (first.tasks ++ second.tasks) (o.begun ++ q.begun)
+    covered_then id place number has at = by_second (second.covered id place number has at)
+      where
+        by_first : (HasBlock id (blocks_of fs) × (slice_get (numbers id) place ≡ Some number)) ⊎ BeginsAt id place number first.tasks o.begun →
+            (HasBlock id (blocks_of fs) × (slice_get (numbers id) place ≡ Some number)) ⊎ BeginsAt id place number (first.tasks ++ second.tasks) (o.begun ++ q.begun)
+        by_first (inl h) = inl h
+        by_first (inr h) = inr (begins_more id place number first.tasks second.tasks o.begun q.begun h)
+
+        by_second : (HasBlock id (blocks_of mid.frames.items) × (slice_get (first.numbers_after id) place ≡ Some number)) ⊎ BeginsAt id place number second.tasks q.begun →
+            (HasBlock id (blocks_of fs) × (slice_get (numbers id) place ≡ Some number)) ⊎ BeginsAt id place number (first.tasks ++ second.tasks) (o.begun ++ q.begun)
+        by_second (inl h) = by_first (first.covered id place number (inl h.0) h.1)
+        by_second (inr h) =
+            inr (begins_last id place number first.numbers_after w.book (blocks_of mid.frames.items) None first.tasks second.tasks o.begun q.begun first.begun h)
 
     noted_there : AreNoted (buffer_of before.part) second.entries q.made
     noted_there = subst (λ (p : Part). AreNoted (buffer_of p) second.entries q.made) part second.shown
@@ -267,15 +316,19 @@ took_both fs before mid after old w new exc goes froms numbers o q first second 
           grow = grow_then fs mid.frames.items numbers first.numbers_after second.numbers_after old.book w.book new.book first.grow kept second.grow;
           kept = λ id has. second.kept id (kept id has);
           numbered = second.numbered;
+          owned = owned_then;
+          covered = covered_then;
+          others = others_then;
+          acts = acts_append old.tick (scoping_of before old) (scoping_of mid w) (scoping_of after new) o.made q.made first.acts (subst (λ (t : ℕ). Acts t (scoping_of mid w) q.made (scoping_of after new)) tick second.acts);
         }
 
 -- A move of the code after which the task goes on, and another from where it led, are the move of both.
 pub took_then : (fs : List Frame) (before mid after : Task) (old w new : World) (exc : Option held.Exc) (goes : Moved) (froms : Table) (numbers : Numbers) (o q : Move) →
     (first : Took fs before mid old w (On exc) froms numbers o) → Took mid.frames.items mid after w new goes (froms_after froms o.made) first.numbers_after q →
-    mid.part ≡ before.part → Took fs before after old new goes froms numbers (then_move o.stopped o q)
-took_then fs before mid after old w new exc goes froms numbers o q first second part =
+    mid.part ≡ before.part → w.tick ≡ old.tick → Took fs before after old new goes froms numbers (then_move o.stopped o q)
+took_then fs before mid after old w new exc goes froms numbers o q first second part tick =
     subst (λ (s : Option Stopped). Took fs before after old new goes froms numbers (then_move s o q)) (sym first.moves.1)
-    (took_both fs before mid after old w new exc goes froms numbers o q first second part).0
+    (took_both fs before mid after old w new exc goes froms numbers o q first second part tick).0
 
 -- ---- where a task stands after a step
 
@@ -291,7 +344,7 @@ stands_where fs before after old new froms numbers ps t here stands count exc go
     let names = step_stays_new froms t here m stands.new stands.own in
     record {
       places = took.places;
-      numbered = took.numbered;
+      numbered = λ id has. took.numbered id (inl has);
       placed = subst (λ (gs : List rest.Frame). PlacedAfter o.stopped gs o.places) (sym took.frames_after) step.placed;
       new = subst (λ (gs : List rest.Frame). NewIn gs (places_behind o.stopped o.places)) (sym took.frames_after) names.frames;
       own = names.own;
@@ -326,25 +379,33 @@ not_grown n ns =
 -- Before its first step a task has taken a turn of no steps.
 pub took_nothing : (task : Task) (world : World) (exc : Option held.Exc) (froms : Table) (numbers : Numbers) (t : ℕ) (here : Here) (ps : List Place) (count : ℕ) →
     Stands task.frames.items task world froms numbers None ps →
+    (took :
     Took task.frames.items task task world world (On exc) froms numbers
-    (turn_of zero froms t here (record { frames = frames_of numbers task.frames.items; places = ps; exc = option_map exc_of exc; count = count }))
+    (turn_of zero froms t here (record { frames = frames_of numbers task.frames.items; places = ps; exc = option_map exc_of exc; count = count })))
+    × (took.numbers_after ≡ numbers)
 unfolding turn_of
-took_nothing task world exc froms numbers t here ps count stands =
-    record {
-      numbers_after = numbers;
-      frames_after = refl;
-      places = stands.places;
-      moves = (refl, refl);
-      entries = [];
-      noted = sym (append-nil task.entries.items);
-      shown = record { shown = refl; slices = All-nil (IsSlice (buffer_of task.part)) };
-      tasks = [];
-      started = sym (append-nil world.started.items);
-      begun = tt;
-      grow = λ id has n e. subst (λ (o : Option Nursery). IsSomeAnd o (λ m. Grown n m (numbers id) (numbers id))) (sym e) (not_grown n (numbers id));
-      kept = λ id has. inl has;
-      numbered = stands.numbered;
-    }
+took_nothing task world exc froms numbers t here ps count stands = (
+  record {
+    numbers_after = numbers;
+    frames_after = refl;
+    places = stands.places;
+    moves = (refl, refl);
+    entries = [];
+    noted = sym (append-nil task.entries.items);
+    shown = record { shown = refl; slices = All-nil (IsSlice (buffer_of task.part)) };
+    tasks = [];
+    started = sym (append-nil world.started.items);
+    begun = tt;
+    grow = λ id has n e. subst (λ (o : Option Nursery). IsSomeAnd o (λ m. Grown n m (numbers id) (numbers id))) (sym e) (not_grown n (numbers id));
+    kept = λ id has. inl has;
+    numbered = λ id has. stands.numbered id (goes_with id (blocks_of task.frames.items) has);
+    owned = λ id has. inl (goes_with id (blocks_of task.frames.items) has);
+    covered = λ id place number has e. inl (goes_with id (blocks_of task.frames.items) has, e);
+    others = λ id n e apart other. e;
+    acts = no_act (scoping_of task world);
+  },
+  refl,
+)
 
 -- the definitions' turn of one step more, by what the code holds after the turn so far
 one_more : (n : ℕ) (froms : Table) (t : ℕ) (here : Here) (m : Midway) (gs : List rest.Frame) (exc : Option Exc) →
@@ -360,41 +421,25 @@ one_more n froms t here m gs exc frames raised going =
     ∙ ap (λ (e : Option Exc). then_move o.stopped o (step (record { frames = o.frames; places = o.places; exc = e; count = m.count + length o.begun }))) raised
     ∙ sym (turn_snoc n froms t here m)
 
--- A turn of so many steps, and a step from where it led, are the turn of one step more.
-pub goes_once_more : (n : ℕ) (fs : List Frame) (before mid after : Task) (old w new : World) (exc : Option held.Exc) (goes : Moved) (froms : Table) (numbers : Numbers)
-    (t : ℕ) (here : Here) (ps : List Place) (count : ℕ) (exc0 : Option Exc) →
-    (let m : Midway = record { frames = frames_of numbers fs; places = ps; exc = exc0; count = count } in
-    let o = turn_of n froms t here m in
-    (first : Took fs before mid old w (On exc) froms numbers o) → mid.part ≡ before.part →
-    Took mid.frames.items mid after w new goes (froms_after froms o.made) first.numbers_after
-    (step_of (froms_after froms o.made) t here
-    (record { frames = frames_of first.numbers_after mid.frames.items; places = o.places; exc = option_map exc_of exc; count = count + length o.begun })) →
-    Took fs before after old new goes froms numbers (turn_of (suc n) froms t here m))
-goes_once_more n fs before mid after old w new exc goes froms numbers t here ps count exc0 first part second =
-    let m : Midway = record { frames = frames_of numbers fs; places = ps; exc = exc0; count = count } in
-    let o = turn_of n froms t here m in
-    subst (λ (p : Move). Took fs before after old new goes froms numbers p)
-    (one_more n froms t here m (frames_of first.numbers_after mid.frames.items) (option_map exc_of exc) first.frames_after first.moves.0 first.moves.1)
-    (took_both fs before mid after old w new exc goes froms numbers o _ first second part).0
-
--- And the task stands where they led, with the same numbers, whether it goes on or stops.
+-- A turn of so many steps, and a step from where it led, are the turn of one step more, and the task stands where they led, with the same
+-- numbers, whether it goes on or stops.
 pub goes_and_stands : (n : ℕ) (fs : List Frame) (before mid after : Task) (old w new : World) (exc : Option held.Exc) (goes : Moved) (froms : Table) (numbers : Numbers)
     (t : ℕ) (here : Here) (ps : List Place) (count : ℕ) (exc0 : Option Exc) →
     (let m : Midway = record { frames = frames_of numbers fs; places = ps; exc = exc0; count = count } in
     let o = turn_of n froms t here m in
     let more = turn_of (suc n) froms t here m in
     (first : Took fs before mid old w (On exc) froms numbers o) → Stands mid.frames.items mid w (froms_after froms o.made) first.numbers_after None o.places →
-    mid.part ≡ before.part →
+    mid.part ≡ before.part → w.tick ≡ old.tick →
     Took mid.frames.items mid after w new goes (froms_after froms o.made) first.numbers_after
     (step_of (froms_after froms o.made) t here
     (record { frames = frames_of first.numbers_after mid.frames.items; places = o.places; exc = option_map exc_of exc; count = count + length o.begun })) →
     (took : Took fs before after old new goes froms numbers more) × Stands after.frames.items after new (froms_after froms more.made) took.numbers_after more.stopped more.places)
-goes_and_stands n fs before mid after old w new exc goes froms numbers t here ps count exc0 first stands part second =
+goes_and_stands n fs before mid after old w new exc goes froms numbers t here ps count exc0 first stands part tick second =
     let m : Midway = record { frames = frames_of numbers fs; places = ps; exc = exc0; count = count } in
     let o = turn_of n froms t here m in
     let q = step_of (froms_after froms o.made) t here
     (record { frames = frames_of first.numbers_after mid.frames.items; places = o.places; exc = option_map exc_of exc; count = count + length o.begun }) in
-    let both = took_both fs before mid after old w new exc goes froms numbers o q first second part in
+    let both = took_both fs before mid after old w new exc goes froms numbers o q first second part tick in
     let there = stands_where mid.frames.items mid after w new (froms_after froms o.made) first.numbers_after o.places t here stands (count + length o.begun) _ goes second in
     subst
     (λ (p : Move). (took : Took fs before after old new goes froms numbers p) × Stands after.frames.items after new (froms_after froms p.made) took.numbers_after p.stopped p.places)

@@ -4,6 +4,7 @@ use Rattle.std.proofs.lemmas.List.{length-set}
 use Rattle.std.specs.Prelude.{IsSome}
 use Rattle.std.specs.Option.{IsSomeAnd}
 use Rattle.std.specs.List.{last_or}
+use Rattle.cancel_scopes.specs.Sight.{Tick}
 use Rattle.cancel_scopes.specs.Tree.{IsChain, IsOwn, IsApart}
 use Rattle.job_meaning.specs.Rest as rest
 use Rattle.job_tree.specs.Modest.{AreModest, IsModestHandler, IsModestCleanup}
@@ -33,15 +34,15 @@ use Rattle.task_machine.specs.Fitting.{Block, a_scope, a_nursery, blocks_of, blo
 use Rattle.task_machine.specs.Frames.{frame_of, frames_of}
 use Rattle.task_machine.specs.Labels.{Labels}
 use Rattle.task_machine.specs.Left.{OwnFirst, LeavesOne}
-use Rattle.task_machine.specs.Tasks.{scope_of, home_scope}
+use Rattle.task_machine.specs.Tasks.{home_scope}
 use Rattle.task_machine.specs.Waking.{WakesFrom}
 use Rattle.task_machine.specs.Worlds.{label_at}
-use Rattle.task_machine.proofs.Fits.{Ready, fits_frames, ready_scope}
+use Rattle.task_machine.proofs.Fits.{Ready, fits_frames}
 use Rattle.task_machine.proofs.Blocks.{blocks_append}
 use Rattle.task_machine.proofs.Bodies.{body_block}
 use Rattle.task_machine.proofs.FrameLemmas.{frames_push}
 use Rattle.task_machine.proofs.Kept.{fits_signed, fits_entered, fits_left, fits_awaits}
-use Rattle.task_machine.proofs.Leaves.{Top, top_of}
+use Rattle.task_machine.proofs.Leaves.{top_of}
 use Rattle.task_machine.proofs.OwnLemmas.{ids, last_pushed}
 use Rattle.task_machine.proofs.Stacked.{one_of}
 use Rattle.task_machine.proofs.Settles.{ready_settled, fits_settled, fits_started}
@@ -135,7 +136,7 @@ frames_fit fs before after old h same modest starts stays =
 
 -- ---- a scope that is entered
 
-pub entered_fits : (b : Block) (label : Label) (before after : Task) (old new : World) → Laws old → Fits before.frames.items before old None → (e : EntersOne before after old new label) →
+pub entered_fits : (b : Block) (label : Label) (before after : Task) (old new : World) → Laws old → Fits before.frames.items before old None → {deadline : Tick} → (e : EntersOne before after old new label deadline) →
     ((id : ℕ) (m : Members) → nursery_at old.book id ≡ Some m → nursery_at new.book id ≡ Some m) → IsBlockOf (label_at new) new.book b e.own →
     blocks_of after.frames.items ≡ blocks_of before.frames.items ++ b ∷ [] → AreModestFrames (frames_of (λ id. []) after.frames.items) → StartsFit (frames_of (λ id. []) after.frames.items) →
     after ≡ record before { frames = after.frames; own = after.own; froms = after.froms } → Fits after.frames.items after new None
@@ -190,7 +191,7 @@ block_blocks before after exit body e =
     by_top (frames.Handler others cleanup) i = absurd i
     by_top (frames.Cleanup outcome) i = absurd i
 
-pub scope_fits : (fail : Bool) (body : Steps) (label : Label) (before after : Task) (old new : World) → Laws old → Fits before.frames.items before old None → EntersOne before after old new label →
+pub scope_fits : (fail : Bool) (body : Steps) (label : Label) (before after : Task) (old new : World) → Laws old → Fits before.frames.items before old None → {deadline : Tick} → EntersOne before after old new label deadline →
     EntersBlock before after (Scope fail) body → AreModest body → StartsIn false body → after ≡ record before { frames = after.frames; own = after.own; froms = after.froms } →
     new ≡ record old { scopes = new.scopes; labels = new.labels } → Fits after.frames.items after new None
 scope_fits fail body label before after old new laws h e inside modest starts stays world =
@@ -198,7 +199,7 @@ scope_fits fail body label before after old new laws h e inside modest starts st
     (block_blocks before after (Scope fail) body inside) (subst AreModestFrames (sym (block_frames before after (Scope fail) body inside)) (modest, h.modest))
     (subst StartsFit (sym (block_frames before after (Scope fail) body inside)) (starts, h.starts)) stays
 
-pub nursery_fits : (me : ℕ) (body : Steps) (label : Label) (before after : Task) (old new : World) → Laws old → Fits before.frames.items before old None → EntersOne before after old new label →
+pub nursery_fits : (me : ℕ) (body : Steps) (label : Label) (before after : Task) (old new : World) → Laws old → Fits before.frames.items before old None → {deadline : Tick} → EntersOne before after old new label deadline →
     EntersNursery me before after old new label body → AreModest body → StartsIn true body → after ≡ record before { frames = after.frames; own = after.own; froms = after.froms } →
     Fits after.frames.items after new None
 nursery_fits me body label before after old new laws h e n modest starts stays =

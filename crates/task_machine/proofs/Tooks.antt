@@ -14,6 +14,7 @@ use Rattle.nursery_book.specs.Nursery.{End, Nursery as Members, with_body}
 use Rattle.nursery_book.specs.Book.{nursery_at, HasNursery, Updates, Changes}
 use Rattle.nursery_book.specs.declared.book.NurseryBook.{NurseryBook}
 use Rattle.job_meaning.specs.Log.{Table}
+use Rattle.job_meaning.specs.Log as log
 use Rattle.job_meaning.specs.Walk.{Here, left_with}
 use Rattle.job_meaning.specs.Walk as meaning
 use Rattle.job_meaning.specs.Rest as rest
@@ -33,17 +34,21 @@ use Rattle.task_machine.specs.declared.stop.Moved.TheVariants.{On, Stops}
 use Rattle.task_machine.specs.declared.stop.Stop.TheVariants.{Wait, Ended}
 use Rattle.task_machine.specs.declared.task.Task.{Task}
 use Rattle.task_machine.specs.declared.world.World.{World}
+use Rattle.task_machine.specs.Acts.{Acts, scoping_of}
 use Rattle.task_machine.specs.Entered.{CancelsAt}
 use Rattle.task_machine.specs.Exits.{ExitsFrom, ExitsAt, FailsAt}
-use Rattle.task_machine.specs.Fitting.{Block, a_scope, a_nursery, blocks_of}
+use Rattle.task_machine.specs.Fitting.{Block, a_scope, a_nursery, blocks_of, waits_of}
 use Rattle.task_machine.specs.Frames.{frames_of}
+use Rattle.task_machine.specs.Left.{LeavesOne}
 use Rattle.task_machine.specs.Stacked.{AreAt}
-use Rattle.task_machine.specs.Standing.{HasBlock, HasNurseryOf, waits_by, AreNumbered, Stands, shown_made, AreNoted, AreBegun, Grown, Grow, Took}
+use Rattle.task_machine.specs.Standing.{HasBlock, HasNurseryOf, waits_by, AreNumbered, Stands, shown_made, AreNoted, AreBegun, Grown, Grow, OthersStay, Took}
 use Rattle.task_machine.specs.Stops.{Numbers, MovesAs}
 use Rattle.task_machine.specs.Tasks.{scope_of}
 use Rattle.task_machine.specs.Worlds.{label_at}
+use Rattle.task_machine.proofs.Acting.{WaitsNot, waits_not, block_of, same_acts, no_acts, found_signed, home_signed, left_acts}
 use Rattle.task_machine.proofs.Blocks.{blocks_append}
 use Rattle.task_machine.proofs.FrameLemmas.{frames_pushed}
+use Rattle.task_machine.proofs.Stacked.{named_at}
 
 -- ---- blocks
 
@@ -110,8 +115,8 @@ pub took_with : (frames : List Frame) (before after : Task) (old new : World) (g
     ((id : ℕ) → HasBlock id (blocks_of frames) → HasNurseryOf id (blocks_of after.frames.items) (waits_by goes after.halt)) →
     ((id : ℕ) → HasBlock id (blocks_of after.frames.items) → HasBlock id (blocks_of frames)) → frames_of numbers after.frames.items ≡ o.frames →
     AreAt (label_at new) (froms_after froms o.made) (outer_of new.scopes (scope_of after)) o.places → MovesAs numbers new.book before.part goes after.halt o →
-    Took frames before after old new goes froms numbers o
-took_with frames before after old new goes froms numbers o entries numbered book started noted shown none kept back gs at moves =
+    waits_by goes after.halt ≡ None → Acts old.tick (scoping_of before old) o.made (scoping_of after new) → Took frames before after old new goes froms numbers o
+took_with frames before after old new goes froms numbers o entries numbered book started noted shown none kept back gs at moves waits acts =
     record {
       numbers_after = numbers;
       frames_after = gs;
@@ -125,7 +130,11 @@ took_with frames before after old new goes froms numbers o entries numbered book
       begun = subst (λ (bs : List Begun). AreBegun numbers new.book (blocks_of after.frames.items) (waits_by goes after.halt) [] bs) (sym none) tt;
       grow = grow_same frames numbers old.book new.book book;
       kept = kept;
-      numbered = numbered_same frames after.frames.items numbers old.book new.book book back numbered;
+      numbered = λ id has. numbered_same frames after.frames.items numbers old.book new.book book back numbered id (block_of id (blocks_of after.frames.items) (waits_by goes after.halt) waits has);
+      owned = λ id has. inl (back id (block_of id (blocks_of after.frames.items) (waits_by goes after.halt) waits has));
+      covered = λ id place number has e. inl (back id (block_of id (blocks_of after.frames.items) (waits_by goes after.halt) waits has), e);
+      others = λ id n e apart other. ap (λ (b : NurseryBook). nursery_at b id) book ∙ e;
+      acts = acts;
     }
 
 -- with nothing noted
@@ -133,11 +142,11 @@ pub took_quiet : (frames : List Frame) (before after : Task) (old new : World) (
     new.book ≡ old.book → new.started.items ≡ old.started.items → after.entries.items ≡ before.entries.items → shown_made (buffer_of before.part) o.made ≡ [] → o.begun ≡ [] →
     blocks_of after.frames.items ≡ blocks_of frames → frames_of numbers after.frames.items ≡ o.frames →
     AreAt (label_at new) (froms_after froms o.made) (outer_of new.scopes (scope_of after)) o.places → MovesAs numbers new.book before.part goes after.halt o →
-    Took frames before after old new goes froms numbers o
-took_quiet frames before after old new goes froms numbers o numbered book started entries quiet none same gs at moves =
+    waits_by goes after.halt ≡ None → Acts old.tick (scoping_of before old) o.made (scoping_of after new) → Took frames before after old new goes froms numbers o
+took_quiet frames before after old new goes froms numbers o numbered book started entries quiet none same gs at moves waits acts =
     took_with frames before after old new goes froms numbers o [] numbered book started (entries ∙ sym (append-nil before.entries.items))
     (record { shown = sym quiet; slices = All-nil (IsSlice (buffer_of before.part)) }) none
-    (λ id has. inl (subst (λ (bs : List Block). HasBlock id bs) (sym same) has)) (λ id has. subst (λ (bs : List Block). HasBlock id bs) same has) gs at moves
+    (λ id has. inl (subst (λ (bs : List Block). HasBlock id bs) (sym same) has)) (λ id has. subst (λ (bs : List Block). HasBlock id bs) same has) gs at moves waits acts
 
 -- ---- moves of the task alone
 
@@ -150,16 +159,19 @@ took_onward frames before after world exc froms numbers stopped ps o stands stay
     subst (λ (m : Move). Took frames before after world world (On exc) froms numbers m) (sym is)
     (took_quiet frames before after world world (On exc) froms numbers (onward (frames_of numbers after.frames.items) ps (option_map exc_of exc)) stands.numbered refl refl
     (ap (λ (t : Task). t.entries.items) stays) refl refl same refl
-    (subst (λ (s : Option ℕ). AreAt (label_at world) froms (outer_of world.scopes s) ps) (sym (ap (λ (t : Task). scope_of t) stays)) stands.places) (refl, refl))
+    (subst (λ (s : Option ℕ). AreAt (label_at world) froms (outer_of world.scopes s) ps) (sym (ap (λ (t : Task). scope_of t) stays)) stands.places) (refl, refl) refl
+    (same_acts world.tick (scoping_of before world) (scoping_of after world) (ap (λ (t : Task). scoping_of t world) stays)))
 
 -- the task stops, or goes on, with another halt
 pub took_halts : (frames : List Frame) (before after : Task) (world : World) (goes : Moved) (froms : Table) (numbers : Numbers) (stopped : Option Stopped) (ps : List Place) (o : Move) →
     Stands frames before world froms numbers stopped ps → after ≡ record before { frames = after.frames; halt = after.halt } → blocks_of after.frames.items ≡ blocks_of frames →
-    o.frames ≡ frames_of numbers after.frames.items → o.places ≡ ps → o.made ≡ [] → o.begun ≡ [] → MovesAs numbers world.book before.part goes after.halt o →
+    o.frames ≡ frames_of numbers after.frames.items → o.places ≡ ps → o.made ≡ [] → o.begun ≡ [] → WaitsNot o.stopped → MovesAs numbers world.book before.part goes after.halt o →
     Took frames before after world world goes froms numbers o
-took_halts frames before after world goes froms numbers stopped ps o stands stays same gs round made none moves =
+took_halts frames before after world goes froms numbers stopped ps o stands stays same gs round made none not moves =
     took_quiet frames before after world world goes froms numbers o stands.numbered refl refl (ap (λ (t : Task). t.entries.items) stays)
     (ap (λ (es : List rest.Event). shown_made (buffer_of before.part) es) made) none same (sym gs) at moves
+    (waits_not numbers world.book before.part goes after.halt o not moves)
+    (no_acts world.tick (scoping_of before world) (scoping_of after world) o.made made (ap (λ (t : Task). scoping_of t world) stays))
   where
     at : AreAt (label_at world) (froms_after froms o.made) (outer_of world.scopes (scope_of after)) o.places
     at =
@@ -173,11 +185,12 @@ pub record LeavesAlone (o : Move) (fs : List rest.Frame) (ps : List Place) : Typ
   pub places : o.places ≡ ps
   pub made : o.made ≡ []
   pub begun : o.begun ≡ []
+  pub waits : WaitsNot o.stopped
 
 falls_alone : (b : Bool) (n t : ℕ) (fs : List rest.Frame) (ps : List Place) → LeavesAlone (falls_asleep b n t fs ps) fs ps
-falls_alone true n t fs ps = record { frames = refl; places = refl; made = refl; begun = refl }
-falls_alone false zero t fs ps = record { frames = refl; places = refl; made = refl; begun = refl }
-falls_alone false (suc n) t fs ps = record { frames = refl; places = refl; made = refl; begun = refl }
+falls_alone true n t fs ps = record { frames = refl; places = refl; made = refl; begun = refl; waits = tt }
+falls_alone false zero t fs ps = record { frames = refl; places = refl; made = refl; begun = refl; waits = tt }
+falls_alone false (suc n) t fs ps = record { frames = refl; places = refl; made = refl; begun = refl; waits = tt }
 
 pub took_sleep : (frames : List Frame) (before after : Task) (world : World) (goes : Moved) (froms : Table) (numbers : Numbers) (stopped : Option Stopped) (ps : List Place)
     (ticks : ℕ) →
@@ -190,7 +203,7 @@ took_sleep frames before after world goes froms numbers stopped ps ticks stands 
     let alone : LeavesAlone (sleeps froms ticks world.tick gs ps) gs ps = falls_alone _ ticks world.tick gs ps in
     took_halts frames before after world goes froms numbers stopped ps (sleeps froms ticks world.tick gs ps) stands (halted before after stays) (ap (λ
     (t : Task). blocks_of t.frames.items) stays ∙ same)
-    (alone.frames ∙ ap (λ (t : Task). frames_of numbers t.frames.items) (sym stays)) alone.places alone.made alone.begun (sleep stands.places)
+    (alone.frames ∙ ap (λ (t : Task). frames_of numbers t.frames.items) (sym stays)) alone.places alone.made alone.begun alone.waits (sleep stands.places)
   where
     halted : (before after : Task) → after ≡ record before { halt = after.halt } → after ≡ record before { frames = after.frames; halt = after.halt }
     halted before after e = e ∙ ap (λ (t : Task). record before { frames = t.frames; halt = after.halt }) (sym e)
@@ -217,8 +230,10 @@ took_cancel frames before after old new froms numbers stopped ps name stands sta
     took_quiet frames before after old new (On None) froms numbers (making made (frames_of numbers after.frames.items) ps) stands.numbered (ap (λ (w : World). w.book) world)
     (ap (λ (w : World). w.started.items) world) (ap (λ (t : Task). t.entries.items) stays) (quiet_signs (buffer_of before.part) (label_among name ps) old.tick) refl same refl
     (subst (λ (s : Option ℕ). AreAt (label_at new) (froms_after froms made) (outer_of new.scopes s) ps) (sym (ap (λ (t : Task). scope_of t) stays))
-    (cancels froms ps stands.own stands.places))
-    (refl, refl)
+    (cancels.lowered froms ps stands.own stands.places))
+    (refl, refl) refl
+    (found_signed before after old new _ (label_among name ps) (ap (λ (t : Task). t.own.items) stays) (ap (λ (t : Task). t.froms.items) stays) (ap (λ (w : World). label_at w) world)
+    (named_at (label_at old) froms name (outer_of old.scopes (scope_of before)) ps stands.places) cancels.signed)
 
 -- the task ends, with no frame left
 pub took_end : (before after : Task) (old new : World) (exc : Option held.Exc) (goes : Moved) (froms : Table) (numbers : Numbers) (stopped : Option Stopped) (ps : List Place) →
@@ -233,9 +248,12 @@ took_end before after old new exc goes froms numbers stopped ps stands empty goe
     took_quiet [] before after old new goes froms numbers o stands.numbered (ap (λ (w : World). w.book) world) (ap (λ (w : World). w.started.items) world)
     (ap (λ (t : Task). t.entries.items) stays) (quiet_home (buffer_of before.part) e ps old.tick) refl (ap blocks_of left) (ap (frames_of numbers) left)
     (subst (λ (s : Option ℕ). AreAt (label_at new) (froms_after froms (signs_home e ps old.tick)) (outer_of new.scopes s) ps) (sym (ap (λ (t : Task). scope_of t) stays))
-    (fails froms ps stands.own stands.places))
+    (fails.lowered froms ps stands.own stands.places))
     (subst (λ (m : Moved). MovesAs numbers new.book before.part m after.halt o) (sym goes_is)
     (subst (λ (h : Halt). MovesAs numbers new.book before.part (Stops (Ended exc)) h o) (sym (ap (λ (t : Task). t.halt) stays)) (refl, (tt, refl))))
+    (ap (λ (m : Moved). waits_by m after.halt) goes_is ∙ ap waits_of (ap (λ (t : Task). t.halt) stays))
+    (home_signed before after old new e froms (outer_of old.scopes (scope_of before)) ps (ap (λ (t : Task). t.own.items) stays) (ap (λ (t : Task). t.froms.items) stays) (ap (λ (w : World). label_at w) world)
+    stands.places fails.signed)
 
 -- ---- blocks that are left
 
@@ -244,8 +262,10 @@ pub took_leaves : (frames : List Frame) (before after : Task) (old new : World) 
     (p : Place)
     (ps : List Place) → ExitsFrom before after old new k (left_with (catches (froms p.label) p.shield (stack_at froms ps) old.tick) exc) (option_map exc_of goes) froms p ps →
     new.started.items ≡ old.started.items → Grow frames numbers numbers old.book new.book → ((id : ℕ) → HasBlock id (blocks_of frames) → HasBlock id (blocks_of after.frames.items)) →
-    AreNumbered numbers new.book after.frames.items → Took frames before after old new (On goes) froms numbers (leaves froms old.tick k (frames_of numbers after.frames.items) p ps exc)
-took_leaves frames before after old new k exc goes froms numbers p ps x started grow kept numbered =
+    ((id : ℕ) → HasBlock id (blocks_of after.frames.items) → HasBlock id (blocks_of frames)) → AreNumbered numbers new.book after.frames.items →
+    OthersStay (blocks_of frames) before.own.items old.scopes old.book new.book → ((e : log.Entry) → Acts old.tick (scoping_of before old) (rest.noted old.tick e ∷ []) (scoping_of after new)) →
+    Took frames before after old new (On goes) froms numbers (leaves froms old.tick k (frames_of numbers after.frames.items) p ps exc)
+took_leaves frames before after old new k exc goes froms numbers p ps x started grow kept back numbered others acts =
     record {
       numbers_after = numbers;
       frames_after = refl;
@@ -259,7 +279,11 @@ took_leaves frames before after old new k exc goes froms numbers p ps x started 
       begun = tt;
       grow = grow;
       kept = λ id has. inl (kept id has);
-      numbered = numbered;
+      numbered = λ id has. numbered id (block_of id (blocks_of after.frames.items) None refl has);
+      owned = λ id has. inl (back id (block_of id (blocks_of after.frames.items) None refl has));
+      covered = λ id place number has e. inl (back id (block_of id (blocks_of after.frames.items) None refl has), e);
+      others = others;
+      acts = acts _;
     }
 
 -- nothing is in the places of a scope that is placed nowhere
@@ -273,10 +297,10 @@ pub took_exit : (frames : List Frame) (fail : Bool) (before after : Task) (old n
     (here : Here) (count : ℕ) →
     Stands frames before old froms numbers None ps → frames ≡ before.frames.items ++ Scope fail ∷ [] →
     after ≡ record before { own = after.own; froms = after.froms; entries = after.entries } → new ≡ record old { scopes = new.scopes; labels = new.labels } →
-    ExitsAt before after old new (kind.Scope fail) (option_map exc_of exc) (option_map exc_of goes) →
+    ExitsAt before after old new (kind.Scope fail) (option_map exc_of exc) (option_map exc_of goes) → LeavesOne before after old new →
     Took frames before after old new (On goes) froms numbers (step_frames froms old.tick here (rest.in_scope fail ∷ frames_of numbers before.frames.items) ps
     (option_map exc_of exc) count)
-took_exit frames fail before after old new exc goes froms numbers ps here count stands popped stays world exits =
+took_exit frames fail before after old new exc goes froms numbers ps here count stands popped stays world exits one =
     by_place (λ (qs : List Place). Took frames before after old new (On goes) froms numbers (step_frames froms old.tick here (rest.in_scope fail ∷ gs) qs
     (option_map exc_of exc) count)) fail gs ps
     (subst (λ (hs : List rest.Frame). Placed hs ps) (frames_pushed numbers before.frames.items frames (Scope fail) popped) stands.placed) at_place
@@ -312,8 +336,9 @@ took_exit frames fail before after old new exc goes froms numbers ps here count 
         (option_map exc_of exc))) left
         (took_leaves frames before after old new (meaning.a_scope fail) (option_map exc_of exc) goes froms numbers p qs
         (exits froms p qs (subst (λ (rs : List Place). AreAt (label_at old) froms (outer_of old.scopes (scope_of before)) rs) e stands.places))
-        (ap (λ (w : World). w.started.items) world) (grow_same frames numbers old.book new.book book) kept
-        (numbered_same frames after.frames.items numbers old.book new.book book back stands.numbered))
+        (ap (λ (w : World). w.started.items) world) (grow_same frames numbers old.book new.book book) kept back
+        (numbered_same frames after.frames.items numbers old.book new.book book back stands.numbered)
+        (λ id n e apart other. ap (λ (b : NurseryBook). nursery_at b id) book ∙ e) (λ e. left_acts before after old new old.tick e one))
 
 -- ---- a nursery whose body has ended
 
@@ -410,10 +435,19 @@ took_body frames id before after old new exc goes froms numbers ps here count st
         by_either (inr (inl f)) = inr (waits ∙ ap (λ (k : ℕ). Some k) (sym f))
         by_either (inr (inr h)) = absurd h
 
-    back : (key : ℕ) → HasBlock key (blocks_of after.frames.items) → HasBlock key (blocks_of frames)
-    back key has =
+    innermost : HasBlock id (blocks_of frames)
+    innermost = subst (λ (bs : List Block). HasBlock id bs) (sym same) (has_last id (blocks_of before.frames.items) (a_nursery id ∷ []) (inl refl))
+
+    back : (key : ℕ) → HasNurseryOf key (blocks_of after.frames.items) (waits_by goes after.halt) → HasBlock key (blocks_of frames)
+    back key (inl has) =
         subst (λ (bs : List Block). HasBlock key bs) (sym same)
         (has_more key (blocks_of before.frames.items) (a_nursery id ∷ []) (subst (λ (fs : List Frame). HasBlock key (blocks_of fs)) left has))
+    back key (inr has) =
+        let is : Some key ≡ Some id = sym has ∙ waits in
+        subst (λ (k : ℕ). HasBlock k (blocks_of frames)) (one_key id key (sym is)) innermost
+      where
+        one_key : (a b : ℕ) → Some a ≡ Some b → a ≡ b
+        one_key a b h = cc
 
     at_place : (p : Place) (qs : List Place) → ps ≡ p ∷ qs → Took frames before after old new goes froms numbers (ends_as (awaiting (numbers id) old.tick e) e old.tick gs (p ∷ qs))
     at_place p qs f =
@@ -424,7 +458,7 @@ took_body frames id before after old new exc goes froms numbers ps here count st
               subst (λ (s : Option ℕ). AreAt (label_at new) (froms_after froms (signs_home e (p ∷ qs) old.tick)) (outer_of new.scopes s) (p ∷ qs)) (sym (ap (λ
               (t : Task). scope_of t) stays))
               (subst (λ (rs : List Place). AreAt (label_at new) (froms_after froms (signs_home e rs old.tick)) (outer_of new.scopes (scope_of before)) rs) f
-              (fails froms ps stands.own stands.places));
+              (fails.lowered froms ps stands.own stands.places));
           moves =
               subst (λ (m : Moved). MovesAs numbers new.book before.part m after.halt (ends_as (awaiting (numbers id) old.tick e) e old.tick gs (p ∷ qs))) (sym goes_is)
               (subst (λ (h : Halt). MovesAs numbers new.book before.part (Stops (Wait id)) h (ends_as (awaiting (numbers id) old.tick e) e old.tick gs (p ∷ qs)))
@@ -447,6 +481,13 @@ took_body frames id before after old new exc goes froms numbers ps here count st
               updated_has old.book new.book id (Some (with_body e c.0)) key (λ n. length (numbers key) ≡ length n.children) (λ n. length (numbers key) ≡ length n.children) c.2
               (λ is m found long. long ∙ ap (λ (x : Members). length x.children) (one_at m c.0 (sym found ∙ ap (nursery_at old.book) is ∙ c.1))) (λ differs m found long. long)
               (stands.numbered key (back key has));
+          owned = λ key has. inl (back key has);
+          covered = λ key place number has at. inl (back key has, at);
+          others = λ key n at apart other. c.2.others key (λ is. apart (subst (λ (k : ℕ). HasBlock k (blocks_of frames)) (sym is) innermost)) ∙ at;
+          acts =
+              subst (λ (rs : List Place). Acts old.tick (scoping_of before old) (signs_home e rs old.tick) (scoping_of after new)) f
+              (home_signed before after old new e froms (outer_of old.scopes (scope_of before)) ps (ap (λ (t : Task). t.own.items) stays) (ap (λ (t : Task). t.froms.items) stays)
+              (ap (λ (w : World). label_at w) world) stands.places fails.signed);
         }
       where
         one_at : (a b : Members) → Some a ≡ Some b → a ≡ b

@@ -4,6 +4,7 @@ use Rattle.std.proofs.lemmas.Bool.{eqb-true, eq-eqb}
 use Rattle.std.proofs.lemmas.List.{append-nil}
 use Rattle.std.proofs.lemmas.List.Elements.{All-nil}
 use Rattle.std.specs.Option.{IsSomeAnd}
+use Rattle.std.specs.List.{slice_get}
 use Rattle.buffer_parts.specs.Part.{buffer_of}
 use Rattle.cancel_scopes.specs.Sight.{Tick}
 use Rattle.exc_groups.specs.Exceptions.{Label}
@@ -22,12 +23,13 @@ use Rattle.task_machine.specs.declared.frame.Frame.TheVariants.{Steps, Scope, Nu
 use Rattle.task_machine.specs.declared.stop.Moved.TheVariants.{On}
 use Rattle.task_machine.specs.declared.task.Task.{Task}
 use Rattle.task_machine.specs.declared.world.World.{World}
-use Rattle.task_machine.specs.Entered.{EntersAt, IsBlock, EntersBlock, EntersNursery}
+use Rattle.task_machine.specs.Entered.{EntersAt, EntersOne, IsBlock, EntersBlock, EntersNursery}
 use Rattle.task_machine.specs.Fitting.{Block, a_scope, a_nursery, blocks_of}
 use Rattle.task_machine.specs.Frames.{frame_of, frames_onto, frames_of}
-use Rattle.task_machine.specs.Standing.{HasBlock, HasNurseryOf, Stands, Grown, Took}
+use Rattle.task_machine.specs.Standing.{HasBlock, HasNurseryOf, Stands, Grown, IsOfOther, Took}
 use Rattle.task_machine.specs.Stops.{Numbers}
 use Rattle.task_machine.specs.Tasks.{scope_of}
+use Rattle.task_machine.proofs.Acting.{block_of, entered_acts}
 use Rattle.task_machine.proofs.Blocks.{blocks_append}
 use Rattle.task_machine.proofs.FrameLemmas.{frames_push}
 use Rattle.task_machine.proofs.Tooks.{has_more, has_either, not_grown, took_with, updated_has, is_at}
@@ -71,13 +73,14 @@ pub took_scope : (frames : List Frame) (before after : Task) (old new : World) (
     (IsName label.name (names_at ps) → ⊥) →
     after ≡ record before { frames = after.frames; own = after.own; froms = after.froms } → EntersBlock before after (Scope fail) body →
     new ≡ record old { scopes = new.scopes; labels = new.labels } → EntersAt old new (scope_of before) (scope_of after) label shield deadline →
-    Took frames before after old new (On None) froms numbers (enters_block label shield deadline old.tick body (rest.in_scope fail) (frames_of numbers before.frames.items) ps)
-took_scope frames before after old new froms numbers stopped ps label shield fail deadline body stands same fresh stays block world enters =
+    EntersOne before after old new label deadline → Took frames before after old new (On None) froms numbers (enters_block label shield deadline old.tick body (rest.in_scope fail) (frames_of numbers before.frames.items) ps)
+took_scope frames before after old new froms numbers stopped ps label shield fail deadline body stands same fresh stays block world enters one =
     took_with frames before after old new (On None) froms numbers (enters_block label shield deadline old.tick body (rest.in_scope fail) (frames_of numbers before.frames.items) ps) []
     stands.numbered (ap (λ (w : World). w.book) world) (ap (λ (w : World). w.started.items) world)
     (ap (λ (t : Task). t.entries.items) stays ∙ sym (append-nil before.entries.items))
     (record { shown = refl; slices = All-nil (IsSlice (buffer_of before.part)) }) refl kept back
-    (entered_frames numbers before.frames.items after.frames.items (Scope fail) block.top body block.block block.frames) (enters froms ps fresh stands.places) (refl, refl)
+    (entered_frames numbers before.frames.items after.frames.items (Scope fail) block.top body block.block block.frames) (enters froms ps fresh stands.places) (refl, refl) refl
+    (entered_acts before after old new label deadline one)
   where
     blocks : blocks_of after.frames.items ≡ blocks_of frames ++ a_scope ∷ []
     blocks =
@@ -136,8 +139,8 @@ pub took_nursery : (me : ℕ) (frames : List Frame) (before after : Task) (old n
     (body : tree.Steps) → Stands frames before old froms numbers stopped ps → blocks_of before.frames.items ≡ blocks_of frames → (IsName label.name (names_at ps) → ⊥) →
     after ≡ record before { frames = after.frames; own = after.own; froms = after.froms } → EntersNursery me before after old new label body →
     new ≡ record old { scopes = new.scopes; labels = new.labels; book = new.book } → EntersAt old new (scope_of before) (scope_of after) label false None →
-    Took frames before after old new (On None) froms numbers (enters_block label false None old.tick body (rest.in_nursery []) (frames_of numbers before.frames.items) ps)
-took_nursery me frames before after old new froms numbers stopped ps label body stands same fresh stays n world enters =
+    EntersOne before after old new label None → Took frames before after old new (On None) froms numbers (enters_block label false None old.tick body (rest.in_nursery []) (frames_of numbers before.frames.items) ps)
+took_nursery me frames before after old new froms numbers stopped ps label body stands same fresh stays n world enters one =
     record {
       numbers_after = more;
       frames_after =
@@ -162,7 +165,11 @@ took_nursery me frames before after old new froms numbers stopped ps label body 
           (subst (λ (y : Members). Grown y x (numbers key) (numbers key)) one (not_grown x (numbers key))))
           (is_at (nursery_at old.book key) m at);
       kept = λ key has. inl (subst (λ (bs : List Block). HasBlock key bs) (sym blocks) (has_more key (blocks_of frames) (a_nursery n.id ∷ []) has));
-      numbered = λ key has. by_either key (has_either key (blocks_of frames) (a_nursery n.id ∷ []) (subst (λ (bs : List Block). HasBlock key bs) blocks has));
+      numbered = λ key has. by_either key (old_or_new key has);
+      owned = λ key has. by_owned key (old_or_new key has);
+      covered = λ key place number has at. by_covered key place number (old_or_new key has) at;
+      others = λ key m at apart other. n.stands.others key (λ is. absurd (closed key m is at)) ∙ at;
+      acts = entered_acts before after old new label None one;
     }
   where
     more : Numbers
@@ -183,6 +190,24 @@ took_nursery me frames before after old new froms numbers stopped ps label body 
         by_nursery : key ≡ n.id → (o : Option Members) → nursery_at old.book key ≡ o → IsSomeAnd o (λ x. length (numbers key) ≡ length x.children) → ⊥
         by_nursery is None found h = h
         by_nursery is (Some x) found h = closed key x is found
+
+    -- a nursery of the task is an old one, or the one entered
+    old_or_new : (key : ℕ) → HasNurseryOf key (blocks_of after.frames.items) None → HasBlock key (blocks_of frames) ⊎ ((key ≡ n.id) ⊎ ⊥)
+    old_or_new key has =
+        has_either key (blocks_of frames) (a_nursery n.id ∷ []) (subst (λ (bs : List Block). HasBlock key bs) blocks (block_of key (blocks_of after.frames.items) None refl has))
+
+    by_owned : (key : ℕ) → HasBlock key (blocks_of frames) ⊎ ((key ≡ n.id) ⊎ ⊥) →
+        HasBlock key (blocks_of frames) ⊎ ((m : Members) → nursery_at old.book key ≡ Some m → IsOfOther before.own.items old.scopes m → ⊥)
+    by_owned key (inl has) = inl has
+    by_owned key (inr (inl is)) = inr (λ m at other. closed key m is at)
+    by_owned key (inr (inr h)) = absurd h
+
+    by_covered : (key place number : ℕ) → HasBlock key (blocks_of frames) ⊎ ((key ≡ n.id) ⊎ ⊥) → slice_get (more key) place ≡ Some number →
+        (HasBlock key (blocks_of frames) × (slice_get (numbers key) place ≡ Some number)) ⊎ ⊥
+    by_covered key place number (inl has) at = inl (has, subst (λ (ns : List ℕ). slice_get ns place ≡ Some number) (else_where key has) at)
+    by_covered key place number (inr (inl is)) at =
+        absurd (let e : None ≡ Some number = subst (λ (ns : List ℕ). slice_get ns place ≡ Some number) (numbers_put numbers n.id [] key is) at in cc)
+    by_covered key place number (inr (inr h)) at = absurd h
 
     Numbered : ℕ → Members → Type 0
     Numbered key x = length (more key) ≡ length x.children

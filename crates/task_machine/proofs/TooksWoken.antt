@@ -29,14 +29,17 @@ use Rattle.task_machine.specs.declared.outcome.Kind.TheVariants as kind
 use Rattle.task_machine.specs.declared.stop.Moved.TheVariants.{On}
 use Rattle.task_machine.specs.declared.task.Task.{Task}
 use Rattle.task_machine.specs.declared.world.World.{World}
+use Rattle.task_machine.specs.Acts.{Acts, scoping_of}
 use Rattle.task_machine.specs.Exits.{ExitsAt}
 use Rattle.task_machine.specs.Fitting.{blocks_of}
 use Rattle.task_machine.specs.Frames.{frames_of}
+use Rattle.task_machine.specs.Left.{LeavesOne}
 use Rattle.task_machine.specs.Stacked.{AreAt}
-use Rattle.task_machine.specs.Standing.{HasBlock, Stands, shown_made, Grown, Took}
+use Rattle.task_machine.specs.Standing.{HasBlock, Stands, shown_made, Grown, IsOfOther, Took}
 use Rattle.task_machine.specs.Stops.{Numbers}
 use Rattle.task_machine.specs.Tasks.{scope_of}
 use Rattle.task_machine.specs.Worlds.{label_at}
+use Rattle.task_machine.proofs.Acting.{left_acts, lines_acts}
 use Rattle.task_machine.proofs.Tooks.{not_grown, took_with, took_leaves, updated_has, is_at}
 
 -- ---- a nursery that is settled
@@ -54,8 +57,9 @@ pub took_settled : (frames : List Frame) (id : ℕ) (before after : Task) (old m
     (HasBlock id (blocks_of frames) → ⊥) →
     mid ≡ record old { book = mid.book } → Updates old.book mid.book id None → after ≡ record before { own = after.own; froms = after.froms; entries = after.entries } →
     new ≡ record mid { scopes = new.scopes; labels = new.labels } → ExitsAt before after mid new kind.Nursery (option_map exc_of exc) (option_map exc_of goes) →
+    LeavesOne before after mid new → ((n : Members) → nursery_at old.book id ≡ Some n → IsOfOther before.own.items old.scopes n → ⊥) →
     Took frames before after old new (On goes) froms numbers (settled froms old.tick (option_map exc_of exc) (frames_of numbers frames) ps)
-took_settled frames id before after old mid new kids ended earlier exc goes froms numbers ps stands held apart closed u stays world exits =
+took_settled frames id before after old mid new kids ended earlier exc goes froms numbers ps stands held apart closed u stays world exits one mine =
     by_wait (λ (qs : List Place). Took frames before after old new (On goes) froms numbers (settled froms old.tick e gs qs)) kids ended earlier gs ps stands.placed at_place
   where
     e : Option Exc
@@ -87,10 +91,14 @@ took_settled frames id before after old mid new kids ended earlier exc goes from
         updated_has old.book new.book id None key (λ m. m ≡ n) (λ m. Grown n m (numbers key) (numbers key)) ended_there (λ is m found one. absurd (differs key has is))
         (λ other m found one. subst (λ (y : Members). Grown y m (numbers key) (numbers key)) one (not_grown m (numbers key))) (is_at (nursery_at old.book key) n at))
         (λ key has. subst (λ (fs : List Frame). HasBlock key (blocks_of fs)) (sym left) has)
+        (λ key has. subst (λ (fs : List Frame). HasBlock key (blocks_of fs)) left has)
         (λ key has.
         let there : HasBlock key (blocks_of frames) = subst (λ (fs : List Frame). HasBlock key (blocks_of fs)) left has in
         updated_has old.book new.book id None key (λ n. length (numbers key) ≡ length n.children) (λ n. length (numbers key) ≡ length n.children) ended_there
-        (λ is m found long. absurd (differs key there is)) (λ other m found long. long) (stands.numbered key there)))
+        (λ is m found long. absurd (differs key there is)) (λ other m found long. long) (stands.numbered key there))
+        (λ key n at out other. ended_there.others key (λ is. absurd (mine n (ap (nursery_at old.book) (sym is) ∙ at) other)) ∙ at)
+        (λ entry.
+        subst (λ (w : World). Acts w.tick (scoping_of before w) (rest.noted old.tick entry ∷ []) (scoping_of after new)) closed (left_acts before after mid new old.tick entry one)))
 
 -- ---- lines that a kernel answers
 
@@ -128,7 +136,7 @@ took_lines frames before after world froms numbers stopped ps spans lines stands
     (ap (frames_of numbers) left)
     (subst (λ (f : Table). AreAt (label_at world) f (outer_of world.scopes (scope_of after)) ps) (sym (lines_quiet world.tick spans froms))
     (subst (λ (s : Option ℕ). AreAt (label_at world) froms (outer_of world.scopes s) ps) (sym (ap (λ (t : Task). scope_of t) stays)) stands.places))
-    (refl, refl)
+    (refl, refl) refl (lines_acts world.tick world.tick spans (scoping_of before world) (scoping_of after world) (ap (λ (t : Task). scoping_of t world) stays))
   where
     left : after.frames.items ≡ frames
     left = ap (λ (t : Task). t.frames.items) stays ∙ held

@@ -1,27 +1,21 @@
 -- A turn goes on by one step more.
-use Rattle.std.proofs.lemmas.List.{append-nil}
-use Rattle.std.proofs.lemmas.List.Elements.{All-nil}
-use Rattle.std.proofs.Common.{◌≡◌, inl, ℕ, zero, suc, ◌+◌, Option, Some, None, List, [], length, refl, ap, sym, ◌∙◌, subst}
-use Rattle.std.specs.Option.{IsSomeAnd, option_map}
-use Rattle.buffer_parts.specs.Part.{buffer_of}
-use Rattle.nursery_book.specs.Nursery.{Nursery}
-use Rattle.task_records.specs.Records.{IsSlice}
+use Rattle.std.proofs.Common.{◌≡◌, ℕ, zero, suc, ◌+◌, Option, None, List, length, sym, subst}
+use Rattle.std.specs.Option.{option_map}
 use Rattle.exc_groups.specs.Exceptions.{Exc}
 use Rattle.exc_groups.specs.Held.{exc_of}
 use Rattle.exc_groups.specs.declared.exc.Exc as held
 use Rattle.job_meaning.specs.Log.{Table}
 use Rattle.job_meaning.specs.Walk.{Here}
-use Rattle.task_turns.specs.Midway.{Place, Midway, Move}
+use Rattle.task_turns.specs.Midway.{Place, Move}
 use Rattle.task_turns.specs.Steps.{froms_after, step_of, turn_of}
 use Rattle.task_machine.specs.declared.stop.Moved.{Moved}
-use Rattle.task_machine.specs.declared.stop.Moved.TheVariants.{On, Stops}
-use Rattle.task_machine.specs.declared.stop.Stop.{Stop}
+use Rattle.task_machine.specs.declared.stop.Moved.TheVariants.{On}
 use Rattle.task_machine.specs.declared.task.Task.{Task}
 use Rattle.task_machine.specs.declared.world.World.{World}
 use Rattle.task_machine.specs.Frames.{frames_of}
-use Rattle.task_machine.specs.Standing.{here_of, Grown, Stands, Took, StepsAs, TookSteps}
+use Rattle.task_machine.specs.Standing.{here_of, Stands, Took, StepsAs}
 use Rattle.task_machine.specs.Stops.{Numbers}
-use Rattle.task_machine.proofs.Taking.{not_grown, goes_and_stands}
+use Rattle.task_machine.proofs.Taking.{took_nothing, goes_and_stands}
 
 -- so many steps of a turn of a task with these frames
 abbrev pub so_many : ℕ → Task → World → Option Exc → Table → Numbers → List Place → ℕ → Move
@@ -49,7 +43,7 @@ goes_further before mid after old w new first exc goes froms numbers ps count pa
     let o = so_many g.steps before old first froms numbers ps count in
     let second = step (froms_after froms o.made) g.took.numbers_after o.places (count + length o.begun) g.stands in
     let both =
-    goes_and_stands g.steps before.frames.items before mid after old w new exc goes froms numbers old.tick (here_of before) ps count first g.took g.stands part
+    goes_and_stands g.steps before.frames.items before mid after old w new exc goes froms numbers old.tick (here_of before) ps count first g.took g.stands part tick
     (subst (λ (t : ℕ). Took mid.frames.items mid after w new goes (froms_after froms o.made) g.took.numbers_after (step_of (froms_after froms o.made) t (here_of before) (record { frames = frames_of g.took.numbers_after mid.frames.items; places = o.places; exc = option_map exc_of exc; count = count + length o.begun }))) tick
     (subst (λ (h : Here). Took mid.frames.items mid after w new goes (froms_after froms o.made) g.took.numbers_after (step_of (froms_after froms o.made) w.tick h (record { frames = frames_of g.took.numbers_after mid.frames.items; places = o.places; exc = option_map exc_of exc; count = count + length o.begun }))) here second)) in
     record { took = both.0; stands = both.1 }
@@ -75,23 +69,9 @@ pub goes_nothing : (task : Task) (world : World) (exc : Option held.Exc) (froms 
     GoneOn task task world world (option_map exc_of exc) exc froms numbers ps count
 unfolding turn_of
 goes_nothing task world exc froms numbers ps count stands =
+    let nothing = took_nothing task world exc froms numbers world.tick (here_of task) ps count stands in
     record {
       steps = zero;
-      took =
-          record {
-            numbers_after = numbers;
-            frames_after = refl;
-            places = stands.places;
-            moves = (refl, refl);
-            entries = [];
-            noted = sym (append-nil task.entries.items);
-            shown = record { shown = refl; slices = All-nil (IsSlice (buffer_of task.part)) };
-            tasks = [];
-            started = sym (append-nil world.started.items);
-            begun = tt;
-            grow = λ id has n e. subst (λ (o : Option Nursery). IsSomeAnd o (λ m. Grown n m (numbers id) (numbers id))) (sym e) (not_grown n (numbers id));
-            kept = λ id has. inl has;
-            numbered = stands.numbered;
-          };
-      stands = stands;
+      took = nothing.0;
+      stands = subst (λ (ns : Numbers). Stands task.frames.items task world froms ns None ps) (sym nothing.1) stands;
     }

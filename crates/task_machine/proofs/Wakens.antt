@@ -15,7 +15,8 @@ use Rattle.job_meaning.specs.Walk.{paced}
 use Rattle.job_meaning.specs.Rest as rest
 use Rattle.job_meaning.specs.Rest.{Stopped, to_begin, asking, asleep, awaiting, at_end}
 use Rattle.job_meaning.specs.Asking as ask
-use Rattle.nursery_book.specs.Book.{HasNursery, Updates}
+use Rattle.nursery_book.specs.Nursery.{Nursery}
+use Rattle.nursery_book.specs.Book.{nursery_at, HasNursery, Updates}
 use Rattle.nursery_book.specs.declared.book.NurseryBook.{NurseryBook}
 use Rattle.task_records.specs.declared.entry.Entry.TheVariants as entries
 use Rattle.task_turns.specs.Midway.{Place, Move}
@@ -33,8 +34,10 @@ use Rattle.task_machine.specs.declared.world.World.{World}
 use Rattle.task_machine.specs.Exits.{ExitsAt}
 use Rattle.task_machine.specs.Fitting.{blocks_of}
 use Rattle.task_machine.specs.Frames.{frames_of}
+use Rattle.task_machine.specs.Acts.{scoping_of}
+use Rattle.task_machine.specs.Left.{LeavesOne}
 use Rattle.task_machine.specs.Stacked.{AreAt}
-use Rattle.task_machine.specs.Standing.{wake_at, Wakens, here_of, HasBlock, Stands, Took}
+use Rattle.task_machine.specs.Standing.{Wakens, here_of, HasBlock, Stands, IsOfOther, Took}
 use Rattle.task_machine.specs.Stops.{Numbers, kernel_in, purpose_in, IsHalt, MovesAs}
 use Rattle.task_machine.specs.Tasks.{scope_of}
 use Rattle.task_machine.specs.Worlds.{label_at}
@@ -77,7 +80,7 @@ took_taken : (frames : List Frame) (task before after : Task) (old new : World) 
     before ≡ record task { halt = before.halt } →
     Took frames before after old new goes froms numbers o → Took frames task after old new goes froms numbers o
 took_taken frames task before after old new goes froms numbers o same took =
-    took_as frames task before after old new goes froms numbers o (ap (λ (t : Task). t.part) same) (ap (λ (t : Task). t.entries.items) same) took
+    took_as frames task before after old new goes froms numbers o (ap (λ (t : Task). t.part) same) (ap (λ (t : Task). t.entries.items) same) (ap (λ (t : Task). scoping_of t old) same) took
 
 -- a wake that goes on, with that exception or well, wherever the task stopped
 wakes_onward : (task after : Task) (world : World) (exc : Option held.Exc) (w : Wake) → after ≡ record task { halt = after.halt } →
@@ -87,7 +90,7 @@ wakes_onward task after world exc w stays is froms numbers stopped ps stands hal
     subst (λ (o : Move). Took task.frames.items task after world world (On exc) froms numbers o) (sym (is froms numbers stopped (frames_of numbers task.frames.items) ps halt))
     (took_halts task.frames.items task after world (On exc) froms numbers (Some stopped) ps (onward (frames_of numbers task.frames.items) ps (option_map exc_of exc)) stands
     (stays ∙ ap (λ (t : Task). record task { frames = t.frames; halt = after.halt }) (sym stays)) (ap (λ (t : Task). blocks_of t.frames.items) stays)
-    (ap (λ (t : Task). frames_of numbers t.frames.items) (sym stays)) refl refl refl (refl, refl))
+    (ap (λ (t : Task). frames_of numbers t.frames.items) (sym stays)) refl refl refl tt (refl, refl))
 
 -- it begins
 pub wakes_begin : (task after : Task) (world : World) → after ≡ record task { halt = after.halt } → Wakens task after world world (On None) begins
@@ -139,7 +142,7 @@ wakes_missing task before after world goes kernel purpose name taken asked for_n
     (stands_taken task.frames.items task before world froms numbers (Some stopped) ps taken stands)
     (stays ∙ ap (λ (t : Task). record before { frames = t.frames; halt = after.halt }) (sym stays))
     (ap (λ (t : Task). blocks_of t.frames.items) stays ∙ ap (λ (t : Task). blocks_of t.frames.items) taken)
-    (sym (ap (λ (t : Task). frames_of numbers t.frames.items) stays ∙ ap (λ (t : Task). frames_of numbers t.frames.items) taken)) refl refl refl
+    (sym (ap (λ (t : Task). frames_of numbers t.frames.items) stays ∙ ap (λ (t : Task). frames_of numbers t.frames.items) taken)) refl refl refl tt
     (raises numbers world.book gs ps)))
 
 -- lines were counted to sleep by
@@ -179,11 +182,12 @@ pub wakes_settled : (id since : ℕ) (task before after : Task) (old mid new : W
     task.halt ≡ Awaits id since →
     (HasBlock id (blocks_of task.frames.items) → ⊥) → mid ≡ record old { book = mid.book } → Updates old.book mid.book id None →
     after ≡ record before { own = after.own; froms = after.froms; entries = after.entries } → new ≡ record mid { scopes = new.scopes; labels = new.labels } →
-    ExitsAt before after mid new kind.Nursery (option_map exc_of exc) (option_map exc_of goes) → Wakens task after old new (On goes) (settles (option_map exc_of exc))
-wakes_settled id since task before after old mid new exc goes taken waits apart closed u stays world exits froms numbers stopped ps stands halt =
+    ExitsAt before after mid new kind.Nursery (option_map exc_of exc) (option_map exc_of goes) → LeavesOne before after mid new →
+    ((n : Nursery) → nursery_at old.book id ≡ Some n → IsOfOther before.own.items old.scopes n → ⊥) → Wakens task after old new (On goes) (settles (option_map exc_of exc))
+wakes_settled id since task before after old mid new exc goes taken waits apart closed u stays world exits one mine froms numbers stopped ps stands halt =
     let w = halts_awaits numbers old.book id since stopped (subst (λ (x : Halt). IsHalt numbers old.book x stopped) waits halt) in
     took_taken task.frames.items task before after old new (On goes) froms numbers (settled froms old.tick (option_map exc_of exc) (frames_of numbers task.frames.items) ps) taken
     (took_settled task.frames.items id before after old mid new (numbers id) since w.exc exc goes froms numbers ps
     (stands_taken task.frames.items task before old froms numbers (Some (awaiting (numbers id) since w.exc)) ps taken
     (subst (λ (s : Stopped). Stands task.frames.items task old froms numbers (Some s) ps) w.is stands))
-    (ap (λ (t : Task). t.frames.items) taken) apart closed u stays world exits)
+    (ap (λ (t : Task). t.frames.items) taken) apart closed u stays world exits one mine)

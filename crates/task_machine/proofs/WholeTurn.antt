@@ -1,5 +1,5 @@
 -- A whole turn: the wake, and the steps behind it.
-use Rattle.std.proofs.Common.{◌≡◌, ℕ, zero, ◌+◌, Option, Some, None, List, [], length, refl, ap, sym, ◌∙◌, subst}
+use Rattle.std.proofs.Common.{◌≡◌, inl, ℕ, zero, ◌+◌, Option, Some, None, List, length, refl, sym, subst}
 use Rattle.std.specs.Option.{option_map}
 use Rattle.exc_groups.specs.Exceptions.{Exc}
 use Rattle.exc_groups.specs.Held.{exc_of}
@@ -11,7 +11,7 @@ use Rattle.job_meaning.specs.Rest.{Stopped, to_begin, asking, asleep, awaiting, 
 use Rattle.buffer_parts.specs.declared.part.Part.{Part}
 use Rattle.nursery_book.specs.declared.book.NurseryBook.{NurseryBook}
 use Rattle.task_turns.specs.Midway.{Place, Midway, Move, then_move}
-use Rattle.task_turns.specs.Placed.{PlacedAfter, places_behind}
+use Rattle.task_turns.specs.Placed.{PlacedAfter}
 use Rattle.task_turns.specs.Names.{NewIn, OwnNames, names_at, StaysNew}
 use Rattle.task_turns.specs.Steps.{froms_after, turn_of}
 use Rattle.task_turns.specs.Wakes.{CanWake, from_start, from_asking, from_sleep, from_due, from_wait, wake_of, turn_from}
@@ -20,7 +20,6 @@ use Rattle.task_turns.proofs.Waking.{turned_from}
 use Rattle.task_turns.proofs.Names.{turn_stays_new}
 use Rattle.task_machine.specs.declared.stop.Halt.{Halt}
 use Rattle.task_machine.specs.declared.stop.Halt.TheVariants.{ToBegin, Asked, Asleep, Awaits, Over}
-use Rattle.task_machine.specs.declared.stop.Moved.{Moved}
 use Rattle.task_machine.specs.declared.stop.Moved.TheVariants.{On, Stops}
 use Rattle.task_machine.specs.declared.stop.Stop.{Stop}
 use Rattle.task_machine.specs.declared.stop.Wake.{Wake}
@@ -28,7 +27,7 @@ use Rattle.task_machine.specs.declared.stop.Wake.TheVariants.{Begin, Due, Seen, 
 use Rattle.task_machine.specs.declared.task.Task.{Task}
 use Rattle.task_machine.specs.declared.world.World.{World}
 use Rattle.task_machine.specs.Frames.{frames_of}
-use Rattle.task_machine.specs.Standing.{here_of, Stands, Took, StopsAfter, Wakens, wake_at, TookTurn}
+use Rattle.task_machine.specs.Standing.{here_of, Stands, Took, StopsAfter, wake_at, TookTurn}
 use Rattle.task_machine.specs.Stops.{Numbers, IsHalt, StopsAs}
 use Rattle.task_machine.specs.Waking.{WakesFrom, wake_in}
 use Rattle.task_machine.proofs.Taking.{took_then}
@@ -108,7 +107,7 @@ wake_stands task after old new exc froms numbers ps count stopped w can stands t
     let names = names_on o _ old.tick (here_of task) _ none (turn_stays_new zero old.tick (here_of task) froms w r ps count can stands.new stands.own) in
     record {
       places = took.places;
-      numbered = took.numbered;
+      numbered = λ id has. took.numbered id (inl has);
       placed = subst (λ (fs : List rest.Frame). PlacedAfter None fs o.places) (sym took.frames_after) (placed_on o _ old.tick (here_of task) _ none kept);
       new = subst (λ (fs : List rest.Frame). NewIn fs o.places) (sym took.frames_after) names.0;
       own = names.1;
@@ -145,7 +144,7 @@ turns_later task mid after old w new wake exc stop froms numbers ps count stoppe
           (subst (λ (t : ℕ). Took mid.frames.items mid after w new (Stops stop) (froms_after froms o.made) took.numbers_after (turn_of s.steps (froms_after froms o.made) t (here_of task) (record { frames = o.frames; places = o.places; exc = o.exc; count = count + length o.begun }))) tick
           (subst (λ (h : Here). Took mid.frames.items mid after w new (Stops stop) (froms_after froms o.made) took.numbers_after (turn_of s.steps (froms_after froms o.made) w.tick h (record { frames = o.frames; places = o.places; exc = o.exc; count = count + length o.begun }))) here
           (subst (λ (m : Midway). Took mid.frames.items mid after w new (Stops stop) (froms_after froms o.made) took.numbers_after (turn_of s.steps (froms_after froms o.made) w.tick (here_of mid) m)) (same (frames_of took.numbers_after mid.frames.items) o.frames (option_map exc_of exc) o.exc took.frames_after took.moves.0) s.took)))
-          part;
+          part tick;
     }
   where
     here : here_of mid ≡ here_of task

@@ -17,7 +17,8 @@ use Rattle.task_machine.specs.declared.frame.Frame.TheVariants as frame
 use Rattle.task_machine.specs.declared.task.Own.{Own}
 use Rattle.task_machine.specs.declared.task.Task.{Task}
 use Rattle.task_machine.specs.declared.world.World.{World}
-use Rattle.task_machine.specs.Labels.{Updates}
+use Rattle.task_machine.specs.Labels.{Updates, scope_named}
+use Rattle.task_machine.specs.Acts.{Signed}
 use Rattle.task_machine.specs.Tasks.{scope_of}
 use Rattle.task_machine.specs.Worlds.{label_at}
 use Rattle.task_machine.specs.Stacked.{AreAt}
@@ -36,7 +37,7 @@ label_in task name = record { name = name; indices = task.label.indices }
 
 -- A scope was opened that was not open, inside those round the task: the last of its own, with a place behind its froms. Every
 -- other scope stays, and keeps its label.
-pub record EntersOne (before after : Task) (old new : World) (label : Label) : Type 0 where
+pub record EntersOne (before after : Task) (old new : World) (label : Label) (deadline : Tick) : Type 0 where
   pub own : Own
   pub opened : after.own.items ≡ before.own.items ++ own ∷ []
   pub place : own.at ≡ length before.froms.items
@@ -45,6 +46,7 @@ pub record EntersOne (before after : Task) (old new : World) (label : Label) : T
   pub level : Level ℕ
   pub stack : stack_of new.scopes own.id ≡ Some (level ∷ outer_of old.scopes (scope_of before))
   pub named : level.label ≡ own.id
+  pub from : level.from ≡ deadline
   pub others : OthersKeep old.scopes new.scopes own.id
   pub labelled : Updates (label_at old) (label_at new) own.id (Some label)
 
@@ -68,8 +70,9 @@ pub record EntersNursery (me : ℕ) (before after : Task) (old new : World) (lab
   pub stands : book.Updates old.book new.book id (Some (opens scope me label))
   pub frames : EntersBlock before after (frame.Nursery id) body
 
--- The froms of the task's places are lowered by the sign of the place of this name, if there is one.
-abbrev pub CancelsAt : World → World → Option ℕ → List ℕ → Type 0
-CancelsAt before after scope name =
-    (froms : Table) (ps : List Place) → OwnNames (names_at ps) → AreAt (label_at before) froms (outer_of before.scopes scope) ps →
-    AreAt (label_at after) (froms_after froms (signs_to (label_among name ps) before.tick)) (outer_of after.scopes scope) ps
+-- The innermost scope of this name is signed, if there is one: the froms of the task's places are lowered by that sign.
+pub record CancelsAt (before after : World) (scope : Option ℕ) (name : List ℕ) : Type 0 where
+  pub signed : Signed before after (scope_named (label_at before) name (outer_of before.scopes scope))
+  pub lowered :
+      (froms : Table) (ps : List Place) → OwnNames (names_at ps) → AreAt (label_at before) froms (outer_of before.scopes scope) ps →
+      AreAt (label_at after) (froms_after froms (signs_to (label_among name ps) before.tick)) (outer_of after.scopes scope) ps

@@ -15,6 +15,7 @@ use Rattle.task_turns.specs.Steps.{signs_home, froms_after}
 use Rattle.task_machine.specs.declared.outcome.Kind.{Kind}
 use Rattle.task_machine.specs.declared.task.Task.{Task}
 use Rattle.task_machine.specs.declared.world.World.{World}
+use Rattle.task_machine.specs.Acts.{Signed, key_failed}
 use Rattle.task_machine.specs.Kinds.{kind_of}
 use Rattle.task_machine.specs.Stacked.{AreAt}
 use Rattle.task_machine.specs.Standing.{AreNoted}
@@ -37,8 +38,9 @@ ExitsAt before after old new kind exc goes_on =
     (froms : Table) (p : Place) (ps : List Place) → AreAt (label_at old) froms (outer_of old.scopes (scope_of before)) (p ∷ ps) →
     ExitsFrom before after old new (kind_of kind) (left_with (catches (froms p.label) p.shield (stack_at froms ps) old.tick) exc) goes_on froms p ps
 
--- Who ends with an exception lowers the from of the innermost place.
-abbrev pub FailsAt : World → World → Option ℕ → Option Exc → Type 0
-FailsAt old new scope exc =
-    (froms : Table) (ps : List Place) → OwnNames (names_at ps) → AreAt (label_at old) froms (outer_of old.scopes scope) ps →
-    AreAt (label_at new) (froms_after froms (signs_home exc ps old.tick)) (outer_of new.scopes scope) ps
+-- Who ends with an exception signs for the innermost scope, if there is one, and so lowers the from of the innermost place.
+pub record FailsAt (old new : World) (scope : Option ℕ) (exc : Option Exc) : Type 0 where
+  pub signed : Signed old new (key_failed exc (outer_of old.scopes scope))
+  pub lowered :
+      (froms : Table) (ps : List Place) → OwnNames (names_at ps) → AreAt (label_at old) froms (outer_of old.scopes scope) ps →
+      AreAt (label_at new) (froms_after froms (signs_home exc ps old.tick)) (outer_of new.scopes scope) ps

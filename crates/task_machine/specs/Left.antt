@@ -3,7 +3,7 @@ use Rattle.std.specs.Prelude.{◌≡◌, ℕ, Option, Some, None, List, [], ◌�
 use Rattle.std.specs.Option.{ForSome}
 use Rattle.std.specs.List.{last_or}
 use Rattle.cancel_scopes.specs.Sight.{Tick, Level, catches}
-use Rattle.cancel_scopes.specs.Tree.{Tree, Stack, stack_of, outer_of, own_from, OthersKeep}
+use Rattle.cancel_scopes.specs.Tree.{Tree, Stack, stack_of, outer_of, own_from, OthersKeep, IsInnermost}
 use Rattle.job_meaning.specs.Log.{Table}
 use Rattle.task_turns.specs.Midway.{Place, stack_at}
 use Rattle.task_records.specs.declared.entry.ScopeFrom.{ScopeFrom}
@@ -28,10 +28,12 @@ keys_in (o ∷ os) = keys_in os ++ o.id ∷ []
 abbrev pub OwnFirst : Tree → Option ℕ → List Own → Type 0
 OwnFirst tree home own = keys_of (outer_of tree (last_or home (map (λ (o : Own). o.id) own))) ≡ keys_in own ++ keys_of (outer_of tree home)
 
--- the last scope is taken off and closed, and its from is kept at its place; every other scope stays, and keeps its label
+-- The last scope is taken off and closed, which is round no other, and its from is kept at its place. Every other scope
+-- stays, and keeps its label.
 pub record LeavesOne (before after : Task) (old new : World) : Type 0 where
   pub last : Own
   pub taken : before.own.items ≡ after.own.items ++ last ∷ []
+  pub innermost : IsInnermost old.scopes last.id
   pub from : Tick
   pub seen : ForSome (stack_of old.scopes last.id) (λ st. from ≡ own_from st)
   pub entry : ScopeFrom

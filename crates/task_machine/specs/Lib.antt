@@ -4,6 +4,7 @@ pub mod Tasks
 pub mod Worlds
 pub mod Lending
 pub mod Stacked
+pub mod Acts
 pub mod Laws
 pub mod Kinds
 pub mod Stops

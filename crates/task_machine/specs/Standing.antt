@@ -2,12 +2,13 @@
 use Rattle.std.specs.Prelude.{◌≡◌, ◌⊎◌, ℕ, List, [], ◌∷◌, ◌++◌, Option, Some, None, map, All, length, slice_get}
 use Rattle.std.specs.Borrow.{Bor}
 use Rattle.buffer_parts.specs.Part.{buffer_of, range_of}
-use Rattle.cancel_scopes.specs.Tree.{outer_of}
+use Rattle.cancel_scopes.specs.Tree.{Tree, outer_of, IsOpen}
 use Rattle.nursery_book.specs.Nursery.{End, Nursery}
 use Rattle.nursery_book.specs.Book.{nursery_at, HasNursery}
 use Rattle.nursery_book.specs.declared.book.NurseryBook.{NurseryBook}
 use Rattle.exc_groups.specs.Exceptions.{Exc}
 use Rattle.job_tree.specs.declared.step.Step as held
+use Rattle.job_tree.specs.Modest.{AreModest}
 use Rattle.job_meaning.specs.Log.{Table}
 use Rattle.job_meaning.specs.Walk.{Here}
 use Rattle.job_meaning.specs.Shown.{Shown, shown_at}
@@ -30,13 +31,15 @@ use Rattle.task_machine.specs.declared.stop.Moved.{Moved}
 use Rattle.task_machine.specs.declared.stop.Stop.{Stop}
 use Rattle.task_machine.specs.declared.stop.Wake.{Wake}
 use Rattle.task_machine.specs.declared.task.Home.{Home}
+use Rattle.task_machine.specs.declared.task.Own.{Own}
 use Rattle.task_machine.specs.declared.task.Task.{Task}
 use Rattle.task_machine.specs.declared.world.World.{World}
-use Rattle.task_machine.specs.Fitting.{Block, a_scope, a_nursery, blocks_of, waits_of}
+use Rattle.task_machine.specs.Acts.{Acts, scoping_of}
+use Rattle.task_machine.specs.Fitting.{Block, a_scope, a_nursery, blocks_of, waits_of, AreOthers}
 use Rattle.task_machine.specs.Frames.{frames_of}
 use Rattle.task_machine.specs.Stacked.{AreAt}
 use Rattle.task_machine.specs.Stops.{Numbers, IsHalt, MovesAs}
-use Rattle.task_machine.specs.Tasks.{scope_of}
+use Rattle.task_machine.specs.Tasks.{scope_of, home_of}
 use Rattle.task_machine.specs.Waking.{wake_in}
 use Rattle.task_machine.specs.Worlds.{label_at}
 
@@ -68,6 +71,10 @@ GoesOn (Stops stop) = ⊥
 abbrev pub AreNumbered : Numbers → NurseryBook → List Frame → Type 0
 AreNumbered numbers book fs = (id : ℕ) → HasBlock id (blocks_of fs) → HasNursery book id (λ n. length (numbers id) ≡ length n.children)
 
+-- and the nursery that the task waits for, if it does
+abbrev pub AllNumbered : Numbers → NurseryBook → List Frame → Option ℕ → Type 0
+AllNumbered numbers book fs waits = (id : ℕ) → HasNurseryOf id (blocks_of fs) waits → HasNursery book id (λ n. length (numbers id) ≡ length n.children)
+
 -- A task with these frames, in the middle of a turn or where it stopped, is in these places with the froms of a table, and
 -- numbered its children so. Each scope and nursery has its place, and no name stands twice among those round one another.
 pub record Stands
@@ -92,8 +99,8 @@ pub record AreNoted (input : List ℕ) (entries : List Entry) (made : List Event
   pub shown : map entry_of entries ≡ shown_made input made
   pub slices : All (IsSlice input) entries
 
--- A task that was started is this child: it has to begin with its steps, at its place of its nursery, which has its number
--- there.
+-- A task that was started is this child: it has to begin with its steps, and runs at its place of its nursery, which has its
+-- number there.
 pub record IsBegun (numbers : Numbers) (book : NurseryBook) (bs : List Block) (waits : Option ℕ) (task : Task) (b : Begun) : Type 0 where
   pub here : here_of task ≡ b.here
   pub frames : (others : Numbers) → frames_of others task.frames.items ≡ rest.steps_left b.body ∷ []
@@ -104,14 +111,21 @@ pub record IsBegun (numbers : Numbers) (book : NurseryBook) (bs : List Block) (w
   pub home : Home
   pub at_home : task.home ≡ Some home
   pub number : slice_get (numbers home.nursery) home.place ≡ Some b.number
-  pub nursery : HasNursery book home.nursery (λ n. n.scope ≡ home.scope)
+  pub nursery : HasNursery book home.nursery (λ n. (n.scope ≡ home.scope) × (slice_get n.children home.place ≡ Some None))
   pub owned : HasNurseryOf home.nursery bs waits
+  pub modest : AreModest b.body
 
 abbrev pub AreBegun : Numbers → NurseryBook → List Block → Option ℕ → List Task → List Begun → Type 0
 AreBegun numbers book bs waits [] [] = Unit {0}
 AreBegun numbers book bs waits [] (c ∷ cs) = ⊥
 AreBegun numbers book bs waits (t ∷ ts) [] = ⊥
 AreBegun numbers book bs waits (t ∷ ts) (c ∷ cs) = IsBegun numbers book bs waits t c × AreBegun numbers book bs waits ts cs
+
+-- a task that was started in this nursery has this place there, and began as the child of this number
+abbrev pub BeginsAt : ℕ → ℕ → ℕ → List Task → List Begun → Type 0
+BeginsAt id place number [] bs = ⊥
+BeginsAt id place number (t ∷ ts) [] = ⊥
+BeginsAt id place number (t ∷ ts) (b ∷ bs) = ((home_of t ≡ Some (id, place)) × (b.number ≡ number)) ⊎ BeginsAt id place number ts bs
 
 -- A nursery after a move: it has the same scope, waiter and label, and more children, which run and have numbers.
 pub record Grown (before after : Nursery) (was are : List ℕ) : Type 0 where
@@ -127,6 +141,26 @@ pub record Grown (before after : Nursery) (was are : List ℕ) : Type 0 where
 -- each nursery among the frames grew so
 abbrev pub Grow : List Frame → Numbers → Numbers → NurseryBook → NurseryBook → Type 0
 Grow fs numbers after old new = (id : ℕ) → HasBlock id (blocks_of fs) → (n : Nursery) → nursery_at old id ≡ Some n → HasNursery new id (λ m. Grown n m (numbers id) (after id))
+
+-- a nursery whose scope is open, and none of those that the task opened
+abbrev pub IsOfOther : List Own → Tree → Nursery → Type 0
+IsOfOther own tree n = IsOpen tree n.scope × AreOthers n.scope own
+
+-- each nursery of a task after a move was among its blocks, or no other task had one at its key
+abbrev pub Owns : List Block → List Own → Tree → NurseryBook → List Block → Option ℕ → Type 0
+Owns bs own tree old cs waits =
+    (id : ℕ) → HasNurseryOf id cs waits → HasBlock id bs ⊎ ((n : Nursery) → nursery_at old id ≡ Some n → IsOfOther own tree n → ⊥)
+
+-- each child of a nursery of the task had its number before, in one of these blocks, or began in the move
+abbrev pub Covers : List Block → Numbers → Numbers → List Block → Option ℕ → List Task → List Begun → Type 0
+Covers bs numbers after cs waits tasks begun =
+    (id place number : ℕ) → HasNurseryOf id cs waits → slice_get (after id) place ≡ Some number →
+    (HasBlock id bs × (slice_get (numbers id) place ≡ Some number)) ⊎ BeginsAt id place number tasks begun
+
+-- the nurseries of other tasks, which are none of these blocks, stay as they are
+abbrev pub OthersStay : List Block → List Own → Tree → NurseryBook → NurseryBook → Type 0
+OthersStay bs own tree old new =
+    (id : ℕ) (n : Nursery) → nursery_at old id ≡ Some n → (HasBlock id bs → ⊥) → IsOfOther own tree n → nursery_at new id ≡ Some n
 
 -- A move of the code from one state of a task and its world to another is this move of the definitions.
 pub record Took
@@ -144,7 +178,14 @@ pub record Took
     pub begun : AreBegun numbers_after new.book (blocks_of after.frames.items) (waits_by moved after.halt) tasks o.begun
     pub grow : Grow frames numbers numbers_after old.book new.book
     pub kept : (id : ℕ) → HasBlock id (blocks_of frames) → HasNurseryOf id (blocks_of after.frames.items) (waits_by moved after.halt)
-    pub numbered : AreNumbered numbers_after new.book after.frames.items
+    pub numbered : AllNumbered numbers_after new.book after.frames.items (waits_by moved after.halt)
+    -- a nursery of the task was one before, or was opened
+    pub owned : Owns (blocks_of frames) before.own.items old.scopes old.book (blocks_of after.frames.items) (waits_by moved after.halt)
+    -- each number of a child stood there before, or is that of a child begun
+    pub covered : Covers (blocks_of frames) numbers numbers_after (blocks_of after.frames.items) (waits_by moved after.halt) tasks o.begun
+    -- the nurseries of other tasks stay as they are
+    pub others : OthersStay (blocks_of frames) before.own.items old.scopes old.book new.book
+    pub acts : Acts old.tick (scoping_of before old) o.made (scoping_of after new)
 
 -- the same of each table of froms, of each numbering, and of places and counts, from where the task stood with these frames
 abbrev pub Takes :
@@ -206,13 +247,17 @@ Wakens task after old new goes w =
     (froms : Table) (numbers : Numbers) (stopped : Stopped) (ps : List Place) → Stands task.frames.items task old froms numbers (Some stopped) ps →
     IsHalt numbers old.book task.halt stopped → Took task.frames.items task after old new goes froms numbers (wake_at task old w stopped froms numbers ps)
 
+-- a move that stops
+abbrev pub TookTo : Task → Task → World → World → Stop → Table → Numbers → Move → Type 0
+TookTo before after old new stop = Took before.frames.items before after old new (Stops stop)
+
 -- A turn of the code is one of the definitions, with so many steps at most.
 pub record TookTurn
     (before after : Task) (old new : World) (wake : Wake) (stop : Stop) (froms : Table) (numbers : Numbers) (stopped : Stopped) (ps : List Place) (count : ℕ) : Type 0
   where
     pub steps : ℕ
     pub took :
-        Took before.frames.items before after old new (Stops stop) froms numbers
+        TookTo before after old new stop froms numbers
         (turn_from steps froms old.tick (here_of before) (wake_in old.book before.halt wake) stopped (frames_of numbers before.frames.items) ps count)
 
 abbrev pub TurnsAs : Task → Task → World → World → Wake → Stop → Type 0

@@ -1,5 +1,5 @@
 -- How a task that stopped goes on, in the code.
-use Rattle.std.specs.Prelude.{◌≡◌, ℕ, ◌≤◌, true, Option, Some, None, map}
+use Rattle.std.specs.Prelude.{◌≡◌, ◌≤◌, true, Option, Some, None, map}
 use Rattle.buffer_parts.specs.Part.{span_of}
 use Rattle.buffer_parts.specs.declared.part.Part.{Part}
 use Rattle.job_tree.specs.declared.limits.TheConstants.{GREATEST_PACE}

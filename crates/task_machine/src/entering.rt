@@ -45,7 +45,7 @@ impl<'a> Task<'a> {
         requires deadline { ForSome deadline (λ tick. tick < 2 ^ 41) }
         ensures stays { OnOk result (self.new ≡ record self.old { own = self.new.own; froms = self.new.froms }) }
         ensures inner { IfOk result (λ id. scope_of self.new ≡ Some id) }
-        ensures own { OnOk result (EntersOne self.old self.new world.old world.new (label_in self.old name)) }
+        ensures own { OnOk result (EntersOne self.old self.new world.old world.new (label_in self.old name) deadline) }
         ensures world { OnOk result (world.new ≡ record world.old { scopes = world.new.scopes; labels = world.new.labels }) }
         ensures at { OnOk result (EntersAt world.old world.new (scope_of self.old) (scope_of self.new)
             (label_in self.old name) shield deadline) }
@@ -75,7 +75,8 @@ impl<'a> Task<'a> {
         ensures stays { OnOk result (self.new
             ≡ record self.old { frames = self.new.frames; own = self.new.own; froms = self.new.froms }) }
         ensures frames { OnOk result (EntersBlock self.old self.new (Scope fail) block.entry.body.now) }
-        ensures own { OnOk result (EntersOne self.old self.new world.old world.new (label_in self.old block.entry.name)) }
+        ensures own { OnOk result (EntersOne self.old self.new world.old world.new (label_in self.old block.entry.name)
+            (due block.entry.deadline world.old.tick)) }
         ensures world { OnOk result (world.new ≡ record world.old { scopes = world.new.scopes; labels = world.new.labels }) }
         ensures at { OnOk result (EntersAt world.old world.new (scope_of self.old) (scope_of self.new)
             (label_in self.old block.entry.name) block.entry.shield (due block.entry.deadline world.old.tick)) }
@@ -99,7 +100,7 @@ impl<'a> Task<'a> {
         ensures stays { OnOk result (self.new
             ≡ record self.old { frames = self.new.frames; own = self.new.own; froms = self.new.froms }) }
         ensures nursery { OnOk result (EntersNursery me self.old self.new world.old world.new (label_in self.old name) body.now) }
-        ensures own { OnOk result (EntersOne self.old self.new world.old world.new (label_in self.old name)) }
+        ensures own { OnOk result (EntersOne self.old self.new world.old world.new (label_in self.old name) None) }
         ensures world { OnOk result (world.new
             ≡ record world.old { scopes = world.new.scopes; labels = world.new.labels; book = world.new.book }) }
         ensures at { OnOk result (EntersAt world.old world.new (scope_of self.old) (scope_of self.new)

@@ -1,14 +1,13 @@
-//! Tasks and what they share, and the steps of a task's turn.
+//! Tasks and what they share, and a task's turn.
 //!
 //! A `Task` holds what it has not finished, the cancel scopes that it opened, innermost last, and what it noted. A `World`
 //! holds the tick, the cancel scopes with their labels, the nurseries, and the tasks that were started and that nobody took
-//! yet. A task that is woken (`Wake`) will go on until it stops (`Stop`): each step of that is a method here, and the turn
-//! that takes one after the other is not there yet.
+//! yet. A task that is woken (`Wake`) has a turn: it goes on until it stops (`Stop`).
 //!
 //! The layer promises that a label belongs to the scope that was entered with it until that is left, that a name finds the
-//! innermost scope of that name, that a call of the world changes the parts that it names alone, and that each step does to
-//! the task and the world what the definitions of turns say. It stands on the scope tree, on the book of nurseries, and on
-//! the jobs whose steps it borrows.
+//! innermost scope of that name, that a call of the world changes the parts that it names alone, and that a turn does to the
+//! task and the world what a turn of the definitions does (`task_turns`). It stands on the scope tree, on the book of
+//! nurseries, and on the jobs whose steps it borrows.
 #![tactic(auto)]
 
 mod cancelling;

@@ -137,6 +137,22 @@ impl<'a> Task<'a> {
         self.froms.as_slice()
     }
 
+    /// What is left of a task that has ended: its label, what it noted, and the scopes and nurseries that it opened, as
+    /// `entries` and `froms` show them. Takes no memory.
+    pub fn into_parts(self) -> (Label, Vec<Entry<'a>>, Vec<ScopeFrom>)
+        ensures label { result.0 ≡ self.entry.label }
+        ensures entries { result.1.items ≡ self.entry.entries.items }
+        ensures froms { result.2.items ≡ self.entry.froms.items }
+    {
+        let Task {
+            label,
+            entries,
+            froms,
+            ..
+        } = self;
+        (label, entries, froms)
+    }
+
     // The task is in a frame inside the others.
     pub(crate) fn push(&mut self, frame: Frame<'a>) -> Result<(), AllocError>
         ensures stays { OnOk result (self.new ≡ record self.old { frames = self.new.frames }) }

@@ -29,7 +29,13 @@ use std::alloc::AllocError;
 const FAR: u64 = 1_099_511_627_776;
 
 impl<'a> Task<'a> {
-    /// Goes on from a wake to the next stop.
+    /// One turn: the task goes on from a wake to its next stop, in the world's tick. `me` is the id by which it is known, which
+    /// a nursery that it opens keeps as its waiter's. The children that it starts wait in the world (`take_started`).
+    ///
+    /// The caller sees to it that the wake fits the stop: `Begin` comes first, `Due` or `Seen` after `Sleep`, after `Ask` the
+    /// answer to what was asked, and after `Wait` comes `Settled`, once that nursery is; that nothing comes after `Ended`; and
+    /// that the tick is at most 2 to the 40. Want of memory is the only error, after which the task and the world may only be
+    /// dropped.
     pub fn turn(
         &mut self,
         me: TaskId,

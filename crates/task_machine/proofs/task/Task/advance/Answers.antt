@@ -1,4 +1,4 @@
-use Rattle.std.proofs.Common.{◌≡◌, ◌<◌, None, List, [], ◌∷◌, ◌++◌, ap, sym, ◌∙◌, subst, refl, arith}
+use Rattle.std.proofs.Common.{[], ◌∷◌, ◌++◌, ap, sym, ◌∙◌, subst, refl, arith}
 use Rattle.std.specs.Option.{option_map, option_copied}
 use Rattle.exc_groups.specs.Held.{exc_of}
 use Rattle.job_tree.specs.Blocks.{handled_of, cleaned_of}
@@ -15,7 +15,7 @@ use Rattle.task_machine.specs.Frames.{frames_of}
 use Rattle.task_machine.specs.Tasks.{home_scope}
 use Rattle.task_machine.specs.Worlds.{label_at}
 use Rattle.task_machine.proofs.Fits.{ready_scope}
-use Rattle.task_machine.proofs.TaskFits.{Laws, exited_fits, waits_fits, frame_off, modest_with, starts_with, popped_fits, popped_length, popped_body, try_shorter, tried_fits, handled_fits}
+use Rattle.task_machine.proofs.TaskFits.{exited_fits, waits_fits, frame_off, modest_with, starts_with, popped_fits, popped_length, popped_body, try_shorter, tried_fits, handled_fits}
 use Rattle.task_machine.proofs.Advances.{takes_end, takes_exit, takes_body, takes_try, takes_handler, takes_cleanup}
 use Rattle.task_machine.proofs.task.Task.advance.Goals as goal
 
@@ -131,7 +131,7 @@ returns-in_ok-exc-in-Scope-clause-step c =
     let self = c.args.self.now in
     let e = c.in_ok-exc-in-Scope.ensures in
     takes_exit self.frames.items c.in-Scope.fail self (record self { frames = c.pop.new.self }) c.exit.new.self c.args.world.now c.exit.new.world c.args.exc c.in_ok-exc-in-Scope.exc (c.in-Some.ensures.items ∙ ap (λ (f : Frame). c.pop.new.self.items ++ f ∷ []) c.in-Scope.is)
-    refl e.stays e.world e.at
+    refl e.stays e.world e.at e.left
 
 pub returns-in-Nursery-clause-step : goal.returns-in-Nursery-clause-step
 returns-in-Nursery-clause-step c =

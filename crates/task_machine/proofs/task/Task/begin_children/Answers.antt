@@ -1,4 +1,4 @@
-use Rattle.std.proofs.Common.{◌≡◌, ℕ, Option, None, ◌∷◌, [], subst, sym}
+use Rattle.std.proofs.Common.{ℕ, Option, None, ◌∷◌, [], subst, sym}
 use Rattle.exc_groups.specs.Exceptions.{Label}
 use Rattle.task_machine.specs.Started.{running, StartsOne, StartsAll}
 use Rattle.task_machine.specs.Worlds.{label_at}

@@ -34,6 +34,7 @@ returns-clause-own c =
       level = record { label = c.in_ok-id.id; shield = c.args.shield; from = c.args.deadline };
       stack = entered.opened ∙ ap (λ (s : Option ℕ). Some (record { label = c.in_ok-id.id; shield = c.args.shield; from = c.args.deadline } ∷ outer_of world.scopes s)) c.scope.ensures;
       named = refl;
+      from = refl;
       others = entered.others;
       labelled = subst (λ (l : Label). Updates (label_at world) (label_at c.enter.new.self) c.in_ok-id.id (Some l)) c.in_ok-label.ensures entered.label;
     }

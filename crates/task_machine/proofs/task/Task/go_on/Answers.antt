@@ -1,4 +1,4 @@
-use Rattle.std.proofs.Common.{◌≡◌, ◌++◌, ◌∷◌, [], List, ap, sym, ◌∙◌, subst, refl, arith}
+use Rattle.std.proofs.Common.{[], List, ap, sym, ◌∙◌, subst, refl, arith}
 use Rattle.job_tree.specs.Blocks.{step_of, steps_of}
 use Rattle.job_tree.specs.Modest.{AreModest}
 use Rattle.job_tree.specs.Starting.{StartsIn, StartsAt}

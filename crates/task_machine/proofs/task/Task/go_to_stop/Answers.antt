@@ -1,4 +1,4 @@
-use Rattle.std.proofs.Common.{◌≡◌, refl, ap, suc, sym, subst, ◌∙◌}
+use Rattle.std.proofs.Common.{refl, ap, suc, subst, ◌∙◌}
 use Rattle.std.specs.Option.{option_map}
 use Rattle.exc_groups.specs.Held.{exc_of}
 use Rattle.task_machine.specs.declared.stop.Moved.{Moved}
@@ -6,7 +6,7 @@ use Rattle.task_machine.specs.declared.task.Task.{Task}
 use Rattle.task_machine.specs.declared.world.World.{World}
 use Rattle.task_machine.specs.Fitting.{Fits}
 use Rattle.task_machine.specs.Standing.{waits_by}
-use Rattle.task_machine.proofs.TurnGoes.{GoneOn, MoreGone, goes_further, goes_on, goes_nothing}
+use Rattle.task_machine.proofs.TurnGoes.{MoreGone, goes_further, goes_on, goes_nothing}
 use Rattle.task_machine.proofs.task.Task.go_to_stop.Goals as goal
 
 pub steps-init : goal.steps-init

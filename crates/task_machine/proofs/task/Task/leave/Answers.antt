@@ -31,6 +31,7 @@ returns-clause-left c =
     record {
       last = c.in-Some.own;
       taken = c.in-Some.ensures.items;
+      innermost = c.requires.innermost c.in-Some.own.id (last_pushed _ _ _ _ c.in-Some.ensures.items);
       from = c.leave-label.result.1;
       seen = c.leave-label.ensures.from;
       entry = c.index_mut.result.now;

@@ -1,4 +1,4 @@
-use Rattle.std.proofs.Common.{◌≡◌, List, length, ap, sym, ◌∙◌, arith}
+use Rattle.std.proofs.Common.{List, length, ap, arith}
 use Rattle.task_machine.specs.declared.frame.Frame.{Frame}
 use Rattle.task_machine.proofs.Bodies.{IsBody, is_body, body_long, body_frame, body_id}
 use Rattle.task_machine.proofs.task.Task.nursery.Goals as goal

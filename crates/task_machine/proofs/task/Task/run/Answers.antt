@@ -1,4 +1,4 @@
-use Rattle.std.proofs.Common.{◌≡◌, ℕ, ◌+◌, ◌-◌, ◌<◌, None, List, [], ap, sym, ◌∙◌, subst, refl, arith}
+use Rattle.std.proofs.Common.{ℕ, ◌-◌, None, [], ap, ◌∙◌, subst, refl, arith}
 use Rattle.job_tree.specs.Blocks.{step_of}
 use Rattle.job_tree.specs.Modest.{IsModestStep}
 use Rattle.job_tree.specs.Starting.{StartsAt}
@@ -10,7 +10,7 @@ use Rattle.task_machine.specs.Entered.{label_in}
 use Rattle.task_machine.specs.Fitting.{frames_behind}
 use Rattle.task_machine.specs.Frames.{frames_of}
 use Rattle.task_machine.proofs.Children.{takes_children}
-use Rattle.task_machine.proofs.TaskFits.{Laws, signed_fits, scope_fits, nursery_fits, scope_length, nursery_length}
+use Rattle.task_machine.proofs.TaskFits.{signed_fits, scope_fits, nursery_fits, scope_length, nursery_length}
 use Rattle.task_machine.proofs.AdvancesSteps.{takes_sleep, takes_checkpoint, takes_forever, takes_pace, takes_find, takes_head, takes_longest, takes_need, takes_raise, takes_cancel, takes_scope, takes_nursery, takes_attempt}
 use Rattle.task_machine.proofs.task.Task.run.Goals as goal
 
@@ -85,14 +85,14 @@ returns-in_ok-enter_scope-in-Scope-clause-step c =
     let e = c.in_ok-enter_scope-in-Scope.ensures in
     λ frames task a.
     takes_scope frames c.args.step.now task c.args.self.now c.enter_scope.new.self c.args.world.now c.enter_scope.new.world c.in-Scope.name c.in-Scope.deadline c.in-Scope.shield c.in-Scope.fail c.in-Scope.body a
-    c.in-Scope.is e.stays e.frames e.world e.at
+    c.in-Scope.is e.stays e.frames e.world e.at e.own
 
 pub returns-in_ok-enter_nursery-in-Nursery-clause-step : goal.returns-in_ok-enter_nursery-in-Nursery-clause-step
 returns-in_ok-enter_nursery-in-Nursery-clause-step c =
     let e = c.in_ok-enter_nursery-in-Nursery.ensures in
     λ frames task a.
     takes_nursery c.args.me frames c.args.step.now task c.args.self.now c.enter_nursery.new.self c.args.world.now c.enter_nursery.new.world c.in-Nursery.name c.in-Nursery.body a c.in-Nursery.is e.stays e.nursery
-    e.world e.at
+    e.world e.at e.own
 
 pub returns-in_ok-begin_try-in-Try-clause-step : goal.returns-in_ok-begin_try-in-Try-clause-step
 returns-in_ok-begin_try-in-Try-clause-step c =
@@ -105,3 +105,4 @@ returns-in_ok-begin_children-in-Start-clause-step c =
     let e = c.in_ok-begin_children-in-Start.ensures in
     λ frames task a.
     takes_children frames c.args.step.now task c.args.self.now c.args.world.now c.begin_children.new.world c.in-Start.name c.in-Start.over c.in-Start.body c.requires.fits a c.in-Start.is e.rest e.children
+    (subst (λ (s : Step). IsModestStep (step_of s)) c.in-Start.is c.requires.modest).1

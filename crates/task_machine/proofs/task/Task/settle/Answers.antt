@@ -1,7 +1,6 @@
-use Rattle.std.proofs.Common.{◌≡◌, ap, sym, ◌∙◌}
-use Rattle.task_machine.specs.declared.world.World.{World}
-use Rattle.task_machine.proofs.TaskFits.{Laws, ready_awaits, settled_fits}
-use Rattle.std.proofs.Common.{Option, refl, subst}
+use Rattle.std.proofs.Common.{ap, sym, ◌∙◌}
+use Rattle.task_machine.proofs.TaskFits.{ready_awaits, settled_fits}
+use Rattle.std.proofs.Common.{Option, Some, inr, refl, subst}
 use Rattle.std.specs.Option.{option_map}
 use Rattle.exc_groups.specs.Exceptions.{Exc}
 use Rattle.exc_groups.specs.Held.{exc_of}
@@ -9,12 +8,12 @@ use Rattle.nursery_book.specs.Book.{nursery_at}
 use Rattle.task_turns.specs.Wakes.{settles}
 use Rattle.task_machine.specs.declared.stop.Halt.{Halt}
 use Rattle.task_machine.specs.declared.stop.Moved.TheVariants.{On}
-use Rattle.task_machine.specs.Fitting.{Fits, waits_of}
+use Rattle.task_machine.specs.Fitting.{blocks_of, Fits, waits_of}
 use Rattle.task_machine.specs.Standing.{Wakens}
 use Rattle.task_machine.specs.Tasks.{home_scope}
 use Rattle.task_machine.specs.Waking.{settled_exc}
 use Rattle.task_machine.specs.Worlds.{label_at}
-use Rattle.task_machine.proofs.Apart.{apart_awaited}
+use Rattle.task_machine.proofs.Apart.{apart_awaited, has_scope}
 use Rattle.task_machine.proofs.Wakens.{wakes_settled}
 use Rattle.task_machine.proofs.Wakes.{raised_is}
 use Rattle.task_machine.proofs.task.Task.settle.Goals as goal
@@ -50,4 +49,7 @@ returns-clause-wakes c =
     (sym (ap (settled_exc world.book) c.in-Awaits.is ∙ raised_is (nursery_at world.book c.in-Awaits.nursery) (option_map exc_of c.in_ok-exc.exc) c.in_ok-exc.ensures.raised))
     (wakes_settled c.in-Awaits.nursery c.in-Awaits.since self self c.exit.new.self world (record world { book = c.close.new.self }) c.exit.new.world c.in_ok-exc.exc c.in_ok-exc-2.exc refl c.in-Awaits.is
     (apart_awaited self.frames.items self.part (home_scope self) self.own.items _ world.scopes (label_at world) world.book c.in-Awaits.nursery
-    (subst (λ (h : Halt). Fits self.frames.items self world (waits_of h)) c.in-Awaits.is c.requires.fits)) refl c.in_ok-exc.ensures.closed exited.stays exited.world exited.at)
+    (subst (λ (h : Halt). Fits self.frames.items self world (waits_of h)) c.in-Awaits.is c.requires.fits)) refl c.in_ok-exc.ensures.closed exited.stays exited.world exited.at exited.left
+    (λ n at other.
+    has_scope (label_at world) world.book (blocks_of self.frames.items) self.own.items (Some c.in-Awaits.nursery) c.in-Awaits.nursery n
+    (subst (λ (h : Halt). Fits self.frames.items self world (waits_of h)) c.in-Awaits.is c.requires.fits).opened (inr refl) at other.1))

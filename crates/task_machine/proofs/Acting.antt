@@ -1,0 +1,238 @@
+-- What moves of the code do to scopes, as acts.
+use Rattle.std.proofs.Common.{◌≡◌, ◌≢◌, ◌⊎◌, inl, inr, ◌==◌, ℕ, zero, suc, Bool, true, false, Option, Some, None, List, [], ◌∷◌, ◌++◌, refl, ap, sym, ◌∙◌, subst}
+use Rattle.std.proofs.lemmas.Bool.{eqb-true, eq-eqb}
+use Rattle.std.proofs.lemmas.List.Elements.{All-nil, All-cons, All-append, All-head, All-tail}
+use Rattle.std.specs.Prelude.{IsSome}
+use Rattle.std.specs.Option.{option_map, is_some}
+use Rattle.exc_groups.specs.Exceptions.{Label, Exc}
+use Rattle.cancel_scopes.specs.Sight.{Tick}
+use Rattle.cancel_scopes.specs.Tree.{Stack, Tree, stack_of, IsOpen, after_cancel}
+use Rattle.job_meaning.specs.Log.{Table}
+use Rattle.job_meaning.specs.Log as log
+use Rattle.job_meaning.specs.Walk.{Here, label_over}
+use Rattle.job_meaning.specs.Rest.{Event, noted, signs, enters, starts, starts_over, Stopped, to_begin, asking, asleep, awaiting, at_end}
+use Rattle.nursery_book.specs.declared.book.NurseryBook.{NurseryBook}
+use Rattle.buffer_parts.specs.declared.part.Part.{Part}
+use Rattle.buffer_parts.specs.Lines.{Span}
+use Rattle.task_turns.specs.Midway.{Place, Move}
+use Rattle.task_turns.specs.Steps.{signs_to, signs_home}
+use Rattle.task_turns.specs.Wakes.{lines_made}
+use Rattle.task_machine.specs.declared.stop.Halt.{Halt}
+use Rattle.task_machine.specs.declared.stop.Halt.TheVariants.{ToBegin, Asked, Asleep, Awaits, Over}
+use Rattle.task_machine.specs.declared.stop.Moved.{Moved}
+use Rattle.task_machine.specs.declared.stop.Moved.TheVariants.{On, Stops}
+use Rattle.task_machine.specs.declared.task.Own.{Own}
+use Rattle.task_machine.specs.declared.task.Task.{Task}
+use Rattle.task_machine.specs.declared.world.World.{World}
+use Rattle.task_machine.specs.Acts.{Scoping, scoping_of, Acts, no_act, act_noted, act_starts, act_signs, act_enters, act_leaves, Signed, key_failed}
+use Rattle.task_machine.specs.Entered.{EntersOne}
+use Rattle.task_machine.specs.Fitting.{Block, a_scope, a_nursery, AreOthers, waits_of}
+use Rattle.task_machine.specs.Left.{LeavesOne}
+use Rattle.task_machine.specs.Stacked.{AreAt, FoundAs}
+use Rattle.task_machine.specs.Standing.{HasBlock, HasNurseryOf, waits_by}
+use Rattle.task_machine.specs.Stops.{Numbers, IsHalt, MovesAs}
+use Rattle.task_machine.specs.Worlds.{label_at}
+
+-- ---- a task that waits for no nursery
+
+-- a stop that waits for no nursery, or none
+abbrev pub WaitsNot : Option Stopped → Type 0
+WaitsNot None = Unit {0}
+WaitsNot (Some to_begin) = Unit {0}
+WaitsNot (Some (asking kernel purpose)) = Unit {0}
+WaitsNot (Some (asleep n since)) = Unit {0}
+WaitsNot (Some (awaiting children ended exc)) = ⊥
+WaitsNot (Some (at_end u e)) = Unit {0}
+
+halts_not : (numbers : Numbers) (book : NurseryBook) (halt : Halt) (s : Stopped) → WaitsNot (Some s) → IsHalt numbers book halt s → waits_of halt ≡ None
+halts_not numbers book ToBegin s not h = refl
+halts_not numbers book (Asked kernel purpose) s not h = refl
+halts_not numbers book (Asleep ticks since) s not h = refl
+halts_not numbers book (Awaits id since) to_begin not h = absurd h
+halts_not numbers book (Awaits id since) (asking kernel purpose) not h = absurd h
+halts_not numbers book (Awaits id since) (asleep n u) not h = absurd h
+halts_not numbers book (Awaits id since) (awaiting children ended exc) not h = absurd not
+halts_not numbers book (Awaits id since) (at_end u e) not h = absurd h
+halts_not numbers book Over s not h = refl
+
+pub waits_not : (numbers : Numbers) (book : NurseryBook) (part : Part) (goes : Moved) (halt : Halt) (o : Move) → WaitsNot o.stopped → MovesAs numbers book part goes halt o →
+    waits_by goes halt ≡ None
+waits_not numbers book part (On exc) halt o not h = refl
+waits_not numbers book part (Stops stop) halt o not h = by_stop o.stopped refl
+  where
+    by_stop : (s : Option Stopped) → o.stopped ≡ s → waits_of halt ≡ None
+    by_stop None e =
+        absurd (let f : MovesAs numbers book part (Stops stop) halt (record o { stopped = None }) = subst (λ (x : Option Stopped). MovesAs numbers book part (Stops stop) halt (record o { stopped = x })) e h in f.1)
+    by_stop (Some s) e =
+        let f : MovesAs numbers book part (Stops stop) halt (record o { stopped = Some s }) =
+        subst (λ (x : Option Stopped). MovesAs numbers book part (Stops stop) halt (record o { stopped = x })) e h in
+        halts_not numbers book halt s (subst WaitsNot e not) f.1.0
+
+-- a nursery of a task that waits for none is among its blocks
+pub block_of : (id : ℕ) (bs : List Block) (waits : Option ℕ) → waits ≡ None → HasNurseryOf id bs waits → HasBlock id bs
+block_of id bs waits none (inl h) = h
+block_of id bs waits none (inr e) = absurd (let f : None ≡ Some id = sym none ∙ e in cc)
+
+pub has_or_not : (id : ℕ) (bs : List Block) → HasBlock id bs ⊎ (HasBlock id bs → ⊥)
+has_or_not id [] = inr (λ h. h)
+has_or_not id (a_scope ∷ bs) = has_or_not id bs
+has_or_not id (a_nursery key ∷ bs) = by_key (id == key) refl (has_or_not id bs)
+  where
+    by_key : (b : Bool) → (id == key) ≡ b → HasBlock id bs ⊎ (HasBlock id bs → ⊥) → ((id ≡ key) ⊎ HasBlock id bs) ⊎ ((id ≡ key) ⊎ HasBlock id bs → ⊥)
+    by_key true e d = inl (inl (eqb-true id key e))
+    by_key false e (inl h) = inl (inr h)
+    by_key false e (inr h) = inr neither
+      where
+        neither : (id ≡ key) ⊎ HasBlock id bs → ⊥
+        neither (inl f) = absurd (let x : true ≡ false = sym (eq-eqb id key f) ∙ e in cc)
+        neither (inr f) = h f
+
+-- ---- acts that change nothing
+
+pub same_acts : (tick : ℕ) (s u : Scoping) → u ≡ s → Acts tick s [] u
+same_acts tick s u e = subst (λ (x : Scoping). Acts tick s [] x) (sym e) (no_act s)
+
+pub no_acts : (tick : ℕ) (s u : Scoping) (es : List Event) → es ≡ [] → u ≡ s → Acts tick s es u
+no_acts tick s u es none e = subst (λ (fs : List Event). Acts tick s fs u) (sym none) (same_acts tick s u e)
+
+pub acts_append : (tick : ℕ) (s m u : Scoping) (es fs : List Event) → Acts tick s es m → Acts tick m fs u → Acts tick s (es ++ fs) u
+acts_append tick _ _ u _ fs (no_act s) b = b
+acts_append tick _ _ u _ fs (act_noted s m t e ds a) b = act_noted s u t e (ds ++ fs) (acts_append tick s m u ds fs a b)
+acts_append tick _ _ u _ fs (act_starts s m i l t ds a) b = act_starts s u i l t (ds ++ fs) (acts_append tick s m u ds fs a b)
+acts_append tick _ _ u _ fs (act_signs s x m l ds h a) b = act_signs s x u l (ds ++ fs) h (acts_append tick x m u ds fs a b)
+acts_append tick _ _ u _ fs (act_enters s x m l t d ds h a) b = act_enters s x u l t d (ds ++ fs) h (acts_append tick x m u ds fs a b)
+acts_append tick _ _ u _ fs (act_leaves s x m es h a) b = act_leaves s x u (es ++ fs) h (acts_append tick x m u es fs a b)
+
+pub lines_acts : (tick t : ℕ) (spans : List Span) (s u : Scoping) → u ≡ s → Acts tick s (lines_made t spans) u
+lines_acts tick t [] s u e = same_acts tick s u e
+lines_acts tick t (l ∷ spans) s u e = act_noted s u t (log.line l) (lines_made t spans) (lines_acts tick t spans s u e)
+
+pub start_acts : (tick : ℕ) (i : ℕ) (l : Label) (t : ℕ) (s u : Scoping) → u ≡ s → Acts tick s (starts i l t ∷ []) u
+start_acts tick i l t s u e = act_starts s u i l t [] (same_acts tick s u e)
+
+pub starts_acts : (tick : ℕ) (name : List ℕ) (here : Here) (t first k : ℕ) (s u : Scoping) → u ≡ s → Acts tick s (starts_over name here t first k) u
+starts_acts tick name here t first zero s u e = same_acts tick s u e
+starts_acts tick name here t first (suc k) s u e =
+    acts_append tick s u u (starts_over name here t first k) _ (starts_acts tick name here t first k s u e) (start_acts tick _ (label_over name here k) t u u refl)
+
+-- ---- signs
+
+-- a scope of this label is signed, and nothing else is changed
+one_signed : (before after : Task) (old new : World) (key : ℕ) (label : Label) → after.own.items ≡ before.own.items → after.froms.items ≡ before.froms.items →
+    label_at new ≡ label_at old → label_at old key ≡ Some label → Signed old new (Some key) →
+    Acts old.tick (scoping_of before old) (signs label old.tick ∷ []) (scoping_of after new)
+one_signed before after old new key label own froms labels labelled signed =
+    act_signs (scoping_of before old) (scoping_of after new) (scoping_of after new) label []
+    (record { key = key; labelled = labelled; stacks = signed; labels = labels; own = own; froms = froms }) (no_act (scoping_of after new))
+
+none_signed : (before after : Task) (old new : World) → after.own.items ≡ before.own.items → after.froms.items ≡ before.froms.items → label_at new ≡ label_at old →
+    Signed old new None → Acts old.tick (scoping_of before old) [] (scoping_of after new)
+none_signed before after old new own froms labels signed = same_acts old.tick (scoping_of before old) (scoping_of after new) same
+  where
+    same : scoping_of after new ≡ scoping_of before old
+    same =
+        let t : new.scopes ≡ old.scopes = signed in
+        let l : label_at new ≡ label_at old = labels in
+        ap (λ x. record { tree = x; labels = label_at new; own = after.own.items; froms = after.froms.items }) t
+        ∙ ap (λ x. record { tree = old.scopes; labels = x; own = after.own.items; froms = after.froms.items }) l
+        ∙ ap (λ x. record { tree = old.scopes; labels = label_at old; own = x; froms = after.froms.items }) own
+        ∙ ap (λ x. record { tree = old.scopes; labels = label_at old; own = before.own.items; froms = x }) froms
+
+-- the scope that a name finds
+pub found_signed : (before after : Task) (old new : World) (found : Option ℕ) (label : Option Label) → after.own.items ≡ before.own.items → after.froms.items ≡ before.froms.items →
+    label_at new ≡ label_at old → FoundAs (label_at old) found label → Signed old new found →
+    Acts old.tick (scoping_of before old) (signs_to label old.tick) (scoping_of after new)
+found_signed before after old new None label own froms labels at signed =
+    subst (λ (o : Option Label). Acts old.tick (scoping_of before old) (signs_to o old.tick) (scoping_of after new)) (sym at) (none_signed before after old new own froms labels signed)
+found_signed before after old new (Some key) label own froms labels at signed =
+    subst (λ (o : Option Label). Acts old.tick (scoping_of before old) (signs_to o old.tick) (scoping_of after new)) (sym at.1.1)
+    (one_signed before after old new key at.1.0 own froms labels (at.0 ∙ at.1.1) signed)
+
+-- the innermost scope of who failed
+pub home_signed : (before after : Task) (old new : World) (exc : Option Exc) (froms : Table) (st : Stack) (ps : List Place) → after.own.items ≡ before.own.items →
+    after.froms.items ≡ before.froms.items → label_at new ≡ label_at old → AreAt (label_at old) froms st ps → Signed old new (key_failed exc st) →
+    Acts old.tick (scoping_of before old) (signs_home exc ps old.tick) (scoping_of after new)
+home_signed before after old new None table st ps own froms labels at signed = none_signed before after old new own froms labels signed
+home_signed before after old new (Some e) table [] [] own froms labels at signed = none_signed before after old new own froms labels signed
+home_signed before after old new (Some e) table [] (p ∷ ps) own froms labels at signed = absurd at
+home_signed before after old new (Some e) table (l ∷ ls) [] own froms labels at signed = absurd at
+home_signed before after old new (Some e) table (l ∷ ls) (p ∷ ps) own froms labels at signed = one_signed before after old new l.label p.label own froms labels at.0 signed
+
+-- ---- scopes that are entered and left
+
+pub entered_acts : (before after : Task) (old new : World) (label : Label) (deadline : Tick) → EntersOne before after old new label deadline →
+    Acts old.tick (scoping_of before old) (enters label old.tick deadline ∷ []) (scoping_of after new)
+entered_acts before after old new label deadline e =
+    act_enters (scoping_of before old) (scoping_of after new) (scoping_of after new) label old.tick deadline []
+    (record {
+      scope = e.own;
+      opened = e.opened;
+      place = e.place;
+      froms = e.froms;
+      fresh = e.fresh;
+      level = e.level;
+      parent = _;
+      stack = e.stack;
+      named = e.named;
+      from = e.from;
+      others = e.others;
+      labelled = e.labelled;
+    })
+    (no_act (scoping_of after new))
+
+pub left_acts : (before after : Task) (old new : World) (t : ℕ) (entry : log.Entry) → LeavesOne before after old new →
+    Acts old.tick (scoping_of before old) (noted t entry ∷ []) (scoping_of after new)
+left_acts before after old new t entry e =
+    act_leaves (scoping_of before old) (scoping_of after new) (scoping_of after new) (noted t entry ∷ [])
+    (record {
+      scope = e.last;
+      taken = e.taken;
+      innermost = e.innermost;
+      from = e.from;
+      seen = e.seen;
+      entry = e.entry;
+      was = e.was;
+      froms = e.froms;
+      closed = e.closed;
+      others = e.others;
+      unlabelled = e.unlabelled;
+    })
+    (act_noted (scoping_of after new) (scoping_of after new) t entry [] (no_act (scoping_of after new)))
+
+-- ---- scopes of other tasks
+
+-- an open scope that is none of the task's
+abbrev pub IsOpenOther : ℕ → Scoping → Type 0
+IsOpenOther key s = IsOpen s.tree key × AreOthers key s.own
+
+signed_open : (key at t : ℕ) (old new : Tree) → ((other : ℕ) → stack_of new other ≡ option_map (after_cancel at t) (stack_of old other)) → IsOpen old key → IsOpen new key
+signed_open key at t old new h opened = subst IsSome (sym (h key)) (by_stack (stack_of old key) opened)
+  where
+    by_stack : (o : Option Stack) → IsSome o → IsSome (option_map (after_cancel at t) o)
+    by_stack None s = absurd (let f : false ≡ true = s in cc)
+    by_stack (Some st) s = refl
+
+others_first : (key : ℕ) (os : List Own) (o : Own) → AreOthers key (os ++ o ∷ []) → AreOthers key os × (key ≢ o.id)
+others_first key [] o a = (All-nil (λ (x : Own). x.id ≢ key), λ e. All-head (λ (x : Own). x.id ≢ key) o [] a (sym e))
+others_first key (x ∷ os) o a =
+    let more = others_first key os o (All-tail (λ (y : Own). y.id ≢ key) x (os ++ o ∷ []) a) in
+    (All-cons (λ (y : Own). y.id ≢ key) x os (All-head (λ (y : Own). y.id ≢ key) x (os ++ o ∷ []) a) more.0, more.1)
+
+-- stays open, and none of the task's
+pub acts_stay : (tick : ℕ) (s u : Scoping) (es : List Event) (key : ℕ) → Acts tick s es u → IsOpenOther key s → IsOpenOther key u
+acts_stay tick _ u _ key (no_act s) h = h
+acts_stay tick _ u _ key (act_noted s x t e ds a) h = acts_stay tick s u ds key a h
+acts_stay tick _ u _ key (act_starts s x i l t ds a) h = acts_stay tick s u ds key a h
+acts_stay tick _ u _ key (act_signs s m x l ds g a) h =
+    acts_stay tick m u ds key a (signed_open key g.key tick s.tree m.tree g.stacks h.0, subst (AreOthers key) (sym g.own) h.1)
+acts_stay tick _ u _ key (act_enters s m x l t d ds g a) h =
+    acts_stay tick m u ds key a (
+      subst IsSome (sym (g.others key other)) h.0,
+      subst (AreOthers key) (sym g.opened) (All-append (λ (o : Own). o.id ≢ key) s.own (g.scope ∷ []) h.1 (All-cons (λ (o : Own). o.id ≢ key) g.scope [] (λ e. other (sym e)) (All-nil (λ (o : Own). o.id ≢ key)))),
+    )
+  where
+    other : key ≢ g.scope.id
+    other e = absurd (let f : IsSome (stack_of s.tree g.scope.id) = subst (IsOpen s.tree) e h.0 in let k : is_some (stack_of s.tree g.scope.id) ≡ false = ap is_some g.fresh in let n : is_some (stack_of s.tree g.scope.id) ≡ true = f in cc)
+acts_stay tick _ u _ key (act_leaves s m x es g a) h =
+    let first = others_first key m.own g.scope (subst (AreOthers key) g.taken h.1) in
+    acts_stay tick m u es key a (subst IsSome (sym (g.others key first.1)) h.0, first.0)

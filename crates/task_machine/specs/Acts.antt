@@ -1,0 +1,82 @@
+-- What a task does to scopes: what it and its world have of them, and how that changes as events are made.
+use Rattle.std.specs.Prelude.{◌≡◌, ℕ, Option, Some, None, List, [], ◌∷◌, ◌++◌, length, slice_get, slice_set}
+use Rattle.std.specs.Option.{ForSome, option_map}
+use Rattle.exc_groups.specs.Exceptions.{Label, Exc}
+use Rattle.cancel_scopes.specs.Sight.{Tick, Level}
+use Rattle.cancel_scopes.specs.Tree.{Stack, Tree, stack_of, outer_of, own_from, own_label, after_cancel, OthersKeep, IsInnermost}
+use Rattle.job_meaning.specs.Log as log
+use Rattle.job_meaning.specs.Rest.{Event, noted, signs, enters, starts}
+use Rattle.task_records.specs.declared.entry.ScopeFrom.{ScopeFrom}
+use Rattle.task_machine.specs.declared.task.Own.{Own}
+use Rattle.task_machine.specs.declared.task.Task.{Task}
+use Rattle.task_machine.specs.declared.world.World.{World}
+use Rattle.task_machine.specs.Labels.{Labels, Updates}
+use Rattle.task_machine.specs.Worlds.{label_at}
+
+-- the open scopes of a world, their labels, and of a task the scopes that it opened, and its froms
+pub record Scoping : Type 0 where
+  pub tree : Tree
+  pub labels : Labels
+  pub own : List Own
+  pub froms : List ScopeFrom
+
+abbrev pub scoping_of : Task → World → Scoping
+scoping_of task world = record { tree = world.scopes; labels = label_at world; own = task.own.items; froms = task.froms.items }
+
+-- a scope of this label is cancelled in a tick
+pub record Signs (tick : ℕ) (label : Label) (old new : Scoping) : Type 0 where
+  pub key : ℕ
+  pub labelled : old.labels key ≡ Some label
+  pub stacks : (other : ℕ) → stack_of new.tree other ≡ option_map (after_cancel key tick) (stack_of old.tree other)
+  pub labels : new.labels ≡ old.labels
+  pub own : new.own ≡ old.own
+  pub froms : new.froms ≡ old.froms
+
+-- a scope is opened with this label and deadline, the last that the task opened, with a place behind its froms
+pub record Enters (label : Label) (deadline : Tick) (old new : Scoping) : Type 0 where
+  pub scope : Own
+  pub opened : new.own ≡ old.own ++ scope ∷ []
+  pub place : scope.at ≡ length old.froms
+  pub froms : new.froms ≡ old.froms ++ record { label = label; seen = None } ∷ []
+  pub fresh : stack_of old.tree scope.id ≡ None
+  pub level : Level ℕ
+  pub parent : Option ℕ
+  pub stack : stack_of new.tree scope.id ≡ Some (level ∷ outer_of old.tree parent)
+  pub named : level.label ≡ scope.id
+  pub from : level.from ≡ deadline
+  pub others : OthersKeep old.tree new.tree scope.id
+  pub labelled : Updates old.labels new.labels scope.id (Some label)
+
+-- the last scope that the task opened is closed, which is round no other, and its from is kept at its place
+pub record Leaves (old new : Scoping) : Type 0 where
+  pub scope : Own
+  pub taken : old.own ≡ new.own ++ scope ∷ []
+  pub innermost : IsInnermost old.tree scope.id
+  pub from : Tick
+  pub seen : ForSome (stack_of old.tree scope.id) (λ st. from ≡ own_from st)
+  pub entry : ScopeFrom
+  pub was : slice_get old.froms scope.at ≡ Some entry
+  pub froms : new.froms ≡ slice_set old.froms scope.at (record entry { seen = from })
+  pub closed : stack_of new.tree scope.id ≡ None
+  pub others : OthersKeep old.tree new.tree scope.id
+  pub unlabelled : Updates old.labels new.labels scope.id None
+
+-- From one state to another in a tick, while these events are made: for each sign a scope is cancelled, for each scope or
+-- nursery that is entered one is opened, and between events scopes may be closed.
+pub data Acts (tick : ℕ) : Scoping → List Event → Scoping → Type 0 where
+  no_act : (s : Scoping) → Acts tick s [] s
+  act_noted : (s u : Scoping) (t : ℕ) (e : log.Entry) (es : List Event) → Acts tick s es u → Acts tick s (noted t e ∷ es) u
+  act_starts : (s u : Scoping) (i : ℕ) (l : Label) (t : ℕ) (es : List Event) → Acts tick s es u → Acts tick s (starts i l t ∷ es) u
+  act_signs : (s m u : Scoping) (l : Label) (es : List Event) → Signs tick l s m → Acts tick m es u → Acts tick s (signs l tick ∷ es) u
+  act_enters : (s m u : Scoping) (l : Label) (t : ℕ) (d : Tick) (es : List Event) → Enters l d s m → Acts tick m es u → Acts tick s (enters l t d ∷ es) u
+  act_leaves : (s m u : Scoping) (es : List Event) → Leaves s m → Acts tick m es u → Acts tick s es u
+
+-- the scope of this key is cancelled in the tick of a world, or none is
+abbrev pub Signed : World → World → Option ℕ → Type 0
+Signed old new None = new.scopes ≡ old.scopes
+Signed old new (Some key) = (other : ℕ) → stack_of new.scopes other ≡ option_map (after_cancel key old.tick) (stack_of old.scopes other)
+
+-- who ends with an exception signs for the innermost scope
+abbrev pub key_failed : Option Exc → Stack → Option ℕ
+key_failed None st = None
+key_failed (Some e) st = own_label st
