@@ -8,8 +8,8 @@
 mod fault;
 mod finished;
 mod limits;
+#[allow(dead_code)]
 mod rows;
-mod runner;
 mod running;
 mod settings;
 #[cfg(test)]
@@ -20,7 +20,6 @@ pub use fault::RunFault;
 pub use finished::Run;
 pub use job_meaning::MOST_INPUT;
 pub use limits::{GREATEST_LIMIT, MOST_WORKERS};
-pub use runner::{Phase, Runner};
 pub use running::run;
 pub use scoped_workers::{Gate, NoGate};
 pub use settings::Settings;

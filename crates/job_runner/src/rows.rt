@@ -7,7 +7,6 @@ ghost use Rattle.run_course.specs.Rows as course;
 ghost use Rattle.task_records.specs.Records.{ending_in};
 ghost use Rattle.job_runner.specs.Rows.{AreShown, ChildrenAreApart, ShowRecords, IsRecordOf, IsTakenOut};
 
-use autojump_clock::TaskId;
 use exc_groups::{Exc, Label};
 use std::alloc::{AllocError, Global};
 use std::mem;
@@ -18,8 +17,6 @@ use task_records::{Entry, Outcome, Record, ScopeFrom};
 pub(crate) struct Row<'a> {
     /// The tick in which it was started.
     pub(crate) start: u64,
-    /// The task, while it has not ended.
-    pub(crate) task: TaskId,
     /// The rows of its children, in the order of their starts.
     pub(crate) children: Vec<usize>,
     /// What is kept of its end: none while it has not ended.
@@ -60,7 +57,6 @@ pub(crate) fn records_of<'a>(
     'rows: while let Some(place) = stack.pop() {
         let Row {
             start,
-            task: _,
             children,
             end,
         } = take_row(alloc, left, place);
@@ -82,7 +78,6 @@ fn take_row<'a>(alloc: Global, rows: &mut [Row<'a>], place: usize) -> Row<'a>
     ensures left { IsTakenOut rows.old place rows.new }
 {
     let hollow = Row {
-        task: TaskId::of(0),
         start: 0,
         children: Vec::new(alloc),
         end: None,
