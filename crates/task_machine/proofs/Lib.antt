@@ -25,8 +25,6 @@ pub mod TooksEntered
 pub mod TooksStarted
 pub mod TooksWoken
 pub mod Apart
-pub mod CrewLemmas
-pub mod Stopping
 pub mod Advances
 pub mod AdvancesSteps
 pub mod Wakens

@@ -1,5 +1,0 @@
-pub mod Crew
-pub mod Turn
-pub mod Leaving
-pub mod Begun
-pub mod Over
