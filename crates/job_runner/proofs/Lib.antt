@@ -1,1 +1,4 @@
 pub mod Root
+pub mod Apart
+pub mod Order
+pub mod Growth

@@ -1,2 +1,3 @@
 pub mod Settings
 pub mod Runs
+pub mod Rows

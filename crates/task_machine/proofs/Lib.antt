@@ -25,6 +25,8 @@ pub mod TooksEntered
 pub mod TooksStarted
 pub mod TooksWoken
 pub mod Apart
+pub mod CrewLemmas
+pub mod Stopping
 pub mod Advances
 pub mod AdvancesSteps
 pub mod Wakens

@@ -1,0 +1,128 @@
+//! The rows of a run's tasks, and the records that they come to when all tasks have ended.
+ghost use Rattle.std.specs.Prelude.{◌≡◌, ◌<◌, ◌++◌, ℕ, Some, None, [], List, All, IsSome, IfOk, OnOk, length, map, reverse, slice_get, slice_set, vec_len};
+ghost use Rattle.std.specs.Option.{option_map};
+ghost use Rattle.exc_groups.specs.Held.{exc_of};
+ghost use Rattle.job_meaning.specs.Shown.{ending_of};
+ghost use Rattle.run_course.specs.Rows as course;
+ghost use Rattle.task_records.specs.Records.{ending_in};
+ghost use Rattle.job_runner.specs.Rows.{AreShown, ChildrenAreApart, ShowRecords, IsRecordOf, IsTakenOut};
+
+use exc_groups::{Exc, Label};
+use std::alloc::{AllocError, Global};
+use std::mem;
+use task_records::{Entry, Outcome, Record, ScopeFrom};
+
+/// What is kept of a task that was started.
+#[derive(Drop)]
+pub(crate) struct Row<'a> {
+    /// The tick in which it was started.
+    pub(crate) start: u64,
+    /// The rows of its children, in the order of their starts.
+    pub(crate) children: Vec<usize>,
+    /// What is kept of its end: none while it has not ended.
+    pub(crate) end: Option<Ended<'a>>,
+}
+
+/// What is kept of a task that has ended.
+#[derive(Drop)]
+pub(crate) struct Ended<'a> {
+    /// The task's label.
+    pub(crate) label: Label,
+    /// The tick in which it ended.
+    pub(crate) tick: u64,
+    /// The exception with which it ended: none where it ended well.
+    pub(crate) exc: Option<Exc>,
+    /// What it noted, in order.
+    pub(crate) entries: Vec<Entry<'a>>,
+    /// From which tick each scope and nursery that it entered was cancelled, in the order of entering.
+    pub(crate) froms: Vec<ScopeFrom>,
+}
+
+/// The records of rows whose tasks have all ended: the root's, and behind each its descendants' in the order of their
+/// starts. And their froms, in the same order. Want of memory is the only error.
+pub(crate) fn records_of<'a>(
+    alloc: Global,
+    rows: Vec<Row<'a>>,
+) -> Result<(Vec<Record<'a>>, Vec<ScopeFrom>), AllocError>
+    requires ended { All (λ r. IsSome r.end) rows.items }
+    requires tree { ChildrenAreApart rows.items }
+    ensures { IfOk result (λ told. (input : List ℕ) (rs : ℕ → course.Row) → AreShown input rs rows.entry.items → ShowRecords input rs told.0.items told.1.items) }
+{
+    let mut rows = rows;
+    let left = rows.as_mut_slice();
+    let mut stack = Vec::new(alloc);
+    stack.push(0)?;
+    let mut records = Vec::new(alloc);
+    let mut froms = Vec::new(alloc);
+    'rows: while let Some(place) = stack.pop() {
+        let Row {
+            start,
+            children,
+            end,
+        } = take_row(alloc, left, place);
+        let Some(ended) = end else {
+            unreachable!();
+        };
+        push_reversed(&mut stack, children)?;
+        let (record, mut below) = told_of(start, ended);
+        records.push(record)?;
+        froms.append(&mut below)?;
+    }
+    Ok((records, froms))
+}
+
+// Takes a row out, and leaves one in its place that has no children and no end.
+fn take_row<'a>(alloc: Global, rows: &mut [Row<'a>], place: usize) -> Row<'a>
+    requires { place < length rows.old }
+    ensures taken { slice_get rows.old place ≡ Some result }
+    ensures left { IsTakenOut rows.old place rows.new }
+{
+    let hollow = Row {
+        start: 0,
+        children: Vec::new(alloc),
+        end: None,
+    };
+    mem::replace(&mut rows[place], hollow)
+}
+
+// Puts numbers on a stack, the last one first.
+fn push_reversed(stack: &mut Vec<usize>, numbers: Vec<usize>) -> Result<(), AllocError>
+    ensures { OnOk result (stack.new.items ≡ stack.old.items ++ reverse numbers.items) }
+{
+    let mut numbers = numbers;
+    numbers.reverse();
+    stack.append(&mut numbers)
+}
+
+// The record and the froms of a task that has ended.
+fn told_of<'a>(start: u64, ended: Ended<'a>) -> (Record<'a>, Vec<ScopeFrom>)
+    ensures record { IsRecordOf start ended.entry result.0 }
+    ensures froms { result.1.items ≡ ended.entry.froms.items }
+{
+    let Ended {
+        label,
+        tick,
+        exc,
+        entries,
+        froms,
+    } = ended;
+    let record = Record {
+        label,
+        from_tick: start,
+        to_tick: tick,
+        outcome: outcome_of(exc),
+        entries,
+    };
+    (record, froms)
+}
+
+// How a task ended that ended with this exception.
+fn outcome_of(exc: Option<Exc>) -> Outcome
+    ensures { ending_in result ≡ ending_of (option_map exc_of exc) }
+{
+    match exc {
+        None => Outcome::Done,
+        Some(Exc::Cancelled) => Outcome::Cancelled,
+        Some(other) => Outcome::Raised(other),
+    }
+}

@@ -1,0 +1,183 @@
+-- No two open scopes of a crew have the same label, and each label of one was entered by a task.
+use Rattle.std.proofs.Common.{◌≡◌, ◌≢◌, ◌⊎◌, inl, inr, ℕ, zero, suc, ◌+◌, ◌<◌, ◌≤◌, Option, Some, None, List, [], ◌∷◌, ◌++◌, map, refl, ap, sym, ◌∙◌, subst, arith}
+use Rattle.std.proofs.lemmas.Bool.{cases_lt}
+use Rattle.std.specs.Prelude.{slice_get}
+use Rattle.std.specs.Option.{unwrap_or}
+use Rattle.exc_groups.specs.Exceptions.{Label}
+use Rattle.cancel_scopes.specs.Tree.{Stack, Tree, stack_of, outer_of, IsOpen}
+use Rattle.job_tree.specs.Names.{GivesNamesOnce}
+use Rattle.job_tree.specs.Starting.{StartsInNurseries}
+use Rattle.job_tree.specs.Tree.{Tree as Job}
+use Rattle.job_meaning.specs.Follow.{follow, IsSettled}
+use Rattle.job_meaning.specs.Log.{Table}
+use Rattle.job_meaning.specs.Rest.{Event, noted, signs, enters, starts}
+use Rattle.task_records.specs.declared.entry.ScopeFrom.{ScopeFrom}
+use Rattle.task_turns.specs.Placed.{IsAmong}
+use Rattle.task_turns.specs.Turned.{Known, EntersIn}
+use Rattle.task_machine.specs.declared.task.Own.{Own}
+use Rattle.task_machine.specs.declared.task.Task.{Task}
+use Rattle.task_machine.specs.declared.world.World.{World}
+use Rattle.task_machine.specs.Acts.{Scoping, scoping_of}
+use Rattle.task_machine.specs.Labels.{Labels}
+use Rattle.task_machine.specs.Left.{keys_of, keys_in}
+use Rattle.task_machine.specs.Stacked.{IsKey, Alone}
+use Rattle.task_machine.specs.Tasks.{scope_of}
+use Rattle.task_machine.specs.Worlds.{label_at}
+use Rattle.run_course.specs.Course.{Started, In, times_made, made_times, all_times, OnCourse}
+use Rattle.run_course.specs.Rows.{entered_made}
+use Rattle.run_crew.specs.Crew.{Course, Crew, Tracks, Follows, OpenedBy, IsCrew}
+use Rattle.run_crew.specs.Turn.{IsSound, IsEntered}
+use Rattle.run_crew.proofs.ActsKeep.{Sound, Apart, HasKnown, not_both, is_open, same_or}
+use Rattle.run_course.proofs.Readings.{enters_counted, made_counted, made_few}
+use Rattle.run_course.proofs.Running.{runs_on_course}
+use Rattle.task_machine.proofs.Cancels.{open_round}
+use Rattle.task_machine.proofs.Others.{among_left, among_right}
+use Rattle.task_machine.proofs.Stacked.{one_of, alone_at}
+
+-- ---- who entered a label
+
+pub known_enters : (l : Label) (es : List Event) → Known l (entered_made es) → EntersIn l es
+known_enters l [] k = absurd k
+known_enters l (noted t e ∷ es) k = known_enters l es k
+known_enters l (signs m t ∷ es) k = known_enters l es k
+known_enters l (enters m t d ∷ es) (inl e) = inl e
+known_enters l (enters m t d ∷ es) (inr k) = inr (known_enters l es k)
+known_enters l (starts i m t ∷ es) k = known_enters l es k
+
+-- a label that two tasks entered was entered twice
+twice : (l : Label) (x y : Started) (qs : List Started) → In x qs → In y qs → x.serial ≢ y.serial → 1 ≤ times_made l x.made → 1 ≤ times_made l y.made → 2 ≤ made_times l qs
+unfolding made_times
+twice l x y [] i j differs a b = absurd i
+twice l x y (z ∷ qs) (inl e) (inl f) differs a b = absurd (differs (ap (λ (q : Started). q.serial) e ∙ sym (ap (λ (q : Started). q.serial) f)))
+twice l x y (z ∷ qs) (inl e) (inr j) differs a b =
+    let same : times_made l x.made ≡ times_made l z.made = ap (λ (q : Started). times_made l q.made) e in
+    let more : times_made l y.made ≤ made_times l qs = made_counted l y qs j in
+    omega arith
+twice l x y (z ∷ qs) (inr i) (inl f) differs a b =
+    let same : times_made l y.made ≡ times_made l z.made = ap (λ (q : Started). times_made l q.made) f in
+    let more : times_made l x.made ≤ made_times l qs = made_counted l x qs i in
+    omega arith
+twice l x y (z ∷ qs) (inr i) (inr j) differs a b = let more : 2 ≤ made_times l qs = twice l x y qs i j differs a b in omega arith
+
+-- A label was entered by one task of a run.
+pub one_entered : {k : Table} {job : Job} {input : List ℕ} {t m : ℕ} → (course : Course k job input t m) → IsSettled k job input → GivesNamesOnce job → StartsInNurseries job →
+    (l : Label) (p q : ℕ) → p < m → q < m → Known l (entered_made (course.at p).made) → Known l (entered_made (course.at q).made) → p ≡ q
+one_entered {k} {job} {input} {t} {m} course settled names nurseries l p q below lower a b = by_test (same_or p q)
+  where
+    on : OnCourse k course.froms (follow k job input) course.tasks
+    on = (runs_on_course k job input settled names nurseries course.froms t m course.tasks course.reached).0
+
+    by_test : (p ≡ q) ⊎ (p ≢ q) → p ≡ q
+    by_test (inl e) = e
+    by_test (inr differs) =
+        let x = course.has p below in
+        let y = course.has q lower in
+        let apart : (course.at p).serial ≢ (course.at q).serial = λ e. differs (sym x.1 ∙ e ∙ y.1) in
+        let two : 2 ≤ made_times l course.tasks =
+            twice l (course.at p) (course.at q) course.tasks x.0 y.0 apart (enters_counted l (course.at p).made (known_enters l (course.at p).made a))
+            (enters_counted l (course.at q).made (known_enters l (course.at q).made b)) in
+        let few : made_times l course.tasks ≤ all_times l course.tasks = made_few l course.tasks in
+        let once : all_times l course.tasks ≤ 1 = on.once l in
+        absurd (omega arith)
+
+-- ---- the labels of a task's scopes
+
+known_got : (xs : List ScopeFrom) (i : ℕ) (x : ScopeFrom) → slice_get xs i ≡ Some x → Known x.label (map (λ (y : ScopeFrom). y.label) xs)
+known_got [] i x e = absurd (not_both refl e)
+known_got (y ∷ xs) zero x e = inl (sym (ap (λ (z : ScopeFrom). z.label) (one_of y x e)))
+known_got (y ∷ xs) (suc i) x e = inr (known_got xs i x e)
+
+-- each label among a task's froms was entered by it
+pub from_entered : {known : Label → Type 0} {f : Table} {s : Scoping} {entered : List Label} → Tracks known f s entered → (i : ℕ) (x : ScopeFrom) → slice_get s.froms i ≡ Some x →
+    Known x.label entered
+from_entered {s = s} h i x e = subst (Known x.label) h.labels (known_got s.froms i x e)
+
+-- and so was that of a scope that it is in
+pub own_entered : {known : Label → Type 0} {f : Table} {s : Scoping} {entered : List Label} → Tracks known f s entered → (o : Own) (i : ℕ) → slice_get s.own i ≡ Some o →
+    (l : Label) → s.labels o.id ≡ Some l → Known l entered
+own_entered {entered = entered} h o i e l labelled =
+    let n = h.named o i e in
+    subst (λ (m : Label). Known m entered) (one_of n.0.label l (sym n.2 ∙ labelled)) (from_entered h o.at n.0 n.1)
+
+pub key_got : (own : List Own) (o : Own) (i : ℕ) → slice_get own i ≡ Some o → IsAmong o.id (keys_in own)
+key_got [] o i e = absurd (not_both refl e)
+key_got (x ∷ own) o zero e = among_right o.id (keys_in own) (x.id ∷ []) (inl (sym (ap (λ (z : Own). z.id) (one_of x o e))))
+key_got (x ∷ own) o (suc i) e = among_left o.id (keys_in own) (x.id ∷ []) (key_got own o i e)
+
+pub is_key : (key : ℕ) (st : Stack) → IsAmong key (keys_of st) → IsKey key st
+is_key key [] i = i
+is_key key (l ∷ ls) (inl e) = inl e
+is_key key (l ∷ ls) (inr i) = inr (is_key key ls i)
+
+-- a scope that a task opened is one of its stack
+pub own_round : (st : Stack) (own : List Own) (keys : List ℕ) (o : Own) (i : ℕ) → keys_of st ≡ keys_in own ++ keys → slice_get own i ≡ Some o → IsKey o.id st
+own_round st own keys o i e got = is_key o.id st (subst (IsAmong o.id) (sym e) (among_left o.id (keys_in own) keys (key_got own o i got)))
+
+alone_is : (labels : Labels) (key k : ℕ) (label : Label) (st : Stack) → Alone labels key label st → IsKey k st → labels k ≡ Some label → k ≡ key
+alone_is labels key k label [] a i e = absurd i
+alone_is labels key k label (l ∷ ls) a (inl f) e = f ∙ a.0 (sym (ap labels f) ∙ e)
+alone_is labels key k label (l ∷ ls) a (inr i) e = alone_is labels key k label ls a.1 i e
+
+-- ---- all tasks
+
+-- a task that has not ended is one of those started
+pub below_of : {k : Table} {job : Job} {input : List ℕ} {t m : ℕ} {leaving : Option ℕ} {crew : Crew} → IsCrew k job input t m leaving crew → (p : ℕ) (task : Task) → crew.task p ≡ Some task → p < m
+below_of {m = m} c p task e = by_order (cases_lt p m)
+  where
+    by_order : (p < m) ⊎ (m ≤ p) → p < m
+    by_order (inl l) = l
+    by_order (inr l) = absurd (not_both (c.unborn p l).0 e)
+
+-- the label of a scope that a task opened was entered by it
+pub opened_entered : {k : Table} {job : Job} {input : List ℕ} {t m : ℕ} {leaving : Option ℕ} {crew : Crew} → (c : IsCrew k job input t m leaving crew) → (key p : ℕ) (l : Label) →
+    OpenedBy crew key p → label_at crew.world key ≡ Some l → Known l (entered_made (c.course.at p).made)
+opened_entered {crew = crew} c key p l o e = own_entered (c.follows p o.task o.lives).tracks o.scope o.place o.own l (ap (label_at crew.world) o.is ∙ e)
+
+-- Different scopes have different labels: one of another task was entered by that one, and one of the same task is in the
+-- same stack.
+pub labels_apart : {k : Table} {job : Job} {input : List ℕ} {t m : ℕ} {leaving : Option ℕ} {crew : Crew} → (c : IsCrew k job input t m leaving crew) → IsSettled k job input → GivesNamesOnce job →
+    StartsInNurseries job → (a b : ℕ) (l : Label) → label_at crew.world a ≡ Some l → label_at crew.world b ≡ Some l → a ≡ b
+labels_apart {k} {job} {input} {t} {m} {leaving} {crew} c settled names nurseries a b l e f = same_task (subst (OpenedBy crew b) (sym same) y.1)
+  where
+    x : (p : ℕ) × OpenedBy crew a p
+    x = c.owned a (c.labelled a l e)
+
+    y : (p : ℕ) × OpenedBy crew b p
+    y = c.owned b (c.labelled b l f)
+
+    same : x.0 ≡ y.0
+    same =
+        one_entered c.course settled names nurseries l x.0 y.0 (below_of c x.0 x.1.task x.1.lives) (below_of c y.0 y.1.task y.1.lives) (opened_entered c a x.0 l x.1 e)
+        (opened_entered c b y.0 l y.1 f)
+
+    task : Task
+    task = x.1.task
+
+    follows : Follows crew c.course.froms input t c.course.at c.numbers leaving x.0 task
+    follows = c.follows x.0 task x.1.lives
+
+    within : (o : Own) (i : ℕ) → slice_get task.own.items i ≡ Some o → IsKey o.id (outer_of crew.world.scopes (scope_of task))
+    within o i got = own_round (outer_of crew.world.scopes (scope_of task)) task.own.items _ o i follows.goes.first got
+
+    same_task : OpenedBy crew b x.0 → a ≡ b
+    same_task z =
+        let tasks : z.task ≡ task = one_of z.task task (sym z.lives ∙ x.1.lives) in
+        let round : IsKey b (outer_of crew.world.scopes (scope_of task)) =
+            subst (λ (i : ℕ). IsKey i (outer_of crew.world.scopes (scope_of task))) z.is (within z.scope z.place (sym (ap (λ (v : Task). slice_get v.own.items z.place) tasks) ∙ z.own)) in
+        let inside : IsKey a (outer_of crew.world.scopes (scope_of task)) =
+            subst (λ (i : ℕ). IsKey i (outer_of crew.world.scopes (scope_of task))) x.1.is (within x.1.scope x.1.place x.1.own) in
+        let alone =
+            alone_at (label_at crew.world) c.course.froms (outer_of crew.world.scopes (scope_of task)) (c.course.at x.0).places b l f round follows.stands.own follows.stands.places in
+        alone_is (label_at crew.world) b a l (outer_of crew.world.scopes (scope_of task)) alone inside e
+
+-- each label that a scope has was entered by a task
+pub labels_known : {k : Table} {job : Job} {input : List ℕ} {t m : ℕ} {leaving : Option ℕ} {crew : Crew} → (c : IsCrew k job input t m leaving crew) → (key : ℕ) (l : Label) →
+    label_at crew.world key ≡ Some l → IsEntered c.course.at l
+labels_known c key l e = let x = c.owned key (c.labelled key l e) in (x.0, opened_entered c key x.0 l x.1 e)
+
+-- what a law of stacks says is what acts ask
+pub sound_of : (s : Scoping) → IsSound s.tree → Sound s
+sound_of s h = record { own = h.own; round = λ key st e k i. open_round s.tree h.chain (Some key) k (by_stack key st k e i) }
+  where
+    by_stack : (key : ℕ) (st : Stack) (k : ℕ) → stack_of s.tree key ≡ Some st → IsKey k st → IsKey k (outer_of s.tree (Some key))
+    by_stack key st k e i = subst (λ (o : Option Stack). IsKey k (unwrap_or o [])) (sym e) i

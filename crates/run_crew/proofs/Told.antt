@@ -1,0 +1,153 @@
+-- An end is told to a nursery, which is one task's alone: its place has the end then, and everything else of it stays.
+use Rattle.std.proofs.lemmas.Bool.{eqb-true, eq-eqb}
+use Rattle.std.proofs.Common.{◌≡◌, ◌≢◌, ◌⊎◌, inl, inr, ◌==◌, Bool, true, false, ℕ, zero, suc, Option, Some, None, List, [], ◌∷◌, length, refl, ap, sym, ◌∙◌, subst}
+use Rattle.std.specs.Prelude.{IsSome, slice_get, slice_set}
+use Rattle.std.specs.Option.{IsSomeAnd}
+use Rattle.exc_groups.specs.Exceptions.{Label, Exc}
+use Rattle.job_tree.specs.Tree.{Tree as Job}
+use Rattle.job_meaning.specs.Log.{Table}
+use Rattle.nursery_book.specs.Nursery.{End, Nursery, with_child}
+use Rattle.nursery_book.specs.Book.{nursery_at, HasNursery, Updates}
+use Rattle.nursery_book.specs.declared.book.NurseryBook.{NurseryBook}
+use Rattle.task_machine.specs.declared.task.Home.{Home}
+use Rattle.task_machine.specs.declared.task.Own.{Own}
+use Rattle.task_machine.specs.declared.task.Task.{Task}
+use Rattle.task_machine.specs.Fitting.{Block, a_scope, a_nursery, blocks_of, IsMine, Opened, waits_of}
+use Rattle.task_machine.specs.Labels.{Labels}
+use Rattle.task_machine.specs.Standing.{HasNurseryOf}
+use Rattle.task_machine.specs.Worlds.{label_at}
+use Rattle.run_crew.specs.Crew.{Crew, IsCrew}
+use Rattle.run_crew.specs.Leaving.{EndIsTold}
+
+-- ---- a nursery of a book
+
+pub gives : (book : NurseryBook) (id : ℕ) (n : Nursery) (P : Nursery → Type 0) → nursery_at book id ≡ Some n → HasNursery book id P → P n
+gives book id n P e h = subst (λ (o : Option Nursery). IsSomeAnd o P) e h
+
+pub puts : (book : NurseryBook) (id : ℕ) (n : Nursery) (P : Nursery → Type 0) → nursery_at book id ≡ Some n → P n → HasNursery book id P
+puts book id n P e h = subst (λ (o : Option Nursery). IsSomeAnd o P) (sym e) h
+
+pub finds : (book : NurseryBook) (id : ℕ) (P : Nursery → Type 0) → HasNursery book id P → (n : Nursery) × (nursery_at book id ≡ Some n) × P n
+finds book id P h = by_nursery (nursery_at book id) refl h
+  where
+    by_nursery : (o : Option Nursery) → nursery_at book id ≡ o → IsSomeAnd o P → (n : Nursery) × (nursery_at book id ≡ Some n) × P n
+    by_nursery None e g = absurd g
+    by_nursery (Some n) e g = (n, e, g)
+
+-- ---- whose a nursery is
+
+-- a scope that a task opened is that of the nursery
+pub record NurseryScope (book : NurseryBook) (own : List Own) (id : ℕ) : Type 0 where
+  pub place : ℕ
+  pub scope : Own
+  pub at : slice_get own place ≡ Some scope
+  pub has : HasNursery book id (λ n. n.scope ≡ scope.id)
+
+further : (book : NurseryBook) (own : List Own) (o : Own) (id : ℕ) → NurseryScope book own id → NurseryScope book (o ∷ own) id
+further book own o id h = record { place = suc h.place; scope = h.scope; at = h.at; has = h.has }
+
+pub nursery_scope : (labels : Labels) (book : NurseryBook) (bs : List Block) (own : List Own) (waits : Option ℕ) (id : ℕ) → Opened labels book bs own waits → HasNurseryOf id bs waits →
+    NurseryScope book own id
+nursery_scope labels book [] [] None id opened (inl h) = absurd h
+nursery_scope labels book [] [] None id opened (inr e) = absurd (let f : None ≡ Some id = e in cc)
+nursery_scope labels book [] [] (Some key) id opened h = absurd opened
+nursery_scope labels book [] (o ∷ own) None id opened h = absurd opened
+nursery_scope labels book [] (o ∷ own) (Some key) id opened (inl h) = absurd h
+nursery_scope labels book [] (o ∷ own) (Some key) id opened (inr e) =
+    let f : Some key ≡ Some id = e in let g : key ≡ id = cc in
+    let n = finds book key (λ n. IsMine labels o n × IsSome n.body) opened.1 in
+    record { place = 0; scope = o; at = refl; has = subst (λ (x : ℕ). HasNursery book x (λ n. n.scope ≡ o.id)) g (puts book key n.0 (λ n. n.scope ≡ o.id) n.1 n.2.0.scope) }
+nursery_scope labels book (b ∷ bs) [] waits id opened h = absurd opened
+nursery_scope labels book (a_scope ∷ bs) (o ∷ own) waits id opened (inl h) = further book own o id (nursery_scope labels book bs own waits id opened.2 (inl h))
+nursery_scope labels book (a_scope ∷ bs) (o ∷ own) waits id opened (inr h) = further book own o id (nursery_scope labels book bs own waits id opened.2 (inr h))
+nursery_scope labels book (a_nursery key ∷ bs) (o ∷ own) waits id opened (inl (inl e)) =
+    let n = finds book key (λ n. IsMine labels o n × (n.body ≡ None)) opened.0 in
+    record { place = 0; scope = o; at = refl; has = subst (λ (x : ℕ). HasNursery book x (λ n. n.scope ≡ o.id)) (sym e) (puts book key n.0 (λ n. n.scope ≡ o.id) n.1 n.2.0.scope) }
+nursery_scope labels book (a_nursery key ∷ bs) (o ∷ own) waits id opened (inl (inr h)) = further book own o id (nursery_scope labels book bs own waits id opened.2 (inl h))
+nursery_scope labels book (a_nursery key ∷ bs) (o ∷ own) waits id opened (inr h) = further book own o id (nursery_scope labels book bs own waits id opened.2 (inr h))
+
+-- no two tasks have one nursery
+pub same_owner : (k : Table) (job : Job) (input : List ℕ) (t m : ℕ) (leaving : Option ℕ) (crew : Crew) → IsCrew k job input t m leaving crew → (p u : ℕ) (a b : Task) (id : ℕ) →
+    crew.task p ≡ Some a → crew.task u ≡ Some b → HasNurseryOf id (blocks_of a.frames.items) (waits_of a.halt) → HasNurseryOf id (blocks_of b.frames.items) (waits_of b.halt) → p ≡ u
+same_owner k job input t m leaving crew c p u a b id e f h g =
+    c.apart x.scope.id p u (record { task = a; lives = e; place = x.place; scope = x.scope; own = x.at; is = refl })
+    (record { task = b; lives = f; place = y.place; scope = y.scope; own = y.at; is = sym (gives book id n.0 (λ n. n.scope ≡ y.scope.id) n.1 y.has) ∙ n.2 })
+  where
+    book : NurseryBook
+    book = crew.world.book
+
+    x : NurseryScope book a.own.items id
+    x = nursery_scope (label_at crew.world) book (blocks_of a.frames.items) a.own.items (waits_of a.halt) id (c.follows p a e).goes.opened h
+
+    y : NurseryScope book b.own.items id
+    y = nursery_scope (label_at crew.world) book (blocks_of b.frames.items) b.own.items (waits_of b.halt) id (c.follows u b f).goes.opened g
+
+    n : (n : Nursery) × (nursery_at book id ≡ Some n) × (n.scope ≡ x.scope.id)
+    n = finds book id (λ n. n.scope ≡ x.scope.id) x.has
+
+-- ---- what stays of nurseries where an end is told
+
+-- another nursery is like this one but for how its children stand
+pub record Like (n m : Nursery) : Type 0 where
+  pub scope : m.scope ≡ n.scope
+  pub label : m.label ≡ n.label
+  pub body : m.body ≡ n.body
+  pub long : length m.children ≡ length n.children
+
+abbrev pub AllLike : NurseryBook → NurseryBook → Type 0
+AllLike old new = (id : ℕ) (n : Nursery) → nursery_at old id ≡ Some n → (m : Nursery) × (nursery_at new id ≡ Some m) × Like n m
+
+-- What is told of a nursery: it is as it was, and the home of no task that left; or it is that home, and has the end at its
+-- place.
+pub data Told (new : NurseryBook) (exc : Option Exc) (id : ℕ) (n : Nursery) : Option Home → Type 0 where
+  stays : (home : Option Home) → nursery_at new id ≡ Some n → ((h : Home) → home ≡ Some h → h.nursery ≢ id) → Told new exc id n home
+  tells : (h : Home) → h.nursery ≡ id → nursery_at new id ≡ Some (with_child h.place exc n) → Told new exc id n (Some h)
+
+pub told : (old new : NurseryBook) (home : Option Home) (exc : Option Exc) → EndIsTold old new home exc → (id : ℕ) (n : Nursery) → nursery_at old id ≡ Some n → Told new exc id n home
+told old new None exc h id n e = stays None (ap (λ (b : NurseryBook). nursery_at b id) h ∙ e) (λ x f. absurd (let g : None ≡ Some x = f in cc))
+told old new (Some x) exc h id n e = by_key (x.nursery == id) refl
+  where
+    u : (n : Nursery) × (nursery_at old x.nursery ≡ Some n) × Updates old new x.nursery (Some (with_child x.place exc n))
+    u = finds old x.nursery (λ n. Updates old new x.nursery (Some (with_child x.place exc n))) h
+
+    by_key : (b : Bool) → (x.nursery == id) ≡ b → Told new exc id n (Some x)
+    by_key true f =
+        let g : x.nursery ≡ id = eqb-true x.nursery id f in
+        let same : Some u.0 ≡ Some n = sym u.1 ∙ ap (nursery_at old) g ∙ e in
+        let one : u.0 ≡ n = cc in
+        tells x g (ap (nursery_at new) (sym g) ∙ u.2.changed ∙ ap (λ (y : Nursery). Some (with_child x.place exc y)) one)
+    by_key false f =
+        let differs : x.nursery ≢ id = λ g. absurd (let z : true ≡ false = sym (eq-eqb x.nursery id g) ∙ f in cc) in
+        stays (Some x) (u.2.others id (λ g. differs (sym g)) ∙ e)
+        (λ y g w. let same : Some x ≡ Some y = g in let one : x ≡ y = cc in differs (ap (λ (z : Home). z.nursery) one ∙ w))
+
+pub set_long : (es : List End) (n : ℕ) (x : End) → length (slice_set es n x) ≡ length es
+set_long [] zero x = refl
+set_long [] (suc n) x = refl
+set_long (e ∷ es) zero x = refl
+set_long (e ∷ es) (suc n) x = ap suc (set_long es n x)
+
+pub set_at : (es : List End) (n : ℕ) (x y : End) → slice_get es n ≡ Some y → slice_get (slice_set es n x) n ≡ Some x
+set_at [] n x y e = absurd (let f : None ≡ Some y = e in cc)
+set_at (e ∷ es) zero x y f = refl
+set_at (e ∷ es) (suc n) x y f = set_at es n x y f
+
+pub set_else : (es : List End) (n p : ℕ) (x : End) → n ≢ p → slice_get (slice_set es n x) p ≡ slice_get es p
+set_else [] zero p x differs = refl
+set_else [] (suc n) p x differs = refl
+set_else (e ∷ es) zero zero x differs = absurd (differs refl)
+set_else (e ∷ es) zero (suc p) x differs = refl
+set_else (e ∷ es) (suc n) zero x differs = refl
+set_else (e ∷ es) (suc n) (suc p) x differs = set_else es n p x (λ f. differs (ap suc f))
+
+pub all_like : (old new : NurseryBook) (home : Option Home) (exc : Option Exc) → EndIsTold old new home exc → AllLike old new
+all_like old new home exc h id n e = by_told home (told old new home exc h id n e)
+  where
+    by_told : (x : Option Home) → Told new exc id n x → (m : Nursery) × (nursery_at new id ≡ Some m) × Like n m
+    by_told _ (stays x f g) = (n, f, record { scope = refl; label = refl; body = refl; long = refl })
+    by_told _ (tells x f g) = (with_child x.place exc n, g, record { scope = refl; label = refl; body = refl; long = set_long n.children x.place (Some exc) })
+
+-- what is true of nurseries like one
+pub carry : (old new : NurseryBook) (id : ℕ) (P Q : Nursery → Type 0) → AllLike old new → ((n m : Nursery) → Like n m → P n → Q m) → HasNursery old id P → HasNursery new id Q
+carry old new id P Q like step h =
+    let n = finds old id P h in let m = like id n.0 n.1 in puts new id m.0 Q m.1 (step n.0 m.0 m.2 n.2)

@@ -1,0 +1,210 @@
+-- The tasks of a run as the code holds them, and what ties them to a run of the definitions.
+use Rattle.std.specs.Prelude.{◌≡◌, ◌≢◌, ◌⊎◌, true, ℕ, ◌+◌, ◌<◌, ◌≤◌, Option, Some, None, List, [], ◌∷◌, All, map, length, slice_get}
+use Rattle.std.specs.Option.{ForSome}
+use Rattle.std.specs.List.{last_or}
+use Rattle.exc_groups.specs.Exceptions.{Label, Exc}
+use Rattle.cancel_scopes.specs.Tree.{Stack, Tree, stack_of, IsOpen, own_from}
+use Rattle.nursery_book.specs.Nursery.{End, Nursery}
+use Rattle.nursery_book.specs.Book.{HasNursery}
+use Rattle.job_tree.specs.Tree.{Tree as Job}
+use Rattle.job_meaning.specs.Log.{Table}
+use Rattle.job_meaning.specs.Meaning.{From, froms_by}
+use Rattle.job_meaning.specs.Rest as rest
+use Rattle.job_meaning.specs.declared.limits.TheConstants.{MOST_INPUT}
+use Rattle.task_records.specs.declared.entry.Entry.{Entry}
+use Rattle.task_records.specs.declared.entry.ScopeFrom.{ScopeFrom}
+use Rattle.task_records.specs.Records.{entry_of, from_of, IsSlice}
+use Rattle.task_turns.specs.Turned.{Known}
+use Rattle.task_machine.specs.declared.task.Home.{Home}
+use Rattle.task_machine.specs.declared.task.Own.{Own}
+use Rattle.task_machine.specs.declared.task.Task.{Task}
+use Rattle.task_machine.specs.declared.world.World.{World}
+use Rattle.task_machine.specs.Acts.{Scoping, scoping_of}
+use Rattle.task_machine.specs.Fitting.{blocks_of, AreModestFrames, StartsFit, Opened, AreOthers, waits_of}
+use Rattle.task_machine.specs.Frames.{frames_of}
+use Rattle.task_machine.specs.Labels.{Labels}
+use Rattle.task_machine.specs.Left.{OwnFirst}
+use Rattle.task_machine.specs.Standing.{here_of, shown_made, HasNurseryOf, Stands}
+use Rattle.task_machine.specs.Stops.{Numbers, IsHalt}
+use Rattle.task_machine.specs.Tasks.{home_of, home_scope}
+use Rattle.task_machine.specs.Waking.{IsModestHalt}
+use Rattle.task_machine.specs.Worlds.{label_at}
+use Rattle.run_course.specs.Course.{Started, In, live}
+use Rattle.run_course.specs.Rows.{entered_made, children_made}
+use Rattle.run_course.specs.Runs.{Reached}
+
+-- ---- a run of the definitions, and its tasks by their serial numbers
+
+-- no two tasks have one serial number
+abbrev pub AreApart : List Started → Type 0
+AreApart [] = Unit {0}
+AreApart (q ∷ qs) = ((x : Started) → In x qs → x.serial ≢ q.serial) × AreApart qs
+
+-- A run gets to these froms and this tick with so many tasks, each of which has one of the serial numbers below. What is at a
+-- number that no task has made nothing.
+pub record Course (k : Table) (job : Job) (input : List ℕ) (t m : ℕ) : Type 0 where
+  pub froms : Table
+  pub tasks : List Started
+  pub reached : Reached k job input froms t m tasks
+  pub at : ℕ → Started
+  pub has : (s : ℕ) → s < m → In (at s) tasks × ((at s).serial ≡ s)
+  pub one : (q : Started) → In q tasks → (q ≡ at q.serial) × (q.serial < m)
+  pub differ : AreApart tasks
+  pub none : (s : ℕ) → m ≤ s → (at s).made ≡ []
+
+-- ---- what the code holds
+
+-- what is kept of a task that has ended
+pub record Gone : Type 0 where
+  pub label : Label
+  pub end : ℕ
+  pub exc : Option Exc
+  pub entries : List Entry
+  pub froms : List ScopeFrom
+
+-- the world of a run, and by its serial number each task that has not ended, and what is kept of each that has, with the tick in
+-- which each was started, and the serial numbers of its children in order
+pub record Crew : Type 0 where
+  pub world : World
+  pub task : ℕ → Option Task
+  pub gone : ℕ → Option Gone
+  pub start : ℕ → ℕ
+  pub children : ℕ → List ℕ
+
+-- ---- one task
+
+-- what a task noted is what it made, and each line is the slice of the input at its place
+pub record Notes (input : List ℕ) (made : List rest.Event) (entries : List Entry) : Type 0 where
+  pub shown : map entry_of entries ≡ shown_made input made
+  pub slices : All (IsSlice input) entries
+
+-- the scopes that a task opened and did not leave have other keys than one another
+abbrev pub Differ : List Own → Type 0
+Differ [] = Unit {0}
+Differ (o ∷ own) = AreOthers o.id own × Differ own
+
+-- a place among the froms of a task is that of no scope which it is in
+abbrev pub IsPast : ℕ → List Own → Type 0
+IsPast i own = All (λ (o : Own). o.at ≢ i) own
+
+-- The froms of a task are those of the labels that it entered. A scope that it is in has its label at its place, and the label's
+-- from; and that of a scope that it left was kept, whose label no scope has now.
+pub record Tracks (known : Label → Type 0) (f : Table) (s : Scoping) (entered : List Label) : Type 0 where
+  pub labels : map (λ (x : ScopeFrom). x.label) s.froms ≡ entered
+  pub differ : Differ s.own
+  pub named : (o : Own) (i : ℕ) → slice_get s.own i ≡ Some o → (x : ScopeFrom) × (slice_get s.froms o.at ≡ Some x) × (s.labels o.id ≡ Some x.label)
+  pub kept :
+      (o : Own) (i : ℕ) → slice_get s.own i ≡ Some o →
+      (st : Stack) × (l : Label) × (stack_of s.tree o.id ≡ Some st) × (s.labels o.id ≡ Some l) × (own_from st ≡ f l)
+  pub left :
+      (i : ℕ) (x : ScopeFrom) → slice_get s.froms i ≡ Some x → IsPast i s.own →
+      (x.seen ≡ f x.label) × ((key : ℕ) → s.labels key ≡ Some x.label → ⊥) × known x.label
+
+-- Between its turns a task can run on what it has left, and its scopes and nurseries are open: all that a turn asks of it, but
+-- for what other tasks are in (`Fits`).
+pub record CanGoOn (task : Task) (world : World) : Type 0 where
+  pub modest : AreModestFrames (frames_of (λ id. []) task.frames.items)
+  pub starts : StartsFit (frames_of (λ id. []) task.frames.items)
+  pub home : ForSome (home_scope task) (IsOpen world.scopes)
+  pub scope : ForSome (last_or (home_scope task) (map (λ (o : Own). o.id) task.own.items)) (IsOpen world.scopes)
+  pub first : OwnFirst world.scopes (home_scope task) task.own.items
+  pub froms : All (λ (o : Own). o.at < length task.froms.items) task.own.items
+  pub opened : Opened (label_at world) world.book (blocks_of task.frames.items) task.own.items (waits_of task.halt)
+
+-- The home of a task that was started by another, which has not ended: one of its nurseries, in which this task runs at its
+-- place, as the child that has this serial number.
+pub record LivesIn (crew : Crew) (at : ℕ → Started) (numbers : ℕ → Numbers) (s : ℕ) (home : Home) : Type 0 where
+  pub parent : ℕ
+  pub starter : Task
+  pub lives : crew.task parent ≡ Some starter
+  pub earlier : parent < s
+  pub owned : HasNurseryOf home.nursery (blocks_of starter.frames.items) (waits_of starter.halt)
+  pub runs : HasNursery crew.world.book home.nursery (λ n. (n.scope ≡ home.scope) × (slice_get n.children home.place ≡ Some None))
+  pub number : ℕ
+  pub stands : slice_get (numbers parent home.nursery) home.place ≡ Some number
+  pub below : number < (at parent).count
+  pub serial : (at parent).child number ≡ s
+
+-- only the root, which is the first task, has none
+abbrev pub HasHome : Crew → (ℕ → Started) → (ℕ → Numbers) → ℕ → Option Home → Type 0
+HasHome crew at numbers s None = s ≡ 0
+HasHome crew at numbers s (Some home) = LivesIn crew at numbers s home
+
+-- a member of a nursery at a place: while it runs it is a task whose home that is, and then one that has ended so
+abbrev pub IsMember : Crew → (ℕ → Started) → ℕ → ℕ → ℕ → ℕ → Option End → Type 0
+IsMember crew at t id place serial None = ⊥
+IsMember crew at t id place serial (Some None) = (c : Task) × (crew.task serial ≡ Some c) × (home_of c ≡ Some (id, place))
+IsMember crew at t id place serial (Some (Some exc)) =
+    (g : Gone) × (crew.gone serial ≡ Some g) × (g.end ≤ t) × ((at serial).rest.stopped ≡ rest.at_end g.end exc)
+
+-- each nursery of a task has as many children as it has numbers there, and each is the task of its serial number
+pub record HasMembers (crew : Crew) (at : ℕ → Started) (t : ℕ) (numbers : Numbers) (q : Started) (id : ℕ) (n : Nursery) : Type 0 where
+  pub long : length (numbers id) ≡ length n.children
+  pub members :
+      (place number : ℕ) → slice_get (numbers id) place ≡ Some number →
+      (number < q.count) × IsMember crew at t id place (q.child number) (slice_get n.children place)
+
+-- A task that has not ended, or of whose end nobody was told yet, tied to the one of the definitions that has its serial number.
+pub record Follows (crew : Crew) (f : Table) (input : List ℕ) (t : ℕ) (at : ℕ → Started) (numbers : ℕ → Numbers) (leaving : Option ℕ) (s : ℕ) (task : Task) : Type 0
+  where
+    pub here : here_of task ≡ (at s).here
+    pub input_is : (at s).here.input ≡ input
+    pub lives : (leaving ≡ Some s → ⊥) → live (at s).rest.stopped ≡ true
+    pub frames : frames_of (numbers s) task.frames.items ≡ (at s).rest.frames
+    pub stands : Stands task.frames.items task crew.world f (numbers s) (Some (at s).rest.stopped) (at s).places
+    pub halt : IsHalt (numbers s) crew.world.book task.halt (at s).rest.stopped
+    pub modest : IsModestHalt task.halt
+    pub goes : CanGoOn task crew.world
+    pub notes : Notes input (at s).made task.entries.items
+    pub tracks : Tracks (λ l. (p : ℕ) × Known l (entered_made (at p).made)) f (scoping_of task crew.world) (entered_made (at s).made)
+    pub home : HasHome crew at numbers s task.home
+    pub nurseries :
+        (id : ℕ) → HasNurseryOf id (blocks_of task.frames.items) (waits_of task.halt) →
+        HasNursery crew.world.book id (λ n. HasMembers crew at t (numbers s) (at s) id n)
+
+-- one that has ended
+pub record HasEnded (f : Table) (input : List ℕ) (t : ℕ) (q : Started) (g : Gone) : Type 0 where
+  pub label : g.label ≡ q.here.task
+  pub stopped : q.rest.stopped ≡ rest.at_end g.end g.exc
+  pub before : g.end ≤ t
+  pub notes : Notes input q.made g.entries
+  pub froms : map from_of g.froms ≡ froms_by f (entered_made q.made)
+
+-- ---- all tasks
+
+-- each child that was started has the label and the start that its starter's event says
+abbrev pub AreStarted : (ℕ → ℕ) → (ℕ → Started) → (ℕ → ℕ) → List rest.Event → Type 0
+AreStarted start at child [] = Unit {0}
+AreStarted start at child (rest.noted t e ∷ es) = AreStarted start at child es
+AreStarted start at child (rest.signs l t ∷ es) = AreStarted start at child es
+AreStarted start at child (rest.enters l t d ∷ es) = AreStarted start at child es
+AreStarted start at child (rest.starts i l t ∷ es) = ((at (child i)).here.task ≡ l) × (start (child i) ≡ t) × AreStarted start at child es
+
+-- a scope that a task opened and did not leave
+pub record OpenedBy (crew : Crew) (key s : ℕ) : Type 0 where
+  pub task : Task
+  pub lives : crew.task s ≡ Some task
+  pub place : ℕ
+  pub scope : Own
+  pub own : slice_get task.own.items place ≡ Some scope
+  pub is : scope.id ≡ key
+
+-- What the code holds of a run is a run of the definitions in this tick with so many tasks, where a table is followed. One task
+-- may have ended of whose end nobody was told yet.
+pub record IsCrew (k : Table) (job : Job) (input : List ℕ) (t m : ℕ) (leaving : Option ℕ) (crew : Crew) : Type 0 where
+  pub course : Course k job input t m
+  pub numbers : ℕ → Numbers
+  pub tick : crew.world.tick ≡ t
+  pub small : length input ≤ MOST_INPUT
+  pub some : 0 < m
+  pub begun : crew.start 0 ≡ 0
+  -- each task has ended, or has not
+  pub unborn : (s : ℕ) → m ≤ s → (crew.task s ≡ None) × (crew.gone s ≡ None)
+  pub ended : (s : ℕ) → s < m → crew.task s ≡ None → (g : Gone) × (crew.gone s ≡ Some g) × HasEnded course.froms input t (course.at s) g
+  pub follows : (s : ℕ) (task : Task) → crew.task s ≡ Some task → Follows crew course.froms input t course.at numbers leaving s task
+  -- each open scope is a task's, and that of no other; it has a label, and no other scope has one
+  pub owned : (key : ℕ) → IsOpen crew.world.scopes key → (s : ℕ) × OpenedBy crew key s
+  pub apart : (key s u : ℕ) → OpenedBy crew key s → OpenedBy crew key u → s ≡ u
+  pub labelled : (key : ℕ) (l : Label) → label_at crew.world key ≡ Some l → IsOpen crew.world.scopes key
+  pub started : (s : ℕ) → s < m → AreStarted crew.start course.at (course.at s).child (course.at s).made
+  pub children : (s : ℕ) → s < m → crew.children s ≡ children_made (course.at s).child (course.at s).made

@@ -1,0 +1,30 @@
+-- A run that is over: what is kept of its tasks shows rows of the definitions, and these say what the job means.
+use Rattle.std.specs.Prelude.{◌≡◌, ℕ, ◌<◌, Some, List, [], ◌∷◌, All, map}
+use Rattle.job_tree.specs.Tree.{Tree as Job}
+use Rattle.job_meaning.specs.Meaning.{meaning_records, meaning_froms, meaning_end}
+use Rattle.job_meaning.specs.Shown.{shown}
+use Rattle.task_records.specs.Records.{entry_of, from_of, IsSlice}
+use Rattle.run_course.specs.Rows.{Row, records_by, froms_in, DepthFirst}
+use Rattle.run_crew.specs.Crew.{Crew, Gone}
+
+-- what is kept of the task of this serial number, which has ended, shows this row
+pub record ShowsRow (input : List ℕ) (crew : Crew) (p : ℕ) (row : Row) : Type 0 where
+  pub gone : Gone
+  pub is : crew.gone p ≡ Some gone
+  pub label : gone.label ≡ row.label
+  pub start : crew.start p ≡ row.start
+  pub end : gone.end ≡ row.end
+  pub exc : gone.exc ≡ row.exc
+  pub entries : map entry_of gone.entries ≡ map (shown input) row.entries
+  pub slices : All (IsSlice input) gone.entries
+  pub froms : map from_of gone.froms ≡ row.froms
+  pub children : crew.children p ≡ row.children
+
+-- All of so many tasks have ended. Their rows, from the root's on and each with its descendants behind it, are the records,
+-- the froms and the end of the meaning.
+pub record IsOver (job : Job) (input : List ℕ) (m : ℕ) (crew : Crew) : Type 0 where
+  pub rows : ℕ → Row
+  pub shows : (p : ℕ) → p < m → ShowsRow input crew p (rows p)
+  pub records : (taken : List ℕ) → DepthFirst rows (0 ∷ []) taken → records_by rows taken ≡ meaning_records job input
+  pub froms : (taken : List ℕ) → DepthFirst rows (0 ∷ []) taken → froms_in rows taken ≡ meaning_froms job input
+  pub end : (taken : List ℕ) → DepthFirst rows (0 ∷ []) taken → (rows 0).end ≡ meaning_end job input

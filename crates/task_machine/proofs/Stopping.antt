@@ -1,0 +1,75 @@
+-- What a wake says of a nursery that was waited for, where the move of a stop stops, and tasks without blocks.
+use Rattle.std.proofs.Common.{◌≡◌, true, ℕ, Option, Some, None, List, [], ◌∷◌, refl, ap, subst}
+use Rattle.buffer_parts.specs.declared.part.Part.{Part}
+use Rattle.job_tree.specs.Tree.{Steps}
+use Rattle.job_meaning.specs.Rest.{Stopped}
+use Rattle.job_meaning.specs.Rest as rest
+use Rattle.nursery_book.specs.Nursery.{is_settled}
+use Rattle.nursery_book.specs.Book.{HasNursery}
+use Rattle.nursery_book.specs.declared.book.NurseryBook.{NurseryBook}
+use Rattle.task_turns.specs.Midway.{Move}
+use Rattle.task_machine.specs.declared.frame.Frame.{Frame}
+use Rattle.task_machine.specs.declared.frame.Frame.TheVariants as frames
+use Rattle.task_machine.specs.declared.stop.Halt.{Halt}
+use Rattle.task_machine.specs.declared.stop.Halt.TheVariants.{ToBegin, Asked, Asleep, Awaits, Over}
+use Rattle.task_machine.specs.declared.stop.Moved.TheVariants.{Stops}
+use Rattle.task_machine.specs.declared.stop.Stop.{Stop}
+use Rattle.task_machine.specs.declared.stop.Wake.{Wake}
+use Rattle.task_machine.specs.declared.stop.Wake.TheVariants.{Begin, Due, Seen, Answer, Settled}
+use Rattle.task_machine.specs.Fitting.{blocks_of, waits_of}
+use Rattle.task_machine.specs.Frames.{frame_of, frames_onto, frames_of}
+use Rattle.task_machine.specs.Stops.{Numbers, IsHalt, StopsAs, MovesAs}
+use Rattle.task_machine.specs.Waking.{WakesFrom}
+
+-- it is settled
+pub settled_from : (halt : Halt) (part : Part) (book : NurseryBook) (wake : Wake) (id : ℕ) → WakesFrom halt part book wake → waits_of halt ≡ Some id →
+    HasNursery book id (λ n. is_settled n ≡ true)
+settled_from ToBegin part book wake id h e = absurd (let f : None ≡ Some id = e in cc)
+settled_from (Asked kernel purpose) part book wake id h e = absurd (let f : None ≡ Some id = e in cc)
+settled_from (Asleep ticks since) part book wake id h e = absurd (let f : None ≡ Some id = e in cc)
+settled_from (Awaits key since) part book Begin id h e = absurd h
+settled_from (Awaits key since) part book Due id h e = absurd h
+settled_from (Awaits key since) part book Seen id h e = absurd h
+settled_from (Awaits key since) part book (Answer answer) id h e = absurd h
+settled_from (Awaits key since) part book Settled id h e =
+    let f : Some key ≡ Some id = e in let g : key ≡ id = cc in subst (λ (x : ℕ). HasNursery book x (λ n. is_settled n ≡ true)) g h
+settled_from Over part book wake id h e = absurd (let f : None ≡ Some id = e in cc)
+
+-- where the move of the definitions stops
+pub stop_of : (numbers : Numbers) (book : NurseryBook) (part : Part) (stop : Stop) (halt : Halt) (o : Move) → MovesAs numbers book part (Stops stop) halt o →
+    (s : Stopped) × (o.stopped ≡ Some s) × IsHalt numbers book halt s
+stop_of numbers book part stop halt o h = by_stop o.stopped refl h.1
+  where
+    by_stop : (x : Option Stopped) → o.stopped ≡ x → StopsAs numbers book part stop halt x → (s : Stopped) × (o.stopped ≡ Some s) × IsHalt numbers book halt s
+    by_stop None e g = absurd g
+    by_stop (Some s) e g = (s, e, g.0)
+
+-- no frame, and so no block
+pub no_blocks : (children : ℕ → List ℕ) (fs : List Frame) → frames_of children fs ≡ [] → blocks_of fs ≡ []
+no_blocks children fs e = by_frames fs e
+  where
+    by_long : (gs : List Frame) (f : rest.Frame) (outer : List rest.Frame) → frames_onto children gs (f ∷ outer) ≡ [] → ⊥
+    by_long [] f outer e = absurd (let g : f ∷ outer ≡ [] = e in cc)
+    by_long (h ∷ gs) f outer e = by_long gs (frame_of children h) (f ∷ outer) e
+
+    by_frames : (gs : List Frame) → frames_of children gs ≡ [] → blocks_of gs ≡ []
+    by_frames [] e = refl
+    by_frames (h ∷ gs) e = absurd (by_long gs (frame_of children h) [] e)
+
+-- no block of a task that has to begin
+pub no_blocks_begun : (children : ℕ → List ℕ) (fs : List Frame) (body : Steps) → frames_of children fs ≡ rest.steps_left body ∷ [] → blocks_of fs ≡ []
+no_blocks_begun children [] body e = absurd (let g : [] ≡ rest.steps_left body ∷ [] = e in cc)
+no_blocks_begun children (f ∷ []) body e = by_frame f e
+  where
+    by_frame : (f : Frame) → frame_of children f ∷ [] ≡ rest.steps_left body ∷ [] → blocks_of (f ∷ []) ≡ []
+    by_frame (frames.Steps steps) e = refl
+    by_frame (frames.Scope fail) e = absurd (let g : rest.in_scope fail ≡ rest.steps_left body = cc in cc)
+    by_frame (frames.Nursery id) e = absurd (let g : rest.in_nursery (children id) ≡ rest.steps_left body = cc in cc)
+    by_frame (frames.Try handler cleanup) e = refl
+    by_frame (frames.Handler others cleanup) e = refl
+    by_frame (frames.Cleanup outcome) e = refl
+no_blocks_begun children (f ∷ g ∷ fs) body e = absurd (by_long fs (frame_of children g) (frame_of children f) [] e)
+  where
+    by_long : (gs : List Frame) (x y : rest.Frame) (outer : List rest.Frame) → frames_onto children gs (x ∷ y ∷ outer) ≡ rest.steps_left body ∷ [] → ⊥
+    by_long [] x y outer h = absurd (let z : y ∷ outer ≡ [] = cc in cc)
+    by_long (h ∷ gs) x y outer z = by_long gs (frame_of children h) x (y ∷ outer) z
