@@ -1,5 +1,5 @@
 -- How a task that stopped goes on, in the code.
-use Rattle.std.specs.Prelude.{◌≡◌, ◌≤◌, true, Option, Some, None, map}
+use Rattle.std.specs.Prelude.{◌≡◌, ◌≤◌, ◌^◌, true, Option, Some, None, map}
 use Rattle.buffer_parts.specs.Part.{span_of}
 use Rattle.buffer_parts.specs.declared.part.Part.{Part}
 use Rattle.job_tree.specs.declared.limits.TheConstants.{GREATEST_PACE}
@@ -35,10 +35,11 @@ IsModestPurpose Shows = Unit {0}
 IsModestPurpose (Needs name) = Unit {0}
 IsModestPurpose (Paces k) = (1 ≤ k) × (k ≤ GREATEST_PACE)
 
+-- and no sleep is of more than 2 to the 40 ticks
 abbrev pub IsModestHalt : Halt → Type 0
 IsModestHalt ToBegin = Unit {0}
 IsModestHalt (Asked kernel purpose) = IsModestPurpose purpose
-IsModestHalt (Asleep ticks since) = Unit {0}
+IsModestHalt (Asleep ticks since) = ticks ≤ 2 ^ 40
 IsModestHalt (Awaits id since) = Unit {0}
 IsModestHalt Over = Unit {0}
 

@@ -1,4 +1,4 @@
-ghost use Rattle.std.specs.Prelude.{◌≡◌, ℕ, ◌+◌, ◌<◌, ◌^◌, List, Some, None, IfOk};
+ghost use Rattle.std.specs.Prelude.{◌≡◌, ◌≤◌, ℕ, ◌^◌, List, Some, None, IfOk};
 ghost use Rattle.std.specs.Option.{ForSome};
 ghost use Rattle.exc_groups.specs.Exceptions.{raised};
 ghost use Rattle.cancel_scopes.specs.Tree.{IsOpen, outer_of};
@@ -26,7 +26,8 @@ impl<'a> Task<'a> {
     // A sleep of so many ticks: a checkpoint, where a cancellation that is seen is raised.
     pub(crate) fn sleep(&mut self, ticks: u64, world: &World<'a>) -> Moved<'a>
         requires scope { ForSome (scope_of self.old) (IsOpen world.now.scopes) }
-        requires due { world.now.tick + ticks < 2 ^ 64 }
+        requires ticks { ticks ≤ 2 ^ 40 }
+        requires tick { world.now.tick ≤ 2 ^ 40 }
         ensures stays { self.new ≡ record self.old { halt = self.new.halt } }
         ensures halt { IsModestHalt self.old.halt → IsModestHalt self.new.halt }
         ensures waits { waits_by result self.new.halt ≡ None }
