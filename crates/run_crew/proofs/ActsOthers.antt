@@ -1,10 +1,10 @@
 -- What a task does to scopes leaves the froms of other tasks' scopes to the table, and a label to no scope that is not open.
-use Rattle.std.proofs.Common.{◌≡◌, ◌≢◌, ◌⊎◌, inl, inr, ℕ, Some, None, List, ap, sym, ◌∙◌, subst}
+use Rattle.std.proofs.Common.{◌≡◌, ◌≢◌, ◌⊎◌, inl, inr, ℕ, Some, List, ap, sym, ◌∙◌, subst}
 use Rattle.std.specs.Prelude.{IsSome}
 use Rattle.std.specs.Option.{option_map}
 use Rattle.exc_groups.specs.Exceptions.{Label}
 use Rattle.cancel_scopes.specs.Sight.{Tick}
-use Rattle.cancel_scopes.specs.Tree.{Stack, stack_of, own_from, IsOpen, after_cancel, outer_of}
+use Rattle.cancel_scopes.specs.Tree.{Stack, stack_of, own_from, IsOpen, after_cancel}
 use Rattle.job_meaning.specs.Log.{Table}
 use Rattle.job_meaning.specs.Rest.{Event}
 use Rattle.task_turns.specs.Steps.{lowered, opened, froms_after}

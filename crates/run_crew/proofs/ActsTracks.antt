@@ -24,6 +24,7 @@ use Rattle.run_crew.proofs.ActsKeep.{Sound, Apart, HasKnown, NoneHas, KnownWith,
 use Rattle.run_crew.proofs.ActsFroms.{alone_of, lowered_other, opened_other, signed_has, none_signs, none_enters, none_leaves}
 use Rattle.task_machine.proofs.Others.{others_but}
 use Rattle.task_machine.proofs.Stacked.{one_of, signed_at}
+use Rattle.run_crew.proofs.Found.{got_first}
 
 -- ---- what a task keeps
 
@@ -42,11 +43,6 @@ all_got P (y ∷ xs) (suc i) x a e = all_got P xs i x (All-tail P y xs a) e
 pub all_if : {A : Type 0} (P : A → Type 0) (xs : List A) → ((x : A) (i : ℕ) → slice_get xs i ≡ Some x → P x) → All P xs
 all_if P [] h = All-nil P
 all_if P (y ∷ xs) h = All-cons P y xs (h y zero refl) (all_if P xs (λ x i e. h x (suc i) e))
-
-pub get_before : {A : Type 0} (xs : List A) (y x : A) (i : ℕ) → slice_get xs i ≡ Some x → slice_get (xs ++ y ∷ []) i ≡ Some x
-get_before [] y x i e = absurd (not_both refl e)
-get_before (z ∷ xs) y x zero e = e
-get_before (z ∷ xs) y x (suc i) e = get_before xs y x i e
 
 get_last : {A : Type 0} (xs : List A) (y : A) → slice_get (xs ++ y ∷ []) (length xs) ≡ Some y
 get_last [] y = refl
@@ -176,7 +172,7 @@ tracks_enters {known} {f} {entered} {label} {d} {s} {m} g has new h =
     named o {i} (inl e) =
         let n = h.named o i e in (
           n.0,
-          ap (λ (xs : List ScopeFrom). slice_get xs o.at) g.froms ∙ get_before s.froms first n.0 o.at n.1,
+          ap (λ (xs : List ScopeFrom). slice_get xs o.at) g.froms ∙ got_first s.froms (first ∷ []) o.at n.0 n.1,
           g.labelled.others o.id (other o i e) ∙ n.2,
         )
     named o {i} (inr e) =
@@ -232,7 +228,7 @@ tracks_leaves {known} {f} {entered} {s} {m} g apart has h =
     both = differ_first m.own g.scope (subst Differ g.taken h.differ)
 
     got : (o : Own) (i : ℕ) → slice_get m.own i ≡ Some o → slice_get s.own i ≡ Some o
-    got o i e = ap (λ (os : List Own). slice_get os i) g.taken ∙ get_before m.own g.scope o i e
+    got o i e = ap (λ (os : List Own). slice_get os i) g.taken ∙ got_first m.own (g.scope ∷ []) i o e
 
     last : slice_get s.own (length m.own) ≡ Some g.scope
     last = ap (λ (os : List Own). slice_get os (length m.own)) g.taken ∙ get_last m.own g.scope

@@ -1,40 +1,30 @@
 -- A crew begins: the root is its one task, in a world in which nothing happened yet.
-use Rattle.std.proofs.Common.{◌≡◌, ◌⊎◌, inl, inr, true, ℕ, zero, suc, ◌+◌, ◌<◌, ◌≤◌, Option, Some, None, List, [], ◌∷◌, ◌++◌, map, length, refl, ap, sym, ◌∙◌, subst, arith}
+use Rattle.std.proofs.Common.{◌≡◌, ◌⊎◌, inl, inr, ℕ, zero, suc, ◌<◌, ◌≤◌, Option, Some, None, List, [], ◌∷◌, map, length, refl, ap, sym, ◌∙◌, subst, arith}
 use Rattle.std.specs.Prelude.{All, IsSome, slice_get}
 use Rattle.std.specs.Option.{ForSome}
 use Rattle.std.specs.List.{last_or}
 use Rattle.std.proofs.lemmas.List.Elements.{All-nil}
-use Rattle.buffer_parts.specs.Lines.{Range}
-use Rattle.buffer_parts.specs.Part.{buffer_of, range_of}
-use Rattle.cancel_scopes.specs.Tree.{Stack, Tree, stack_of, outer_of, IsOpen}
-use Rattle.exc_groups.specs.Exceptions.{Label}
+use Rattle.cancel_scopes.specs.Tree.{Stack, outer_of, IsOpen}
 use Rattle.job_tree.specs.Tree.{Tree as Job}
 use Rattle.job_tree.specs.Modest.{IsModest}
 use Rattle.job_tree.specs.Names.{GivesNamesOnce}
 use Rattle.job_tree.specs.Starting.{StartsInNurseries}
 use Rattle.job_meaning.specs.Log.{Table}
-use Rattle.job_meaning.specs.Meaning.{root_label, root_here}
+use Rattle.job_meaning.specs.Meaning.{root_here}
 use Rattle.job_meaning.specs.Rest as rest
 use Rattle.job_meaning.specs.declared.limits.TheConstants.{MOST_INPUT}
-use Rattle.nursery_book.specs.Book.{HasNursery}
-use Rattle.task_records.specs.declared.entry.Entry.{Entry}
 use Rattle.task_records.specs.declared.entry.ScopeFrom.{ScopeFrom}
 use Rattle.task_records.specs.Records.{entry_of, IsSlice}
 use Rattle.task_turns.specs.Placed.{Placed}
 use Rattle.task_turns.specs.Names.{NewIn}
-use Rattle.task_turns.specs.Turned.{Known}
 use Rattle.task_turns.proofs.Names.{new_job}
 use Rattle.task_machine.specs.declared.stop.Halt.{Halt}
-use Rattle.task_machine.specs.declared.stop.Halt.TheVariants.{ToBegin}
 use Rattle.task_machine.specs.declared.task.Home.{Home}
 use Rattle.task_machine.specs.declared.task.Own.{Own}
 use Rattle.task_machine.specs.declared.task.Task.{Task}
-use Rattle.task_machine.specs.declared.world.World.{World}
-use Rattle.task_machine.specs.Acts.{scoping_of}
 use Rattle.task_machine.specs.Fitting.{Block, blocks_of, AreModestFrames, StartsFit, Opened, waits_of}
-use Rattle.task_machine.specs.Frames.{frames_of}
 use Rattle.task_machine.specs.Left.{OwnFirst}
-use Rattle.task_machine.specs.Standing.{here_of, HasBlock, HasNurseryOf, Stands}
+use Rattle.task_machine.specs.Standing.{here_of, HasBlock, HasNurseryOf}
 use Rattle.task_machine.specs.Stacked.{AreAt}
 use Rattle.task_machine.specs.Stops.{Numbers, IsHalt}
 use Rattle.task_machine.specs.Tasks.{home_scope, scope_of}
@@ -45,7 +35,7 @@ use Rattle.run_course.specs.Course.{Started}
 use Rattle.run_course.specs.Going.{root_task}
 use Rattle.run_course.specs.Runs.{begun}
 use Rattle.run_crew.specs.Begun.{IsNewWorld, IsRootTask}
-use Rattle.run_crew.specs.Crew.{Course, Crew, Gone, Notes, Differ, Tracks, CanGoOn, HasHome, HasMembers, Follows, HasEnded, OpenedBy, IsCrew}
+use Rattle.run_crew.specs.Crew.{Course, Crew, Gone, Differ, HasHome, Follows, HasEnded, IsCrew}
 
 -- no label is cancelled
 abbrev no_froms : Table
@@ -157,14 +147,15 @@ pub record BeginsAs (k : Table) (job : Job) (input : List ℕ) (crew : Crew) : T
 
 pub crew_begins : (k : Table) (job : Job) (input : List ℕ) (crew : Crew) (root : Task) → IsModest job → StartsInNurseries job → GivesNamesOnce job → length input ≤ MOST_INPUT →
     IsNewWorld crew.world → IsRootTask job input root → crew.task 0 ≡ Some root → ((p : ℕ) → crew.task (suc p) ≡ None) → ((p : ℕ) → crew.gone p ≡ None) → crew.start 0 ≡ 0 →
-    crew.children 0 ≡ [] → BeginsAs k job input crew
+    crew.children 0 ≡ [] → crew.turns ≡ 0 → BeginsAs k job input crew
 unfolding begun_course
-crew_begins k job input crew root modest starting names small world r first others gone start children =
+crew_begins k job input crew root modest starting names small world r first others gone start children turns =
     record {
       is =
           record {
             course = begun_course k job input;
             numbers = no_numbers;
+            counted = sym turns;
             tick = world.tick;
             small = small;
             some = omega arith;
@@ -206,6 +197,6 @@ crew_begins k job input crew root modest starting names small world r first othe
 
 pub crew_begun : (k : Table) (job : Job) (input : List ℕ) (crew : Crew) (root : Task) → IsModest job → StartsInNurseries job → GivesNamesOnce job → length input ≤ MOST_INPUT →
     IsNewWorld crew.world → IsRootTask job input root → crew.task 0 ≡ Some root → ((p : ℕ) → crew.task (suc p) ≡ None) → ((p : ℕ) → crew.gone p ≡ None) → crew.start 0 ≡ 0 →
-    crew.children 0 ≡ [] → IsCrew k job input 0 1 None crew
-crew_begun k job input crew root modest starting names small world r first others gone start children =
-    (crew_begins k job input crew root modest starting names small world r first others gone start children).is
+    crew.children 0 ≡ [] → crew.turns ≡ 0 → IsCrew k job input 0 1 None crew
+crew_begun k job input crew root modest starting names small world r first others gone start children turns =
+    (crew_begins k job input crew root modest starting names small world r first others gone start children turns).is

@@ -4,63 +4,36 @@ use Rattle.std.proofs.lemmas.Bool.{eqb-true, eq-eqb}
 use Rattle.std.proofs.lemmas.Bool.Decides.{nat_tests}
 use Rattle.std.proofs.lemmas.List.{length-take, length-drop}
 use Rattle.std.proofs.lemmas.List.Elements.{All-head, All-tail}
-use Rattle.std.proofs.Common.{◌≡◌, ◌≢◌, ◌⊎◌, inl, inr, ◌==◌, nat_lt, Bool, true, false, ℕ, zero, suc, ◌+◌, ◌-◌, ◌<◌, ◌≤◌, min, drop, Option, Some, None, is_some, List, [], ◌∷◌, ◌++◌, map, length, append_assoc, refl, ap, sym, ◌∙◌, subst, arith}
+use Rattle.std.proofs.Common.{◌≡◌, ◌≢◌, ◌⊎◌, inl, inr, ◌==◌, nat_lt, Bool, true, false, ℕ, zero, suc, ◌-◌, ◌<◌, ◌≤◌, min, drop, Option, Some, None, List, [], ◌∷◌, ◌++◌, length, append_assoc, refl, ap, sym, ◌∙◌, subst, arith}
 use Rattle.std.specs.Prelude.{All, IsSome, slice_get, slice_range}
 use Rattle.buffer_parts.specs.Part.{buffer_of, range_of}
 use Rattle.job_meaning.specs.Walk.{Here}
-use Rattle.std.specs.Option.{ForSome, IsSomeAnd, unwrap_or, option_map}
+use Rattle.std.specs.Option.{ForSome, unwrap_or, option_map}
 use Rattle.std.specs.List.{last_or}
 use Rattle.cancel_scopes.specs.Sight.{Level}
 use Rattle.cancel_scopes.specs.Tree.{Stack, Tree, stack_of, outer_of, IsOpen, IsChain, IsApart}
 use Rattle.job_tree.specs.Tree.{Tree as Job}
 use Rattle.job_meaning.specs.Log.{Table}
 use Rattle.nursery_book.specs.Nursery.{End, Nursery}
-use Rattle.nursery_book.specs.Book.{nursery_at, HasNursery}
+use Rattle.nursery_book.specs.Book.{nursery_at}
 use Rattle.nursery_book.specs.declared.book.NurseryBook.{NurseryBook}
 use Rattle.task_turns.specs.Placed.{IsAmong}
 use Rattle.task_machine.specs.declared.task.Home.{Home}
 use Rattle.task_machine.specs.declared.task.Own.{Own}
 use Rattle.task_machine.specs.declared.task.Task.{Task}
-use Rattle.task_machine.specs.declared.world.World.{World}
 use Rattle.task_machine.specs.Fitting.{Block, a_scope, a_nursery, blocks_of, AreOthers, AnyRuns, RunsIn, OthersRun, Opened, waits_of, Fits}
 use Rattle.task_machine.specs.Labels.{Labels}
 use Rattle.task_machine.specs.Left.{keys_of, keys_in, OwnFirst}
 use Rattle.task_machine.specs.Stacked.{IsKey}
-use Rattle.task_machine.specs.Standing.{HasBlock, HasNurseryOf}
+use Rattle.task_machine.specs.Standing.{HasNurseryOf}
 use Rattle.task_machine.specs.Tasks.{home_scope}
 use Rattle.task_machine.specs.Worlds.{label_at}
+use Rattle.task_machine.proofs.Stacked.{one_of}
 use Rattle.task_machine.proofs.OwnLemmas.{ids}
 use Rattle.task_machine.proofs.Others.{LevelAt, level_at, all_behind, among_left, among_right}
-use Rattle.run_crew.specs.Crew.{Crew, CanGoOn, LivesIn, HasHome, OpenedBy, Follows, IsCrew}
+use Rattle.run_crew.specs.Crew.{Crew, LivesIn, HasHome, OpenedBy, IsCrew}
 use Rattle.run_crew.specs.Turn.{IsSound}
-
--- ---- a list in two parts, at a place
-
--- what stands at a place, with what is before and behind it
-pub record SplitAt {A : Type 0} (xs : List A) (x : A) (n : ℕ) : Type 0 where
-  pub before : List A
-  pub behind : List A
-  pub is : xs ≡ before ++ x ∷ behind
-  pub long : length before ≡ n
-
-pub split_at : {A : Type 0} (xs : List A) (x : A) (n : ℕ) → slice_get xs n ≡ Some x → SplitAt xs x n
-split_at [] x n e = absurd (let f : None ≡ Some x = e in cc)
-split_at (y ∷ xs) x zero e =
-    let f : Some y ≡ Some x = e in let g : y ≡ x = cc in record { before = []; behind = xs; is = ap (λ z. z ∷ xs) g; long = refl }
-split_at (y ∷ xs) x (suc n) e =
-    let s = split_at xs x n e in record { before = y ∷ s.before; behind = s.behind; is = ap (λ zs. y ∷ zs) s.is; long = ap suc s.long }
-
-got_first : {A : Type 0} (xs ys : List A) (i : ℕ) (x : A) → slice_get xs i ≡ Some x → slice_get (xs ++ ys) i ≡ Some x
-got_first [] ys i x e = absurd (let f : None ≡ Some x = e in cc)
-got_first (y ∷ xs) ys zero x e = e
-got_first (y ∷ xs) ys (suc i) x e = got_first xs ys i x e
-
--- what stands at a later place is behind it
-later_behind : {A : Type 0} (before behind : List A) (x y : A) (i : ℕ) → length before < i → slice_get (before ++ x ∷ behind) i ≡ Some y → (j : ℕ) × (slice_get behind j ≡ Some y)
-later_behind [] behind x y zero lt e = absurd (omega (arith, lt))
-later_behind [] behind x y (suc i) lt e = (i, e)
-later_behind (z ∷ before) behind x y zero lt e = absurd (omega (arith, lt))
-later_behind (z ∷ before) behind x y (suc i) lt e = later_behind before behind x y i (omega (arith, lt)) e
+use Rattle.run_crew.proofs.Found.{got_first, SplitAt, split_at, later_behind, finds, gives, puts, KeysAt, keys_at}
 
 -- ---- keys
 
@@ -107,36 +80,6 @@ key_among : (key : ℕ) (st : Stack) → IsKey key st → IsAmong key (keys_of s
 key_among key [] i = absurd i
 key_among key (l ∷ ls) (inl e) = inl e
 key_among key (l ∷ ls) (inr i) = inr (key_among key ls i)
-
--- a stack whose keys are these, in parts
-record KeysAt (st : Stack) (ks : List ℕ) (k : ℕ) (ms : List ℕ) : Type 0 where
-  pub before : Stack
-  pub level : Level ℕ
-  pub behind : Stack
-  pub is : st ≡ before ++ level ∷ behind
-  pub named : level.label ≡ k
-  pub inner : keys_of before ≡ ks
-  pub outer : keys_of behind ≡ ms
-
-keys_at : (st : Stack) (ks : List ℕ) (k : ℕ) (ms : List ℕ) → keys_of st ≡ ks ++ k ∷ ms → KeysAt st ks k ms
-keys_at [] [] k ms e = absurd (let f : [] ≡ k ∷ ms = e in cc)
-keys_at [] (x ∷ ks) k ms e = absurd (let f : [] ≡ x ∷ (ks ++ k ∷ ms) = e in cc)
-keys_at (l ∷ ls) [] k ms e =
-    let f : l.label ∷ keys_of ls ≡ k ∷ ms = e in
-    record { before = []; level = l; behind = ls; is = refl; named = (let g : l.label ≡ k = cc in g); inner = refl; outer = (let g : keys_of ls ≡ ms = cc in g) }
-keys_at (l ∷ ls) (x ∷ ks) k ms e =
-    let f : l.label ∷ keys_of ls ≡ x ∷ (ks ++ k ∷ ms) = e in
-    let first : l.label ≡ x = cc in let more : keys_of ls ≡ ks ++ k ∷ ms = cc in
-    let r = keys_at ls ks k ms more in
-    record {
-      before = l ∷ r.before;
-      level = r.level;
-      behind = r.behind;
-      is = ap (λ (s : Stack). l ∷ s) r.is;
-      named = r.named;
-      inner = ap (λ (y : ℕ). y ∷ keys_of r.before) first ∙ ap (λ (ys : List ℕ). x ∷ ys) r.inner;
-      outer = r.outer;
-    }
 
 -- ---- the stack of a scope that a task opened
 
@@ -229,20 +172,6 @@ pub record NurseryOwn (book : NurseryBook) (bs : List Block) (own : List Own) (w
   pub is : n.scope ≡ scope.id
   pub runs : AnyRuns n.children → (i : ℕ) → i ≤ place → RunsIn book bs i waits
 
--- what is true of the nursery at a key
-at_book : (book : NurseryBook) (id : ℕ) (n : Nursery) (P : Nursery → Type 0) → nursery_at book id ≡ Some n → HasNursery book id P → P n
-at_book book id n P e h = by_nursery (nursery_at book id) e h
-  where
-    by_nursery : (o : Option Nursery) → o ≡ Some n → IsSomeAnd o P → P n
-    by_nursery None f g = absurd g
-    by_nursery (Some m) f g = subst P (one m n f) g
-      where
-        one : (a b : Nursery) → Some a ≡ Some b → a ≡ b
-        one a b h = cc
-
-put_book : (book : NurseryBook) (id : ℕ) (n : Nursery) (P : Nursery → Type 0) → nursery_at book id ≡ Some n → P n → HasNursery book id P
-put_book book id n P e h = subst (λ (o : Option Nursery). IsSomeAnd o P) (sym e) h
-
 -- of a nursery further in
 later_own : (book : NurseryBook) (b : Block) (bs : List Block) (o : Own) (own : List Own) (waits : Option ℕ) (id : ℕ) (n : Nursery) →
     (RunsIn book bs 0 waits → RunsIn book (b ∷ bs) 0 waits) → ((i : ℕ) → RunsIn book bs i waits → RunsIn book (b ∷ bs) (suc i) waits) → NurseryOwn book bs own waits id n →
@@ -263,16 +192,16 @@ nursery_own labels book [] (o ∷ own) None id n h (inr w) e = absurd h
 nursery_own labels book [] (o ∷ own) (Some key) id n h (inr w) e =
     let same : key ≡ id = (let f : Some key ≡ Some id = w in cc) in
     let at : nursery_at book key ≡ Some n = ap (nursery_at book) same ∙ e in
-    record { place = 0; scope = o; at = refl; is = (at_book book key n _ at h.1).0.scope; runs = λ r i le. put_book book key n (λ m. AnyRuns m.children) at r }
+    record { place = 0; scope = o; at = refl; is = (gives book key n _ at h.1).0.scope; runs = λ r i le. puts book key n (λ m. AnyRuns m.children) at r }
 nursery_own labels book (b ∷ bs) [] waits id n h has e = absurd h
 nursery_own labels book (a_scope ∷ bs) (o ∷ own) waits id n h has e =
     later_own book a_scope bs o own waits id n (λ r. r) (λ i r. r) (nursery_own labels book bs own waits id n h.2 has e)
 nursery_own labels book (a_nursery key ∷ bs) (o ∷ own) waits id n h (inl (inl is)) e =
     let at : nursery_at book key ≡ Some n = ap (nursery_at book) (sym is) ∙ e in
-    record { place = 0; scope = o; at = refl; is = (at_book book key n _ at h.0).0.scope; runs = first at }
+    record { place = 0; scope = o; at = refl; is = (gives book key n _ at h.0).0.scope; runs = first at }
   where
     first : nursery_at book key ≡ Some n → AnyRuns n.children → (i : ℕ) → i ≤ 0 → RunsIn book (a_nursery key ∷ bs) i waits
-    first at r zero le = inl (put_book book key n (λ m. AnyRuns m.children) at r)
+    first at r zero le = inl (puts book key n (λ m. AnyRuns m.children) at r)
     first at r (suc i) le = absurd (omega (arith, le))
 nursery_own labels book (a_nursery key ∷ bs) (o ∷ own) waits id n h (inl (inr has)) e =
     later_own book (a_nursery key) bs o own waits id n (λ r. inr r) (λ i r. r) (nursery_own labels book bs own waits id n h.2 (inl has) e)
@@ -325,20 +254,6 @@ module _ (k : Table) (job : Job) (input : List ℕ) (t m : ℕ) (leaving : Optio
       by_first (inr j) =
           by_part (among_either key (keys_in w.split.before) (keys_of (outer_of crew.world.scopes (home_scope task))) (subst (λ (ks : List ℕ). IsAmong key ks) w.keys j))
 
-  -- what is at a key
-  found : (id : ℕ) (P : Nursery → Type 0) → HasNursery crew.world.book id P → (n : Nursery) × (nursery_at crew.world.book id ≡ Some n) × P n
-  found id P h = by_nursery (nursery_at crew.world.book id) refl h
-    where
-      by_nursery : (o : Option Nursery) → nursery_at crew.world.book id ≡ o → IsSomeAnd o P → (n : Nursery) × (nursery_at crew.world.book id ≡ Some n) × P n
-      by_nursery None e g = absurd g
-      by_nursery (Some n) e g = (n, e, g)
-
-  one_task : (a b : Task) → Some a ≡ Some b → a ≡ b
-  one_task a b h = cc
-
-  one_stack : (a b : Stack) → Some a ≡ Some b → a ≡ b
-  one_stack a b h = cc
-
   module _ (s : ℕ) (mine : Task) (lives : crew.task s ≡ Some mine) (i : ℕ) (o : Own) (at : slice_get mine.own.items i ≡ Some o) where
     -- it is none of another's
     of_another : (u : ℕ) → u ≢ s → OpenedBy crew o.id u → ⊥
@@ -351,7 +266,7 @@ module _ (k : Table) (job : Job) (input : List ℕ) (t m : ℕ) (leaving : Optio
     in_mine parent starter there is n scope e among runs = by_order (nat_lt n i) refl
       where
         same : starter ≡ mine
-        same = one_task starter mine (sym there ∙ ap crew.task is ∙ lives)
+        same = one_of starter mine (sym there ∙ ap crew.task is ∙ lives)
 
         w : OwnStack crew.world.scopes (home_scope starter) starter.own.items scope n
         w = stack_by parent starter there n scope e
@@ -377,7 +292,7 @@ module _ (k : Table) (job : Job) (input : List ℕ) (t m : ℕ) (leaving : Optio
             l = subst (λ (h : Option Home). HasHome crew c.course.at c.numbers u h) f (c.follows u task e).home
 
             nursery : (n : Nursery) × (nursery_at crew.world.book home.nursery ≡ Some n) × ((n.scope ≡ home.scope) × (slice_get n.children home.place ≡ Some None))
-            nursery = found home.nursery (λ n. (n.scope ≡ home.scope) × (slice_get n.children home.place ≡ Some None)) l.runs
+            nursery = finds crew.world.book home.nursery (λ n. (n.scope ≡ home.scope) × (slice_get n.children home.place ≡ Some None)) l.runs
 
             own : NurseryOwn crew.world.book (blocks_of l.starter.frames.items) l.starter.own.items (waits_of l.starter.halt) home.nursery nursery.0
             own =
@@ -425,7 +340,7 @@ module _ (k : Table) (job : Job) (input : List ℕ) (t m : ℕ) (leaving : Optio
 
       differs : by.0 ≢ s
       differs f =
-          let same : by.1.task ≡ mine = one_task by.1.task mine (sym by.1.lives ∙ ap crew.task f ∙ lives) in
+          let same : by.1.task ≡ mine = one_of by.1.task mine (sym by.1.lives ∙ ap crew.task f ∙ lives) in
           no_other mine.own.items by.1.place by.1.scope (subst (λ (x : Task). slice_get x.own.items by.1.place ≡ Some by.1.scope) same by.1.own) by.1.is others
 
       w : OwnStack crew.world.scopes (home_scope by.1.task) by.1.task.own.items by.1.scope by.1.place
@@ -433,7 +348,7 @@ module _ (k : Table) (job : Job) (input : List ℕ) (t m : ℕ) (leaving : Optio
 
       among : IsAmong o.id (keys_of (w.level ∷ w.behind))
       among =
-          subst (λ (x : Stack). IsAmong o.id (keys_of x)) (one_stack st (w.level ∷ w.behind) (sym e ∙ ap (stack_of crew.world.scopes) (sym by.1.is) ∙ w.at)) (key_among o.id st within)
+          subst (λ (x : Stack). IsAmong o.id (keys_of x)) (one_of st (w.level ∷ w.behind) (sym e ∙ ap (stack_of crew.world.scopes) (sym by.1.is) ∙ w.at)) (key_among o.id st within)
 
   -- each task has all that a turn asks of it
   pub crew_fits : (s : ℕ) (task : Task) → crew.task s ≡ Some task → Fits task.frames.items task crew.world (waits_of task.halt)

@@ -1,6 +1,5 @@
 -- A turn in a crew: what its mover does to scopes, and what is the same of each other task.
-use Rattle.std.proofs.Common.{◌≡◌, ◌≢◌, ◌⊎◌, inl, inr, ℕ, ◌+◌, ◌<◌, ◌≤◌, ◌==◌, Bool, true, false, nat_lt, Option, Some, None, List, refl, ap, sym, ◌∙◌, subst, arith}
-use Rattle.std.proofs.lemmas.Bool.{eq-eqb, ne_eqb, le-ltb}
+use Rattle.std.proofs.Common.{◌≡◌, ◌≢◌, ◌⊎◌, inl, inr, ℕ, Some, None, List, refl, sym}
 use Rattle.std.specs.Prelude.{slice_get}
 use Rattle.cancel_scopes.specs.Tree.{IsOpen}
 use Rattle.nursery_book.specs.Book.{nursery_at}
@@ -15,24 +14,14 @@ use Rattle.task_machine.specs.declared.task.Task.{Task}
 use Rattle.task_machine.specs.Acts.{scoping_of}
 use Rattle.task_machine.specs.Fitting.{blocks_of, AreOthers, waits_of}
 use Rattle.task_machine.specs.Standing.{HasNurseryOf}
-use Rattle.task_machine.specs.Stops.{Numbers}
 use Rattle.task_machine.specs.Worlds.{label_at}
-use Rattle.run_crew.specs.Crew.{Crew, Follows, OpenedBy, IsCrew}
-use Rattle.run_crew.specs.Turn.{IsEntered, Turning, numbers_if, numbers_then}
+use Rattle.run_crew.specs.Crew.{Crew, OpenedBy, IsCrew}
+use Rattle.run_crew.specs.Turn.{IsEntered, Turning}
 use Rattle.run_crew.proofs.ActsKeep.{is_open}
 use Rattle.run_crew.proofs.LabelsApart.{labels_apart, labels_known}
-use Rattle.run_crew.proofs.OtherScopes.{Acted, AreElse, mine_or}
+use Rattle.run_crew.proofs.OtherScopes.{Acted, AreElse}
 use Rattle.run_crew.proofs.OtherNurseries.{nurseries_stay}
-
--- ---- numbers
-
-pub numbers_mover : (numbers : ℕ → Numbers) (s m : ℕ) (now : Numbers) → numbers_then numbers s m now s ≡ now
-numbers_mover numbers s m now = ap (λ (b : Bool). numbers_if b (nat_lt m (s + 1)) now (numbers s)) (eq-eqb s s refl)
-
-pub numbers_other : (numbers : ℕ → Numbers) (s m : ℕ) (now : Numbers) (p : ℕ) → p < m → p ≢ s → numbers_then numbers s m now p ≡ numbers p
-numbers_other numbers s m now p below differs =
-    ap (λ (b : Bool). numbers_if b (nat_lt m (p + 1)) now (numbers p)) (ne_eqb p s differs)
-    ∙ ap (λ (b : Bool). numbers_if false b now (numbers p)) (le-ltb m (p + 1) (omega arith))
+use Rattle.run_crew.proofs.Parts.{own_or}
 
 -- ---- the mover
 
@@ -59,12 +48,12 @@ acted c T settled names nurseries =
 -- none of its scopes is the mover's
 pub else_own : {k : Table} {job : Job} {input : List ℕ} {t m s : ℕ} {old new : Crew} {before after : Task} {stop : Stop} → (c : IsCrew k job input t m None old) →
     Turning k job input t m s old new c.numbers before after stop c.course → (u : ℕ) (task : Task) → u ≢ s → old.task u ≡ Some task → AreElse task.own.items before.own.items
-else_own {s = s} {old = old} {before = before} c T u task differs is o i got = by_own (mine_or o.id before.own.items)
+else_own {s = s} {old = old} {before = before} c T u task differs is o i got = by_own (own_or o.id before.own.items)
   where
-    by_own : AreOthers o.id before.own.items ⊎ ((x : Own) × (j : ℕ) × (slice_get before.own.items j ≡ Some x) × (x.id ≡ o.id)) → AreOthers o.id before.own.items
+    by_own : AreOthers o.id before.own.items ⊎ ((j : ℕ) × (x : Own) × (slice_get before.own.items j ≡ Some x) × (x.id ≡ o.id)) → AreOthers o.id before.own.items
     by_own (inl a) = a
     by_own (inr x) =
-        let mine : OpenedBy old o.id s = record { task = before; lives = T.task; place = x.1; scope = x.0; own = x.2; is = x.3 } in
+        let mine : OpenedBy old o.id s = record { task = before; lives = T.task; place = x.0; scope = x.1; own = x.2; is = x.3 } in
         let theirs : OpenedBy old o.id u = record { task = task; lives = is; place = i; scope = o; own = got; is = refl } in
         absurd (differs (sym (c.apart o.id s u mine theirs)))
 

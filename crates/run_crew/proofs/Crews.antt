@@ -2,7 +2,7 @@
 use Rattle.std.proofs.Common.{◌≡◌, ◌⊎◌, inl, inr, ℕ, ◌<◌, ◌≤◌, true, Option, Some, None, List, refl, ap, sym, ◌∙◌, subst, arith}
 use Rattle.std.proofs.lemmas.Bool.{cases_lt}
 use Rattle.std.specs.Prelude.{slice_get}
-use Rattle.std.specs.Option.{IsSomeAnd, option_map}
+use Rattle.std.specs.Option.{option_map}
 use Rattle.nursery_book.specs.Nursery.{Nursery}
 use Rattle.nursery_book.specs.Book.{nursery_at, HasNursery}
 use Rattle.job_tree.specs.Tree.{Tree as Job}
@@ -26,6 +26,7 @@ use Rattle.run_crew.proofs.ActsKeep.{not_both}
 use Rattle.run_crew.proofs.Parts.{own_or}
 use Rattle.task_machine.proofs.Apart.{has_scope}
 use Rattle.task_machine.proofs.Stacked.{one_of}
+use Rattle.run_crew.proofs.Found.{finds}
 
 -- ---- a task and its home, apart
 
@@ -73,26 +74,10 @@ follows_by crew f input t at numbers leaving s task n q e g h home =
     (subst (λ (z : Numbers). Stood crew f input t at leaving s task z (at s)) (sym e) (subst (λ (z : Started). Stood crew f input t at leaving s task n z) (sym g) h))
     home
 
--- ---- nurseries in a book
-
-pub nursery_is : (o : Option Nursery) (P : Nursery → Type 0) → IsSomeAnd o P → (n : Nursery) × (o ≡ Some n) × P n
-nursery_is None P h = absurd h
-nursery_is (Some n) P h = (n, refl, h)
-
-pub nursery_has : (o : Option Nursery) (P : Nursery → Type 0) (n : Nursery) → o ≡ Some n → P n → IsSomeAnd o P
-nursery_has o P n e p = subst (λ (z : Option Nursery). IsSomeAnd z P) (sym e) p
-
 -- ---- a crew
 
 module _ (k : Table) (job : Job) (input : List ℕ) (t m : ℕ) (leaving : Option ℕ) (crew : Crew) (c : IsCrew k job input t m leaving crew) where
   -- no task has a later serial number than those given
-  pub task_below : (s : ℕ) (a : Task) → crew.task s ≡ Some a → s < m
-  task_below s a e = by_order (cases_lt s m)
-    where
-      by_order : (s < m) ⊎ (m ≤ s) → s < m
-      by_order (inl h) = h
-      by_order (inr h) = absurd (not_both (c.unborn s h).0 e)
-
   pub gone_below : (s : ℕ) (g : Gone) → crew.gone s ≡ Some g → s < m
   gone_below s g e = by_order (cases_lt s m)
     where
@@ -127,7 +112,7 @@ module _ (k : Table) (job : Job) (input : List ℕ) (t m : ℕ) (leaving : Optio
       by_home (Some home) g l =
           let here : home_of a ≡ Some (home.nursery, home.place) = ap (option_map (λ (x : Home). (x.nursery, x.place))) g in
           let same : home.nursery ≡ id = ap (λ (z : ℕ × ℕ). z.0) (one_of (home.nursery, home.place) (id, place) (sym here ∙ at)) in
-          let n = nursery_is (nursery_at crew.world.book home.nursery) _ l.runs in
+          let n = finds crew.world.book home.nursery _ l.runs in
           let one : l.parent ≡ u =
           one_nursery l.parent u l.starter b l.lives f home.nursery n.0 l.owned
           (subst (λ (key : ℕ). HasNurseryOf key (blocks_of b.frames.items) (waits_of b.halt)) (sym same) has) n.1 in

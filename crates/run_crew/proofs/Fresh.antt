@@ -2,7 +2,6 @@
 use Rattle.std.proofs.lemmas.Bool.{eqb-true, eq-eqb}
 use Rattle.std.proofs.lemmas.Bool.Decides.{nat_tests}
 use Rattle.std.proofs.Common.{◌≡◌, ◌≢◌, ◌⊎◌, inl, inr, ◌==◌, nat_lt, Bool, true, false, ℕ, ◌+◌, ◌<◌, ◌≤◌, List, [], ◌∷◌, ◌++◌, length, refl, ap, sym, ◌∙◌, subst, arith}
-use Rattle.cancel_scopes.specs.Sight.{Tick}
 use Rattle.exc_groups.specs.Exceptions.{Label}
 use Rattle.job_tree.specs.Tree.{Tree as Job}
 use Rattle.job_tree.specs.Names.{GivesNamesOnce}
@@ -12,34 +11,16 @@ use Rattle.job_meaning.specs.Follow.{IsSettled}
 use Rattle.job_meaning.specs.Rest.{Event, noted, signs, enters, starts, Stopped}
 use Rattle.task_turns.specs.Midway.{Move}
 use Rattle.task_turns.specs.Turned.{Known, EntersIn}
-use Rattle.run_course.specs.Course.{Started, In, times_made, made_times, all_times}
+use Rattle.run_course.specs.Course.{Started, In, times_made, made_times}
 use Rattle.run_course.specs.Rows.{entered_made}
 use Rattle.run_course.proofs.Readings.{times_join, enters_counted, made_few, made_counted}
 use Rattle.run_course.proofs.Running.{runs_on_course}
 use Rattle.run_crew.specs.Crew.{Course}
 use Rattle.run_crew.specs.Turn.{IsEntered, AreNew}
 use Rattle.run_crew.proofs.Goes.{WentOn}
+use Rattle.run_crew.proofs.LabelsApart.{known_enters, two_counted}
 
 -- ---- how often a label is entered
-
-pub enters_known : (l : Label) (es : List Event) → Known l (entered_made es) → EntersIn l es
-enters_known l [] h = absurd h
-enters_known l (noted t e ∷ es) h = enters_known l es h
-enters_known l (signs m t ∷ es) h = enters_known l es h
-enters_known l (enters m t d ∷ es) (inl e) = inl e
-enters_known l (enters m t d ∷ es) (inr h) = inr (enters_known l es h)
-enters_known l (starts i m t ∷ es) h = enters_known l es h
-
--- two tasks together enter it no more often than all do
-pub two_counted : (l : Label) (x y : Started) (qs : List Started) → In x qs → In y qs → x.serial ≢ y.serial → times_made l x.made + times_made l y.made ≤ made_times l qs
-unfolding made_times
-two_counted l x y [] i j differs = absurd i
-two_counted l x y (q ∷ qs) (inl e) (inl f) differs = absurd (differs (ap (λ (z : Started). z.serial) (e ∙ sym f)))
-two_counted l x y (q ∷ qs) (inl e) (inr j) differs =
-    let g = made_counted l y qs j in let h : times_made l x.made ≡ times_made l q.made = ap (λ (z : Started). times_made l z.made) e in omega (arith, g, h)
-two_counted l x y (q ∷ qs) (inr i) (inl f) differs =
-    let g = made_counted l x qs i in let h : times_made l y.made ≡ times_made l q.made = ap (λ (z : Started). times_made l z.made) f in omega (arith, g, h)
-two_counted l x y (q ∷ qs) (inr i) (inr j) differs = let g = two_counted l x y qs i j differs in omega (arith, g)
 
 -- events that enter each label once at most, and none that is known
 pub new_of : (known : Label → Type 0) (es : List Event) → ((l : Label) → times_made l es ≤ 1) → ((l : Label) → known l → EntersIn l es → ⊥) → AreNew known es
@@ -89,7 +70,7 @@ fresh_after k job input t m s was o stopped settled names starting less w = new_
     by_serial : (l : Label) (p : ℕ) → Known l (entered_made (was.at p).made) → EntersIn l o.made → (b : Bool) → (p == s) ≡ b → (c : Bool) → nat_lt p m ≡ c → ⊥
     by_serial l p known i true e c f =
         let is : p ≡ s = eqb-true p s e in
-        let had = enters_counted l (was.at s).made (enters_known l (was.at s).made (subst (λ (n : ℕ). Known l (entered_made (was.at n).made)) is known)) in
+        let had = enters_counted l (was.at s).made (known_enters l (was.at s).made (subst (λ (n : ℕ). Known l (entered_made (was.at n).made)) is known)) in
         let new = enters_counted l o.made i in
         let most = once l in let g = made_counted l (w.is.at s) w.is.tasks there.0 in let h = joined l in
         absurd (omega (arith, had, new, most, g, h))
@@ -97,7 +78,7 @@ fresh_after k job input t m s was o stopped settled names starting less w = new_
         let lower : p < m = grind (arith, nat_tests) in
         let differs : p ≢ s = λ g. absurd (let x : true ≡ false = sym (eq-eqb p s g) ∙ e in cc) in
         let other : w.is.at p ≡ was.at p = w.of_other p lower differs in
-        let had = enters_counted l (was.at p).made (enters_known l (was.at p).made known) in
+        let had = enters_counted l (was.at p).made (known_enters l (was.at p).made known) in
         let had_there : times_made l (w.is.at p).made ≡ times_made l (was.at p).made = ap (λ (x : Started). times_made l x.made) other in
         let at_p = w.is.has p (omega (arith, lower)) in
         let new = enters_counted l o.made i in

@@ -1,20 +1,21 @@
 -- A run of the definitions goes on by a turn of one of its tasks: which tasks it has then, by their serial numbers.
-use Rattle.std.proofs.Common.{◌≡◌, ◌≢◌, ◌⊎◌, inl, inr, ℕ, zero, suc, ◌+◌, ◌-◌, ◌<◌, ◌≤◌, ◌==◌, nat_lt, Bool, true, false, Option, Some, None, List, [], ◌∷◌, ◌++◌, length, length-append, refl, ap, sym, ◌∙◌, subst, arith}
+use Rattle.std.proofs.Common.{◌≡◌, ◌≢◌, ◌⊎◌, inl, inr, ℕ, zero, suc, ◌+◌, ◌-◌, ◌<◌, ◌≤◌, ◌==◌, nat_lt, Bool, true, false, Option, Some, None, List, [], ◌∷◌, ◌++◌, length, refl, ap, sym, ◌∙◌, subst, arith}
 use Rattle.std.proofs.lemmas.Bool.{eqb-true, eq-eqb}
 use Rattle.std.proofs.lemmas.Bool.Decides.{nat_tests}
 use Rattle.std.specs.List.{slice_get}
+use Rattle.cancel_scopes.specs.Sight.{seen}
 use Rattle.job_tree.specs.Tree.{Tree as Job}
 use Rattle.job_meaning.specs.Log.{Table}
 use Rattle.exc_groups.specs.Exceptions.{Exc}
-use Rattle.job_meaning.specs.Rest.{Event, Stopped, to_begin, asking, asleep, awaiting, at_end}
-use Rattle.task_turns.specs.Midway.{Begun, Move}
+use Rattle.job_meaning.specs.Rest.{Stopped, to_begin, asking, asleep, awaiting, at_end}
+use Rattle.task_turns.specs.Midway.{Begun, Move, stack_at}
 use Rattle.task_turns.specs.Steps.{froms_after}
 use Rattle.task_turns.specs.Turned.{TurnsOver}
 use Rattle.task_turns.specs.Wakes.{Wake, begins, sees, is_due, has_answer, settles, CanWake, from_start, from_asking, from_sleep, from_due, from_wait}
 use Rattle.run_course.specs.Course.{Started, In}
 use Rattle.run_course.specs.Going.{turned, children_from}
 use Rattle.run_course.specs.Woken.{MayWake, WaitIsOver}
-use Rattle.run_course.specs.Runs.{Reached, turn, Front, is_front, behind_one}
+use Rattle.run_course.specs.Runs.{turn, Front, is_front, behind_one, turns_taken}
 use Rattle.run_course.proofs.Picking.{SameTasks, front_same}
 use Rattle.run_course.proofs.Readings.{in_first, in_second, in_either}
 use Rattle.run_crew.specs.Crew.{Course, AreApart}
@@ -110,32 +111,37 @@ wait_moved : (qs rs : List Started) (q : Started) (t : ℕ) (children : List ℕ
 wait_moved qs rs q t children ended e x back h =
     record { ends = h.ends; numbers = h.numbers; over = λ i among c is serial. h.over i among c (back c is) serial; settled = h.settled }
 
+-- or where other froms show the same
+pub ready_by : (f g : Table) (qs rs : List Started) (t : ℕ) (q : Started) (w : Wake) (s : Stopped) → seen (stack_at f q.places) t ≡ seen (stack_at g q.places) t →
+    ((children : List ℕ) (ended : ℕ) (e x : Option Exc) → WaitIsOver qs q t children ended e x → WaitIsOver rs q t children ended e x) → MayWake f qs t q w s → MayWake g rs t q w s
+ready_by f g qs rs t q begins to_begin same over h = h
+ready_by f g qs rs t q begins (asking k p) same over h = absurd h
+ready_by f g qs rs t q begins (asleep n u) same over h = absurd h
+ready_by f g qs rs t q begins (awaiting cs u e) same over h = absurd h
+ready_by f g qs rs t q begins (at_end u e) same over h = absurd h
+ready_by f g qs rs t q (has_answer a) to_begin same over h = absurd h
+ready_by f g qs rs t q (has_answer a) (asking k p) same over h = h
+ready_by f g qs rs t q (has_answer a) (asleep n u) same over h = absurd h
+ready_by f g qs rs t q (has_answer a) (awaiting cs u e) same over h = absurd h
+ready_by f g qs rs t q (has_answer a) (at_end u e) same over h = absurd h
+ready_by f g qs rs t q is_due to_begin same over h = absurd h
+ready_by f g qs rs t q is_due (asking k p) same over h = absurd h
+ready_by f g qs rs t q is_due (asleep n u) same over h = (h.0, sym same ∙ h.1)
+ready_by f g qs rs t q is_due (awaiting cs u e) same over h = absurd h
+ready_by f g qs rs t q is_due (at_end u e) same over h = absurd h
+ready_by f g qs rs t q sees to_begin same over h = absurd h
+ready_by f g qs rs t q sees (asking k p) same over h = absurd h
+ready_by f g qs rs t q sees (asleep n u) same over h = (h.0, sym same ∙ h.1)
+ready_by f g qs rs t q sees (awaiting cs u e) same over h = absurd h
+ready_by f g qs rs t q sees (at_end u e) same over h = absurd h
+ready_by f g qs rs t q (settles x) to_begin same over h = absurd h
+ready_by f g qs rs t q (settles x) (asking k p) same over h = absurd h
+ready_by f g qs rs t q (settles x) (asleep n u) same over h = absurd h
+ready_by f g qs rs t q (settles x) (awaiting cs u e) same over h = over cs u e x h
+ready_by f g qs rs t q (settles x) (at_end u e) same over h = absurd h
+
 pub may_moved : (f : Table) (qs rs : List Started) (t : ℕ) (q : Started) (w : Wake) (s : Stopped) → ((c : Started) → In c rs → In c qs) → MayWake f qs t q w s → MayWake f rs t q w s
-may_moved f qs rs t q begins to_begin back h = h
-may_moved f qs rs t q begins (asking k p) back h = absurd h
-may_moved f qs rs t q begins (asleep n u) back h = absurd h
-may_moved f qs rs t q begins (awaiting cs u e) back h = absurd h
-may_moved f qs rs t q begins (at_end u e) back h = absurd h
-may_moved f qs rs t q (has_answer a) to_begin back h = absurd h
-may_moved f qs rs t q (has_answer a) (asking k p) back h = h
-may_moved f qs rs t q (has_answer a) (asleep n u) back h = absurd h
-may_moved f qs rs t q (has_answer a) (awaiting cs u e) back h = absurd h
-may_moved f qs rs t q (has_answer a) (at_end u e) back h = absurd h
-may_moved f qs rs t q is_due to_begin back h = absurd h
-may_moved f qs rs t q is_due (asking k p) back h = absurd h
-may_moved f qs rs t q is_due (asleep n u) back h = h
-may_moved f qs rs t q is_due (awaiting cs u e) back h = absurd h
-may_moved f qs rs t q is_due (at_end u e) back h = absurd h
-may_moved f qs rs t q sees to_begin back h = absurd h
-may_moved f qs rs t q sees (asking k p) back h = absurd h
-may_moved f qs rs t q sees (asleep n u) back h = h
-may_moved f qs rs t q sees (awaiting cs u e) back h = absurd h
-may_moved f qs rs t q sees (at_end u e) back h = absurd h
-may_moved f qs rs t q (settles x) to_begin back h = absurd h
-may_moved f qs rs t q (settles x) (asking k p) back h = absurd h
-may_moved f qs rs t q (settles x) (asleep n u) back h = absurd h
-may_moved f qs rs t q (settles x) (awaiting cs u e) back h = wait_moved qs rs q t cs u e x back h
-may_moved f qs rs t q (settles x) (at_end u e) back h = absurd h
+may_moved f qs rs t q w s back h = ready_by f f qs rs t q w s refl (λ children ended e x over. wait_moved qs rs q t children ended e x back over) h
 
 -- and such a wake can come of its stop
 pub may_can : (f : Table) (qs : List Started) (t : ℕ) (q : Started) (w : Wake) (s : Stopped) → MayWake f qs t q w s → CanWake w s
@@ -176,6 +182,7 @@ picked false false turned_now old new = new
 -- The run with the turn taken, and what it has at each serial number.
 pub record WentOn (k : Table) (job : Job) (input : List ℕ) (t m s : ℕ) (was : Course k job input t m) (o : Move) (stopped : Stopped) : Type 0 where
   pub is : Course k job input t (m + length o.begun)
+  pub counts : turns_taken is.reached ≡ turns_taken was.reached + 1
   pub froms : is.froms ≡ froms_after was.froms o.made
   pub of_task : is.at s ≡ turned k t m (was.at s) o stopped
   pub of_child : (i : ℕ) (b : Begun) → slice_get o.begun i ≡ Some b → is.at (m + i) ≡ child_at k t (m + i) b
@@ -200,6 +207,7 @@ went_on k job input t m s was wake o stopped less may goes stops =
             differ = differ_after;
             none = none_after;
           };
+      counts = refl;
       froms = refl;
       of_task = at_task;
       of_child = λ i b e. at_child i ∙ nth_at k t m o.begun i (was.at (m + i)) b e;

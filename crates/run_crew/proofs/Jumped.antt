@@ -1,35 +1,23 @@
 -- A crew whose clock jumps, or whose started tasks are taken: everything else stays.
-use Rattle.std.proofs.Common.{◌≡◌, inl, inr, ℕ, ◌<◌, ◌≤◌, Option, Some, None, List, [], ◌∷◌, refl, ap, sym, ◌∙◌, subst, arith}
+use Rattle.std.proofs.Common.{◌≡◌, ℕ, ◌≤◌, Option, Some, None, List, [], ◌∷◌, refl, ap, sym, ◌∙◌, subst, arith}
 use Rattle.std.specs.List.{slice_get}
 use Rattle.std.specs.Option.{IsSomeAnd}
-use Rattle.exc_groups.specs.Exceptions.{Exc}
 use Rattle.job_tree.specs.Tree.{Tree as Job}
 use Rattle.job_meaning.specs.Log.{Table}
 use Rattle.job_meaning.specs.Rest as rest
 use Rattle.nursery_book.specs.Nursery.{End, Nursery}
-use Rattle.nursery_book.specs.Book.{nursery_at, HasNursery}
+use Rattle.nursery_book.specs.Book.{nursery_at}
 use Rattle.task_machine.specs.declared.task.Home.{Home}
 use Rattle.task_machine.specs.declared.task.Task.{Task}
 use Rattle.task_machine.specs.declared.world.World.{World}
-use Rattle.task_machine.specs.Tasks.{home_of}
 use Rattle.task_machine.specs.Stops.{Numbers}
 use Rattle.run_course.specs.Course.{Started, Blocked}
-use Rattle.run_course.specs.Runs.{jump}
+use Rattle.run_course.specs.Runs.{jump, turns_taken}
 use Rattle.run_course.specs.Rows.{children_made}
-use Rattle.run_crew.specs.Crew.{Course, Crew, Gone, LivesIn, HasHome, IsMember, HasMembers, Follows, HasEnded, OpenedBy, AreStarted, IsCrew}
+use Rattle.run_crew.specs.Crew.{Course, Crew, Gone, HasHome, IsMember, HasMembers, Follows, HasEnded, OpenedBy, AreStarted, IsCrew}
+use Rattle.run_crew.specs.Moved.{SameTasks, moved_world}
 
 -- ---- the same tasks
-
--- the tasks of two crews are the same, and what is kept of them
-pub record SameTasks (old new : Crew) : Type 0 where
-  pub task : (p : ℕ) → new.task p ≡ old.task p
-  pub gone : (p : ℕ) → new.gone p ≡ old.gone p
-  pub start : (p : ℕ) → new.start p ≡ old.start p
-  pub children : (p : ℕ) → new.children p ≡ old.children p
-
--- the world of a crew with another tick, and other tasks that were started and not taken
-abbrev pub moved_world : World → ℕ → World → World
-moved_world w u x = record w { tick = u; started = x.started }
 
 module _ (t u m : ℕ) (le : t ≤ u) (old new : Crew) (at : ℕ → Started) (numbers : ℕ → Numbers) (same : SameTasks old new) where
   abbrev there : Crew
@@ -106,30 +94,34 @@ module _ (t u m : ℕ) (le : t ≤ u) (old new : Crew) (at : ℕ → Started) (n
 
 -- what the code holds in the later tick, or with tasks taken, is the same run
 crew_moved : (k : Table) (job : Job) (input : List ℕ) (t u m : ℕ) (leaving : Option ℕ) (old new : Crew) → t ≤ u → SameTasks old new → new.world ≡ moved_world old.world u new.world →
-    (c : IsCrew k job input t m leaving old) → (d : Course k job input u m) → d.froms ≡ c.course.froms → d.at ≡ c.course.at → IsCrew k job input u m leaving new
-crew_moved k job input t u m leaving old new le same world c d froms at =
-    subst (λ (w : World). IsCrew k job input u m leaving (record new { world = w })) (sym world)
-    (record {
-      course = d;
-      numbers = c.numbers;
-      tick = refl;
-      small = c.small;
-      some = c.some;
-      begun = same.start 0 ∙ c.begun;
-      unborn = λ s less. (same.task s ∙ (c.unborn s less).0, same.gone s ∙ (c.unborn s less).1);
-      ended = λ s less e. by_ended s (c.ended s less (sym (same.task s) ∙ e));
-      follows = λ s task e.
-          subst (λ (f : Table). Follows (there t u m le old new d.at c.numbers same) f input u d.at c.numbers leaving s task) (sym froms)
-          (follows_moved t u m le old new d.at c.numbers same c.course.froms input leaving s task
-          (subst (λ (a : ℕ → Started). Follows old c.course.froms input t a c.numbers leaving s task) (sym at) (c.follows s task (sym (same.task s) ∙ e))));
-      owned = λ key o. (let h = c.owned key o in (h.0, opened_there t u m le old new d.at c.numbers same key h.0 h.1));
-      apart = λ key s v x y. c.apart key s v (opened_back t u m le old new d.at c.numbers same key s x) (opened_back t u m le old new d.at c.numbers same key v y);
-      labelled = c.labelled;
-      started = λ s less.
-          started_moved t u m le old new d.at c.numbers same (d.at s).child (d.at s).made
-          (subst (λ (a : ℕ → Started). AreStarted old.start a (a s).child (a s).made) (sym at) (c.started s less));
-      children = λ s less. same.children s ∙ c.children s less ∙ ap (λ (a : ℕ → Started). children_made (a s).child (a s).made) (sym at);
-    })
+    (c : IsCrew k job input t m leaving old) → (d : Course k job input u m) → d.froms ≡ c.course.froms → d.at ≡ c.course.at → turns_taken d.reached ≡ turns_taken c.course.reached →
+    (x : IsCrew k job input u m leaving new) × (x.course.at ≡ d.at)
+crew_moved k job input t u m leaving old new le same world c d froms at taken =
+    subst (λ (w : World). (x : IsCrew k job input u m leaving (record new { world = w })) × (x.course.at ≡ d.at)) (sym world) (
+      record {
+        course = d;
+        numbers = c.numbers;
+        counted = taken ∙ c.counted ∙ sym same.turns;
+        tick = refl;
+        small = c.small;
+        some = c.some;
+        begun = same.start 0 ∙ c.begun;
+        unborn = λ s less. (same.task s ∙ (c.unborn s less).0, same.gone s ∙ (c.unborn s less).1);
+        ended = λ s less e. by_ended s (c.ended s less (sym (same.task s) ∙ e));
+        follows = λ s task e.
+            subst (λ (f : Table). Follows (there t u m le old new d.at c.numbers same) f input u d.at c.numbers leaving s task) (sym froms)
+            (follows_moved t u m le old new d.at c.numbers same c.course.froms input leaving s task
+            (subst (λ (a : ℕ → Started). Follows old c.course.froms input t a c.numbers leaving s task) (sym at) (c.follows s task (sym (same.task s) ∙ e))));
+        owned = λ key o. (let h = c.owned key o in (h.0, opened_there t u m le old new d.at c.numbers same key h.0 h.1));
+        apart = λ key s v x y. c.apart key s v (opened_back t u m le old new d.at c.numbers same key s x) (opened_back t u m le old new d.at c.numbers same key v y);
+        labelled = c.labelled;
+        started = λ s less.
+            started_moved t u m le old new d.at c.numbers same (d.at s).child (d.at s).made
+            (subst (λ (a : ℕ → Started). AreStarted old.start a (a s).child (a s).made) (sym at) (c.started s less));
+        children = λ s less. same.children s ∙ c.children s less ∙ ap (λ (a : ℕ → Started). children_made (a s).child (a s).made) (sym at);
+      },
+      refl,
+    )
   where
     by_ended : (s : ℕ) → (g : Gone) × (old.gone s ≡ Some g) × HasEnded c.course.froms input t (c.course.at s) g →
         (g : Gone) × (new.gone s ≡ Some g) × HasEnded d.froms input u (d.at s) g
@@ -145,7 +137,7 @@ crew_moved k job input t u m leaving old new le same world c d froms at =
 pub crew_jumps : (k : Table) (job : Job) (input : List ℕ) (t u m : ℕ) (old new : Crew) → t ≤ u → SameTasks old new → new.world ≡ moved_world old.world u new.world →
     (c : IsCrew k job input t m None old) → Blocked c.course.froms c.course.tasks u → IsCrew k job input u m None new
 crew_jumps k job input t u m old new le same world c blocked =
-    crew_moved k job input t u m None old new le same world c
+    (crew_moved k job input t u m None old new le same world c
     (record {
       froms = c.course.froms;
       tasks = c.course.tasks;
@@ -156,9 +148,9 @@ crew_jumps k job input t u m old new le same world c blocked =
       differ = c.course.differ;
       none = c.course.none;
     })
-    refl refl
+    refl refl refl).0
 
 -- and tasks that were started are taken
 pub crew_takes : (k : Table) (job : Job) (input : List ℕ) (t m : ℕ) (leaving : Option ℕ) (old new : Crew) → SameTasks old new → new.world ≡ moved_world old.world t new.world →
-    IsCrew k job input t m leaving old → IsCrew k job input t m leaving new
-crew_takes k job input t m leaving old new same world c = crew_moved k job input t t m leaving old new (omega arith) same world c c.course refl refl
+    (c : IsCrew k job input t m leaving old) → (x : IsCrew k job input t m leaving new) × (x.course.at ≡ c.course.at)
+crew_takes k job input t m leaving old new same world c = crew_moved k job input t t m leaving old new (omega arith) same world c c.course refl refl refl

@@ -1,10 +1,10 @@
 -- No two open scopes of a crew have the same label, and each label of one was entered by a task.
-use Rattle.std.proofs.Common.{◌≡◌, ◌≢◌, ◌⊎◌, inl, inr, ℕ, zero, suc, ◌+◌, ◌<◌, ◌≤◌, Option, Some, None, List, [], ◌∷◌, ◌++◌, map, refl, ap, sym, ◌∙◌, subst, arith}
+use Rattle.std.proofs.Common.{◌≡◌, ◌≢◌, ◌⊎◌, inl, inr, ℕ, zero, suc, ◌+◌, ◌<◌, ◌≤◌, Option, Some, List, [], ◌∷◌, ◌++◌, map, refl, ap, sym, ◌∙◌, subst, arith}
 use Rattle.std.proofs.lemmas.Bool.{cases_lt}
 use Rattle.std.specs.Prelude.{slice_get}
 use Rattle.std.specs.Option.{unwrap_or}
 use Rattle.exc_groups.specs.Exceptions.{Label}
-use Rattle.cancel_scopes.specs.Tree.{Stack, Tree, stack_of, outer_of, IsOpen}
+use Rattle.cancel_scopes.specs.Tree.{Stack, stack_of, outer_of}
 use Rattle.job_tree.specs.Names.{GivesNamesOnce}
 use Rattle.job_tree.specs.Starting.{StartsInNurseries}
 use Rattle.job_tree.specs.Tree.{Tree as Job}
@@ -16,8 +16,7 @@ use Rattle.task_turns.specs.Placed.{IsAmong}
 use Rattle.task_turns.specs.Turned.{Known, EntersIn}
 use Rattle.task_machine.specs.declared.task.Own.{Own}
 use Rattle.task_machine.specs.declared.task.Task.{Task}
-use Rattle.task_machine.specs.declared.world.World.{World}
-use Rattle.task_machine.specs.Acts.{Scoping, scoping_of}
+use Rattle.task_machine.specs.Acts.{Scoping}
 use Rattle.task_machine.specs.Labels.{Labels}
 use Rattle.task_machine.specs.Left.{keys_of, keys_in}
 use Rattle.task_machine.specs.Stacked.{IsKey, Alone}
@@ -27,7 +26,7 @@ use Rattle.run_course.specs.Course.{Started, In, times_made, made_times, all_tim
 use Rattle.run_course.specs.Rows.{entered_made}
 use Rattle.run_crew.specs.Crew.{Course, Crew, Tracks, Follows, OpenedBy, IsCrew}
 use Rattle.run_crew.specs.Turn.{IsSound, IsEntered}
-use Rattle.run_crew.proofs.ActsKeep.{Sound, Apart, HasKnown, not_both, is_open, same_or}
+use Rattle.run_crew.proofs.ActsKeep.{Sound, not_both, same_or}
 use Rattle.run_course.proofs.Readings.{enters_counted, made_counted, made_few}
 use Rattle.run_course.proofs.Running.{runs_on_course}
 use Rattle.task_machine.proofs.Cancels.{open_round}
@@ -44,20 +43,16 @@ known_enters l (enters m t d ∷ es) (inl e) = inl e
 known_enters l (enters m t d ∷ es) (inr k) = inr (known_enters l es k)
 known_enters l (starts i m t ∷ es) k = known_enters l es k
 
--- a label that two tasks entered was entered twice
-twice : (l : Label) (x y : Started) (qs : List Started) → In x qs → In y qs → x.serial ≢ y.serial → 1 ≤ times_made l x.made → 1 ≤ times_made l y.made → 2 ≤ made_times l qs
+-- two tasks together enter it no more often than all do
+pub two_counted : (l : Label) (x y : Started) (qs : List Started) → In x qs → In y qs → x.serial ≢ y.serial → times_made l x.made + times_made l y.made ≤ made_times l qs
 unfolding made_times
-twice l x y [] i j differs a b = absurd i
-twice l x y (z ∷ qs) (inl e) (inl f) differs a b = absurd (differs (ap (λ (q : Started). q.serial) e ∙ sym (ap (λ (q : Started). q.serial) f)))
-twice l x y (z ∷ qs) (inl e) (inr j) differs a b =
-    let same : times_made l x.made ≡ times_made l z.made = ap (λ (q : Started). times_made l q.made) e in
-    let more : times_made l y.made ≤ made_times l qs = made_counted l y qs j in
-    omega arith
-twice l x y (z ∷ qs) (inr i) (inl f) differs a b =
-    let same : times_made l y.made ≡ times_made l z.made = ap (λ (q : Started). times_made l q.made) f in
-    let more : times_made l x.made ≤ made_times l qs = made_counted l x qs i in
-    omega arith
-twice l x y (z ∷ qs) (inr i) (inr j) differs a b = let more : 2 ≤ made_times l qs = twice l x y qs i j differs a b in omega arith
+two_counted l x y [] i j differs = absurd i
+two_counted l x y (q ∷ qs) (inl e) (inl f) differs = absurd (differs (ap (λ (z : Started). z.serial) (e ∙ sym f)))
+two_counted l x y (q ∷ qs) (inl e) (inr j) differs =
+    let g = made_counted l y qs j in let h : times_made l x.made ≡ times_made l q.made = ap (λ (z : Started). times_made l z.made) e in omega (arith, g, h)
+two_counted l x y (q ∷ qs) (inr i) (inl f) differs =
+    let g = made_counted l x qs i in let h : times_made l y.made ≡ times_made l q.made = ap (λ (z : Started). times_made l z.made) f in omega (arith, g, h)
+two_counted l x y (q ∷ qs) (inr i) (inr j) differs = let g = two_counted l x y qs i j differs in omega (arith, g)
 
 -- A label was entered by one task of a run.
 pub one_entered : {k : Table} {job : Job} {input : List ℕ} {t m : ℕ} → (course : Course k job input t m) → IsSettled k job input → GivesNamesOnce job → StartsInNurseries job →
@@ -73,12 +68,12 @@ one_entered {k} {job} {input} {t} {m} course settled names nurseries l p q below
         let x = course.has p below in
         let y = course.has q lower in
         let apart : (course.at p).serial ≢ (course.at q).serial = λ e. differs (sym x.1 ∙ e ∙ y.1) in
-        let two : 2 ≤ made_times l course.tasks =
-            twice l (course.at p) (course.at q) course.tasks x.0 y.0 apart (enters_counted l (course.at p).made (known_enters l (course.at p).made a))
-            (enters_counted l (course.at q).made (known_enters l (course.at q).made b)) in
+        let first = enters_counted l (course.at p).made (known_enters l (course.at p).made a) in
+        let second = enters_counted l (course.at q).made (known_enters l (course.at q).made b) in
+        let both = two_counted l (course.at p) (course.at q) course.tasks x.0 y.0 apart in
         let few : made_times l course.tasks ≤ all_times l course.tasks = made_few l course.tasks in
         let once : all_times l course.tasks ≤ 1 = on.once l in
-        absurd (omega arith)
+        absurd (omega (arith, first, second, both, few, once))
 
 -- ---- the labels of a task's scopes
 
@@ -163,11 +158,11 @@ labels_apart {k} {job} {input} {t} {m} {leaving} {crew} c settled names nurserie
     same_task z =
         let tasks : z.task ≡ task = one_of z.task task (sym z.lives ∙ x.1.lives) in
         let round : IsKey b (outer_of crew.world.scopes (scope_of task)) =
-            subst (λ (i : ℕ). IsKey i (outer_of crew.world.scopes (scope_of task))) z.is (within z.scope z.place (sym (ap (λ (v : Task). slice_get v.own.items z.place) tasks) ∙ z.own)) in
+        subst (λ (i : ℕ). IsKey i (outer_of crew.world.scopes (scope_of task))) z.is (within z.scope z.place (sym (ap (λ (v : Task). slice_get v.own.items z.place) tasks) ∙ z.own)) in
         let inside : IsKey a (outer_of crew.world.scopes (scope_of task)) =
-            subst (λ (i : ℕ). IsKey i (outer_of crew.world.scopes (scope_of task))) x.1.is (within x.1.scope x.1.place x.1.own) in
+        subst (λ (i : ℕ). IsKey i (outer_of crew.world.scopes (scope_of task))) x.1.is (within x.1.scope x.1.place x.1.own) in
         let alone =
-            alone_at (label_at crew.world) c.course.froms (outer_of crew.world.scopes (scope_of task)) (c.course.at x.0).places b l f round follows.stands.own follows.stands.places in
+        alone_at (label_at crew.world) c.course.froms (outer_of crew.world.scopes (scope_of task)) (c.course.at x.0).places b l f round follows.stands.own follows.stands.places in
         alone_is (label_at crew.world) b a l (outer_of crew.world.scopes (scope_of task)) alone inside e
 
 -- each label that a scope has was entered by a task

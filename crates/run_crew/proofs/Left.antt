@@ -1,8 +1,8 @@
 -- A task leaves a crew: its end is told to its nursery, and what is left of it is kept. All others go on as they stood.
 use Rattle.std.proofs.lemmas.Bool.{eqb-true, eq-eqb}
-use Rattle.std.proofs.Common.{◌≡◌, ◌≢◌, ◌⊎◌, inl, inr, ◌==◌, nat_lt, Bool, true, false, ℕ, zero, suc, ◌+◌, ◌<◌, ◌≤◌, Option, Some, None, List, [], ◌∷◌, ◌++◌, map, length, refl, ap, sym, ◌∙◌, subst, arith}
-use Rattle.std.specs.Prelude.{All, IsSome, slice_get, slice_set}
-use Rattle.std.specs.Option.{IsSomeAnd, option_map}
+use Rattle.std.proofs.Common.{◌≡◌, ◌≢◌, inl, inr, ◌==◌, Bool, true, false, ℕ, suc, ◌<◌, Option, Some, None, List, [], ◌∷◌, map, length, refl, ap, sym, ◌∙◌, subst, arith}
+use Rattle.std.specs.Prelude.{IsSome, slice_get, slice_set}
+use Rattle.std.specs.Option.{option_map}
 use Rattle.std.proofs.lemmas.List.Elements.{All-nil}
 use Rattle.cancel_scopes.specs.Tree.{IsOpen}
 use Rattle.exc_groups.specs.Exceptions.{Label, Exc}
@@ -35,10 +35,11 @@ use Rattle.task_machine.specs.Worlds.{label_at}
 use Rattle.task_machine.proofs.Stopping.{no_blocks}
 use Rattle.run_course.specs.Course.{Started}
 use Rattle.run_course.specs.Rows.{entered_made}
-use Rattle.run_crew.specs.Crew.{Crew, Gone, Notes, IsPast, Tracks, CanGoOn, LivesIn, HasHome, IsMember, HasMembers, Follows, HasEnded, AreStarted, OpenedBy, IsCrew}
+use Rattle.run_crew.specs.Crew.{Crew, Gone, IsPast, Tracks, CanGoOn, LivesIn, HasHome, IsMember, HasMembers, Follows, HasEnded, AreStarted, OpenedBy, IsCrew}
 use Rattle.run_crew.specs.Leaving.{Leaving}
-use Rattle.run_crew.proofs.Taken.{is_born}
-use Rattle.run_crew.proofs.Told.{finds, puts, same_owner, Like, AllLike, Told, stays, tells, told, set_long, set_at, set_else, all_like, carry}
+use Rattle.run_crew.proofs.Told.{same_owner, AllLike, Told, stays, tells, told, set_long, set_at, set_else, all_like, carry}
+use Rattle.run_crew.proofs.LabelsApart.{below_of}
+use Rattle.run_crew.proofs.Found.{finds, puts}
 
 -- ---- what stays of a task
 
@@ -117,12 +118,12 @@ goes_kept task w book like h =
 -- ---- the task that left
 
 -- it has no frame and waits for nothing
-ended_blocks : (task : Task) (numbers : Numbers) (ps : List Place) (stopped : rest.Stopped) (u : ℕ) (e : Option Exc) → PlacedStop stopped (frames_of numbers task.frames.items) ps →
+pub ended_blocks : (task : Task) (numbers : Numbers) (ps : List Place) (stopped : rest.Stopped) (u : ℕ) (e : Option Exc) → PlacedStop stopped (frames_of numbers task.frames.items) ps →
     stopped ≡ rest.at_end u e → blocks_of task.frames.items ≡ []
 ended_blocks task numbers ps stopped u e placed ends =
     no_blocks numbers task.frames.items (subst (λ (x : rest.Stopped). PlacedStop x (frames_of numbers task.frames.items) ps) ends placed)
 
-over_halt : (numbers : Numbers) (book : NurseryBook) (halt : Halt) (u : ℕ) (e : Option Exc) → IsHalt numbers book halt (rest.at_end u e) → waits_of halt ≡ None
+pub over_halt : (numbers : Numbers) (book : NurseryBook) (halt : Halt) (u : ℕ) (e : Option Exc) → IsHalt numbers book halt (rest.at_end u e) → waits_of halt ≡ None
 over_halt numbers book ToBegin u e h = absurd h
 over_halt numbers book (Asked kernel purpose) u e h = absurd h
 over_halt numbers book (Asleep ticks since) u e h = absurd h
@@ -164,6 +165,7 @@ crew_left k job input t m s old new task exc c l =
     record {
       course = c.course;
       numbers = c.numbers;
+      counted = c.counted ∙ sym l.turns;
       tick = ap (λ (w : World). w.tick) l.world ∙ c.tick;
       small = c.small;
       some = c.some;
@@ -188,7 +190,7 @@ crew_left k job input t m s old new task exc c l =
     book = new.world.book
 
     less : s < m
-    less = is_born k job input t m (Some s) old c s task l.was
+    less = below_of c s task l.was
 
     it : Follows old f input t c.course.at c.numbers (Some s) s task
     it = c.follows s task l.was
@@ -374,9 +376,11 @@ crew_left k job input t m s old new task exc c l =
             by_told : (y : Option Home) → task.home ≡ y → Told book exc home.nursery n.0 y → HasNursery book home.nursery Runs
             by_told _ is (stays y z w) = puts book home.nursery n.0 Runs z n.2
             by_told _ is (tells y z w) =
-                puts book home.nursery (with_child y.place exc n.0) Runs w
-                (n.2.0, set_else n.0.children y.place home.place (Some exc)
-                    (λ v. there p x e (sym h.serial ∙ at_place y is h.parent h.starter h.lives home.nursery home.place h.number h.owned h.stands z v)) ∙ n.2.1)
+                puts book home.nursery (with_child y.place exc n.0) Runs w (
+                  n.2.0,
+                  set_else n.0.children y.place home.place (Some exc)
+                      (λ v. there p x e (sym h.serial ∙ at_place y is h.parent h.starter h.lives home.nursery home.place h.number h.owned h.stands z v)) ∙ n.2.1,
+                )
 
         nurseries : (id : ℕ) → HasNurseryOf id (blocks_of x.frames.items) (waits_of x.halt) → HasNursery book id (λ n. HasMembers new c.course.at t (c.numbers p) r id n)
         nurseries id h = by_told task.home refl (told old.world.book book task.home exc l.told id n.0 n.1)

@@ -22,9 +22,16 @@ pub mod OtherNurseries
 pub mod CrewTurn
 pub mod OtherHomes
 pub mod OtherPlaces
+pub mod OthersFollow
 pub mod Told
 pub mod Left
 pub mod Ready
 pub mod Children
 pub mod Begun
 pub mod Over
+pub mod Turned
+pub mod Stepped
+pub mod Found
+pub mod Going
+pub mod Blocks
+pub mod Keeping

@@ -19,9 +19,11 @@ use Rattle.run_course.proofs.Turning.{old_child, later_child}
 use Rattle.run_crew.specs.Crew.{Crew, IsMember, HasMembers, Follows, IsCrew}
 use Rattle.run_crew.specs.Turn.{Turning}
 use Rattle.run_crew.proofs.ActsKeep.{not_both}
-use Rattle.run_crew.proofs.Parts.{below_length, got_first, begun_at, BeginsThere, begins_there, numbered_on}
-use Rattle.run_crew.proofs.Crews.{nursery_is, nursery_has, task_below, gone_below, home_earlier}
+use Rattle.run_crew.proofs.Parts.{begun_at, BeginsThere, begins_there, numbered_on}
+use Rattle.run_crew.proofs.Crews.{gone_below, home_earlier}
 use Rattle.task_machine.proofs.Stacked.{one_of}
+use Rattle.run_crew.proofs.Found.{below_length, got_first, finds, puts}
+use Rattle.run_crew.proofs.LabelsApart.{below_of}
 
 module _ (k : Table) (job : Job) (input : List ℕ) (t m s : ℕ) (old new : Crew) (before after : Task) (stop : Stop) (c : IsCrew k job input t m None old)
     (T : Turning k job input t m s old new c.numbers before after stop c.course) where
@@ -36,7 +38,7 @@ module _ (k : Table) (job : Job) (input : List ℕ) (t m s : ℕ) (old new : Cre
   member_stays : (id place serial : ℕ) (x : End) → HasBlock id (blocks_of before.frames.items) → IsMember old c.course.at t id place serial (Some x) →
       IsMember new T.is.at t id place serial (Some x)
   member_stays id place serial None has h =
-      let below : serial < m = task_below k job input t m None old c serial h.0 h.1 in
+      let below : serial < m = below_of c serial h.0 h.1 in
       let later : s < serial = home_earlier k job input t m None old c serial h.0 h.1 id place h.2 s before T.task (inl has) in
       (h.0, T.other_after serial below (λ e. omega (arith, later, e)) ∙ h.1, h.2)
   member_stays id place serial (Some exc) has h =
@@ -57,8 +59,8 @@ module _ (k : Table) (job : Job) (input : List ℕ) (t m s : ℕ) (old new : Cre
       slice_get (c.numbers s id) place ≡ Some number →
       (number < moved_to.count) × IsMember new T.is.at t id place (moved_to.child number) (slice_get n.children place)
   old_member id place number n at has was =
-      let o = nursery_is (nursery_at old.world.book id) _ (mover.nurseries id (inl has)) in
-      let g = nursery_is (nursery_at new.world.book id) _ (T.took.grow id has o.0 o.1) in
+      let o = finds old.world.book id _ (mover.nurseries id (inl has)) in
+      let g = finds new.world.book id _ (T.took.grow id has o.0 o.1) in
       let one = o.2.members place number was in
       let below : number < (c.course.at s).count = one.0 in
       let longer : slice_get n.children place ≡ slice_get (o.0.children ++ g.2.more) place =
@@ -82,7 +84,7 @@ module _ (k : Table) (job : Job) (input : List ℕ) (t m s : ℕ) (old new : Cre
   begun_there id place number n at r b h =
       let here : Some (h.home.nursery, h.home.place) ≡ Some (id, place) = sym (ap (option_map (λ (x : Home). (x.nursery, x.place))) h.at_home) ∙ r.home in
       let pair : (h.home.nursery, h.home.place) ≡ (id, place) = one_of (h.home.nursery, h.home.place) (id, place) here in
-      let o = nursery_is (nursery_at new.world.book h.home.nursery) _ h.nursery in
+      let o = finds new.world.book h.home.nursery _ h.nursery in
       let same : Some o.0 ≡ Some n = sym o.1 ∙ (ap (λ (z : ℕ × ℕ). nursery_at new.world.book z.0) pair ∙ at) in
       sym (ap (λ (x : Nursery). slice_get x.children h.home.place) (one_of o.0 n same) ∙ ap (λ (z : ℕ × ℕ). slice_get n.children z.1) pair)
       ∙ o.2.1
@@ -105,10 +107,10 @@ module _ (k : Table) (job : Job) (input : List ℕ) (t m s : ℕ) (old new : Cre
   -- Each nursery that the task has after its turn has these members.
   pub members_after : (id : ℕ) → HasNurseryOf id (blocks_of after.frames.items) (waits_of after.halt) →
       HasNursery new.world.book id (λ n. HasMembers new T.is.at t T.took.numbers_after moved_to id n)
-  members_after id has = nursery_has (nursery_at new.world.book id) _ found.0 found.1 (record { long = found.2; members = members })
+  members_after id has = puts new.world.book id found.0 _ found.1 (record { long = found.2; members = members })
     where
       found : (n : Nursery) × (nursery_at new.world.book id ≡ Some n) × (length (T.took.numbers_after id) ≡ length n.children)
-      found = nursery_is (nursery_at new.world.book id) (λ n. length (T.took.numbers_after id) ≡ length n.children) (T.took.numbered id has)
+      found = finds new.world.book id (λ n. length (T.took.numbers_after id) ≡ length n.children) (T.took.numbered id has)
 
       members : (place number : ℕ) → slice_get (T.took.numbers_after id) place ≡ Some number →
           (number < moved_to.count) × IsMember new T.is.at t id place (moved_to.child number) (slice_get found.0.children place)

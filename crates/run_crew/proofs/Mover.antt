@@ -38,12 +38,13 @@ use Rattle.run_crew.specs.Turn.{IsEntered, numbers_then, Turning, leaving_by}
 use Rattle.run_crew.proofs.ActsKeep.{Sound, Apart, KnownWith, labels_entered, same_or}
 use Rattle.run_crew.proofs.ActsTracks.{tracked, tracks_more}
 use Rattle.run_crew.proofs.Parts.{numbers_mover, numbers_other, own_or, entered_append, entered_same, known_first, known_last}
-use Rattle.run_crew.proofs.Crews.{Stood, follows_by, nursery_is, nursery_has, owner}
+use Rattle.run_crew.proofs.Crews.{Stood, follows_by, owner}
 use Rattle.run_crew.proofs.Members.{moved_to, members_after}
 use Rattle.task_machine.proofs.Apart.{has_scope}
 use Rattle.task_machine.proofs.Cancels.{open_round}
 use Rattle.task_machine.proofs.CrewLemmas.{told_end}
 use Rattle.task_machine.proofs.Taking.{shown_append}
+use Rattle.run_crew.proofs.Found.{finds, puts}
 
 module _ (k : Table) (job : Job) (input : List ℕ) (t m s : ℕ) (old new : Crew) (before after : Task) (stop : Stop) (c : IsCrew k job input t m None old)
     (T : Turning k job input t m s old new c.numbers before after stop c.course) where
@@ -127,7 +128,7 @@ module _ (k : Table) (job : Job) (input : List ℕ) (t m s : ℕ) (old new : Cre
     same = T.of_other l.parent below differs
 
     there : (n : Nursery) × (nursery_at old.world.book home.nursery ≡ Some n) × ((n.scope ≡ home.scope) × (slice_get n.children home.place ≡ Some None))
-    there = nursery_is (nursery_at old.world.book home.nursery) (λ n. (n.scope ≡ home.scope) × (slice_get n.children home.place ≡ Some None)) l.runs
+    there = finds old.world.book home.nursery (λ n. (n.scope ≡ home.scope) × (slice_get n.children home.place ≡ Some None)) l.runs
 
     -- the nursery's scope is its starter's
     others : AreOthers there.0.scope before.own.items
@@ -158,7 +159,7 @@ module _ (k : Table) (job : Job) (input : List ℕ) (t m s : ℕ) (old new : Cre
           earlier = l.earlier;
           owned = l.owned;
           runs =
-              nursery_has (nursery_at new.world.book home.nursery) (λ n. (n.scope ≡ home.scope) × (slice_get n.children home.place ≡ Some None)) there.0
+              puts new.world.book home.nursery there.0 (λ n. (n.scope ≡ home.scope) × (slice_get n.children home.place ≡ Some None))
               (T.took.others home.nursery there.0 there.1 no_block (is_open, others)) there.2;
           number = l.number;
           stands =

@@ -41,11 +41,12 @@ use Rattle.run_crew.specs.Crew.{Crew, Differ, Tracks, CanGoOn, LivesIn, HasHome,
 use Rattle.run_crew.specs.Turn.{IsEntered, child_at, numbers_then, Turning}
 use Rattle.run_crew.proofs.ActsKeep.{not_both}
 use Rattle.run_crew.proofs.Homes.{HomeIn, home_there, chain_round}
-use Rattle.run_crew.proofs.Parts.{numbers_mover, numbers_child, below_length, same_got, among_got, begun_at, begins_there, numbered_on, starts_at, new_at, housed_at}
-use Rattle.run_crew.proofs.Crews.{Stood, follows_by, nursery_is}
+use Rattle.run_crew.proofs.Parts.{numbers_mover, numbers_child, among_got, begun_at, begins_there, numbered_on, starts_at, new_at, housed_at}
+use Rattle.run_crew.proofs.Crews.{Stood, follows_by}
 use Rattle.task_machine.proofs.Advances.{blocks_onto, own_keys, blocks_by}
 use Rattle.task_machine.proofs.CrewLemmas.{KeyedAfter, keyed_by, halt_waits}
 use Rattle.task_machine.proofs.Stacked.{one_of}
+use Rattle.run_crew.proofs.Found.{below_length, same_got, finds}
 
 -- ---- a task that did nothing yet
 
@@ -126,7 +127,7 @@ module _ (k : Table) (job : Job) (input : List ℕ) (t m s : ℕ) (old new : Cre
             ⊎ BeginsAt found.id place.0 b.number T.took.tasks T.move.begun →
             h.home.nursery ≡ found.id
         by_cover (inl o) =
-            let n = nursery_is (nursery_at old.world.book found.id) _ ((c.follows s before T.task).nurseries found.id (inl o.0)) in
+            let n = finds old.world.book found.id _ ((c.follows s before T.task).nurseries found.id (inl o.0)) in
             let below : b.number < (c.course.at s).count = (n.2.members place.0 b.number o.1).0 in
             absurd (omega (arith, below, numbered))
         by_cover (inr o) =
@@ -138,8 +139,8 @@ module _ (k : Table) (job : Job) (input : List ℕ) (t m s : ℕ) (old new : Cre
 
     same_scope : h.home.scope ≡ found.level.label
     same_scope =
-        let n = nursery_is (nursery_at new.world.book h.home.nursery) _ h.nursery in
-        let o = nursery_is (nursery_at new.world.book found.id) _ found.is.1 in
+        let n = finds new.world.book h.home.nursery _ h.nursery in
+        let o = finds new.world.book found.id _ found.is.1 in
         sym n.2.0 ∙ (ap (λ (z : Nursery). z.scope) (one_of n.0 o.0 (sym n.1 ∙ (ap (nursery_at new.world.book) same_nursery ∙ o.1))) ∙ o.2)
 
     home_stack : stack_of new.world.scopes h.home.scope ≡ Some (found.level ∷ found.behind)

@@ -16,7 +16,7 @@ use Rattle.task_machine.specs.declared.frame.Frame.TheVariants.{Steps, Scope, Nu
 use Rattle.task_machine.specs.declared.stop.Halt.{Halt}
 use Rattle.task_machine.specs.declared.stop.Halt.TheVariants.{ToBegin, Asked, Asleep, Awaits, Over}
 use Rattle.task_machine.specs.declared.task.Own.{Own}
-use Rattle.task_machine.specs.Fitting.{Block, a_scope, a_nursery, blocks_of, Opened, waits_of}
+use Rattle.task_machine.specs.Fitting.{Block, a_nursery, blocks_of, Opened, waits_of}
 use Rattle.task_machine.specs.Frames.{frame_of, frames_onto, frames_of}
 use Rattle.task_machine.specs.Labels.{Labels}
 use Rattle.task_machine.specs.Left.{keys_of, keys_in}
@@ -190,12 +190,24 @@ outer_plain {labels} {book} {f} {numbers} {bs} {waits} {stopped} {keys} {outer} 
 longer : (st before stack behind : Stack) (l : Level ℕ) → st ≡ before ++ stack → stack ≡ l ∷ behind → st ≡ before ++ l ∷ behind
 longer st before stack behind l e g = e ∙ ap (λ (z : Stack). before ++ z) g
 
+stands_first : {labels : Labels} {f : Table} {key : ℕ} {keys : List ℕ} (st before stack : Stack) {ps : List Place} → st ≡ before ++ stack → (first : First labels f key keys stack ps) →
+    StandsIn labels f key st (first.place ∷ first.places)
+stands_first st before stack e first =
+    record {
+      before = before;
+      level = first.level;
+      behind = first.behind;
+      is = longer st before stack first.behind first.level e first.is;
+      named = first.named;
+      at = first.at;
+    }
+
 -- one block, with its scope
 outer_block : {labels : Labels} {book : NurseryBook} {f : Table} {numbers : Numbers} {bs cs : List Block} {waits : Option ℕ} {stopped : rest.Stopped} {keys : List ℕ} {outer more fs : List rest.Frame} {st : Stack} {ps : List Place} (o : Own) →
     ((i : ℕ) (home : List Place) (p : Place) (qs : List Place) → HasChild i home outer qs → HasChild i home more (p ∷ qs)) →
     ((id : ℕ) → HasBlock id bs → HasBlock id cs) →
     ((i : ℕ) (home : List Place) (p : Place) (qs : List Place) → StandsIn labels f o.id st (p ∷ qs) → HasChild i home more (p ∷ qs) →
-        Found labels book f numbers cs waits st i home ⊎ HasChild i home outer qs) →
+    Found labels book f numbers cs waits st i home ⊎ HasChild i home outer qs) →
     Outer labels book f numbers bs waits stopped (o.id ∷ keys) more fs st ps → Outer labels book f numbers cs waits stopped keys outer fs st ps
 outer_block {labels} {book} {f} {numbers} {bs} {cs} {waits} {stopped} {keys} {outer} {more} {fs} {st} {ps} o to blocks back r =
     record {
@@ -213,15 +225,7 @@ outer_block {labels} {book} {f} {numbers} {bs} {cs} {waits} {stopped} {keys} {ou
     first = first_at labels f o.id keys r.stack r.places r.at r.others
 
     here : StandsIn labels f o.id st (first.place ∷ first.places)
-    here =
-        record {
-          before = r.before;
-          level = first.level;
-          behind = first.behind;
-          is = longer st r.before r.stack first.behind first.level r.is first.is;
-          named = first.named;
-          at = first.at;
-        }
+    here = stands_first st r.before r.stack r.is first
 
     by_case : (i : ℕ) (home : List Place) → Found labels book f numbers bs waits st i home ⊎ HasChild i home more r.places →
         Found labels book f numbers cs waits st i home ⊎ HasChild i home outer first.places
@@ -300,11 +304,11 @@ carry labels book f numbers (Cleanup outcome ∷ fs) own waits stopped keys oute
 carry labels book f numbers (Scope fail ∷ fs) [] waits stopped keys outer st ps opened stop at e = absurd opened
 carry labels book f numbers (Scope fail ∷ fs) (o ∷ own) waits stopped keys outer st ps opened stop at e =
     outer_block o (λ i home p qs c. c) (λ id b. b) (λ i home p qs here c. inr c)
-        (carry labels book f numbers fs own waits stopped (o.id ∷ keys) (rest.in_scope fail ∷ outer) st ps opened.2 stop at (e ∙ append_assoc (keys_in own) (o.id ∷ []) keys))
+    (carry labels book f numbers fs own waits stopped (o.id ∷ keys) (rest.in_scope fail ∷ outer) st ps opened.2 stop at (e ∙ append_assoc (keys_in own) (o.id ∷ []) keys))
 carry labels book f numbers (Nursery key ∷ fs) [] waits stopped keys outer st ps opened stop at e = absurd opened
 carry labels book f numbers (Nursery key ∷ fs) (o ∷ own) waits stopped keys outer st ps opened stop at e =
     outer_block o (λ i home p qs c. inr c) (λ id b. inr b) back
-        (carry labels book f numbers fs own waits stopped (o.id ∷ keys) (rest.in_nursery (numbers key) ∷ outer) st ps opened.2 stop at (e ∙ append_assoc (keys_in own) (o.id ∷ []) keys))
+    (carry labels book f numbers fs own waits stopped (o.id ∷ keys) (rest.in_nursery (numbers key) ∷ outer) st ps opened.2 stop at (e ∙ append_assoc (keys_in own) (o.id ∷ []) keys))
   where
     back : (i : ℕ) (home : List Place) (p : Place) (qs : List Place) → StandsIn labels f o.id st (p ∷ qs) → HasChild i home (rest.in_nursery (numbers key) ∷ outer) (p ∷ qs) →
         Found labels book f numbers (a_nursery key ∷ blocks_of fs) waits st i home ⊎ HasChild i home outer qs
@@ -367,15 +371,7 @@ housed_onto labels book f numbers (Nursery key ∷ fs) (o ∷ own) waits stopped
       scope = o;
       child = r.inside i (first.place ∷ first.places) (subst (HasChild i (first.place ∷ first.places) (rest.in_nursery (numbers key) ∷ outer)) (sym first.are) (inl (subst (λ (k : ℕ). IsAmong i (numbers k)) same among, refl)));
       nursery = subst (λ (k : ℕ). HasNursery book k (λ n. n.scope ≡ o.id)) (sym same) (has_weaker (nursery_at book key) (λ n h. h.0.scope) opened.0);
-      at =
-          record {
-            before = r.before;
-            level = first.level;
-            behind = first.behind;
-            is = longer st r.before r.stack first.behind first.level r.is first.is;
-            named = first.named;
-            at = first.at;
-          };
+      at = stands_first st r.before r.stack r.is first;
     }
   where
     r : Outer labels book f numbers (blocks_of fs) waits stopped (o.id ∷ keys) (rest.in_nursery (numbers key) ∷ outer) (frames_onto numbers fs (rest.in_nursery (numbers key) ∷ outer)) st ps

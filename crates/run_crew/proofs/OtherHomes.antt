@@ -1,5 +1,5 @@
 -- What a turn leaves of the homes of other tasks, which may be nurseries of the mover.
-use Rattle.std.proofs.Common.{◌≡◌, ◌≢◌, ◌⊎◌, inl, inr, ℕ, zero, suc, ◌+◌, ◌<◌, ◌≤◌, ◌&&◌, Bool, true, false, Option, Some, None, List, [], ◌∷◌, ◌++◌, length, refl, ap, sym, ◌∙◌, subst, arith}
+use Rattle.std.proofs.Common.{◌≡◌, ◌≢◌, ◌⊎◌, inl, inr, ℕ, zero, suc, ◌<◌, ◌&&◌, Bool, true, false, Option, Some, None, List, [], ◌∷◌, refl, ap, sym, ◌∙◌, subst, arith}
 use Rattle.std.specs.Prelude.{slice_get, is_some}
 use Rattle.std.specs.List.{list_all}
 use Rattle.std.specs.Option.{ForSome, IsSomeAnd, option_map}
@@ -10,24 +10,25 @@ use Rattle.job_tree.specs.Tree.{Tree as Job}
 use Rattle.job_meaning.specs.Log.{Table}
 use Rattle.task_machine.specs.declared.stop.Stop.{Stop}
 use Rattle.task_machine.specs.declared.task.Home.{Home}
-use Rattle.task_machine.specs.declared.task.Own.{Own}
 use Rattle.task_machine.specs.declared.task.Task.{Task}
 use Rattle.task_machine.specs.Fitting.{blocks_of, AreOthers, waits_of}
 use Rattle.task_machine.specs.Standing.{HasBlock, HasNurseryOf, Grown}
 use Rattle.task_machine.specs.Stops.{Numbers}
-use Rattle.task_machine.specs.Tasks.{home_scope, scope_of}
+use Rattle.task_machine.specs.Tasks.{scope_of}
 use Rattle.task_machine.specs.Worlds.{label_at}
 use Rattle.run_course.specs.Course.{Started}
 use Rattle.run_crew.specs.Crew.{Crew, LivesIn, HasHome, IsCrew}
 use Rattle.run_crew.specs.Turn.{Turning, numbers_then}
 use Rattle.run_crew.proofs.ActsKeep.{not_both, same_or}
-use Rattle.run_crew.proofs.CrewTurn.{ActsOf, numbers_mover, numbers_other, else_own, own_open, nursery_same}
+use Rattle.run_crew.proofs.CrewTurn.{ActsOf, else_own, own_open, nursery_same}
 use Rattle.run_crew.proofs.LabelsApart.{own_round}
 use Rattle.run_crew.proofs.OtherScopes.{key_stays_open}
-use Rattle.run_crew.proofs.OtherNurseries.{HasScope, nursery_got, scope_of_nursery, same_nursery}
+use Rattle.run_crew.proofs.OtherNurseries.{HasScope, scope_of_nursery, same_nursery}
 use Rattle.run_course.proofs.Turning.{old_child}
 use Rattle.task_machine.proofs.Cancels.{open_round}
 use Rattle.task_machine.proofs.Stacked.{one_of}
+use Rattle.run_crew.proofs.Found.{got_first, finds}
+use Rattle.run_crew.proofs.Parts.{numbers_mover, numbers_other}
 
 -- ---- a nursery in which a child runs
 
@@ -45,26 +46,21 @@ unsettled n i e s = by_body (is_some n.body) s
     by_body true f = running_unsettled n.children i e f
     by_body false f = let g : false ≡ true = f in cc
 
-pub got_first : {A : Type 0} (xs ys : List A) (i : ℕ) (x : A) → slice_get xs i ≡ Some x → slice_get (xs ++ ys) i ≡ Some x
-got_first [] ys i x e = absurd (not_both refl e)
-got_first (y ∷ xs) ys zero x e = e
-got_first (y ∷ xs) ys (suc i) x e = got_first xs ys i x e
-
 -- a home among the nurseries of the mover is one of its blocks
 pub home_block : {k : Table} {job : Job} {input : List ℕ} {t m s : ℕ} {old new : Crew} {before after : Task} {stop : Stop} → (c : IsCrew k job input t m None old) →
     Turning k job input t m s old new c.numbers before after stop c.course → (home : Home) → HasNurseryOf home.nursery (blocks_of before.frames.items) (waits_of before.halt) →
     HasNursery old.world.book home.nursery (λ n. (n.scope ≡ home.scope) × (slice_get n.children home.place ≡ Some None)) → HasBlock home.nursery (blocks_of before.frames.items)
 home_block c T home (inl has) runs = has
 home_block {old = old} c T home (inr waits) runs =
-    let n = nursery_got (nursery_at old.world.book home.nursery) runs in
-    let o = nursery_got (nursery_at old.world.book home.nursery) (T.over home.nursery waits) in
+    let n = finds old.world.book home.nursery _ runs in
+    let o = finds old.world.book home.nursery _ (T.over home.nursery waits) in
     absurd (unsettled n.0 home.place n.2.1 (subst (λ (x : Members). is_settled x ≡ true) (one_of o.0 n.0 (sym o.1 ∙ n.1)) o.2))
 
 -- that nursery after the turn
 pub grown : {k : Table} {job : Job} {input : List ℕ} {t m s : ℕ} {old new : Crew} {before after : Task} {stop : Stop} → (c : IsCrew k job input t m None old) →
     (T : Turning k job input t m s old new c.numbers before after stop c.course) → (id : ℕ) → HasBlock id (blocks_of before.frames.items) →
     (n : Members) → nursery_at old.world.book id ≡ Some n → (x : Members) × (nursery_at new.world.book id ≡ Some x) × Grown n x (c.numbers s id) (T.took.numbers_after id)
-grown {new = new} c T id has n e = nursery_got (nursery_at new.world.book id) (T.took.grow id has n e)
+grown {new = new} c T id has n e = finds new.world.book id _ (T.took.grow id has n e)
 
 -- ---- the home of another task
 
@@ -101,7 +97,7 @@ mover_home {k} {job} {input} {t} {m} {s} {old} {new} {before} {after} c T u home
     block = (mover_owned c T u home h e).0
 
     n : (x : Members) × (nursery_at old.world.book home.nursery ≡ Some x) × ((x.scope ≡ home.scope) × (slice_get x.children home.place ≡ Some None))
-    n = nursery_got (nursery_at old.world.book home.nursery) h.runs
+    n = finds old.world.book home.nursery _ h.runs
 
     g : (x : Members) × (nursery_at new.world.book home.nursery ≡ Some x) × Grown n.0 x (c.numbers s home.nursery) (T.took.numbers_after home.nursery)
     g = grown c T home.nursery block n.0 n.1
@@ -161,10 +157,10 @@ pub home_else : {k : Table} {job : Job} {input : List ℕ} {t m s : ℕ} {old ne
     Turning k job input t m s old new c.numbers before after stop c.course → (u : ℕ) (home : Home) → (h : LivesIn old c.course.at c.numbers u home) → h.parent ≢ s →
     IsOpen old.world.scopes home.scope × AreOthers home.scope before.own.items
 home_else {old = old} {before = before} c T u home h differs =
-    let n = nursery_got (nursery_at old.world.book home.nursery) h.runs in
+    let n = finds old.world.book home.nursery _ h.runs in
     let x : HasScope old.world.book h.starter.own.items home.nursery =
-        scope_of_nursery (label_at old.world) old.world.book (blocks_of h.starter.frames.items) h.starter.own.items (waits_of h.starter.halt) home.nursery
-        (c.follows h.parent h.starter h.lives).goes.opened h.owned in
+    scope_of_nursery (label_at old.world) old.world.book (blocks_of h.starter.frames.items) h.starter.own.items (waits_of h.starter.halt) home.nursery
+    (c.follows h.parent h.starter h.lives).goes.opened h.owned in
     let same : x.scope.id ≡ home.scope = sym x.same ∙ (ap (λ (y : Members). y.scope) (one_of x.nursery n.0 (sym x.at ∙ n.1)) ∙ n.2.0) in (
       subst (IsOpen old.world.scopes) same (own_open c h.parent h.starter h.lives x.scope x.place x.got),
       subst (λ (key : ℕ). AreOthers key before.own.items) same (else_own c T h.parent h.starter differs h.lives x.scope x.place x.got),
@@ -176,10 +172,10 @@ mover_open : {k : Table} {job : Job} {input : List ℕ} {t m s : ℕ} {old new :
     IsOpen new.world.scopes home.scope
 mover_open {new = new} {after = after} c T u home h e =
     let now = mover_home c T u home h e in
-    let n = nursery_got (nursery_at new.world.book home.nursery) now.runs in
+    let n = finds new.world.book home.nursery _ now.runs in
     let x : HasScope new.world.book after.own.items home.nursery =
-        scope_of_nursery (label_at new.world) new.world.book (blocks_of after.frames.items) after.own.items (waits_of after.halt) home.nursery T.fits_after.opened
-        (mover_owned c T u home h e).1 in
+    scope_of_nursery (label_at new.world) new.world.book (blocks_of after.frames.items) after.own.items (waits_of after.halt) home.nursery T.fits_after.opened
+    (mover_owned c T u home h e).1 in
     let same : x.scope.id ≡ home.scope = sym x.same ∙ (ap (λ (y : Members). y.scope) (one_of x.nursery n.0 (sym x.at ∙ n.1)) ∙ n.2.0) in
     subst (IsOpen new.world.scopes) same
     (open_round new.world.scopes T.sound_after.chain (scope_of after) x.scope.id (own_round (outer_of new.world.scopes (scope_of after)) after.own.items _ x.scope x.place T.fits_after.first x.got))

@@ -1,8 +1,7 @@
 -- What a turn leaves of the nurseries of another task.
-use Rattle.std.proofs.Common.{◌≡◌, ◌≢◌, ◌⊎◌, inl, inr, ℕ, zero, suc, Option, Some, None, List, [], ◌∷◌, refl, ap, sym, ◌∙◌, subst}
+use Rattle.std.proofs.Common.{◌≡◌, inl, inr, ℕ, zero, suc, Option, Some, None, List, [], ◌∷◌, refl, ap, sym, ◌∙◌, subst}
 use Rattle.std.specs.Prelude.{slice_get, IsSome}
 use Rattle.std.specs.Option.{IsSomeAnd}
-use Rattle.exc_groups.specs.Exceptions.{Label}
 use Rattle.cancel_scopes.specs.Tree.{Tree, IsOpen}
 use Rattle.nursery_book.specs.Nursery.{Nursery as Members}
 use Rattle.nursery_book.specs.Book.{nursery_at, HasNursery}
@@ -11,20 +10,17 @@ use Rattle.job_meaning.specs.Rest as rest
 use Rattle.task_machine.specs.declared.stop.Halt.{Halt}
 use Rattle.task_machine.specs.declared.stop.Halt.TheVariants.{ToBegin, Asked, Asleep, Awaits, Over}
 use Rattle.task_machine.specs.declared.task.Own.{Own}
-use Rattle.task_machine.specs.Fitting.{Block, a_scope, a_nursery, AreOthers, IsMine, IsAwaited, IsBlockOf, Opened, waits_of}
+use Rattle.task_machine.specs.Fitting.{Block, a_scope, a_nursery, AreOthers, IsMine, IsAwaited, Opened, waits_of}
 use Rattle.task_machine.specs.Labels.{Labels}
-use Rattle.task_machine.specs.Standing.{HasBlock, HasNurseryOf, OthersStay}
+use Rattle.task_machine.specs.Standing.{HasNurseryOf, OthersStay}
 use Rattle.task_machine.specs.Stops.{Numbers, IsHalt}
 use Rattle.run_crew.proofs.ActsKeep.{not_both}
 use Rattle.run_crew.proofs.OtherScopes.{AreElse}
 use Rattle.task_machine.proofs.Apart.{has_scope}
 use Rattle.task_machine.proofs.Stacked.{one_of}
+use Rattle.run_crew.proofs.Found.{finds}
 
 -- ---- the scope of a nursery
-
-pub nursery_got : {P : Members → Type 0} (p : Option Members) → IsSomeAnd p P → (n : Members) × (p ≡ Some n) × P n
-nursery_got None h = absurd h
-nursery_got (Some n) h = (n, refl, h)
 
 -- a nursery of a task, and the scope that the task opened for it
 pub record HasScope (book : NurseryBook) (own : List Own) (id : ℕ) : Type 0 where
@@ -41,7 +37,7 @@ one_more o h = record { nursery = h.nursery; at = h.at; scope = h.scope; place =
 the_first : (Q : Members → Type 0) (labels : Labels) (book : NurseryBook) (o : Own) (own : List Own) (key id : ℕ) → key ≡ id → HasNursery book key (λ n. IsMine labels o n × Q n) →
     HasScope book (o ∷ own) id
 the_first Q labels book o own key id e h =
-    let n = nursery_got (nursery_at book key) h in
+    let n = finds book key _ h in
     record { nursery = n.0; at = sym (ap (nursery_at book) e) ∙ n.1; scope = o; place = zero; got = refl; same = n.2.0.scope }
 
 pub scope_of_nursery : (labels : Labels) (book : NurseryBook) (bs : List Block) (own : List Own) (waits : Option ℕ) (id : ℕ) → Opened labels book bs own waits → HasNurseryOf id bs waits →

@@ -5,7 +5,7 @@ use Rattle.std.specs.List.{last_or}
 use Rattle.std.specs.Option.{option_map}
 use Rattle.cancel_scopes.specs.Tree.{Stack, stack_of, outer_of, IsOpen}
 use Rattle.nursery_book.specs.Nursery.{End, Nursery as Members}
-use Rattle.nursery_book.specs.Book.{nursery_at, HasNursery}
+use Rattle.nursery_book.specs.Book.{nursery_at}
 use Rattle.job_tree.specs.Tree.{Tree as Job}
 use Rattle.job_meaning.specs.Log.{Table}
 use Rattle.job_meaning.specs.Rest as rest
@@ -22,19 +22,19 @@ use Rattle.task_machine.specs.Frames.{frames_of}
 use Rattle.task_machine.specs.Labels.{Labels}
 use Rattle.task_machine.specs.Stacked.{AreAt}
 use Rattle.task_machine.specs.Standing.{HasBlock, HasNurseryOf, BeginsAt}
-use Rattle.task_machine.specs.Stops.{IsHalt, StopsAs}
+use Rattle.task_machine.specs.Stops.{StopsAs}
 use Rattle.task_machine.specs.Tasks.{home_of, home_scope, scope_of}
 use Rattle.task_machine.specs.Worlds.{label_at}
 use Rattle.run_course.specs.Course.{Started, live}
-use Rattle.run_crew.specs.Crew.{Crew, LivesIn, HasHome, IsMember, HasMembers, Follows, IsCrew}
+use Rattle.run_crew.specs.Crew.{Crew, LivesIn, HasHome, IsMember, Follows, IsCrew}
 use Rattle.run_crew.specs.Turn.{Turning}
 use Rattle.run_crew.proofs.ActsKeep.{not_both, same_or}
 use Rattle.run_crew.proofs.CrewTurn.{ActsOf, else_own, own_open}
-use Rattle.run_crew.proofs.NurseryPlaces.{IsStop, is_stop, Housed, housed_onto, Found, found, stack_here, same_places}
+use Rattle.run_crew.proofs.NurseryPlaces.{is_stop, Housed, housed_onto, Found, found, stack_here, same_places}
 use Rattle.run_crew.proofs.OtherHomes.{mover_owned, mover_home, home_else}
-use Rattle.run_crew.proofs.OtherNurseries.{nursery_got}
 use Rattle.run_crew.proofs.OtherScopes.{AreElse, outer_is, places_stay, own_places_stay}
 use Rattle.task_machine.proofs.Stacked.{one_of}
+use Rattle.run_crew.proofs.Found.{finds}
 
 -- ---- numbers of children
 
@@ -84,11 +84,11 @@ home_is {k} {job} {input} {t} {m} {s} {old} {new} {before} {after} c T u task is
 
     by_case : (HasBlock id (blocks_of before.frames.items) × (slice_get (c.numbers s id) place ≡ Some h.number)) ⊎ BeginsAt id place h.number T.took.tasks T.move.begun → id ≡ home.nursery
     by_case (inl x) =
-        let n = nursery_got (nursery_at old.world.book id) ((c.follows s before T.task).nurseries id (inl x.0)) in
+        let n = finds old.world.book id _ ((c.follows s before T.task).nurseries id (inl x.0)) in
         let member : IsMember old c.course.at t id place u (slice_get n.0.children place) =
-            subst (λ (p : ℕ). IsMember old c.course.at t id place p (slice_get n.0.children place)) serial (n.2.members place h.number x.1).1 in
+        subst (λ (p : ℕ). IsMember old c.course.at t id place p (slice_get n.0.children place)) serial (n.2.members place h.number x.1).1 in
         let same : Some (id, place) ≡ Some (home.nursery, home.place) =
-            sym (member_home c u task is id place (slice_get n.0.children place) member) ∙ ap (option_map (λ (y : Home). (y.nursery, y.place))) at_home in
+        sym (member_home c u task is id place (slice_get n.0.children place) member) ∙ ap (option_map (λ (y : Home). (y.nursery, y.place))) at_home in
         ap (λ (z : ℕ × ℕ). z.0) (one_of (id, place) (home.nursery, home.place) same)
     by_case (inr b) =
         let late : (c.course.at s).count ≤ h.number = begins_late id place h.number (c.course.at s).count T.move.made T.took.tasks T.move.begun T.promise.starts b in
@@ -129,8 +129,8 @@ mover_places {k} {job} {input} {t} {m} {s} {old} {new} {before} {after} {stop} c
     -- it is the scope of that nursery
     first : housed.scope.id ≡ home.scope
     first =
-        let n = nursery_got (nursery_at old.world.book home.nursery) h.runs in
-        let x = nursery_got (nursery_at old.world.book home.nursery) housed.nursery in
+        let n = finds old.world.book home.nursery _ h.runs in
+        let x = finds old.world.book home.nursery _ housed.nursery in
         sym x.2 ∙ (ap (λ (y : Members). y.scope) (one_of x.0 n.0 (sym x.1 ∙ n.1)) ∙ n.2.0)
 
     same : housed.home ≡ ps
@@ -164,8 +164,8 @@ mover_places {k} {job} {input} {t} {m} {s} {old} {new} {before} {after} {stop} c
     last =
         let place = place_among h.number (T.took.numbers_after there.id) there.among in
         let id : there.id ≡ home.nursery = home_is c T u task is home at_home h e there.id place.0 there.has place.1 in
-        let n = nursery_got (nursery_at new.world.book home.nursery) (mover_home c T u home h e).runs in
-        let x = nursery_got (nursery_at new.world.book there.id) there.nursery in
+        let n = finds new.world.book home.nursery _ (mover_home c T u home h e).runs in
+        let x = finds new.world.book there.id _ there.nursery in
         sym x.2 ∙ (ap (λ (y : Members). y.scope) (one_of x.0 n.0 (sym x.1 ∙ (ap (nursery_at new.world.book) id ∙ n.1))) ∙ n.2.0)
 
 nowhere : (labels more : Labels) (f g : Table) (ps : List Place) → AreAt labels f [] ps → AreAt more g [] ps

@@ -1,11 +1,9 @@
 -- What a turn leaves of the scopes of another task: they are open inside the same ones, at the same places by the new froms.
-use Rattle.std.proofs.Common.{◌≡◌, ◌≢◌, ◌⊎◌, inl, inr, ℕ, zero, suc, Option, Some, None, List, [], ◌∷◌, ◌++◌, map, refl, ap, sym, ◌∙◌, subst}
-use Rattle.std.proofs.lemmas.List.Elements.{All-nil, All-cons}
+use Rattle.std.proofs.Common.{◌≡◌, ℕ, zero, suc, Option, Some, None, List, [], ◌∷◌, ◌++◌, map, refl, ap, sym, ◌∙◌, subst}
 use Rattle.std.specs.Prelude.{slice_get, IsSome}
 use Rattle.std.specs.List.{last_or}
 use Rattle.std.specs.Option.{ForSome, unwrap_or}
 use Rattle.exc_groups.specs.Exceptions.{Label}
-use Rattle.cancel_scopes.specs.Sight.{Level}
 use Rattle.cancel_scopes.specs.Tree.{Stack, Tree, stack_of, outer_of, own_label, own_from, IsOpen, IsOwn, IsChain}
 use Rattle.job_meaning.specs.Log.{Table}
 use Rattle.job_meaning.specs.Rest.{Event}
@@ -20,12 +18,13 @@ use Rattle.task_machine.specs.Left.{keys_of, keys_in, OwnFirst}
 use Rattle.task_machine.specs.Stacked.{AreAt}
 use Rattle.run_crew.specs.Crew.{Tracks, IsPast}
 use Rattle.run_crew.specs.Turn.{IsSound, AreNew}
-use Rattle.run_crew.proofs.ActsKeep.{Sound, Apart, HasKnown, not_both, not_closed, is_open, same_or}
+use Rattle.run_crew.proofs.ActsKeep.{Apart, HasKnown, not_both, not_closed, is_open}
 use Rattle.run_crew.proofs.ActsFroms.{unmoved, StandsAt, stays_at}
 use Rattle.run_crew.proofs.ActsOthers.{IsKept, kept_acts}
 use Rattle.run_crew.proofs.ActsStay.{SameLevels, Stays, stays}
 use Rattle.run_crew.proofs.LabelsApart.{from_entered, sound_of}
 use Rattle.task_machine.proofs.Stacked.{one_of}
+use Rattle.run_crew.proofs.Found.{KeysAt, keys_at}
 
 -- Acts of a turn, with what lemmas on them ask: stacks are sound, labels apart and known, and those entered are new.
 pub record Acted (known : Label → Type 0) (t : ℕ) (s u : Scoping) (es : List Event) : Type 0 where
@@ -41,16 +40,6 @@ abbrev pub AreElse : List Own → List Own → Type 0
 AreElse own mine = (o : Own) (i : ℕ) → slice_get own i ≡ Some o → AreOthers o.id mine
 
 -- a key is that of one of a task's scopes, or of none
-pub mine_or : (key : ℕ) (own : List Own) → AreOthers key own ⊎ ((o : Own) × (i : ℕ) × (slice_get own i ≡ Some o) × (o.id ≡ key))
-mine_or key [] = inl (All-nil (λ (o : Own). o.id ≢ key))
-mine_or key (x ∷ own) = by_test (same_or x.id key) (mine_or key own)
-  where
-    by_test : (x.id ≡ key) ⊎ (x.id ≢ key) → AreOthers key own ⊎ ((o : Own) × (i : ℕ) × (slice_get own i ≡ Some o) × (o.id ≡ key)) →
-        AreOthers key (x ∷ own) ⊎ ((o : Own) × (i : ℕ) × (slice_get (x ∷ own) i ≡ Some o) × (o.id ≡ key))
-    by_test (inl e) h = inr (x, zero, refl, e)
-    by_test (inr differs) (inl a) = inl (All-cons (λ (o : Own). o.id ≢ key) x own differs a)
-    by_test (inr differs) (inr h) = inr (h.0, suc h.1, h.2, h.3)
-
 pub open_stack : (tree : Tree) (key : ℕ) → IsOpen tree key → (st : Stack) × (stack_of tree key ≡ Some st)
 open_stack tree key i = by_stack (stack_of tree key) refl i
   where
@@ -146,26 +135,6 @@ keys_same [] (y ∷ b) h = absurd h
 keys_same (x ∷ a) [] h = absurd h
 keys_same (x ∷ a) (y ∷ b) h = ap (λ (k : ℕ). k ∷ keys_of b) h.0 ∙ ap (λ (ks : List ℕ). x.label ∷ ks) (keys_same a b h.2)
 
--- a key among those of a stack has its level
-record Cut (st : Stack) (key : ℕ) (more : List ℕ) : Type 0 where
-  before : Stack
-  level : Level ℕ
-  behind : Stack
-  is : st ≡ before ++ level ∷ behind
-  named : level.label ≡ key
-  others : keys_of behind ≡ more
-
-cut : (st : Stack) (keys : List ℕ) (key : ℕ) (more : List ℕ) → keys_of st ≡ keys ++ key ∷ more → Cut st key more
-cut [] [] key more e = absurd (let f : [] ≡ key ∷ more = e in cc)
-cut [] (k ∷ keys) key more e = absurd (let f : [] ≡ k ∷ (keys ++ key ∷ more) = e in cc)
-cut (l ∷ ls) [] key more e =
-    let f : l.label ∷ keys_of ls ≡ key ∷ more = e in
-    record { before = []; level = l; behind = ls; is = refl; named = cc; others = cc }
-cut (l ∷ ls) (k ∷ keys) key more e =
-    let f : l.label ∷ keys_of ls ≡ k ∷ (keys ++ key ∷ more) = e in
-    let r = cut ls keys key more (cc) in
-    record { before = l ∷ r.before; level = r.level; behind = r.behind; is = ap (λ (x : Stack). l ∷ x) r.is; named = r.named; others = r.others }
-
 -- the keys of an open scope's stack are its own, and more
 record Own_first (tree : Tree) (key : ℕ) : Type 0 where
   more : List ℕ
@@ -186,7 +155,7 @@ home_keys : (old new : Tree) (home : Option ℕ) (key : ℕ) (keys : List ℕ) �
     keys_of (outer_of new (Some key)) ≡ keys ++ keys_of (outer_of old home) → keys_of (outer_of old home) ≡ keys_of (outer_of new home)
 home_keys old new None key keys own chain was now e = refl
 home_keys old new (Some home) key keys own chain was now e =
-    first.is ∙ sym (ap keys_of (outer_is new home (c.level ∷ c.behind) here) ∙ (ap (λ (k : ℕ). k ∷ keys_of c.behind) c.named ∙ ap (λ (ks : List ℕ). home ∷ ks) c.others))
+    first.is ∙ sym (ap keys_of (outer_is new home (c.level ∷ c.behind) here) ∙ (ap (λ (k : ℕ). k ∷ keys_of c.behind) c.named ∙ ap (λ (ks : List ℕ). home ∷ ks) c.outer))
   where
     first : Own_first old home
     first = own_first old home own (was home refl)
@@ -194,8 +163,8 @@ home_keys old new (Some home) key keys own chain was now e =
     st : (x : Stack) × (stack_of new key ≡ Some x)
     st = open_stack new key now
 
-    c : Cut st.0 home first.more
-    c = cut st.0 keys home first.more (sym (ap keys_of (outer_is new key st.0 st.1)) ∙ (e ∙ ap (λ (ks : List ℕ). keys ++ ks) first.is))
+    c : KeysAt st.0 keys home first.more
+    c = keys_at st.0 keys home first.more (sym (ap keys_of (outer_is new key st.0 st.1)) ∙ (e ∙ ap (λ (ks : List ℕ). keys ++ ks) first.is))
 
     here : stack_of new home ≡ Some (c.level ∷ c.behind)
     here = ap (stack_of new) (sym c.named) ∙ chain key st.0 st.1 c.before c.level c.behind c.is

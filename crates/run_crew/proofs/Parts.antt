@@ -1,6 +1,6 @@
 -- Numbers of tasks, and what is at a place of several lists.
-use Rattle.std.proofs.Common.{◌≡◌, ◌≢◌, ◌⊎◌, inl, inr, ℕ, zero, suc, ◌+◌, ◌<◌, Bool, true, false, ◌==◌, Option, Some, List, [], ◌∷◌, ◌++◌, length, refl, ap, sym, ◌∙◌, subst, arith}
-use Rattle.std.proofs.lemmas.Bool.{eqb-true, eq-eqb, lt-ltb, le-ltb}
+use Rattle.std.proofs.Common.{◌≡◌, ◌≢◌, ◌⊎◌, inl, inr, ℕ, zero, suc, ◌+◌, ◌<◌, Bool, false, Option, Some, List, [], ◌∷◌, ◌++◌, refl, ap, sym, ◌∙◌, subst, arith}
+use Rattle.std.proofs.lemmas.Bool.{eq-eqb, ne_eqb, lt-ltb, le-ltb}
 use Rattle.std.proofs.lemmas.List.Elements.{All-nil, All-cons}
 use Rattle.std.specs.Prelude.{slice_get, nat_lt}
 use Rattle.job_tree.specs.Starting.{StartsIn}
@@ -20,48 +20,25 @@ use Rattle.task_machine.specs.Stops.{Numbers}
 use Rattle.task_machine.specs.Tasks.{home_of}
 use Rattle.run_course.specs.Rows.{entered_made}
 use Rattle.run_crew.specs.Turn.{numbers_if, numbers_then}
-use Rattle.run_crew.proofs.ActsKeep.{labels_entered, not_both}
+use Rattle.run_crew.proofs.ActsKeep.{labels_entered, not_both, same_or}
 use Rattle.task_machine.proofs.Stacked.{one_of}
 
 -- ---- the numbers of a task's children after a turn
 
-differ_test : (a b : ℕ) → a ≢ b → (a == b) ≡ false
-differ_test a b d = by_test (a == b) refl
-  where
-    by_test : (c : Bool) → (a == b) ≡ c → c ≡ false
-    by_test true e = absurd (d (eqb-true a b e))
-    by_test false e = refl
-
 pub numbers_mover : (numbers : ℕ → Numbers) (s m : ℕ) (now : Numbers) → numbers_then numbers s m now s ≡ now
-numbers_mover numbers s m now = ap (λ (b : Bool). numbers_if b (nat_lt m (s + 1)) now (numbers s)) (eq-eqb s s refl) ∙ by_born (nat_lt m (s + 1))
-  where
-    by_born : (b : Bool) → numbers_if true b now (numbers s) ≡ now
-    by_born b = refl
+numbers_mover numbers s m now = ap (λ (b : Bool). numbers_if b (nat_lt m (s + 1)) now (numbers s)) (eq-eqb s s refl)
 
 pub numbers_other : (numbers : ℕ → Numbers) (s m : ℕ) (now : Numbers) (p : ℕ) → p < m → p ≢ s → numbers_then numbers s m now p ≡ numbers p
-numbers_other numbers s m now p below d =
-    ap (λ (b : Bool). numbers_if b (nat_lt m (p + 1)) now (numbers p)) (differ_test p s d)
+numbers_other numbers s m now p below differs =
+    ap (λ (b : Bool). numbers_if b (nat_lt m (p + 1)) now (numbers p)) (ne_eqb p s differs)
     ∙ ap (λ (b : Bool). numbers_if false b now (numbers p)) (le-ltb m (p + 1) (omega (arith, below)))
 
 pub numbers_child : (numbers : ℕ → Numbers) (s m : ℕ) (now : Numbers) (i : ℕ) → s < m → numbers_then numbers s m now (m + i) ≡ (λ id. [])
 numbers_child numbers s m now i below =
-    ap (λ (b : Bool). numbers_if b (nat_lt m (m + i + 1)) now (numbers (m + i))) (differ_test (m + i) s (λ e. omega (arith, below, e)))
+    ap (λ (b : Bool). numbers_if b (nat_lt m (m + i + 1)) now (numbers (m + i))) (ne_eqb (m + i) s (λ e. omega (arith, below, e)))
     ∙ ap (λ (b : Bool). numbers_if false b now (numbers (m + i))) (lt-ltb m (m + i + 1) (omega arith))
 
 -- ---- what is at a place
-
-pub below_length : {A : Type 0} (xs : List A) (i : ℕ) (x : A) → slice_get xs i ≡ Some x → i < length xs
-below_length [] i x e = absurd (not_both refl e)
-below_length (y ∷ xs) zero x e = omega arith
-below_length (y ∷ xs) (suc i) x e = let h : i < length xs = below_length xs i x e in omega arith
-
-pub same_got : {A : Type 0} (xs : List A) (i : ℕ) (x y : A) → slice_get xs i ≡ Some x → slice_get xs i ≡ Some y → x ≡ y
-same_got xs i x y e f = one_of x y (sym e ∙ f)
-
-pub got_first : {A : Type 0} (xs ys : List A) (i : ℕ) (x : A) → slice_get xs i ≡ Some x → slice_get (xs ++ ys) i ≡ Some x
-got_first [] ys i x e = absurd (not_both refl e)
-got_first (y ∷ xs) ys zero x e = e
-got_first (y ∷ xs) ys (suc i) x e = got_first xs ys i x e
 
 pub among_got : (x : ℕ) (xs : List ℕ) → IsAmong x xs → (i : ℕ) × (slice_get xs i ≡ Some x)
 among_got x [] a = absurd a
@@ -132,15 +109,15 @@ housed_at (c ∷ bs) s fs ps h (suc i) b e = housed_at bs s fs ps h.1 i b e
 -- a key is that of one of a task's scopes, or of none
 pub own_or : (key : ℕ) (own : List Own) → AreOthers key own ⊎ ((i : ℕ) × (o : Own) × (slice_get own i ≡ Some o) × (o.id ≡ key))
 own_or key [] = inl (All-nil (λ (o : Own). o.id ≢ key))
-own_or key (o ∷ own) = by_test (o.id == key) refl (own_or key own)
+own_or key (o ∷ own) = by_test (same_or o.id key) (own_or key own)
   where
     Mine : List Own → Type 0
     Mine os = (i : ℕ) × (x : Own) × (slice_get os i ≡ Some x) × (x.id ≡ key)
 
-    by_test : (b : Bool) → (o.id == key) ≡ b → AreOthers key own ⊎ Mine own → AreOthers key (o ∷ own) ⊎ Mine (o ∷ own)
-    by_test true e h = inr (zero, o, refl, eqb-true o.id key e)
-    by_test false e (inl a) = inl (All-cons (λ (x : Own). x.id ≢ key) o own (λ f. let g : true ≡ false = sym (eq-eqb o.id key f) ∙ e in cc) a)
-    by_test false e (inr h) = inr (suc h.0, h.1, h.2, h.3)
+    by_test : (o.id ≡ key) ⊎ (o.id ≢ key) → AreOthers key own ⊎ Mine own → AreOthers key (o ∷ own) ⊎ Mine (o ∷ own)
+    by_test (inl e) h = inr (zero, o, refl, e)
+    by_test (inr differs) (inl a) = inl (All-cons (λ (x : Own). x.id ≢ key) o own differs a)
+    by_test (inr differs) (inr h) = inr (suc h.0, h.1, h.2, h.3)
 
 -- ---- events
 

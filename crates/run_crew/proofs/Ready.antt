@@ -1,6 +1,6 @@
 -- What may wake a task in a tick may do so after the turn of another task in that tick.
 use Rattle.std.proofs.lemmas.Bool.{eqb-true, eq-eqb}
-use Rattle.std.proofs.Common.{◌≡◌, ◌≢◌, ◌==◌, Bool, true, false, ℕ, suc, ◌+◌, ◌<◌, ◌≤◌, Option, Some, None, List, [], ◌∷◌, length, refl, ap, sym, ◌∙◌, subst, arith}
+use Rattle.std.proofs.Common.{◌≡◌, ◌≢◌, ◌==◌, Bool, true, false, ℕ, suc, ◌+◌, ◌<◌, Option, List, [], length, refl, ap, sym, ◌∙◌, subst, arith}
 use Rattle.cancel_scopes.specs.Sight.{seen}
 use Rattle.exc_groups.specs.Exceptions.{Exc}
 use Rattle.job_tree.specs.Tree.{Tree as Job}
@@ -8,12 +8,12 @@ use Rattle.job_tree.specs.Names.{GivesNamesOnce}
 use Rattle.job_tree.specs.Starting.{StartsInNurseries}
 use Rattle.job_meaning.specs.Log.{Table}
 use Rattle.job_meaning.specs.Follow.{follow, IsSettled}
-use Rattle.job_meaning.specs.Rest.{Frame, Rest, Stopped, to_begin, asking, asleep, awaiting, at_end, rest_weight}
+use Rattle.job_meaning.specs.Rest.{Frame, Rest, Stopped, at_end, rest_weight}
 use Rattle.job_meaning.proofs.Clips.{seen_near}
 use Rattle.task_turns.specs.Midway.{Place, stack_at}
 use Rattle.task_turns.specs.Placed.{PlacedStop, IsAmong}
 use Rattle.task_turns.specs.Turned.{AgreesOn}
-use Rattle.task_turns.specs.Wakes.{Wake, begins, sees, is_due, has_answer, settles}
+use Rattle.task_turns.specs.Wakes.{Wake}
 use Rattle.task_machine.specs.declared.stop.Stop.{Stop}
 use Rattle.task_machine.specs.declared.task.Task.{Task}
 use Rattle.task_machine.specs.Stops.{Numbers}
@@ -23,35 +23,7 @@ use Rattle.run_course.proofs.Contract.{near_places}
 use Rattle.run_course.proofs.Running.{runs_on_course}
 use Rattle.run_crew.specs.Crew.{Course, Crew}
 use Rattle.run_crew.specs.Turn.{Turning}
-
--- the same is seen, and a wait that is over stays so
-ready_by : (f g : Table) (qs rs : List Started) (t : ℕ) (q : Started) (w : Wake) (s : Stopped) → seen (stack_at f q.places) t ≡ seen (stack_at g q.places) t →
-    ((children : List ℕ) (ended : ℕ) (e x : Option Exc) → WaitIsOver qs q t children ended e x → WaitIsOver rs q t children ended e x) → MayWake f qs t q w s → MayWake g rs t q w s
-ready_by f g qs rs t q begins to_begin same over h = h
-ready_by f g qs rs t q begins (asking k p) same over h = absurd h
-ready_by f g qs rs t q begins (asleep n u) same over h = absurd h
-ready_by f g qs rs t q begins (awaiting cs u e) same over h = absurd h
-ready_by f g qs rs t q begins (at_end u e) same over h = absurd h
-ready_by f g qs rs t q (has_answer a) to_begin same over h = absurd h
-ready_by f g qs rs t q (has_answer a) (asking k p) same over h = h
-ready_by f g qs rs t q (has_answer a) (asleep n u) same over h = absurd h
-ready_by f g qs rs t q (has_answer a) (awaiting cs u e) same over h = absurd h
-ready_by f g qs rs t q (has_answer a) (at_end u e) same over h = absurd h
-ready_by f g qs rs t q is_due to_begin same over h = absurd h
-ready_by f g qs rs t q is_due (asking k p) same over h = absurd h
-ready_by f g qs rs t q is_due (asleep n u) same over h = (h.0, sym same ∙ h.1)
-ready_by f g qs rs t q is_due (awaiting cs u e) same over h = absurd h
-ready_by f g qs rs t q is_due (at_end u e) same over h = absurd h
-ready_by f g qs rs t q sees to_begin same over h = absurd h
-ready_by f g qs rs t q sees (asking k p) same over h = absurd h
-ready_by f g qs rs t q sees (asleep n u) same over h = (h.0, sym same ∙ h.1)
-ready_by f g qs rs t q sees (awaiting cs u e) same over h = absurd h
-ready_by f g qs rs t q sees (at_end u e) same over h = absurd h
-ready_by f g qs rs t q (settles x) to_begin same over h = absurd h
-ready_by f g qs rs t q (settles x) (asking k p) same over h = absurd h
-ready_by f g qs rs t q (settles x) (asleep n u) same over h = absurd h
-ready_by f g qs rs t q (settles x) (awaiting cs u e) same over h = over cs u e x h
-ready_by f g qs rs t q (settles x) (at_end u e) same over h = absurd h
+use Rattle.run_crew.proofs.Goes.{ready_by}
 
 -- one that has ended has no weight, and so no turn
 no_weight : (rest : Rest) (ps : List Place) (u : ℕ) (e : Option Exc) → PlacedStop rest.stopped rest.frames ps → rest.stopped ≡ at_end u e → rest_weight rest ≡ 0

@@ -1,8 +1,6 @@
 -- A turn of the code, with all that is known of it.
-use Rattle.std.proofs.lemmas.Bool.Decides.{nat_tests}
-use Rattle.std.proofs.Common.{◌≡◌, ◌≢◌, ◌⊎◌, inl, inr, nat_lt, Bool, true, false, ℕ, suc, ◌+◌, ◌<◌, ◌≤◌, Option, Some, None, List, [], ◌∷◌, ◌++◌, length, refl, ap, sym, ◌∙◌, subst, arith}
+use Rattle.std.proofs.Common.{◌≡◌, ◌≢◌, ℕ, suc, ◌+◌, ◌<◌, Option, Some, None, List, [], ◌∷◌, ◌++◌, length, refl, ap, ◌∙◌, subst, arith}
 use Rattle.std.specs.List.{slice_get}
-use Rattle.buffer_parts.specs.declared.part.Part.{Part}
 use Rattle.job_tree.specs.Tree.{Tree as Job}
 use Rattle.job_tree.specs.Names.{GivesNamesOnce}
 use Rattle.job_tree.specs.Starting.{StartsInNurseries}
@@ -10,8 +8,6 @@ use Rattle.job_meaning.specs.Log.{Table}
 use Rattle.job_meaning.specs.Walk.{Here}
 use Rattle.job_meaning.specs.Follow.{IsSettled}
 use Rattle.job_meaning.specs.Rest as rest
-use Rattle.nursery_book.specs.Nursery.{is_settled}
-use Rattle.nursery_book.specs.Book.{HasNursery}
 use Rattle.nursery_book.specs.declared.book.NurseryBook.{NurseryBook}
 use Rattle.task_turns.specs.Midway.{Place, Begun, Move}
 use Rattle.task_turns.specs.Wakes as wakes
@@ -21,12 +17,11 @@ use Rattle.task_turns.specs.Names.{NewIn}
 use Rattle.task_turns.specs.Turned.{TurnsOver}
 use Rattle.task_turns.proofs.Waking.{turned_from}
 use Rattle.task_turns.proofs.Names.{turn_stays_new}
-use Rattle.task_machine.specs.declared.stop.Halt.{Halt}
 use Rattle.task_machine.specs.declared.stop.Stop.{Stop}
 use Rattle.task_machine.specs.declared.stop.Wake.{Wake}
 use Rattle.task_machine.specs.declared.task.Task.{Task}
 use Rattle.task_machine.specs.declared.world.World.{World}
-use Rattle.task_machine.specs.Fitting.{Block, Fits, waits_of}
+use Rattle.task_machine.specs.Fitting.{Block, blocks_of, Fits, waits_of}
 use Rattle.task_machine.specs.Frames.{frames_of}
 use Rattle.task_machine.specs.Standing.{here_of, AreBegun, TookTo, TookTurn, TurnsAs}
 use Rattle.task_machine.specs.Stops.{Numbers, IsHalt}
@@ -34,11 +29,12 @@ use Rattle.task_machine.specs.Waking.{WakesFrom, wake_in, IsModestHalt}
 use Rattle.task_machine.proofs.Stopping.{settled_from, stop_of}
 use Rattle.run_course.specs.Course.{Started}
 use Rattle.run_course.specs.Woken.{MayWake}
-use Rattle.run_crew.specs.Crew.{Crew, Follows, IsCrew}
+use Rattle.run_crew.specs.Crew.{Course, Crew, Follows, IsCrew}
 use Rattle.run_crew.specs.Turn.{IsSound, serials_from, Turning}
 use Rattle.run_crew.proofs.Inputs.{on_at, turn_on_input}
 use Rattle.run_crew.proofs.Goes.{may_can, WentOn, went_on}
 use Rattle.run_crew.proofs.Fresh.{fresh_after}
+use Rattle.run_crew.proofs.LabelsApart.{below_of}
 
 -- as many tasks as children begun
 pub begun_long : (numbers : Numbers) (book : NurseryBook) (bs : List Block) (waits : Option ℕ) (ts : List Task) (cs : List Begun) → AreBegun numbers book bs waits ts cs →
@@ -48,13 +44,10 @@ begun_long numbers book bs waits [] (c ∷ cs) h = absurd h
 begun_long numbers book bs waits (t ∷ ts) [] h = absurd h
 begun_long numbers book bs waits (t ∷ ts) (c ∷ cs) h = ap suc (begun_long numbers book bs waits ts cs h.1)
 
--- a task that is there has a serial number below
-pub is_born : (k : Table) (job : Job) (input : List ℕ) (t m : ℕ) (leaving : Option ℕ) (crew : Crew) → IsCrew k job input t m leaving crew → (s : ℕ) (task : Task) → crew.task s ≡ Some task → s < m
-is_born k job input t m leaving crew c s task e = by_order (nat_lt s m) refl
-  where
-    by_order : (b : Bool) → nat_lt s m ≡ b → s < m
-    by_order true f = grind (arith, nat_tests)
-    by_order false f = absurd (let g : None ≡ Some task = sym (c.unborn s (grind (arith, nat_tests))).0 ∙ e in cc)
+pub tasks_long : {k : Table} {job : Job} {input : List ℕ} {t m s : ℕ} {old new : Crew} {numbers : ℕ → Numbers} {before after : Task} {stop : Stop} {was : Course k job input t m} →
+    (T : Turning k job input t m s old new numbers before after stop was) → length T.took.tasks ≡ length T.move.begun
+tasks_long {new = new} {after = after} T =
+    begun_long T.took.numbers_after new.world.book (blocks_of after.frames.items) (waits_of after.halt) T.took.tasks T.move.begun T.took.begun
 
 -- ---- a turn of the definitions, at the tick, the place and the frames of a task
 
@@ -79,10 +72,10 @@ pub turning : (k : Table) (job : Job) (input : List ℕ) (t m s : ℕ) (old new 
     ((i : ℕ) → new.task (m + i) ≡ slice_get new.world.started.items i) → ((p : ℕ) → p < m → p ≢ s → new.task p ≡ old.task p) → ((p : ℕ) → new.gone p ≡ old.gone p) →
     ((p : ℕ) → p < m → new.start p ≡ old.start p) → ((i : ℕ) → i < length new.world.started.items → new.start (m + i) ≡ t) →
     new.children s ≡ old.children s ++ serials_from m (length new.world.started.items) → ((p : ℕ) → p < m → p ≢ s → new.children p ≡ old.children p) →
-    ((i : ℕ) → i < length new.world.started.items → new.children (m + i) ≡ []) →
+    ((i : ℕ) → i < length new.world.started.items → new.children (m + i) ≡ []) → new.turns ≡ old.turns + 1 →
     Turning k job input t m s old new c.numbers before after stop c.course
 turning k job input t m s old new before after wake stop settled names starting c lives stays world sound sound_after none fits fits_after modest woken turns may task_after born others gone start
-    start_child more kept childless =
+    start_child more kept childless turns_more =
     record {
       task = lives;
       below = less;
@@ -105,10 +98,12 @@ turning k job input t m s old new before after wake stop settled names starting 
       fresh = fresh_after k job input t m s c.course o at_stop.0 settled names starting less went;
       inputs = on_at q.here.input o.begun (turn_on_input turn.steps c.course.froms t q.here w q.rest.stopped q.rest.frames q.places q.count);
       is = went.is;
+      counts = went.counts;
       froms = went.froms;
       of_task = went.of_task;
       of_child = went.of_child;
       of_other = went.of_other;
+      turns_after = turns_more;
       task_after = task_after;
       child_after = λ i. born i ∙ ap (λ (ts : List Task). slice_get ts i) started;
       other_after = others;
@@ -127,7 +122,7 @@ turning k job input t m s old new before after wake stop settled names starting 
     f = c.follows s before lives
 
     less : s < m
-    less = is_born k job input t m None old c s before lives
+    less = below_of c s before lives
 
     w : wakes.Wake
     w = wake_in old.world.book before.halt wake

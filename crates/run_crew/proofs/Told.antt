@@ -1,89 +1,32 @@
 -- An end is told to a nursery, which is one task's alone: its place has the end then, and everything else of it stays.
 use Rattle.std.proofs.lemmas.Bool.{eqb-true, eq-eqb}
-use Rattle.std.proofs.Common.{◌≡◌, ◌≢◌, ◌⊎◌, inl, inr, ◌==◌, Bool, true, false, ℕ, zero, suc, Option, Some, None, List, [], ◌∷◌, length, refl, ap, sym, ◌∙◌, subst}
-use Rattle.std.specs.Prelude.{IsSome, slice_get, slice_set}
-use Rattle.std.specs.Option.{IsSomeAnd}
-use Rattle.exc_groups.specs.Exceptions.{Label, Exc}
+use Rattle.std.proofs.Common.{◌≡◌, ◌≢◌, ◌==◌, Bool, true, false, ℕ, zero, suc, Option, Some, None, List, [], ◌∷◌, length, refl, ap, sym, ◌∙◌}
+use Rattle.std.specs.Prelude.{slice_get, slice_set}
+use Rattle.exc_groups.specs.Exceptions.{Exc}
 use Rattle.job_tree.specs.Tree.{Tree as Job}
 use Rattle.job_meaning.specs.Log.{Table}
 use Rattle.nursery_book.specs.Nursery.{End, Nursery, with_child}
 use Rattle.nursery_book.specs.Book.{nursery_at, HasNursery, Updates}
 use Rattle.nursery_book.specs.declared.book.NurseryBook.{NurseryBook}
 use Rattle.task_machine.specs.declared.task.Home.{Home}
-use Rattle.task_machine.specs.declared.task.Own.{Own}
 use Rattle.task_machine.specs.declared.task.Task.{Task}
-use Rattle.task_machine.specs.Fitting.{Block, a_scope, a_nursery, blocks_of, IsMine, Opened, waits_of}
-use Rattle.task_machine.specs.Labels.{Labels}
+use Rattle.task_machine.specs.Fitting.{blocks_of, waits_of}
 use Rattle.task_machine.specs.Standing.{HasNurseryOf}
 use Rattle.task_machine.specs.Worlds.{label_at}
 use Rattle.run_crew.specs.Crew.{Crew, IsCrew}
 use Rattle.run_crew.specs.Leaving.{EndIsTold}
-
--- ---- a nursery of a book
-
-pub gives : (book : NurseryBook) (id : ℕ) (n : Nursery) (P : Nursery → Type 0) → nursery_at book id ≡ Some n → HasNursery book id P → P n
-gives book id n P e h = subst (λ (o : Option Nursery). IsSomeAnd o P) e h
-
-pub puts : (book : NurseryBook) (id : ℕ) (n : Nursery) (P : Nursery → Type 0) → nursery_at book id ≡ Some n → P n → HasNursery book id P
-puts book id n P e h = subst (λ (o : Option Nursery). IsSomeAnd o P) (sym e) h
-
-pub finds : (book : NurseryBook) (id : ℕ) (P : Nursery → Type 0) → HasNursery book id P → (n : Nursery) × (nursery_at book id ≡ Some n) × P n
-finds book id P h = by_nursery (nursery_at book id) refl h
-  where
-    by_nursery : (o : Option Nursery) → nursery_at book id ≡ o → IsSomeAnd o P → (n : Nursery) × (nursery_at book id ≡ Some n) × P n
-    by_nursery None e g = absurd g
-    by_nursery (Some n) e g = (n, e, g)
+use Rattle.run_crew.proofs.Found.{finds, puts}
+use Rattle.run_crew.proofs.OtherNurseries.{scope_of_nursery}
+use Rattle.run_crew.proofs.Crews.{one_nursery}
 
 -- ---- whose a nursery is
-
--- a scope that a task opened is that of the nursery
-pub record NurseryScope (book : NurseryBook) (own : List Own) (id : ℕ) : Type 0 where
-  pub place : ℕ
-  pub scope : Own
-  pub at : slice_get own place ≡ Some scope
-  pub has : HasNursery book id (λ n. n.scope ≡ scope.id)
-
-further : (book : NurseryBook) (own : List Own) (o : Own) (id : ℕ) → NurseryScope book own id → NurseryScope book (o ∷ own) id
-further book own o id h = record { place = suc h.place; scope = h.scope; at = h.at; has = h.has }
-
-pub nursery_scope : (labels : Labels) (book : NurseryBook) (bs : List Block) (own : List Own) (waits : Option ℕ) (id : ℕ) → Opened labels book bs own waits → HasNurseryOf id bs waits →
-    NurseryScope book own id
-nursery_scope labels book [] [] None id opened (inl h) = absurd h
-nursery_scope labels book [] [] None id opened (inr e) = absurd (let f : None ≡ Some id = e in cc)
-nursery_scope labels book [] [] (Some key) id opened h = absurd opened
-nursery_scope labels book [] (o ∷ own) None id opened h = absurd opened
-nursery_scope labels book [] (o ∷ own) (Some key) id opened (inl h) = absurd h
-nursery_scope labels book [] (o ∷ own) (Some key) id opened (inr e) =
-    let f : Some key ≡ Some id = e in let g : key ≡ id = cc in
-    let n = finds book key (λ n. IsMine labels o n × IsSome n.body) opened.1 in
-    record { place = 0; scope = o; at = refl; has = subst (λ (x : ℕ). HasNursery book x (λ n. n.scope ≡ o.id)) g (puts book key n.0 (λ n. n.scope ≡ o.id) n.1 n.2.0.scope) }
-nursery_scope labels book (b ∷ bs) [] waits id opened h = absurd opened
-nursery_scope labels book (a_scope ∷ bs) (o ∷ own) waits id opened (inl h) = further book own o id (nursery_scope labels book bs own waits id opened.2 (inl h))
-nursery_scope labels book (a_scope ∷ bs) (o ∷ own) waits id opened (inr h) = further book own o id (nursery_scope labels book bs own waits id opened.2 (inr h))
-nursery_scope labels book (a_nursery key ∷ bs) (o ∷ own) waits id opened (inl (inl e)) =
-    let n = finds book key (λ n. IsMine labels o n × (n.body ≡ None)) opened.0 in
-    record { place = 0; scope = o; at = refl; has = subst (λ (x : ℕ). HasNursery book x (λ n. n.scope ≡ o.id)) (sym e) (puts book key n.0 (λ n. n.scope ≡ o.id) n.1 n.2.0.scope) }
-nursery_scope labels book (a_nursery key ∷ bs) (o ∷ own) waits id opened (inl (inr h)) = further book own o id (nursery_scope labels book bs own waits id opened.2 (inl h))
-nursery_scope labels book (a_nursery key ∷ bs) (o ∷ own) waits id opened (inr h) = further book own o id (nursery_scope labels book bs own waits id opened.2 (inr h))
 
 -- no two tasks have one nursery
 pub same_owner : (k : Table) (job : Job) (input : List ℕ) (t m : ℕ) (leaving : Option ℕ) (crew : Crew) → IsCrew k job input t m leaving crew → (p u : ℕ) (a b : Task) (id : ℕ) →
     crew.task p ≡ Some a → crew.task u ≡ Some b → HasNurseryOf id (blocks_of a.frames.items) (waits_of a.halt) → HasNurseryOf id (blocks_of b.frames.items) (waits_of b.halt) → p ≡ u
 same_owner k job input t m leaving crew c p u a b id e f h g =
-    c.apart x.scope.id p u (record { task = a; lives = e; place = x.place; scope = x.scope; own = x.at; is = refl })
-    (record { task = b; lives = f; place = y.place; scope = y.scope; own = y.at; is = sym (gives book id n.0 (λ n. n.scope ≡ y.scope.id) n.1 y.has) ∙ n.2 })
-  where
-    book : NurseryBook
-    book = crew.world.book
-
-    x : NurseryScope book a.own.items id
-    x = nursery_scope (label_at crew.world) book (blocks_of a.frames.items) a.own.items (waits_of a.halt) id (c.follows p a e).goes.opened h
-
-    y : NurseryScope book b.own.items id
-    y = nursery_scope (label_at crew.world) book (blocks_of b.frames.items) b.own.items (waits_of b.halt) id (c.follows u b f).goes.opened g
-
-    n : (n : Nursery) × (nursery_at book id ≡ Some n) × (n.scope ≡ x.scope.id)
-    n = finds book id (λ n. n.scope ≡ x.scope.id) x.has
+    let x = scope_of_nursery (label_at crew.world) crew.world.book (blocks_of a.frames.items) a.own.items (waits_of a.halt) id (c.follows p a e).goes.opened h in
+    one_nursery k job input t m leaving crew c p u a b e f id x.nursery h g x.at
 
 -- ---- what stays of nurseries where an end is told
 

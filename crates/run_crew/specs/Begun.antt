@@ -1,5 +1,5 @@
 -- How a run begins: a world in which nothing happened yet, and the root, which has to begin with the job's steps.
-use Rattle.std.specs.Prelude.{◌≡◌, ℕ, List, [], ◌∷◌, None, length}
+use Rattle.std.specs.Prelude.{◌≡◌, ℕ, suc, List, [], ◌∷◌, Some, None, length}
 use Rattle.buffer_parts.specs.Part.{buffer_of, range_of}
 use Rattle.cancel_scopes.specs.Tree.{stack_of}
 use Rattle.job_tree.specs.Tree.{Tree as Job}
@@ -11,6 +11,7 @@ use Rattle.task_machine.specs.declared.task.Task.{Task}
 use Rattle.task_machine.specs.declared.world.World.{World}
 use Rattle.task_machine.specs.Frames.{frames_of}
 use Rattle.task_machine.specs.Worlds.{label_at}
+use Rattle.run_crew.specs.Crew.{Crew}
 
 -- what `World::new` says of a world
 pub record IsNewWorld (world : World) : Type 0 where
@@ -31,3 +32,15 @@ pub record IsRootTask (job : Job) (input : List ℕ) (task : Task) : Type 0 wher
   pub halt : task.halt ≡ ToBegin
   pub entries : task.entries.items ≡ []
   pub froms : task.froms.items ≡ []
+
+-- the root is the one task of a crew, in a new world, and no turn was taken
+pub record IsNewCrew (job : Job) (input : List ℕ) (crew : Crew) : Type 0 where
+  pub world : IsNewWorld crew.world
+  pub root : Task
+  pub is_root : IsRootTask job input root
+  pub first : crew.task 0 ≡ Some root
+  pub others : (p : ℕ) → crew.task (suc p) ≡ None
+  pub gone : (p : ℕ) → crew.gone p ≡ None
+  pub start : crew.start 0 ≡ 0
+  pub children : crew.children 0 ≡ []
+  pub turns : crew.turns ≡ 0

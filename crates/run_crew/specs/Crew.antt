@@ -1,14 +1,14 @@
 -- The tasks of a run as the code holds them, and what ties them to a run of the definitions.
-use Rattle.std.specs.Prelude.{◌≡◌, ◌≢◌, ◌⊎◌, true, ℕ, ◌+◌, ◌<◌, ◌≤◌, Option, Some, None, List, [], ◌∷◌, All, map, length, slice_get}
+use Rattle.std.specs.Prelude.{◌≡◌, ◌≢◌, true, ℕ, ◌<◌, ◌≤◌, Option, Some, None, List, [], ◌∷◌, All, map, length, slice_get}
 use Rattle.std.specs.Option.{ForSome}
 use Rattle.std.specs.List.{last_or}
 use Rattle.exc_groups.specs.Exceptions.{Label, Exc}
-use Rattle.cancel_scopes.specs.Tree.{Stack, Tree, stack_of, IsOpen, own_from}
+use Rattle.cancel_scopes.specs.Tree.{Stack, stack_of, IsOpen, own_from}
 use Rattle.nursery_book.specs.Nursery.{End, Nursery}
 use Rattle.nursery_book.specs.Book.{HasNursery}
 use Rattle.job_tree.specs.Tree.{Tree as Job}
 use Rattle.job_meaning.specs.Log.{Table}
-use Rattle.job_meaning.specs.Meaning.{From, froms_by}
+use Rattle.job_meaning.specs.Meaning.{froms_by}
 use Rattle.job_meaning.specs.Rest as rest
 use Rattle.job_meaning.specs.declared.limits.TheConstants.{MOST_INPUT}
 use Rattle.task_records.specs.declared.entry.Entry.{Entry}
@@ -22,7 +22,6 @@ use Rattle.task_machine.specs.declared.world.World.{World}
 use Rattle.task_machine.specs.Acts.{Scoping, scoping_of}
 use Rattle.task_machine.specs.Fitting.{blocks_of, AreModestFrames, StartsFit, Opened, AreOthers, waits_of}
 use Rattle.task_machine.specs.Frames.{frames_of}
-use Rattle.task_machine.specs.Labels.{Labels}
 use Rattle.task_machine.specs.Left.{OwnFirst}
 use Rattle.task_machine.specs.Standing.{here_of, shown_made, HasNurseryOf, Stands}
 use Rattle.task_machine.specs.Stops.{Numbers, IsHalt}
@@ -31,7 +30,7 @@ use Rattle.task_machine.specs.Waking.{IsModestHalt}
 use Rattle.task_machine.specs.Worlds.{label_at}
 use Rattle.run_course.specs.Course.{Started, In, live}
 use Rattle.run_course.specs.Rows.{entered_made, children_made}
-use Rattle.run_course.specs.Runs.{Reached}
+use Rattle.run_course.specs.Runs.{Reached, turns_taken}
 
 -- ---- a run of the definitions, and its tasks by their serial numbers
 
@@ -62,10 +61,11 @@ pub record Gone : Type 0 where
   pub entries : List Entry
   pub froms : List ScopeFrom
 
--- the world of a run, and by its serial number each task that has not ended, and what is kept of each that has, with the tick in
--- which each was started, and the serial numbers of its children in order
+-- the world of a run, how many turns its tasks had, and by its serial number each task that has not ended, and what is kept of
+-- each that has, with the tick in which each was started, and the serial numbers of its children in order
 pub record Crew : Type 0 where
   pub world : World
+  pub turns : ℕ
   pub task : ℕ → Option Task
   pub gone : ℕ → Option Gone
   pub start : ℕ → ℕ
@@ -194,6 +194,7 @@ pub record OpenedBy (crew : Crew) (key s : ℕ) : Type 0 where
 pub record IsCrew (k : Table) (job : Job) (input : List ℕ) (t m : ℕ) (leaving : Option ℕ) (crew : Crew) : Type 0 where
   pub course : Course k job input t m
   pub numbers : ℕ → Numbers
+  pub counted : turns_taken course.reached ≡ crew.turns
   pub tick : crew.world.tick ≡ t
   pub small : length input ≤ MOST_INPUT
   pub some : 0 < m

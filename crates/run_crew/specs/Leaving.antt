@@ -7,9 +7,8 @@ use Rattle.nursery_book.specs.declared.book.NurseryBook.{NurseryBook}
 use Rattle.job_meaning.specs.Rest as rest
 use Rattle.task_machine.specs.declared.task.Home.{Home}
 use Rattle.task_machine.specs.declared.task.Task.{Task}
-use Rattle.task_machine.specs.declared.world.World.{World}
 use Rattle.run_course.specs.Course.{Started}
-use Rattle.run_crew.specs.Crew.{Crew, Gone}
+use Rattle.run_crew.specs.Crew.{Crew}
 
 -- the child's place in its nursery has its end; the root has no nursery
 abbrev pub EndIsTold : NurseryBook → NurseryBook → Option Home → Option Exc → Type 0
@@ -21,6 +20,7 @@ pub record Leaving (t s : ℕ) (old new : Crew) (q : Started) (task : Task) (exc
   pub was : old.task s ≡ Some task
   pub ended : q.rest.stopped ≡ rest.at_end t exc
   pub world : new.world ≡ record old.world { book = new.world.book }
+  pub turns : new.turns ≡ old.turns
   pub told : EndIsTold old.world.book new.world.book task.home exc
   pub left : new.task s ≡ None
   pub kept : new.gone s ≡ Some (record { label = task.label; end = t; exc = exc; entries = task.entries.items; froms = task.froms.items })

@@ -3,3 +3,7 @@ pub mod Turn
 pub mod Leaving
 pub mod Begun
 pub mod Over
+pub mod Ready
+pub mod Step
+pub mod Moved
+pub mod Laws

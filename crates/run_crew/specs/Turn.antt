@@ -6,7 +6,6 @@ use Rattle.nursery_book.specs.Nursery.{is_settled}
 use Rattle.nursery_book.specs.Book.{HasNursery}
 use Rattle.job_tree.specs.Tree.{Tree as Job}
 use Rattle.job_meaning.specs.Log.{Table}
-use Rattle.job_meaning.specs.Walk.{by_table}
 use Rattle.job_meaning.specs.Rest as rest
 use Rattle.task_turns.specs.Midway.{Begun, Move, none_told, begun_comes_to}
 use Rattle.task_turns.specs.Names.{StaysNew}
@@ -16,13 +15,13 @@ use Rattle.task_turns.specs.Wakes.{Wake}
 use Rattle.task_machine.specs.declared.stop.Stop.{Stop}
 use Rattle.task_machine.specs.declared.stop.Stop.TheVariants.{Ask, Sleep, Wait, Ended}
 use Rattle.task_machine.specs.declared.task.Task.{Task}
-use Rattle.task_machine.specs.declared.world.World.{World}
 use Rattle.task_machine.specs.Fitting.{Fits, waits_of}
 use Rattle.task_machine.specs.Standing.{TookTo}
 use Rattle.task_machine.specs.Stops.{Numbers}
 use Rattle.task_machine.specs.Waking.{IsModestHalt}
 use Rattle.run_course.specs.Course.{Started}
 use Rattle.run_course.specs.Going.{turned}
+use Rattle.run_course.specs.Runs.{turns_taken}
 use Rattle.run_course.specs.Rows.{entered_made}
 use Rattle.run_crew.specs.Crew.{Course, Crew}
 
@@ -107,11 +106,13 @@ pub record Turning
     pub inputs : (i : ℕ) (b : Begun) → slice_get move.begun i ≡ Some b → b.here.input ≡ (was.at s).here.input
     -- the run after it
     pub is : Course k job input t (m + length move.begun)
+    pub counts : turns_taken is.reached ≡ turns_taken was.reached + 1
     pub froms : is.froms ≡ froms_after was.froms move.made
     pub of_task : is.at s ≡ turned k t m (was.at s) move stopped
     pub of_child : (i : ℕ) (b : Begun) → slice_get move.begun i ≡ Some b → is.at (m + i) ≡ child_at k t (m + i) b
     pub of_other : (p : ℕ) → p < m → p ≢ s → is.at p ≡ was.at p
     -- the crew after it
+    pub turns_after : new.turns ≡ old.turns + 1
     pub task_after : new.task s ≡ Some after
     pub child_after : (i : ℕ) → new.task (m + i) ≡ slice_get took.tasks i
     pub other_after : (p : ℕ) → p < m → p ≢ s → new.task p ≡ old.task p

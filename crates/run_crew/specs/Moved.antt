@@ -1,0 +1,16 @@
+-- A crew whose clock jumps, or whose started tasks are taken from the world: nothing else of it changes.
+use Rattle.std.specs.Prelude.{◌≡◌, ℕ}
+use Rattle.task_machine.specs.declared.world.World.{World}
+use Rattle.run_crew.specs.Crew.{Crew}
+
+-- the tasks of two crews are the same, and what is kept of them
+pub record SameTasks (old new : Crew) : Type 0 where
+  pub turns : new.turns ≡ old.turns
+  pub task : (p : ℕ) → new.task p ≡ old.task p
+  pub gone : (p : ℕ) → new.gone p ≡ old.gone p
+  pub start : (p : ℕ) → new.start p ≡ old.start p
+  pub children : (p : ℕ) → new.children p ≡ old.children p
+
+-- the world of a crew with another tick, and other tasks that were started and not taken
+abbrev pub moved_world : World → ℕ → World → World
+moved_world w u x = record w { tick = u; started = x.started }
