@@ -1,4 +1,1 @@
 pub mod Root
-pub mod Apart
-pub mod Order
-pub mod Growth

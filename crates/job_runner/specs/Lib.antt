@@ -1,3 +1,2 @@
 pub mod Settings
 pub mod Runs
-pub mod Rows

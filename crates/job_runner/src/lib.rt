@@ -8,12 +8,8 @@
 mod fault;
 mod finished;
 mod limits;
-#[allow(dead_code)]
-mod rows;
 mod running;
 mod settings;
-#[cfg(test)]
-mod tests;
 
 pub use batch_commit::{Forward, Pick, Reverse, Turn};
 pub use fault::RunFault;

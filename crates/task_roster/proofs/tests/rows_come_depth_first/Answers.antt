@@ -2,10 +2,10 @@ use Rattle.std.proofs.Common.{◌≡◌, ◌<◌, ◌≤◌, ◌+◌, ℕ, true,
 use Rattle.std.specs.Prelude.{◌==◌, ◌⊎◌, ◌≢◌, All}
 use Rattle.std.proofs.lemmas.Bool.Decides.{eqb_tells}
 use Rattle.std.proofs.lemmas.List.Elements.{All-nil, All-cons}
-use Rattle.job_runner.specs.declared.rows.Row.{Row}
-use Rattle.job_runner.specs.Rows.{times, times_child, ChildrenAreApart}
-use Rattle.job_runner.proofs.Apart.{one_if}
-use Rattle.job_runner.proofs.tests.rows_come_depth_first.Goals as goal
+use Rattle.task_roster.specs.declared.rows.Row.{Row}
+use Rattle.task_roster.specs.Rows.{times, times_child, ChildrenAreApart}
+use Rattle.task_roster.proofs.Apart.{one_if}
+use Rattle.task_roster.proofs.tests.rows_come_depth_first.Goals as goal
 
 -- a number is one of two at most
 one_of_two : (j k x : ℕ) → (j ≡ k → ⊥) → one_if (j == x) + one_if (k == x) ≤ 1

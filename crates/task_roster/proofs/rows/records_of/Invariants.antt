@@ -1,10 +1,10 @@
 use Rattle.std.specs.Prelude.{ℕ, List}
 use Rattle.std.proofs.Common.{length}
 use Rattle.run_course.specs.Rows as course
-use Rattle.job_runner.specs.Rows.{AreShown}
-use Rattle.job_runner.proofs.Apart.{Apart, rows_left}
-use Rattle.job_runner.proofs.Order.{Told}
-use Rattle.job_runner.proofs.rows.records_of.Given as goal
+use Rattle.task_roster.specs.Rows.{AreShown}
+use Rattle.task_roster.proofs.Apart.{Apart, rows_left}
+use Rattle.task_roster.proofs.Order.{Told}
+use Rattle.task_roster.proofs.rows.records_of.Given as goal
 
 abbrev pub invariant-rows : goal.invariant-rows
 invariant-rows l = record {

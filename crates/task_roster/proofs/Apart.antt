@@ -11,9 +11,9 @@ use Rattle.std.proofs.lemmas.List.Elements.{All-append, All-set, All-get_or, All
 use Rattle.std.proofs.lemmas.List.Sorted.{sum_by-IsPermutation, IsPermutation-reverse, All-permutation}
 use Rattle.std.proofs.lemmas.List.Sums.{sum_by_push, sum_by-cons, sum_by-append, sum_by-set}
 use Rattle.std.proofs.lemmas.Option.{same_Some, slice_get_within, get_or_from_slice_get}
-use Rattle.job_runner.specs.declared.rows.Row.{Row}
-use Rattle.job_runner.specs.declared.rows.Ended.{Ended}
-use Rattle.job_runner.specs.Rows.{times, times_child, ChildrenAreApart, IsTakenOut}
+use Rattle.task_roster.specs.declared.rows.Row.{Row}
+use Rattle.task_roster.specs.declared.rows.Ended.{Ended}
+use Rattle.task_roster.specs.Rows.{times, times_child, ChildrenAreApart, IsTakenOut}
 
 -- 1 or 0, as a test says
 abbrev pub one_if : Bool → ℕ

@@ -8,8 +8,8 @@ use Rattle.run_course.specs.Rows as course
 use Rattle.task_records.specs.declared.entry.Record.{Record}
 use Rattle.task_records.specs.declared.entry.ScopeFrom.{ScopeFrom}
 use Rattle.task_records.specs.Records.{entry_of, IsSlice, AreSlices, row_in, from_of, ending_in}
-use Rattle.job_runner.specs.declared.rows.Row.{Row}
-use Rattle.job_runner.specs.declared.rows.Ended.{Ended}
+use Rattle.task_roster.specs.declared.rows.Row.{Row}
+use Rattle.task_roster.specs.declared.rows.Ended.{Ended}
 
 -- ---- what rows show
 

@@ -15,10 +15,10 @@ use Rattle.run_course.specs.Rows as course
 use Rattle.task_records.specs.declared.entry.Record.{Record}
 use Rattle.task_records.specs.declared.entry.ScopeFrom.{ScopeFrom}
 use Rattle.task_records.specs.Records.{IsSlice, AreSlices, entry_of, row_in, from_of}
-use Rattle.job_runner.specs.declared.rows.Row.{Row}
-use Rattle.job_runner.specs.declared.rows.Ended.{Ended}
-use Rattle.job_runner.specs.Rows.{AreShown, EndIsShown, IsRecordOf, IsShown, IsTakenOut, ShowRecords, ShowsEnd}
-use Rattle.job_runner.proofs.Apart.{got_after}
+use Rattle.task_roster.specs.declared.rows.Row.{Row}
+use Rattle.task_roster.specs.declared.rows.Ended.{Ended}
+use Rattle.task_roster.specs.Rows.{AreShown, EndIsShown, IsRecordOf, IsShown, IsTakenOut, ShowRecords, ShowsEnd}
+use Rattle.task_roster.proofs.Apart.{got_after}
 
 -- what has been told, where these rows are left, those on the stack first
 pub record Told (input : List ℕ) (rs : ℕ → course.Row) (rows : List Row) (stack : List ℕ) (told : List Record) (told_froms : List ScopeFrom) : Type 0 where

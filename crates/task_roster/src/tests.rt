@@ -1,10 +1,15 @@
 ghost use Rattle.std.specs.Prelude.{◌≡◌, ◌<◌, IsSome, IfOk};
 
-use crate::rows::{Ended, Row, records_of};
+use crate::{Ended, Roster, Row, records_of};
+use autojump_clock::TaskId;
+use buffer_parts::Part;
 use exc_groups::Label;
+use job_grammar::{Job, read_job};
+use job_meaning::MOST_INPUT;
 use job_tree::Name;
 use std::alloc::{AllocError, Global};
 use std::test::Fail;
+use task_machine::Task;
 
 /// The row of a task that was started in one tick and ended well in another.
 fn ended(
@@ -27,6 +32,8 @@ fn ended(
         froms: Vec::new(alloc),
     };
     Ok(Row {
+        parent: 0,
+        task: TaskId::of(0),
         start,
         children: numbers,
         end: Some(end),
@@ -50,5 +57,38 @@ fn rows_come_depth_first(rt: HostRuntime) -> Result<(), Fail> {
     }
     assert_eq!(rt; starts.as_str(), "0 1 3 2 ");
     assert!(rt; froms.is_empty());
+    Ok(())
+}
+
+// The job of a text.
+fn job(alloc: Global, text: &[u8]) -> Result<Job, Fail> {
+    match read_job(alloc, text) {
+        Ok(job) => Ok(job),
+        Err(_) => Err("a job")?,
+    }
+}
+
+#[test]
+fn tasks_come_and_go(rt: HostRuntime) -> Result<(), Fail> {
+    let alloc = rt.alloc();
+    let job = job(alloc, b"trio-job 1\njob main { sleep 5; }")?;
+    let part = Part::whole(b"one\n");
+    assert!(rt; part.text().len() <= MOST_INPUT);
+    let first = Task::root(alloc, &job, part)?;
+    let second = Task::root(alloc, &job, part)?;
+    let begun = Roster::of_root(alloc, first)?;
+    let (mut roster, root) = begun;
+    assert_eq!(rt; roster.row(root), 0);
+    assert_eq!(rt; roster.scope(root), None);
+    assert!(rt; roster.home(root).is_none());
+    let child = roster.start(0, second, 3)?;
+    assert_eq!(rt; roster.row(child), 1);
+    assert!(rt; roster.parent(1) == root);
+    roster.end(child, 5, None);
+    assert!(rt; !roster.is_over());
+    roster.end(root, 6, None);
+    assert!(rt; roster.is_over());
+    let rows = roster.into_rows();
+    assert_eq!(rt; rows.len(), 2);
     Ok(())
 }

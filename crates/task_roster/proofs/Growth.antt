@@ -6,9 +6,9 @@ use Rattle.std.proofs.lemmas.List.{length-append, length-set}
 use Rattle.std.proofs.lemmas.List.Elements.{All-nil, All-cons, All-push, All-set, All-get_or, All-weaker}
 use Rattle.std.proofs.lemmas.List.Sums.{sum_by_push, sum_by-set}
 use Rattle.std.proofs.lemmas.Option.{slice_get_within, get_or_from_slice_get}
-use Rattle.job_runner.specs.declared.rows.Row.{Row}
-use Rattle.job_runner.specs.Rows.{times, times_child, ChildrenAreApart}
-use Rattle.job_runner.proofs.Apart.{one_if, no_child}
+use Rattle.task_roster.specs.declared.rows.Row.{Row}
+use Rattle.task_roster.specs.Rows.{times, times_child, ChildrenAreApart}
+use Rattle.task_roster.proofs.Apart.{one_if, no_child}
 
 -- the children of a row are in some bounds
 abbrev Inside : ℕ → Row → Type 0

@@ -5,8 +5,9 @@ ghost use Rattle.exc_groups.specs.Held.{exc_of};
 ghost use Rattle.job_meaning.specs.Shown.{ending_of};
 ghost use Rattle.run_course.specs.Rows as course;
 ghost use Rattle.task_records.specs.Records.{ending_in};
-ghost use Rattle.job_runner.specs.Rows.{AreShown, ChildrenAreApart, ShowRecords, IsRecordOf, IsTakenOut};
+ghost use Rattle.task_roster.specs.Rows.{AreShown, ChildrenAreApart, ShowRecords, IsRecordOf, IsTakenOut};
 
+use autojump_clock::TaskId;
 use exc_groups::{Exc, Label};
 use std::alloc::{AllocError, Global};
 use std::mem;
@@ -14,33 +15,37 @@ use task_records::{Entry, Outcome, Record, ScopeFrom};
 
 /// What is kept of a task that was started.
 #[derive(Drop)]
-pub(crate) struct Row<'a> {
+pub struct Row<'a> {
+    /// The row of the task that started it: the root's is its own.
+    pub parent: usize,
+    /// The id that the task has, or had.
+    pub task: TaskId,
     /// The tick in which it was started.
-    pub(crate) start: u64,
+    pub start: u64,
     /// The rows of its children, in the order of their starts.
-    pub(crate) children: Vec<usize>,
+    pub children: Vec<usize>,
     /// What is kept of its end: none while it has not ended.
-    pub(crate) end: Option<Ended<'a>>,
+    pub end: Option<Ended<'a>>,
 }
 
 /// What is kept of a task that has ended.
 #[derive(Drop)]
-pub(crate) struct Ended<'a> {
+pub struct Ended<'a> {
     /// The task's label.
-    pub(crate) label: Label,
+    pub label: Label,
     /// The tick in which it ended.
-    pub(crate) tick: u64,
+    pub tick: u64,
     /// The exception with which it ended: none where it ended well.
-    pub(crate) exc: Option<Exc>,
+    pub exc: Option<Exc>,
     /// What it noted, in order.
-    pub(crate) entries: Vec<Entry<'a>>,
+    pub entries: Vec<Entry<'a>>,
     /// From which tick each scope and nursery that it entered was cancelled, in the order of entering.
-    pub(crate) froms: Vec<ScopeFrom>,
+    pub froms: Vec<ScopeFrom>,
 }
 
 /// The records of rows whose tasks have all ended: the root's, and behind each its descendants' in the order of their
 /// starts. And their froms, in the same order. Want of memory is the only error.
-pub(crate) fn records_of<'a>(
+pub fn records_of<'a>(
     alloc: Global,
     rows: Vec<Row<'a>>,
 ) -> Result<(Vec<Record<'a>>, Vec<ScopeFrom>), AllocError>
@@ -59,6 +64,7 @@ pub(crate) fn records_of<'a>(
             start,
             children,
             end,
+            ..
         } = take_row(alloc, left, place);
         let Some(ended) = end else {
             unreachable!();
@@ -78,6 +84,8 @@ fn take_row<'a>(alloc: Global, rows: &mut [Row<'a>], place: usize) -> Row<'a>
     ensures left { IsTakenOut rows.old place rows.new }
 {
     let hollow = Row {
+        parent: 0,
+        task: TaskId::of(0),
         start: 0,
         children: Vec::new(alloc),
         end: None,

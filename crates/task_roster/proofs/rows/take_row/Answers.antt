@@ -1,6 +1,6 @@
 use Rattle.std.proofs.Common.{refl, ap, ◌∙◌}
-use Rattle.job_runner.specs.declared.rows.Row.{Row}
-use Rattle.job_runner.proofs.rows.take_row.Goals as goal
+use Rattle.task_roster.specs.declared.rows.Row.{Row}
+use Rattle.task_roster.proofs.rows.take_row.Goals as goal
 
 pub returns-clause-left : goal.returns-clause-left
 returns-clause-left c = record {

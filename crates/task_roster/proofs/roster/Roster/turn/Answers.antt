@@ -1,0 +1,40 @@
+use Rattle.std.proofs.Common.{◌≡◌, Some, refl, sym}
+use Rattle.batch_commit.specs.Lending.{with_live}
+use Rattle.batch_commit.specs.Live.{Updates}
+use Rattle.task_roster.specs.declared.roster.Running.{Running}
+use Rattle.task_roster.specs.Roster.{running_at}
+use Rattle.task_roster.proofs.Rostering.{rewritten, written, turned_same, turned_task, agrees_turned}
+use Rattle.task_roster.proofs.roster.Roster.turn.Goals as goal
+
+pub turn-requires-clause-halt : goal.turn-requires-clause-halt
+turn-requires-clause-halt c = (c.requires.may c.in-Some.running.now (sym c.in-Some.ensures.value)).modest
+
+pub returns-clause-turn : goal.returns-clause-turn
+returns-clause-turn c =
+    let x : Running = c.in-Some.running.now in
+    let y : Running = record { task = c.turn.new.self; row = x.row } in
+    let lived : running_at c.args.self.now c.args.id ≡ Some x = sym c.in-Some.ensures.value in
+    let live : Updates c.args.self.now.live (with_live c.args.self.now.live c.args.id y) c.args.id (Some y) = written c.args.self.now.live c.args.id x y lived in
+    record {
+      row = x.row;
+      before = x.task;
+      after = c.turn.new.self;
+      lived = lived;
+      lives = live.changed;
+      others = live.others;
+      task = turned_task c.args.self.now (rewritten c.args.self.now c.args.id y) c.args.id x y c.requires.agree lived live refl refl;
+      same = turned_same c.args.self.now (rewritten c.args.self.now c.args.id y) c.args.id x y c.requires.agree lived live refl refl;
+      gone = refl;
+      stays = c.in_ok-stop-in-Some.ensures.stays;
+      world = c.in_ok-stop-in-Some.ensures.world;
+      modest = c.in_ok-stop-in-Some.ensures.halt;
+      fits = c.in_ok-stop-in-Some.ensures.fits;
+      turn = c.in_ok-stop-in-Some.ensures.turn;
+    }
+
+pub returns-clause-agree : goal.returns-clause-agree
+returns-clause-agree c =
+    let x : Running = c.in-Some.running.now in
+    let y : Running = record { task = c.turn.new.self; row = x.row } in
+    let lived : running_at c.args.self.now c.args.id ≡ Some x = sym c.in-Some.ensures.value in
+    agrees_turned c.args.self.now (rewritten c.args.self.now c.args.id y) c.args.id x y c.requires.agree lived (written c.args.self.now.live c.args.id x y lived) refl refl
