@@ -1,15 +1,1 @@
-pub mod Shelving
-pub mod Stopped
-pub mod Places
-pub mod Waking
-pub mod Jumped
-pub mod Landing
-pub mod Ending
-pub mod Waiters
-pub mod Answering
-pub mod Rounds
-pub mod Starting
-pub mod Turning
-pub mod Committing
-pub mod Finishing
-pub mod Opening
+pub mod Root

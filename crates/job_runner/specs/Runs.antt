@@ -23,9 +23,6 @@ rows_of run = map row_in (records_in run)
 abbrev pub froms_in : Run → List ScopeFrom
 froms_in run = run.froms.items
 
-abbrev pub turns_of : Run → ℕ
-turns_of run = run.turns
-
 -- the scopes and nurseries with the ticks from which they were cancelled
 abbrev pub scope_froms_of : Run → List From
 scope_froms_of run = map from_of (froms_in run)

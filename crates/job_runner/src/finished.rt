@@ -7,30 +7,22 @@ pub struct Run<'a> {
     name: Name,
     records: Vec<Record<'a>>,
     froms: Vec<ScopeFrom>,
-    turns: u64,
 }
 
 impl<'a> Run<'a> {
     ghost use Rattle.std.specs.Prelude.{◌≡◌};
-    ghost use Rattle.job_runner.specs.Runs.{name_of, records_in, froms_in, turns_of};
+    ghost use Rattle.job_runner.specs.Runs.{name_of, records_in, froms_in};
 
     /// A run of these parts.
-    pub(crate) fn new(
-        name: Name,
-        records: Vec<Record<'a>>,
-        froms: Vec<ScopeFrom>,
-        turns: u64,
-    ) -> Run<'a>
+    pub(crate) fn new(name: Name, records: Vec<Record<'a>>, froms: Vec<ScopeFrom>) -> Run<'a>
         ensures name { name_of result ≡ name }
         ensures records { records_in result ≡ records.entry.items }
         ensures froms { froms_in result ≡ froms.items }
-        ensures turns { turns_of result ≡ turns }
     {
         Run {
             name,
             records,
             froms,
-            turns,
         }
     }
 
@@ -53,12 +45,5 @@ impl<'a> Run<'a> {
         ensures { result.now ≡ froms_in self.now }
     {
         self.froms.as_slice()
-    }
-
-    /// How many turns the tasks had.
-    pub fn turns(&self) -> u64
-        ensures { result ≡ turns_of self.now }
-    {
-        self.turns
     }
 }

@@ -1,0 +1,21 @@
+-- What a block is, as the meaning has it.
+use Rattle.std.specs.Prelude.{Bool, false}
+use Rattle.std.specs.Option.{option_map}
+use Rattle.exc_groups.specs.Held.{exc_of}
+use Rattle.job_meaning.specs.Walk as meaning
+use Rattle.plain_walk.specs.declared.kind.Kind.{Kind}
+use Rattle.plain_walk.specs.declared.kind.Left.{Left}
+use Rattle.plain_walk.specs.declared.kind.Kind.TheVariants.{Scope, Nursery}
+
+abbrev pub kind_of : Kind → meaning.Kind
+kind_of (Scope fail) = meaning.a_scope fail
+kind_of Nursery = meaning.a_nursery
+
+-- whether it is a `fail` scope
+abbrev pub fails_of : meaning.Kind → Bool
+fails_of (meaning.a_scope fail) = fail
+fails_of meaning.a_nursery = false
+
+-- what leaving a block leaves
+abbrev pub left_of : Left → meaning.Left
+left_of l = record { caught = l.caught; exc = option_map exc_of l.exc }
