@@ -12,7 +12,7 @@ use Rattle.job_meaning.specs.Rest.{Event}
 use Rattle.job_meaning.proofs.Distinct.{same_label_itself}
 use Rattle.task_turns.specs.Steps.{lowered, opened, opened_if, froms_after}
 use Rattle.task_turns.specs.Turned.{Known}
-use Rattle.task_records.specs.declared.entry.ScopeFrom.{ScopeFrom}
+use Rattle.task_machine.specs.declared.entry.ScopeFrom.{ScopeFrom}
 use Rattle.task_machine.specs.declared.task.Own.{Own}
 use Rattle.task_machine.specs.Acts.{Scoping, Signs, Enters, Leaves, Acts, no_act, act_noted, act_starts, act_signs, act_enters, act_leaves}
 use Rattle.task_machine.specs.Fitting.{AreOthers}

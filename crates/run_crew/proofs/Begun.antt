@@ -13,8 +13,8 @@ use Rattle.job_meaning.specs.Log.{Table}
 use Rattle.job_meaning.specs.Meaning.{root_here}
 use Rattle.job_meaning.specs.Rest as rest
 use Rattle.job_meaning.specs.declared.limits.TheConstants.{MOST_INPUT}
-use Rattle.task_records.specs.declared.entry.ScopeFrom.{ScopeFrom}
-use Rattle.task_records.specs.Records.{entry_of, IsSlice}
+use Rattle.task_machine.specs.declared.entry.ScopeFrom.{ScopeFrom}
+use Rattle.task_machine.specs.Noted.{entry_of, IsSlice}
 use Rattle.task_turns.specs.Placed.{Placed}
 use Rattle.task_turns.specs.Names.{NewIn}
 use Rattle.task_turns.proofs.Names.{new_job}

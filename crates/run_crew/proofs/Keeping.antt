@@ -70,7 +70,7 @@ timely_still old new scope _ _ tick same h = h
 -- ---- a turn of another task
 
 -- what a task sees is the same after it
-seen_still : {k : Table} {job : Job} {input : List ℕ} {t m s : ℕ} {old new : Crew} {before after : Task} {stop : Stop} → IsSettled k job input → GivesNamesOnce job → StartsInNurseries job →
+pub seen_still : {k : Table} {job : Job} {input : List ℕ} {t m s : ℕ} {old new : Crew} {before after : Task} {stop : Stop} → IsSettled k job input → GivesNamesOnce job → StartsInNurseries job →
     (c : IsCrew k job input t m None old) → (T : Turning k job input t m s old new c.numbers before after stop c.course) → (u : ℕ) → u < m → u ≢ s → (task : Task) → old.task u ≡ Some task →
     Follows new T.is.froms input t T.is.at (numbers_then c.numbers s m T.took.numbers_after) (leaving_by stop s) u task →
     seen (outer_of new.world.scopes (scope_of task)) t ≡ seen (outer_of old.world.scopes (scope_of task)) t

@@ -11,7 +11,7 @@ use Rattle.job_tree.specs.Tree.{Tree as Job}
 use Rattle.job_meaning.specs.Follow.{follow, IsSettled}
 use Rattle.job_meaning.specs.Log.{Table}
 use Rattle.job_meaning.specs.Rest.{Event, noted, signs, enters, starts}
-use Rattle.task_records.specs.declared.entry.ScopeFrom.{ScopeFrom}
+use Rattle.task_machine.specs.declared.entry.ScopeFrom.{ScopeFrom}
 use Rattle.task_turns.specs.Placed.{IsAmong}
 use Rattle.task_turns.specs.Turned.{Known, EntersIn}
 use Rattle.task_machine.specs.declared.task.Own.{Own}

@@ -13,8 +13,8 @@ use Rattle.job_meaning.specs.Rest as rest
 use Rattle.nursery_book.specs.Nursery.{End, Nursery, with_child}
 use Rattle.nursery_book.specs.Book.{nursery_at, HasNursery}
 use Rattle.nursery_book.specs.declared.book.NurseryBook.{NurseryBook}
-use Rattle.task_records.specs.declared.entry.ScopeFrom.{ScopeFrom}
-use Rattle.task_records.specs.Records.{from_of}
+use Rattle.task_machine.specs.declared.entry.ScopeFrom.{ScopeFrom}
+use Rattle.task_machine.specs.Noted.{from_of}
 use Rattle.task_turns.specs.Midway.{Place}
 use Rattle.task_turns.specs.Placed.{PlacedStop}
 use Rattle.task_turns.specs.Turned.{Known}

@@ -1,4 +1,5 @@
 pub mod ActsKeep
+pub mod FewTasks
 pub mod ActsStay
 pub mod ActsFroms
 pub mod ActsTracks

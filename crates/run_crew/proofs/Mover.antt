@@ -16,7 +16,7 @@ use Rattle.job_meaning.specs.Walk.{Here}
 use Rattle.job_meaning.specs.Shown.{Shown}
 use Rattle.job_meaning.specs.Rest as rest
 use Rattle.job_meaning.specs.Rest.{Stopped, to_begin, asking, asleep, awaiting, at_end}
-use Rattle.task_records.specs.Records.{entry_of, IsSlice}
+use Rattle.task_machine.specs.Noted.{entry_of, IsSlice}
 use Rattle.task_turns.specs.Names.{NewIn}
 use Rattle.task_turns.specs.Placed.{PlacedAfter, places_behind}
 use Rattle.task_turns.specs.Turned.{Known}

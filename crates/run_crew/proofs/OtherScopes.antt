@@ -7,7 +7,7 @@ use Rattle.exc_groups.specs.Exceptions.{Label}
 use Rattle.cancel_scopes.specs.Tree.{Stack, Tree, stack_of, outer_of, own_label, own_from, IsOpen, IsOwn, IsChain}
 use Rattle.job_meaning.specs.Log.{Table}
 use Rattle.job_meaning.specs.Rest.{Event}
-use Rattle.task_records.specs.declared.entry.ScopeFrom.{ScopeFrom}
+use Rattle.task_machine.specs.declared.entry.ScopeFrom.{ScopeFrom}
 use Rattle.task_turns.specs.Midway.{Place}
 use Rattle.task_turns.specs.Steps.{froms_after}
 use Rattle.task_turns.specs.Turned.{Known}

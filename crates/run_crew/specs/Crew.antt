@@ -11,9 +11,9 @@ use Rattle.job_meaning.specs.Log.{Table}
 use Rattle.job_meaning.specs.Meaning.{froms_by}
 use Rattle.job_meaning.specs.Rest as rest
 use Rattle.job_meaning.specs.declared.limits.TheConstants.{MOST_INPUT}
-use Rattle.task_records.specs.declared.entry.Entry.{Entry}
-use Rattle.task_records.specs.declared.entry.ScopeFrom.{ScopeFrom}
-use Rattle.task_records.specs.Records.{entry_of, from_of, IsSlice}
+use Rattle.task_machine.specs.declared.entry.Entry.{Entry}
+use Rattle.task_machine.specs.declared.entry.ScopeFrom.{ScopeFrom}
+use Rattle.task_machine.specs.Noted.{entry_of, from_of, IsSlice}
 use Rattle.task_turns.specs.Turned.{Known}
 use Rattle.task_machine.specs.declared.task.Home.{Home}
 use Rattle.task_machine.specs.declared.task.Own.{Own}

@@ -1,5 +1,5 @@
 -- The laws of crews. They are the contract of a function that does nothing.
-use Rattle.std.specs.Prelude.{◌≡◌, ℕ, ◌+◌, ◌*◌, ◌≤◌, Option, Some, None, List, length}
+use Rattle.std.specs.Prelude.{◌≡◌, ℕ, ◌+◌, ◌*◌, ◌≤◌, Option, Some, None, IsSome, List, [], ◌∷◌, length}
 use Rattle.exc_groups.specs.Exceptions.{Exc}
 use Rattle.job_tree.specs.Tree.{Tree as Job}
 use Rattle.job_tree.specs.Modest.{IsModest}
@@ -13,6 +13,7 @@ use Rattle.task_machine.specs.declared.stop.Stop.{Stop}
 use Rattle.task_machine.specs.declared.stop.Wake.{Wake}
 use Rattle.task_machine.specs.declared.task.Task.{Task}
 use Rattle.task_machine.specs.Fitting.{Fits, waits_of}
+use Rattle.run_course.specs.Course.{In}
 use Rattle.run_crew.specs.Crew.{Crew, IsCrew}
 use Rattle.run_crew.specs.Turn.{IsSound}
 use Rattle.run_crew.specs.Begun.{IsNewCrew}
@@ -84,6 +85,17 @@ CrewsAreInTime =
 abbrev pub TurnsAreFew : Type 0
 TurnsAreFew =
     (k : Table) (job : Job) (input : List ℕ) (t m : ℕ) (leaving : Option ℕ) (crew : Crew) → IsCrew k job input t m leaving crew → crew.turns ≤ 2 * size_of job.steps + 1
+
+-- no two of the numbers are the same
+abbrev pub AreDistinct : List ℕ → Type 0
+AreDistinct [] = Unit {0}
+AreDistinct (s ∷ ss) = (In s ss → ⊥) × AreDistinct ss
+
+-- And at most as many tasks have not ended.
+abbrev pub TasksAreFew : Type 0
+TasksAreFew =
+    (k : Table) (job : Job) (input : List ℕ) (t m : ℕ) (crew : Crew) → IsCrew k job input t m None crew →
+    (numbers : List ℕ) → AreDistinct numbers → ((s : ℕ) → In s numbers → IsSome (crew.task s)) → length numbers ≤ 2 * size_of job.steps + 1
 
 -- Once all tasks have ended, what is kept of them says what the job means.
 abbrev pub CrewsEnd : Type 0

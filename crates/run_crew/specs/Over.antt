@@ -3,7 +3,7 @@ use Rattle.std.specs.Prelude.{◌≡◌, ℕ, ◌<◌, Some, List, [], ◌∷◌
 use Rattle.job_tree.specs.Tree.{Tree as Job}
 use Rattle.job_meaning.specs.Meaning.{meaning_records, meaning_froms, meaning_end}
 use Rattle.job_meaning.specs.Shown.{shown}
-use Rattle.task_records.specs.Records.{entry_of, from_of, IsSlice}
+use Rattle.task_machine.specs.Noted.{entry_of, from_of, IsSlice}
 use Rattle.run_course.specs.Rows.{Row, records_by, froms_in, DepthFirst}
 use Rattle.run_crew.specs.Crew.{Crew, Gone}
 

@@ -10,6 +10,7 @@ ghost use Rattle.run_crew.specs.Laws.{
   CrewsTake,
   CrewsTurn,
   StopsSay,
+  TasksAreFew,
   TasksFit,
   TurnsAreFew,
 };
@@ -21,8 +22,8 @@ ghost use Rattle.run_crew.specs.Laws.{
 /// ended in the definitions, in the same tick and with the same exception. It is so again once the nursery of one that has
 /// ended is told. It stays so where the started tasks are taken from the world, and where the clock jumps to a tick before
 /// which no task goes on; one sleeps then, if one has not ended. While one has not, the job does not end before the present
-/// tick; and there are at most twice as many turns as the job has steps, and one. Once all tasks have ended, what is kept of them is the records, the froms and the end that the
-/// job means.
+/// tick; and there are at most twice as many turns as the job has steps, and one, and at most as many tasks that have not
+/// ended. Once all tasks have ended, what is kept of them is the records, the froms and the end that the job means.
 pub fn law_crews()
     ensures begin { CrewsBegin }
     ensures fit { TasksFit }
@@ -34,5 +35,6 @@ pub fn law_crews()
     ensures sleep { CrewsSleep }
     ensures in_time { CrewsAreInTime }
     ensures turns { TurnsAreFew }
+    ensures tasks { TasksAreFew }
     ensures over { CrewsEnd }
 {}

@@ -19,7 +19,7 @@ use Rattle.job_meaning.specs.Rest as rest
 use Rattle.job_meaning.specs.Rest.{Stopped}
 use Rattle.nursery_book.specs.Nursery.{with_body}
 use Rattle.nursery_book.specs.Book.{Changes}
-use Rattle.task_records.specs.declared.entry.Entry.{Entry}
+use Rattle.task_machine.specs.declared.entry.Entry.{Entry}
 use Rattle.task_turns.specs.Midway.{Place, Move}
 use Rattle.task_turns.specs.Steps.{onward, handler_if, step_try, step_frames, step_of}
 use Rattle.task_machine.specs.declared.frame.Frame.{Frame}

@@ -11,8 +11,8 @@ use Rattle.job_meaning.specs.Log.{Table}
 use Rattle.job_meaning.specs.Shown.{shown_at}
 use Rattle.job_meaning.specs.Walk.{Kind, Left, left_as, left_with, exc_after}
 use Rattle.job_meaning.specs.Rest.{noted}
-use Rattle.task_records.specs.declared.entry.Entry.{Entry}
-use Rattle.task_records.specs.Records.{entry_of, IsSlice}
+use Rattle.task_machine.specs.declared.entry.Entry.{Entry}
+use Rattle.task_machine.specs.Noted.{entry_of, IsSlice}
 use Rattle.task_turns.specs.Midway.{Place}
 use Rattle.task_turns.specs.Names.{names_at, OwnNames}
 use Rattle.task_turns.specs.Steps.{signs_home, froms_after}

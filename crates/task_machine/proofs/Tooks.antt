@@ -19,8 +19,8 @@ use Rattle.job_meaning.specs.Walk.{Here, left_with}
 use Rattle.job_meaning.specs.Walk as meaning
 use Rattle.job_meaning.specs.Rest as rest
 use Rattle.job_meaning.specs.Rest.{Stopped, awaiting, at_end}
-use Rattle.task_records.specs.declared.entry.Entry.{Entry}
-use Rattle.task_records.specs.Records.{IsSlice}
+use Rattle.task_machine.specs.declared.entry.Entry.{Entry}
+use Rattle.task_machine.specs.Noted.{IsSlice}
 use Rattle.task_turns.specs.Midway.{Place, Begun, Move, stack_at}
 use Rattle.task_turns.specs.Placed.{Placed}
 use Rattle.task_turns.specs.Steps.{onward, making, sleeps, falls_asleep, label_among, signs_to, signs_home, leaves, ends_as, froms_after, step_frames}

@@ -14,7 +14,7 @@ use Rattle.job_meaning.specs.Rest as rest
 use Rattle.job_meaning.specs.Rest.{Stopped}
 use Rattle.nursery_book.specs.Nursery.{Nursery as Members, opened as opens}
 use Rattle.nursery_book.specs.Book.{nursery_at, HasNursery}
-use Rattle.task_records.specs.Records.{IsSlice}
+use Rattle.task_machine.specs.Noted.{IsSlice}
 use Rattle.task_turns.specs.Midway.{Place}
 use Rattle.task_turns.specs.Names.{IsName, names_at}
 use Rattle.task_turns.specs.Steps.{enters_block}

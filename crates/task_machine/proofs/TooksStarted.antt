@@ -24,7 +24,7 @@ use Rattle.job_meaning.specs.Rest.{Event, starts, starts_over, numbered, Stopped
 use Rattle.nursery_book.specs.Nursery.{End, Nursery as Members}
 use Rattle.nursery_book.specs.Book.{nursery_at, HasNursery, Updates}
 use Rattle.nursery_book.specs.declared.book.NurseryBook.{NurseryBook}
-use Rattle.task_records.specs.Records.{IsSlice}
+use Rattle.task_machine.specs.Noted.{IsSlice}
 use Rattle.task_turns.specs.Midway.{Place, Begun}
 use Rattle.task_turns.specs.Steps.{begun_one, begun_over, froms_after, step_on}
 use Rattle.task_turns.proofs.Events.{froms_append}

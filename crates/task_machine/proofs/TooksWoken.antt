@@ -18,8 +18,8 @@ use Rattle.job_meaning.specs.Rest.{Stopped, awaiting}
 use Rattle.job_meaning.specs.Shown.{Shown, line_shown}
 use Rattle.nursery_book.specs.Nursery.{Nursery as Members}
 use Rattle.nursery_book.specs.Book.{nursery_at, Updates}
-use Rattle.task_records.specs.declared.entry.Entry.TheVariants as entries
-use Rattle.task_records.specs.Records.{entry_of, IsSlice}
+use Rattle.task_machine.specs.declared.entry.Entry.TheVariants as entries
+use Rattle.task_machine.specs.Noted.{entry_of, IsSlice}
 use Rattle.task_turns.specs.Midway.{Place}
 use Rattle.task_turns.specs.Placed.{PlacedStop}
 use Rattle.task_turns.specs.Steps.{making, leaves, froms_after}

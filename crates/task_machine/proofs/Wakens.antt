@@ -18,7 +18,7 @@ use Rattle.job_meaning.specs.Asking as ask
 use Rattle.nursery_book.specs.Nursery.{Nursery}
 use Rattle.nursery_book.specs.Book.{nursery_at, HasNursery, Updates}
 use Rattle.nursery_book.specs.declared.book.NurseryBook.{NurseryBook}
-use Rattle.task_records.specs.declared.entry.Entry.TheVariants as entries
+use Rattle.task_machine.specs.declared.entry.Entry.TheVariants as entries
 use Rattle.task_turns.specs.Midway.{Place, Move}
 use Rattle.task_turns.specs.Steps.{onward, making, sleeps}
 use Rattle.task_turns.specs.Wakes.{Wake, begins, sees, is_due, has_answer, settles, lines_made, goes_on_with, settled, wake_of}

@@ -6,7 +6,7 @@ use Rattle.cancel_scopes.specs.Sight.{Tick, Level}
 use Rattle.cancel_scopes.specs.Tree.{Stack, Tree, stack_of, outer_of, own_from, own_label, after_cancel, OthersKeep, IsInnermost}
 use Rattle.job_meaning.specs.Log as log
 use Rattle.job_meaning.specs.Rest.{Event, noted, signs, enters, starts}
-use Rattle.task_records.specs.declared.entry.ScopeFrom.{ScopeFrom}
+use Rattle.task_machine.specs.declared.entry.ScopeFrom.{ScopeFrom}
 use Rattle.task_machine.specs.declared.task.Own.{Own}
 use Rattle.task_machine.specs.declared.task.Task.{Task}
 use Rattle.task_machine.specs.declared.world.World.{World}

@@ -6,7 +6,7 @@ use Rattle.cancel_scopes.specs.Sight.{Tick, Level, catches}
 use Rattle.cancel_scopes.specs.Tree.{Tree, Stack, stack_of, outer_of, own_from, OthersKeep, IsInnermost}
 use Rattle.job_meaning.specs.Log.{Table}
 use Rattle.task_turns.specs.Midway.{Place, stack_at}
-use Rattle.task_records.specs.declared.entry.ScopeFrom.{ScopeFrom}
+use Rattle.task_machine.specs.declared.entry.ScopeFrom.{ScopeFrom}
 use Rattle.task_machine.specs.declared.leaving.Closed.{Closed}
 use Rattle.task_machine.specs.declared.task.Own.{Own}
 use Rattle.task_machine.specs.declared.task.Task.{Task}

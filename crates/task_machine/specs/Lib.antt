@@ -6,6 +6,7 @@ pub mod Lending
 pub mod Stacked
 pub mod Acts
 pub mod Laws
+pub mod Noted
 pub mod Kinds
 pub mod Stops
 pub mod Entered

@@ -14,8 +14,8 @@ use Rattle.job_meaning.specs.Walk.{Here}
 use Rattle.job_meaning.specs.Shown.{Shown, shown_at}
 use Rattle.job_meaning.specs.Rest as rest
 use Rattle.job_meaning.specs.Rest.{Event, noted, signs, enters, starts, Stopped}
-use Rattle.task_records.specs.declared.entry.Entry.{Entry}
-use Rattle.task_records.specs.Records.{entry_of, IsSlice}
+use Rattle.task_machine.specs.declared.entry.Entry.{Entry}
+use Rattle.task_machine.specs.Noted.{entry_of, IsSlice}
 use Rattle.task_turns.specs.Midway.{Place, Begun, Move}
 use Rattle.task_turns.specs.Placed.{PlacedAfter, places_behind}
 use Rattle.task_turns.specs.Names.{NewIn, OwnNames, names_at}

@@ -14,6 +14,7 @@ ghost use Rattle.task_machine.specs.declared.frame.Frame.TheVariants.{Scope};
 ghost use Rattle.job_tree.specs.Modest.{IsModestDeadline};
 ghost use Rattle.job_meaning.specs.Walk.{due};
 
+use crate::entry::ScopeFrom;
 use crate::frame::Frame;
 use crate::task::{Own, Task};
 use crate::world::World;
@@ -21,7 +22,6 @@ use autojump_clock::TaskId;
 use cancel_scopes::{ScopeId, stacks_are_chains};
 use job_tree::{Body, Deadline, Name};
 use std::alloc::AllocError;
-use task_records::ScopeFrom;
 
 // A cancel scope that is to be entered.
 #[derive(Clone, Copy)]

@@ -12,6 +12,7 @@
 
 mod cancelling;
 mod entering;
+mod entry;
 mod exiting;
 mod frame;
 mod labels;
@@ -29,8 +30,8 @@ mod turning;
 mod waking;
 mod world;
 
+pub use entry::{Entry, ScopeFrom};
 pub use laws::law_places;
 pub use stop::{Stop, Wake};
 pub use task::Task;
-pub use task_records::{Entry, ScopeFrom};
 pub use world::World;

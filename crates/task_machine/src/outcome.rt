@@ -3,12 +3,12 @@ ghost use Rattle.std.specs.Option.{option_map};
 ghost use Rattle.exc_groups.specs.Held.{exc_of};
 ghost use Rattle.job_meaning.specs.Shown.{shown_at};
 ghost use Rattle.job_meaning.specs.Walk.{left_as, left_with, exc_after, handler_exc, outcome_after};
-ghost use Rattle.task_records.specs.Records.{entry_of, IsSlice};
+ghost use Rattle.task_machine.specs.Noted.{entry_of, IsSlice};
 ghost use Rattle.task_machine.specs.Kinds.{kind_of, left_of, fails_of};
 
+use crate::entry::Entry;
 use exc_groups::{Exc, Label, Match, Parts, Whose, holds_cancelled, split};
 use std::alloc::{AllocError, Global};
-use task_records::Entry;
 
 /// What a block with a cancel scope of its own is.
 #[derive(Clone, Copy)]

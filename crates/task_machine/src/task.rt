@@ -8,6 +8,7 @@ ghost use Rattle.task_machine.specs.Frames.{frame_of, frames_of};
 ghost use Rattle.task_machine.specs.Tasks.{scope_of, home_of, home_scope};
 ghost use Rattle.task_machine.specs.declared.stop.Halt.TheVariants.{ToBegin};
 
+use crate::entry::{Entry, ScopeFrom};
 use crate::frame::Frame;
 use crate::stop::Halt;
 use buffer_parts::Part;
@@ -17,7 +18,6 @@ use job_grammar::Job;
 use nursery_book::{NurseryId, Place};
 use smallvec::SmallVec;
 use std::alloc::{AllocError, Global};
-use task_records::{Entry, ScopeFrom};
 
 /// A cancel scope that a task opened.
 #[derive(Clone, Copy)]

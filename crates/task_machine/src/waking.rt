@@ -14,6 +14,7 @@ ghost use Rattle.task_machine.specs.Standing.{waits_by, Wakens};
 ghost use Rattle.task_machine.specs.Tasks.{scope_of};
 ghost use Rattle.task_machine.specs.Waking.{WakesFrom, wake_in, answer_in, settled_exc, IsModestHalt, IsModestPurpose};
 
+use crate::entry::Entry;
 use crate::outcome::Kind;
 use crate::stop::{Halt, Moved, Purpose, Wake};
 use crate::task::Task;
@@ -23,7 +24,6 @@ use cancel_scopes::stacks_are_chains;
 use exc_groups::Exc;
 use line_kernels::Answer;
 use std::alloc::AllocError;
-use task_records::Entry;
 
 impl<'a> Task<'a> {
     // What a task does first that wakes. After an error the task and the world may only be dropped.

@@ -12,9 +12,10 @@ use Rattle.job_meaning.specs.Shown.{Shown, Ending, ending_of, row_of, shown}
 use Rattle.job_meaning.specs.Shown as report
 use Rattle.run_course.specs.Rows.{DepthFirst, no_more, and_more, record_of, records_by, froms_in}
 use Rattle.run_course.specs.Rows as course
-use Rattle.task_records.specs.declared.entry.Record.{Record}
-use Rattle.task_records.specs.declared.entry.ScopeFrom.{ScopeFrom}
-use Rattle.task_records.specs.Records.{IsSlice, AreSlices, entry_of, row_in, from_of}
+use Rattle.task_roster.specs.declared.record.Record.{Record}
+use Rattle.task_machine.specs.declared.entry.ScopeFrom.{ScopeFrom}
+use Rattle.task_machine.specs.Noted.{IsSlice, entry_of, from_of}
+use Rattle.task_roster.specs.Records.{AreSlices, row_in}
 use Rattle.task_roster.specs.declared.rows.Row.{Row}
 use Rattle.task_roster.specs.declared.rows.Ended.{Ended}
 use Rattle.task_roster.specs.Rows.{AreShown, EndIsShown, IsRecordOf, IsShown, IsTakenOut, ShowRecords, ShowsEnd}

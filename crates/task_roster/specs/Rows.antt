@@ -5,9 +5,10 @@ use Rattle.std.specs.Option.{option_map}
 use Rattle.exc_groups.specs.Held.{exc_of}
 use Rattle.job_meaning.specs.Shown.{shown, row_of, ending_of}
 use Rattle.run_course.specs.Rows as course
-use Rattle.task_records.specs.declared.entry.Record.{Record}
-use Rattle.task_records.specs.declared.entry.ScopeFrom.{ScopeFrom}
-use Rattle.task_records.specs.Records.{entry_of, IsSlice, AreSlices, row_in, from_of, ending_in}
+use Rattle.task_roster.specs.declared.record.Record.{Record}
+use Rattle.task_machine.specs.declared.entry.ScopeFrom.{ScopeFrom}
+use Rattle.task_machine.specs.Noted.{entry_of, IsSlice, from_of}
+use Rattle.task_roster.specs.Records.{AreSlices, row_in, ending_in}
 use Rattle.task_roster.specs.declared.rows.Row.{Row}
 use Rattle.task_roster.specs.declared.rows.Ended.{Ended}
 

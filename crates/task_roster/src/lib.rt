@@ -4,10 +4,12 @@
 //! or ends, and that the rows of a run that is over are told depth first. It stands on `task_machine` and `batch_commit`.
 #![tactic(auto)]
 
+mod record;
 mod roster;
 mod rows;
 #[cfg(test)]
 mod tests;
 
+pub use record::{Outcome, Record};
 pub use roster::{Roster, Running};
 pub use rows::{Ended, Row, records_of};

@@ -4,14 +4,15 @@ ghost use Rattle.std.specs.Option.{option_map};
 ghost use Rattle.exc_groups.specs.Held.{exc_of};
 ghost use Rattle.job_meaning.specs.Shown.{ending_of};
 ghost use Rattle.run_course.specs.Rows as course;
-ghost use Rattle.task_records.specs.Records.{ending_in};
+ghost use Rattle.task_roster.specs.Records.{ending_in};
 ghost use Rattle.task_roster.specs.Rows.{AreShown, ChildrenAreApart, ShowRecords, IsRecordOf, IsTakenOut};
 
+use crate::record::{Outcome, Record};
 use autojump_clock::TaskId;
 use exc_groups::{Exc, Label};
 use std::alloc::{AllocError, Global};
 use std::mem;
-use task_records::{Entry, Outcome, Record, ScopeFrom};
+use task_machine::{Entry, ScopeFrom};
 
 /// What is kept of a task that was started.
 #[derive(Drop)]

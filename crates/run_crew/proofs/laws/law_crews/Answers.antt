@@ -1,6 +1,7 @@
 use Rattle.run_crew.proofs.Begun.{crew_begun}
 use Rattle.run_crew.proofs.Blocks.{crew_blocked, crew_in_time, crew_sleeps, crew_turns}
 use Rattle.run_crew.proofs.CrewFits.{crew_fits}
+use Rattle.run_crew.proofs.FewTasks.{crew_few}
 use Rattle.run_crew.proofs.Jumped.{crew_jumps, crew_takes}
 use Rattle.run_crew.proofs.Going.{may_wake}
 use Rattle.run_crew.proofs.Left.{crew_left}
@@ -43,6 +44,9 @@ returns-clause-in_time c = crew_in_time
 
 pub returns-clause-turns : goal.returns-clause-turns
 returns-clause-turns c = crew_turns
+
+pub returns-clause-tasks : goal.returns-clause-tasks
+returns-clause-tasks c = crew_few
 
 pub returns-clause-over : goal.returns-clause-over
 returns-clause-over c = crew_over

@@ -1,6 +1,6 @@
 use Rattle.std.proofs.Common.{◌≡◌, ◌++◌, ◌∷◌, [], ℕ, List, ap, ◌∙◌, arith}
 use Rattle.std.proofs.lemmas.List.{nil_from_length}
-use Rattle.task_records.specs.declared.entry.ScopeFrom.{ScopeFrom}
+use Rattle.task_machine.specs.declared.entry.ScopeFrom.{ScopeFrom}
 use Rattle.task_roster.proofs.Apart.{apart_first, apart_step, fewer_left, top_has_ended, top_within}
 use Rattle.task_roster.proofs.Order.{told_first, told_step, told_last}
 use Rattle.task_roster.proofs.rows.records_of.Goals as goal

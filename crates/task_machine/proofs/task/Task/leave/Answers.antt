@@ -5,7 +5,7 @@ use Rattle.task_machine.specs.Stacked.{AreAt}
 use Rattle.task_machine.proofs.Stacked.{one_of, catches_at}
 use Rattle.std.proofs.lemmas.Option.{slice_get-get_or}
 use Rattle.std.specs.List.{All}
-use Rattle.task_records.specs.declared.entry.ScopeFrom.{ScopeFrom}
+use Rattle.task_machine.specs.declared.entry.ScopeFrom.{ScopeFrom}
 use Rattle.task_machine.specs.declared.task.Own.{Own}
 use Rattle.task_machine.proofs.OwnLemmas.{last_pushed}
 use Rattle.task_machine.proofs.Leaves.{last_below, Top, top_of, first_after, places_after, left_from}

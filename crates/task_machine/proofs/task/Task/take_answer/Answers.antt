@@ -1,7 +1,7 @@
 use Rattle.std.proofs.Common.{None, List, ◌++◌, map, refl, ap, sym, ◌∙◌, subst}
 use Rattle.buffer_parts.specs.Part.{span_of}
 use Rattle.buffer_parts.specs.declared.line.Line.{Line}
-use Rattle.task_records.specs.declared.entry.Entry.TheVariants as entries
+use Rattle.task_machine.specs.declared.entry.Entry.TheVariants as entries
 use Rattle.task_turns.specs.Wakes.{has_answer}
 use Rattle.task_machine.specs.declared.stop.Moved.TheVariants.{On}
 use Rattle.task_machine.specs.Standing.{Wakens}

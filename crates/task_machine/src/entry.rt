@@ -1,5 +1,6 @@
+//! What tasks leave: what a task noted, and from which tick a scope was cancelled.
 use buffer_parts::Line;
-use exc_groups::{Exc, Label};
+use exc_groups::Label;
 
 /// What a task noted, in the order in which it did.
 #[derive(Drop)]
@@ -24,32 +25,6 @@ pub enum Entry<'a> {
         /// Whether it took a `Cancelled` away.
         caught: bool,
     },
-}
-
-/// How a task ended.
-#[derive(Drop)]
-pub enum Outcome {
-    /// Well.
-    Done,
-    /// With one `Cancelled` outside any group.
-    Cancelled,
-    /// With another exception.
-    Raised(Exc),
-}
-
-/// What the report says of a task: its label, the ticks in which it started and ended, how it ended, and its entries.
-#[derive(Drop)]
-pub struct Record<'a> {
-    /// The task's label; the root's is the job's name.
-    pub label: Label,
-    /// The tick in which it was started.
-    pub from_tick: u64,
-    /// The tick in which it ended.
-    pub to_tick: u64,
-    /// How it ended.
-    pub outcome: Outcome,
-    /// What it noted, in the order in which it did: lines as a kernel answers, scopes and nurseries at their exit.
-    pub entries: Vec<Entry<'a>>,
 }
 
 /// From which tick a cancel scope or nursery was cancelled.

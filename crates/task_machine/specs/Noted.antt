@@ -1,0 +1,24 @@
+-- What clauses read of what tasks note.
+use Rattle.std.specs.Prelude.{ℕ, List}
+use Rattle.buffer_parts.specs.Part.{span_of, line_text, IsLineOf}
+use Rattle.job_meaning.specs.Meaning.{From}
+use Rattle.job_meaning.specs.Shown.{Shown, line_shown, scope_shown, nursery_shown}
+use Rattle.task_machine.specs.declared.entry.Entry.{Entry}
+use Rattle.task_machine.specs.declared.entry.Entry.TheVariants.{Line, Scope, Nursery}
+use Rattle.task_machine.specs.declared.entry.ScopeFrom.{ScopeFrom}
+
+-- an entry as it is shown
+abbrev pub entry_of : Entry → Shown
+entry_of (Line line) = line_shown (span_of line).at (line_text line)
+entry_of (Scope label tick caught) = scope_shown label tick caught
+entry_of (Nursery label tick caught) = nursery_shown label tick caught
+
+-- an entry's line, if it is one, is the slice of the input at its place
+abbrev pub IsSlice : List ℕ → Entry → Type 0
+IsSlice input (Line shown_line) = IsLineOf input shown_line
+IsSlice input (Scope label tick caught) = Unit {0}
+IsSlice input (Nursery label tick caught) = Unit {0}
+
+-- a scope or nursery with the tick from which it was cancelled
+abbrev pub from_of : ScopeFrom → From
+from_of f = record { label = f.label; seen = f.seen }
