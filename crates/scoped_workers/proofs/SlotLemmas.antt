@@ -10,20 +10,20 @@ use Rattle.scoped_workers.specs.declared.slot.Slot.{Slot}
 use Rattle.scoped_workers.specs.declared.slot.Content.TheVariants.{Done}
 use Rattle.scoped_workers.specs.Slots.{Computes, IsComputed, AreComputed, IsFilled, AreAnswers, done}
 
--- the first slots hold what the requests from a number on came to
-abbrev pub ComputedBelow : ℕ → ℕ → List Request → List Slot → Type 0
-ComputedBelow k first requests row = (i : ℕ) (q : Request) (s : Slot) → i < k → IsComputed (slice_index_or requests (first + i) q) (slice_index_or row i s)
+-- the first slots hold what their requests came to
+abbrev pub ComputedBelow : ℕ → List Request → List Slot → Type 0
+ComputedBelow k requests row = (i : ℕ) (q : Request) (s : Slot) → i < k → IsComputed (slice_index_or requests i q) (slice_index_or row i s)
 
 -- one request more is computed
-pub computed-one_more : (first : ℕ) (requests : List Request) (row : List Slot) (k : ℕ) (request : Request) (slot : Slot) → first + k < length requests → k < length row → request ≡ slice_index_or requests (first + k) request → ComputedBelow k first requests row → IsComputed request slot
-    → ComputedBelow (k + 1) first requests (slice_set row k slot)
-computed-one_more first requests row k request slot inside within is below this i q s less =
+pub computed-one_more : (requests : List Request) (row : List Slot) (k : ℕ) (request : Request) (slot : Slot) → k < length requests → k < length row → request ≡ slice_index_or requests k request → ComputedBelow k requests row → IsComputed request slot
+    → ComputedBelow (k + 1) requests (slice_set row k slot)
+computed-one_more requests row k request slot inside within is below this i q s less =
     ⊎_elim
-    (λ (before : i < k). subst (IsComputed (slice_index_or requests (first + i) q)) (sym (get_or-set_other row k i slot s (omega arith))) (below i q s before))
+    (λ (before : i < k). subst (IsComputed (slice_index_or requests i q)) (sym (get_or-set_other row k i slot s (omega arith))) (below i q s before))
     (λ (behind : k ≤ i).
     let same : i ≡ k = omega arith in
-    let asked : request ≡ slice_index_or requests (first + i) q = is ∙ get_or_default requests (first + k) request q inside ∙ ap (λ j. slice_index_or requests (first + j) q) (sym same) in
-    subst (IsComputed (slice_index_or requests (first + i) q)) (sym (get_or-set_at row k i slot s same within)) (subst (λ r. IsComputed r slot) asked this))
+    let asked : request ≡ slice_index_or requests i q = is ∙ get_or_default requests k request q inside ∙ ap (λ j. slice_index_or requests j q) (sym same) in
+    subst (IsComputed (slice_index_or requests i q)) (sym (get_or-set_at row k i slot s same within)) (subst (λ r. IsComputed r slot) asked this))
     (cases_lt i k)
 
 -- one answer more is taken out
@@ -41,19 +41,13 @@ filled-rest rest left slot next all k d less = subst (λ slots. IsFilled (slice_
 computed-filled : (request : Request) (slot : Slot) → IsComputed request slot → IsFilled slot
 computed-filled request slot holds none = subst (Computes request) none holds
 
--- what stands in one slot of all
-computed-at : (requests : List Request) (row : List Slot) → AreComputed requests row → (i : ℕ) (q : Request) (s : Slot) → i < length row → IsComputed (slice_index_or requests i q) (slice_index_or row i s)
-computed-at requests row computed i q s less =
-    let place : 0 + i ≡ i = omega arith in
-    subst (λ k. IsComputed (slice_index_or requests k q) (slice_index_or row i s)) place (computed i q s less)
-
 -- where each request was computed no slot is empty
 pub computed-filled-all : (requests : List Request) (row : List Slot) → length row ≡ length requests → AreComputed requests row → All IsFilled row
 computed-filled-all [] row paired computed k d less = absurd (omega arith)
-computed-filled-all (request ∷ requests) row paired computed k d less = computed-filled (slice_index_or (request ∷ requests) k request) (slice_index_or row k d) (computed-at (request ∷ requests) row computed k request d less)
+computed-filled-all (request ∷ requests) row paired computed k d less = computed-filled (slice_index_or (request ∷ requests) k request) (slice_index_or row k d) (computed k request d less)
 
 -- a row that was lent whole is what the calls left
-pub written-whole : (n : ℕ) (row rest : List Slot) → length row ≡ n → take n (row ++ rest) ≡ row
+pub written-whole : {X : Type 0} (n : ℕ) (row rest : List X) → length row ≡ n → take n (row ++ rest) ≡ row
 written-whole n row rest whole = take-append-le n row rest (omega arith) ∙ take_all n row (omega arith)
 
 -- the answers of a row are those to the requests
@@ -64,12 +58,5 @@ answers-computed requests answers row taken paired computed =
       count = count;
       each = λ i q a less.
           let slot : slice_index_or row i (done a) ≡ done (slice_index_or answers i a) = sym (ap (λ slots. slice_index_or slots i (done a)) taken) ∙ get_or-map done answers i a in
-          subst (IsComputed (slice_index_or requests i q)) slot (computed-at requests row computed i q (done a) (omega arith));
+          subst (IsComputed (slice_index_or requests i q)) slot (computed i q (done a) (omega arith));
     }
-
--- a slot of a chunk is a slot of the row
-pub computed-in_row : (requests : List Request) (row chunk : List Slot) (start offset i : ℕ) (q : Request) (s : Slot) → start + offset ≡ i → slice_index_or chunk offset s ≡ slice_index_or row i s → IsComputed (slice_index_or requests (start + offset) q) (slice_index_or chunk offset s)
-    → IsComputed (slice_index_or requests (0 + i) q) (slice_index_or row i s)
-computed-in_row requests row chunk start offset i q s place same computed =
-    let whole : start + offset ≡ 0 + i = omega arith in
-    subst (λ k. IsComputed (slice_index_or requests k q) (slice_index_or row i s)) whole (subst (IsComputed (slice_index_or requests (start + offset) q)) same computed)

@@ -1,5 +1,5 @@
 -- What a slot holds once its request was computed, and the answers to a list of requests.
-use Rattle.std.specs.Prelude.{◌≡◌, ◌≢◌, ℕ, ◌+◌, ◌<◌, List, length, slice_index_or}
+use Rattle.std.specs.Prelude.{◌≡◌, ◌≢◌, ℕ, ◌<◌, List, length, slice_index_or}
 use Rattle.line_kernels.specs.declared.request.Request.{Request}
 use Rattle.line_kernels.specs.declared.answers.Answer.{Answer}
 use Rattle.line_kernels.specs.Answers.{IsAnswer}
@@ -21,13 +21,9 @@ Computes request NoMemory = Unit {0}
 abbrev pub IsComputed : Request → Slot → Type 0
 IsComputed request slot = Computes request slot.content
 
--- the slots hold what the requests from a number on came to
-abbrev pub AreComputedFrom : ℕ → List Request → List Slot → Type 0
-AreComputedFrom first requests row = (i : ℕ) (q : Request) (s : Slot) → i < length row → IsComputed (slice_index_or requests (first + i) q) (slice_index_or row i s)
-
 -- the slot of each request holds what that request came to
 abbrev pub AreComputed : List Request → List Slot → Type 0
-AreComputed requests row = AreComputedFrom 0 requests row
+AreComputed requests row = (i : ℕ) (q : Request) (s : Slot) → i < length row → IsComputed (slice_index_or requests i q) (slice_index_or row i s)
 
 -- the answer at each place is that of the request there
 pub record AreAnswers (requests : List Request) (answers : List Answer) : Type 0 where

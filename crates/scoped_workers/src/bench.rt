@@ -1,7 +1,6 @@
-ghost use Rattle.std.specs.Prelude.{◌≡◌, ◌+◌, ◌<◌, ◌≤◌, length, take, drop, slice_set};
-ghost use Rattle.scoped_workers.specs.Slots.{IsComputed, AreComputedFrom};
+ghost use Rattle.std.specs.Prelude.{◌≡◌, ◌<◌, ◌≤◌, length, take, drop, slice_set};
+ghost use Rattle.scoped_workers.specs.Slots.{IsComputed, AreComputed};
 
-use crate::gate::{Gate, NoGate};
 use crate::slot::{Content, Slot};
 use line_kernels::{Request, answer};
 use std::alloc::Global;
@@ -15,7 +14,6 @@ pub struct Bench<'b, 'a> {
 }
 
 impl<'b, 'a> Bench<'b, 'a> {
-    ghost use Rattle.scoped_workers.specs.Slots.{AreComputed};
     ghost use Rattle.scoped_workers.specs.Bench.{requests_of, row_of};
 
     /// Pairs request `i` with slot `i`. The caller sees to it that there are as many of both.
@@ -65,30 +63,22 @@ impl<'b, 'a> Bench<'b, 'a> {
         ensures computed { AreComputed (requests_of self.entry) self.exit.1.0.now }
     {
         let Bench { requests, row } = self;
-        compute(alloc, requests, 0, row, &NoGate);
+        compute(alloc, requests, row);
     }
 }
 
-/// Computes requests in turn, each into its slot, with the gate round it. The first slot is for the request of that number.
-pub(crate) fn compute<'a, G: Gate>(
-    alloc: Global,
-    requests: &[Request<'a>],
-    first: usize,
-    row: &mut [Slot<'a>],
-    gate: &G,
-)
-    requires { first + length row.old ≤ length requests.now }
+// Computes requests in turn, each into its slot.
+fn compute<'a>(alloc: Global, requests: &[Request<'a>], row: &mut [Slot<'a>])
+    requires { length row.old ≡ length requests.now }
     ensures count { length row.new ≡ length row.old }
-    ensures computed { AreComputedFrom first requests.now row.new }
+    ensures computed { AreComputed requests.now row.new }
 {
     for i in 0..row.len() {
-        gate.before(first + i);
-        row[i] = computed(alloc, &requests[first + i]);
-        gate.after(first + i);
+        row[i] = computed(alloc, &requests[i]);
     }
 }
 
-/// The slot of a request that was computed.
+// The slot of a request that was computed.
 fn computed<'a>(alloc: Global, request: &Request<'a>) -> Slot<'a>
     ensures { IsComputed request.now result }
 {

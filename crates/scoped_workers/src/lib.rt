@@ -1,12 +1,14 @@
 //! Worker threads that compute the requests of a batch.
 //!
 //! The layer promises that `work` answers each request as its kernel does (`line_kernels`), in the order of the requests,
-//! for every number of workers and every gate. It stands on `line_kernels` and on the scoped threads of std.
+//! for every number of workers and every gate. The workers draw the numbers of the requests (`claim_word`), so that no worker
+//! waits while a request is left. It stands on these two crates and on the scoped threads of std.
 #![tactic(auto)]
 
 mod bench;
 mod gate;
 mod slot;
+mod station;
 #[cfg(test)]
 mod tests;
 mod working;

@@ -8,6 +8,9 @@ use std::test::Fail;
 /// Three lines of two, one and four bytes.
 const BUFFER: &[u8] = b"aa\nb\ncccc\n";
 
+/// A hundred empty lines.
+const LINES: &[u8] = &[b'\n'; 100];
+
 /// How often a gate looks whether both requests were begun.
 const LOOKS: u32 = 100_000_000;
 
@@ -144,5 +147,49 @@ fn two_workers_compute_at_once(rt: HostRuntime) -> Result<(), Fail> {
     }
     assert_eq!(rt; gate.missed.load(Ordering::SeqCst), 0);
     assert_eq!(rt; gate.ended.load(Ordering::SeqCst), 2);
+    Ok(())
+}
+
+/// A gate that counts its calls.
+#[derive(Drop)]
+struct Counted {
+    before: AtomicU64,
+    after: AtomicU64,
+}
+
+impl Gate for Counted {
+    fn before(&self, _i: usize) {
+        self.before.fetch_add(1, Ordering::SeqCst);
+    }
+
+    fn after(&self, _i: usize) {
+        self.after.fetch_add(1, Ordering::SeqCst);
+    }
+}
+
+#[test]
+fn three_workers_answer_a_hundred_requests(rt: HostRuntime) -> Result<(), Fail> {
+    let gate = Counted {
+        before: AtomicU64::new(0),
+        after: AtomicU64::new(0),
+    };
+    let mut requests = Vec::with_capacity(rt.alloc(), LINES.len())?;
+    for lines in 0..LINES.len() {
+        requests.push(Request {
+            kernel: Kernel::Count,
+            part: Part::whole(&LINES[..lines]),
+        })?;
+    }
+    assert!(rt; requests.len() <= 2_000_000);
+    let answers = work(&rt, rt.alloc(), 3, requests.as_slice(), &gate)?;
+    assert_eq!(rt; answers.len(), 100);
+    for (answer, lines) in answers.iter().zip(0..100) {
+        match answer {
+            Answer::Count(found) => assert_eq!(rt; *found, lines),
+            _ => panic!(rt; "no count"),
+        }
+    }
+    assert_eq!(rt; gate.before.load(Ordering::SeqCst), 100);
+    assert_eq!(rt; gate.after.load(Ordering::SeqCst), 100);
     Ok(())
 }

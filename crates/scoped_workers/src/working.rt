@@ -1,16 +1,20 @@
-ghost use Rattle.std.specs.Prelude.{◌≡◌, ◌+◌, ◌≤◌, List, length, map, replicate, All, IfOk};
-ghost use Rattle.scoped_workers.specs.Slots.{AreAnswers, AreComputedFrom, IsFilled, empty, done};
+ghost use Rattle.std.specs.Prelude.{◌≡◌, ◌≤◌, ◌<◌, List, [], ◌∷◌, ◌++◌, true, false, length, vec_len, map, replicate, slice_set, All, IfOk};
+ghost use Rattle.claim_word.specs.Claims.{IsPassOf, requests_of, drawn_by, was_told};
+ghost use Rattle.scoped_workers.specs.Slots.{AreAnswers, AreComputed, IsFilled, empty, done};
+ghost use Rattle.scoped_workers.specs.Stations.{IsFresh, IsFinished, AreGathered, HaveAnswers};
 
-use crate::bench::compute;
 use crate::gate::Gate;
 use crate::slot::{Content, Slot};
+use crate::station::{Numbered, Station};
+use claim_word::{Claims, Pass};
 use line_kernels::{Answer, Request};
 use std::alloc::{AllocError, Global};
 use std::thread;
 use std::thread::Threads;
 
-/// Answers each request, in at most so many worker threads and no more than there are requests. The gate is called
-/// round each request, by the worker that computes it.
+/// Answers each request, in at most so many worker threads and no more than there are requests; a single worker is the
+/// calling thread. Each worker draws the next request until none is left. The gate is called round each request, by the
+/// worker that computes it.
 ///
 /// A request for which memory is refused makes the whole answer that, after all workers were joined. Where a thread
 /// cannot be started another does its work. The caller sees to it that there are 1 to 64 workers and at most 2,000,000
@@ -31,21 +35,182 @@ pub fn work<'a, R: Threads + Sync, G: Gate + Sync>(
         return Ok(Vec::new(alloc));
     }
     let mut row = empty_row(alloc, requests.len())?;
-    let size = requests.len().div_ceil(workers);
-    thread::for_each_chunk_mut(
-        rt,
-        row.as_mut_slice(),
-        size,
-        &|first: usize, slots: &mut [Slot]|
-            requires { first + length slots.now ≤ length requests.now }
-            ensures count { length slots.exit.now ≡ length slots.entry.now }
-            ensures computed { AreComputedFrom first requests.entry.now slots.exit.now }
-        { compute(alloc, requests, first, slots, gate) },
-    );
+    let count = workers.min(requests.len());
+    let answered = draw_all(rt, alloc, count, requests, gate)?;
+    place(requests, answered, row.as_mut_slice());
     answers(alloc, row)
 }
 
-/// So many empty slots.
+// The answers to all requests, by so many workers, as they come.
+fn draw_all<'a, R: Threads + Sync, G: Gate + Sync>(
+    rt: &R,
+    alloc: Global,
+    workers: usize,
+    requests: &[Request<'a>],
+    gate: &G,
+) -> Result<Vec<Numbered<'a>>, AllocError>
+    requires some_workers { 1 ≤ workers }
+    requires few_workers { workers ≤ 64 }
+    requires few_requests { length requests.now ≤ 2000000 }
+    ensures { IfOk result (λ answered. HaveAnswers requests.now answered.items) }
+{
+    let (claims, passes) = Claims::new(alloc, requests.len(), workers)?;
+    let stations = stations_of(alloc, &claims, passes)?;
+    let stations = run_all(rt, alloc, requests, &claims, gate, stations);
+    let gathered = gather(alloc, requests, &claims, stations)?;
+    let Gathered {
+        passes,
+        answered,
+        refused,
+    } = gathered;
+    claims.close(passes);
+    if refused {
+        return Err(AllocError);
+    }
+    Ok(answered)
+}
+
+// A station for each pass.
+fn stations_of<'a>(
+    alloc: Global,
+    claims: &Claims,
+    passes: Vec<Pass>,
+) -> Result<Vec<Station<'a>>, AllocError>
+    requires { All (λ pass. IsPassOf claims.now pass × (drawn_by pass ≡ []) × (was_told pass ≡ false)) passes.items }
+    ensures count { IfOk result (λ stations. vec_len stations ≡ vec_len passes) }
+    ensures fresh { IfOk result (λ stations. All (IsFresh claims.now) stations.items) }
+{
+    let mut stations = Vec::with_capacity(alloc, passes.len())?;
+    for pass in passes {
+        stations.push(Station::new(alloc, pass))?;
+    }
+    Ok(stations)
+}
+
+// The stations once their workers have drawn all requests.
+fn run_all<'a, R: Threads + Sync, G: Gate + Sync>(
+    rt: &R,
+    alloc: Global,
+    requests: &[Request<'a>],
+    claims: &Claims,
+    gate: &G,
+    mut stations: Vec<Station<'a>>,
+) -> Vec<Station<'a>>
+    requires count { requests_of claims.now ≡ length requests.now }
+    requires some { 0 < vec_len stations }
+    requires fresh { All (IsFresh claims.now) stations.items }
+    ensures count { vec_len result ≡ vec_len stations.entry }
+    ensures finished { All (IsFinished requests.entry.now claims.now) result.items }
+{
+    run_each(rt, alloc, requests, claims, gate, stations.as_mut_slice());
+    stations
+}
+
+// Runs each station, in a thread of its own if there are several.
+fn run_each<'a, R: Threads + Sync, G: Gate + Sync>(
+    rt: &R,
+    alloc: Global,
+    requests: &[Request<'a>],
+    claims: &Claims,
+    gate: &G,
+    stations: &mut [Station<'a>],
+)
+    requires count { requests_of claims.now ≡ length requests.now }
+    requires some { 0 < length stations.old }
+    requires fresh { All (IsFresh claims.now) stations.old }
+    ensures count { length stations.new ≡ length stations.old }
+    ensures finished { All (IsFinished requests.entry.now claims.now) stations.new }
+{
+    let count = stations.len();
+    if count == 1 {
+        stations[0].run(alloc, requests, claims, gate);
+        return;
+    }
+    thread::for_each_mut(
+        rt,
+        stations,
+        count,
+        &|_: usize, station: &mut Station|
+            requires { (requests_of claims.now ≡ length requests.now) × IsFresh claims.now station.old }
+            ensures { IsFinished requests.entry.now claims.entry.now station.new }
+        { station.run(alloc, requests, claims, gate) },
+    );
+}
+
+// What all stations hand back.
+#[derive(Drop)]
+struct Gathered<'a> {
+    passes: Vec<Pass>,
+    answered: Vec<Numbered<'a>>,
+    refused: bool,
+}
+
+impl<'a> Gathered<'a> {
+    // Takes in what one station hands back.
+    fn take(&mut self, station: Station<'a>) -> Result<(), AllocError>
+        ensures passes { IfOk result (λ _. self.new.passes.items ≡ self.old.passes.items ++ station.entry.pass ∷ []) }
+        ensures answered { IfOk result (λ _. self.new.answered.items ≡ self.old.answered.items ++ station.entry.answered.items) }
+        ensures refused { IfOk result (λ _. self.new.refused ≡ false → (self.old.refused ≡ false) × (station.entry.refused ≡ false)) }
+    {
+        let Station {
+            pass,
+            mut answered,
+            refused,
+        } = station;
+        self.passes.push(pass)?;
+        self.answered.append(&mut answered)?;
+        self.refused = self.refused || refused;
+        Ok(())
+    }
+}
+
+// Gathers what the stations hand back.
+fn gather<'a>(
+    alloc: Global,
+    requests: &[Request<'a>],
+    claims: &Claims,
+    stations: Vec<Station<'a>>,
+) -> Result<Gathered<'a>, AllocError>
+    requires { All (IsFinished requests.now claims.now) stations.items }
+    ensures count { IfOk result (λ gathered. vec_len gathered.passes ≡ vec_len stations.entry) }
+    ensures passes { IfOk result (λ gathered. All (λ pass. IsPassOf claims.now pass × (was_told pass ≡ true)) gathered.passes.items) }
+    ensures answered { IfOk result (λ gathered. gathered.refused ≡ false → AreGathered requests.entry.now gathered.passes.items gathered.answered.items) }
+{
+    let mut gathered = Gathered {
+        passes: Vec::with_capacity(alloc, stations.len())?,
+        answered: Vec::new(alloc),
+        refused: false,
+    };
+    for station in stations {
+        gathered.take(station)?;
+    }
+    Ok(gathered)
+}
+
+// Puts each answer into the slot of its request.
+fn place<'a>(requests: &[Request<'a>], answered: Vec<Numbered<'a>>, row: &mut [Slot<'a>])
+    requires paired { length requests.now ≡ length row.old }
+    requires answers { HaveAnswers requests.now answered.items }
+    ensures count { length row.new ≡ length row.old }
+    ensures computed { AreComputed requests.entry.now row.new }
+{
+    for numbered in answered {
+        let Numbered { number, answer } = numbered;
+        put(row, number, answer);
+    }
+}
+
+// Puts one answer into a slot.
+fn put<'a>(row: &mut [Slot<'a>], number: usize, answer: Answer<'a>)
+    requires { number < length row.old }
+    ensures { row.new ≡ slice_set row.old number (done answer.entry) }
+{
+    row[number] = Slot {
+        content: Content::Done(answer),
+    };
+}
+
+// So many empty slots.
 fn empty_row<'a>(alloc: Global, count: usize) -> Result<Vec<Slot<'a>>, AllocError>
     ensures { IfOk result (λ row. row.items ≡ replicate count empty) }
 {
@@ -58,7 +223,7 @@ fn empty_row<'a>(alloc: Global, count: usize) -> Result<Vec<Slot<'a>>, AllocErro
     Ok(row)
 }
 
-/// The answers of a row of which no slot is empty.
+// The answers of a row of which no slot is empty.
 fn answers<'a>(alloc: Global, row: Vec<Slot<'a>>) -> Result<Vec<Answer<'a>>, AllocError>
     requires { All IsFilled row.items }
     ensures { IfOk result (λ answers. map done answers.items ≡ row.entry.items) }

@@ -4,12 +4,12 @@ use Rattle.scoped_workers.proofs.SlotLemmas.{computed-one_more}
 use Rattle.scoped_workers.proofs.bench.compute.Goals as goal
 
 pub loop-i-preserved : goal.loop-i-preserved
-loop-i-preserved g c =
+loop-i-preserved c =
     let before = c.loop-i.invariant in
     let row = c.loop-i.row in
     let i = c.loop-i.i in
     let slot = c.computed.result in
     record {
       count = length-set row i slot ∙ before.count;
-      done = computed-one_more c.args.first c.args.requests.now row i c.index-requests-first.result slot (omega arith) (omega arith) c.index-requests-first.is before.done c.computed.ensures;
+      done = computed-one_more c.args.requests.now row i c.index-requests-i.result slot (omega arith) (omega arith) c.index-requests-i.is before.done c.computed.ensures;
     }

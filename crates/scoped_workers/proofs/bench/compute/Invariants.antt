@@ -3,7 +3,7 @@ use Rattle.scoped_workers.proofs.SlotLemmas.{ComputedBelow}
 use Rattle.scoped_workers.proofs.bench.compute.Given as goal
 
 abbrev pub invariant-loop-i : goal.invariant-loop-i
-invariant-loop-i g l = record {
+invariant-loop-i l = record {
   count : length l.row ≡ length l.initial.row;
-  done : ComputedBelow l.i l.first l.requests l.row;
+  done : ComputedBelow l.i l.requests l.row;
 }

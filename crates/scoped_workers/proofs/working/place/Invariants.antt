@@ -1,0 +1,11 @@
+use Rattle.std.proofs.Common.{All, ◌≡◌, length}
+use Rattle.scoped_workers.specs.Stations.{IsRight}
+use Rattle.scoped_workers.proofs.StationLemmas.{ComputedBut}
+use Rattle.scoped_workers.proofs.working.place.Given as goal
+
+abbrev pub invariant-loop-numbered : goal.invariant-loop-numbered
+invariant-loop-numbered l = record {
+  count : length l.row ≡ length l.fn.requests;
+  right : All (IsRight l.fn.requests) l.numbered-iterator.rest.items;
+  computed : ComputedBut l.fn.requests l.numbered-iterator.rest.items l.row;
+}
