@@ -1,1 +1,16 @@
-pub mod Root
+pub mod Shelving
+pub mod Stopped
+pub mod Places
+pub mod Waking
+pub mod Lived
+pub mod Jumped
+pub mod Landing
+pub mod Ending
+pub mod Waiters
+pub mod FewRequests
+pub mod Rounds
+pub mod Starting
+pub mod Turning
+pub mod Committing
+pub mod Finishing
+pub mod Opening

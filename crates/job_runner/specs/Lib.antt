@@ -1,2 +1,7 @@
 pub mod Settings
 pub mod Runs
+pub mod Shelves
+pub mod Phases
+pub mod Steps
+pub mod Jumps
+pub mod Rounds

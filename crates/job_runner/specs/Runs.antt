@@ -3,9 +3,10 @@ use Rattle.std.specs.Prelude.{◌≡◌, ℕ, ◌<◌, List, map}
 use Rattle.job_tree.specs.Tree.{Tree}
 use Rattle.job_meaning.specs.Meaning.{From, meaning_end, meaning_froms}
 use Rattle.job_meaning.specs.Shown.{Row, meaning_rows}
-use Rattle.task_records.specs.declared.entry.Record.{Record}
-use Rattle.task_records.specs.declared.entry.ScopeFrom.{ScopeFrom}
-use Rattle.task_records.specs.Records.{row_in, from_of, AreSlices}
+use Rattle.task_roster.specs.declared.record.Record.{Record}
+use Rattle.task_machine.specs.declared.entry.ScopeFrom.{ScopeFrom}
+use Rattle.task_machine.specs.Noted.{from_of}
+use Rattle.task_roster.specs.Records.{row_in, AreSlices}
 use Rattle.job_runner.specs.declared.finished.Run.{Run}
 use Rattle.job_runner.specs.declared.fault.RunFault.{RunFault}
 use Rattle.job_runner.specs.declared.fault.RunFault.TheVariants.{Limit, NoMemory}
@@ -22,6 +23,9 @@ rows_of run = map row_in (records_in run)
 
 abbrev pub froms_in : Run → List ScopeFrom
 froms_in run = run.froms.items
+
+abbrev pub turns_of : Run → ℕ
+turns_of run = run.turns
 
 -- the scopes and nurseries with the ticks from which they were cancelled
 abbrev pub scope_froms_of : Run → List From

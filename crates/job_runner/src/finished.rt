@@ -1,5 +1,6 @@
 use job_tree::Name;
-use task_records::{Record, ScopeFrom};
+use task_machine::ScopeFrom;
+use task_roster::Record;
 
 /// A finished run: the records of the job's meaning, the root's first.
 #[derive(Drop)]
@@ -7,22 +8,30 @@ pub struct Run<'a> {
     name: Name,
     records: Vec<Record<'a>>,
     froms: Vec<ScopeFrom>,
+    turns: u64,
 }
 
 impl<'a> Run<'a> {
     ghost use Rattle.std.specs.Prelude.{◌≡◌};
-    ghost use Rattle.job_runner.specs.Runs.{name_of, records_in, froms_in};
+    ghost use Rattle.job_runner.specs.Runs.{name_of, records_in, froms_in, turns_of};
 
     /// A run of these parts.
-    pub(crate) fn new(name: Name, records: Vec<Record<'a>>, froms: Vec<ScopeFrom>) -> Run<'a>
+    pub(crate) fn new(
+        name: Name,
+        records: Vec<Record<'a>>,
+        froms: Vec<ScopeFrom>,
+        turns: u64,
+    ) -> Run<'a>
         ensures name { name_of result ≡ name }
         ensures records { records_in result ≡ records.entry.items }
         ensures froms { froms_in result ≡ froms.items }
+        ensures turns { turns_of result ≡ turns }
     {
         Run {
             name,
             records,
             froms,
+            turns,
         }
     }
 
@@ -45,5 +54,12 @@ impl<'a> Run<'a> {
         ensures { result.now ≡ froms_in self.now }
     {
         self.froms.as_slice()
+    }
+
+    /// How many turns the tasks had.
+    pub fn turns(&self) -> u64
+        ensures { result ≡ turns_of self.now }
+    {
+        self.turns
     }
 }

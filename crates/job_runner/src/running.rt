@@ -1,29 +1,28 @@
-ghost use Rattle.std.specs.Prelude.{◌≡◌, ◌≤◌, ℕ, List, IfOk, IfErr, length};
+ghost use Rattle.std.specs.Prelude.{◌≡◌, ◌+◌, ◌*◌, ◌<◌, ◌≤◌, IfOk, IfErr, length};
 ghost use Rattle.job_meaning.specs.declared.limits.TheConstants.{MOST_INPUT};
-ghost use Rattle.job_tree.specs.Tree.{Tree};
-ghost use Rattle.job_meaning.specs.Meaning.{meaning, meaning_end, meaning_froms};
+ghost use Rattle.job_meaning.specs.Meaning.{meaning_end, meaning_froms};
 ghost use Rattle.job_meaning.specs.Shown.{meaning_rows};
-ghost use Rattle.task_records.specs.Records.{AreSlices};
-ghost use Rattle.plain_walk.specs.Walks.{IsWalked};
-ghost use Rattle.job_runner.specs.Runs.{name_of, rows_of, records_in, scope_froms_of, IsRun, IsLate};
+ghost use Rattle.job_tree.specs.Names.{size_of};
+ghost use Rattle.task_roster.specs.Records.{AreSlices};
+ghost use Rattle.job_runner.specs.declared.runner.Phase.TheVariants.{Ready};
+ghost use Rattle.job_runner.specs.Phases.{phase_of};
+ghost use Rattle.job_runner.specs.Runs.{name_of, rows_of, records_in, scope_froms_of, turns_of, IsLate};
+ghost use Rattle.job_runner.specs.Shelves.{IsSameJob, IsUnderway};
 
 use crate::fault::RunFault;
 use crate::finished::Run;
+use crate::runner::{Phase, Runner};
 use crate::settings::Settings;
 use batch_commit::Pick;
-use buffer_parts::Part;
-use exc_groups::Label;
 use job_grammar::Job;
-use job_tree::Name;
-use plain_walk::{Here, Log, Stack, Walked, froms_of, walk_steps};
-use scoped_workers::Gate;
+use scoped_workers::{Gate, work};
 use std::alloc::{AllocError, Global};
 use std::thread::Threads;
 
-/// Runs a job over an input. The answer is that of the job's one-thread meaning, whatever the number of workers, the
-/// order of picks and the gate: its records, or `Limit` exactly where the meaning ends later than the limit. Want of
-/// memory may stand in the place of either. No thread is started yet: the job is computed on the calling thread, up to its
-/// end also where that is past the limit, and neither picker nor gate is called.
+/// Runs a job over an input, in turns of its tasks, one tick after the other. The answer is that of the job's one-thread
+/// meaning, whatever the number of workers, the order of picks and the gate: its records, or `Limit` exactly where the meaning
+/// ends later than the limit. Want of memory may stand in the place of either. The picker picks each turn. The workers answer
+/// the requests of all tasks that are ready together, and call the gate round each.
 pub fn run<'a, R: Threads + Sync, P: Pick, G: Gate + Sync>(
     rt: &R,
     alloc: Global,
@@ -38,54 +37,43 @@ pub fn run<'a, R: Threads + Sync, P: Pick, G: Gate + Sync>(
     ensures records { IfOk result (λ run. rows_of run ≡ meaning_rows job.now input.now) }
     ensures lines { IfOk result (λ run. AreSlices input.now (records_in run)) }
     ensures froms { IfOk result (λ run. scope_froms_of run ≡ meaning_froms job.now input.now) }
+    ensures turns { IfOk result (λ run. turns_of run ≤ 2 * size_of job.now.steps + 1) }
     ensures in_time { IfOk result (λ _. meaning_end job.now input.now ≤ settings.limit) }
     ensures late { IfErr result (IsLate job.now input.now settings.limit) }
 {
-    let (_rt, _picker, _gate) = (rt, picker, gate);
-    let walked = walk_job(alloc, job, input)?;
-    let limit = settings.limit();
-    if walked.end() > limit {
-        return Err(RunFault::Limit { limit });
+    let workers = settings.workers();
+    let mut runner = Runner::open(alloc, job, input, settings.limit())?;
+    'phases: loop {
+        match runner.phase() {
+            Phase::Ready => runner = answered(rt, alloc, workers, runner, picker, gate)?,
+            Phase::Blocked => runner = runner.jump()?,
+            Phase::Over => {
+                let run = runner.finish()?;
+                return Ok(run);
+            }
+        }
     }
-    let run = run_of(alloc, job.name(), walked)?;
-    Ok(run)
 }
 
-// Walks a job's steps from tick 0 on the empty stack, over the whole input.
-fn walk_job<'a>(alloc: Global, job: &'a Job, input: &'a [u8]) -> Result<Walked<'a>, AllocError>
-    requires { length input.now ≤ MOST_INPUT }
-    ensures { IfOk result (λ w. IsWalked input.now w (meaning job.now input.now)) }
+// The ready tasks have their turns, each with the answer to its request, which the workers compute.
+fn answered<'a, R: Threads + Sync, P: Pick, G: Gate + Sync>(
+    rt: &R,
+    alloc: Global,
+    workers: usize,
+    runner: Runner<'a>,
+    picker: &mut P,
+    gate: &G,
+) -> Result<Runner<'a>, AllocError>
+    requires some_workers { 1 ≤ workers }
+    requires few_workers { workers ≤ 64 }
+    requires underway { IsUnderway runner }
+    requires ready { phase_of runner ≡ Ready }
+    ensures underway { IfOk result IsUnderway }
+    ensures same { IfOk result (IsSameJob runner.entry) }
+    ensures turns { IfOk result (λ r. runner.entry.turns < r.turns) }
 {
-    let label = Label::new(alloc, job.name());
-    let stack = Stack::Empty;
-    let here = Here {
-        alloc,
-        part: Part::whole(input),
-        task: &label,
-        stack: &stack,
-    };
-    let walked = walk_steps(job.steps(), here, 0)?;
-    Ok(walked)
-}
-
-// The run of a job of that name whose root's walk came to this: the root's record and the labels that it entered are
-// the first.
-fn run_of<'a>(alloc: Global, name: Name, walked: Walked<'a>) -> Result<Run<'a>, AllocError>
-    ensures { IfOk result (λ run. (job : Tree) (input : List ℕ) → name ≡ job.name → IsWalked input walked.entry (meaning job input) → IsRun job input run) }
-{
-    let Walked { log, .. } = walked.into_child(alloc, Label::new(alloc, name), 0)?;
-    let Log {
-        records,
-        entered_below,
-        deadlines,
-        signs,
-        ..
-    } = log;
-    let froms = froms_of(
-        alloc,
-        entered_below.as_slice(),
-        deadlines.as_slice(),
-        signs.as_slice(),
-    )?;
-    Ok(Run::new(name, records, froms))
+    let requests = runner.requests()?;
+    let answers = work(rt, alloc, workers, requests.as_slice(), gate)?;
+    let runner = runner.commit(answers, picker)?;
+    Ok(runner)
 }

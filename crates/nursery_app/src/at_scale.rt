@@ -48,6 +48,28 @@ fn thirty_one_nested_scopes(rt: HostRuntime) -> Result<(), Fail> {
 }
 
 #[test]
+fn thirty_one_nested_nurseries_round_a_raise(rt: HostRuntime) -> Result<(), Fail> {
+    let mut steps = String::new(rt.alloc());
+    let mut ends = String::new(rt.alloc());
+    let mut groups = String::new(rt.alloc());
+    let mut brackets = String::new(rt.alloc());
+    let mut left = String::new(rt.alloc());
+    for i in 1..32u64 {
+        steps.push_str(&format!(in rt.alloc(); "nursery n{}{} {{ ", i / 10, i % 10)?)?;
+        groups.push_str(&format!(in rt.alloc(); "n{}{}[", i / 10, i % 10)?)?;
+        ends.push_str(" }")?;
+        brackets.push_str("]")?;
+        let j = 32 - i;
+        left.push_str(&format!(in rt.alloc(); "  nursery n{}{} 0 passed\n", j / 10, j % 10)?)?;
+    }
+    let job = format!(in rt.alloc(); "{steps}raise A;{ends}")?;
+    let report = format!(in rt.alloc();
+        "job main 0\ntask main 0 0 raised {groups}A(main@0){brackets}\n{left}"
+    )?;
+    assert_serves(&rt, &job, b"", &report)
+}
+
+#[test]
 fn four_thousand_tasks(rt: HostRuntime) -> Result<(), Fail> {
     let steps =
         "nursery n { start a over 64 { nursery m { start b over 64 { sleep 1; sleep 1; sleep 1; } } } }";

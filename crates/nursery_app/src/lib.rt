@@ -27,6 +27,8 @@ mod word_tests;
 mod words;
 #[cfg(test)]
 mod worked;
+#[cfg(test)]
+mod worker_tests;
 
 pub use checking::check;
 pub use command_line::DEFAULT_LIMIT;

@@ -1,6 +1,6 @@
 ghost use Rattle.std.specs.Prelude.{◌≡◌, ◌<◌, ◌≤◌, length, map, IfOk, IfErr, OnOk};
 ghost use Rattle.job_meaning.specs.declared.limits.TheConstants.{MOST_INPUT};
-ghost use Rattle.task_records.specs.Records.{row_in};
+ghost use Rattle.task_roster.specs.Records.{row_in};
 ghost use Rattle.job_runner.specs.Runs.{rows_of};
 ghost use Rattle.nursery_app.specs.Verdict.{IsVerdict, IsSent, IsServeFault, CountsFailure, IsRefusalOf, IsRunVerdict, root_is_well};
 

@@ -1,7 +1,7 @@
 use Rattle.std.proofs.Common.{◌≡◌, ◌++◌, take}
 use Rattle.std.specs.Prelude.{map}
 use Rattle.std.specs.List.{flat_map}
-use Rattle.task_records.specs.Records.{entry_of}
+use Rattle.task_machine.specs.Noted.{entry_of}
 use Rattle.job_report.specs.Text.{shown_text}
 use Rattle.job_report.proofs.rows.push_entries.Given as goal
 

@@ -1,0 +1,135 @@
+-- A batch has few requests: each is made by another task that has not ended.
+use Rattle.std.proofs.Common.{◌≡◌, inl, inr, ℕ, suc, ◌+◌, ◌≤◌, Option, Some, None, List, [], ◌∷◌, length, refl, ap, sym, ◌∙◌, subst, arith}
+use Rattle.std.specs.Prelude.{All, IsSome, ◌==◌, map}
+use Rattle.std.proofs.lemmas.List.Elements.{All-head, All-tail, All-weaker}
+use Rattle.batch_commit.specs.declared.entry.Call.{Call}
+use Rattle.batch_commit.specs.declared.entry.Call.TheVariants.{Begin, Due, Seen, Settled, Ask}
+use Rattle.batch_commit.specs.declared.entry.Entry.{Entry}
+use Rattle.batch_commit.specs.Entries.{requests_of}
+use Rattle.job_meaning.specs.Log.{Table}
+use Rattle.job_meaning.specs.Meaning.{meaning_table}
+use Rattle.job_meaning.proofs.Settled.{table_is_settled}
+use Rattle.line_kernels.specs.declared.answers.Answer.{Answer}
+use Rattle.run_course.specs.Course.{In}
+use Rattle.run_crew.specs.Laws.{AreDistinct}
+use Rattle.run_crew.proofs.FewTasks.{crew_few}
+use Rattle.task_roster.specs.Roster.{running_at, task_of, many, IsRoster}
+use Rattle.task_roster.specs.Rows.{times}
+use Rattle.task_roster.specs.declared.roster.Roster.{Roster}
+use Rattle.task_roster.specs.declared.roster.Running.{Running}
+use Rattle.task_roster.proofs.Apart.{one_if}
+use Rattle.job_runner.specs.declared.runner.Runner.{Runner}
+use Rattle.job_runner.specs.Shelves.{AreShelved, GoesBy, IsCalled, IsUnderway, crew_in, running_times, times_shelved}
+use Rattle.job_runner.proofs.Lived.{one_id, task_at}
+use Rattle.job_runner.proofs.Places.{times_cons}
+use Rattle.job_runner.proofs.Shelving.{one_same}
+use Rattle.job_runner.proofs.Stopped.{some_is}
+use Rattle.job_runner.proofs.Waking.{running_most}
+
+-- ---- the rows of entries
+
+abbrev row_in : Option Running → ℕ
+row_in None = 0
+row_in (Some x) = x.row
+
+-- the row of each entry's task
+abbrev rows_in : Roster → List Entry → List ℕ
+rows_in r [] = []
+rows_in r (e ∷ es) = row_in (running_at r e.task) ∷ rows_in r es
+
+rows_long : (r : Roster) (es : List Entry) → length (rows_in r es) ≡ length es
+rows_long r [] = refl
+rows_long r (e ∷ es) = ap suc (rows_long r es)
+
+-- the task of an entry has not ended
+record Runs (r : Roster) (e : Entry) : Type 0 where
+  pub running : Running
+  pub is : running_at r e.task ≡ Some running
+
+-- a row that is among those of entries has its id among them
+among : (r : Roster) → IsRoster r → (id : ℕ) (x : Running) → running_at r id ≡ Some x → (es : List Entry) → All (Runs r) es → In x.row (rows_in r es) →
+    1 ≤ times id (map (λ (e : Entry). e.task) es)
+among r agree id x e [] all i = absurd i
+among r agree id x e (y ∷ es) all (inl h) =
+    let f = All-head (Runs r) y es all in
+    let same = one_id r agree id y.task x f.running e f.is (sym (h ∙ ap row_in f.is)) in
+    let one = one_same y.task id same in
+    let more = times_cons id y.task (map (λ (z : Entry). z.task) es) in
+    omega (arith, one, more)
+among r agree id x e (y ∷ es) all (inr i) =
+    let some = among r agree id x e es (All-tail (Runs r) y es all) i in
+    let more = times_cons id y.task (map (λ (z : Entry). z.task) es) in
+    omega (arith, some, more)
+
+-- entries of other tasks have other rows
+rows_differ : (r : Roster) → IsRoster r → (es : List Entry) → All (Runs r) es → ((id : ℕ) → times id (map (λ (e : Entry). e.task) es) ≤ 1) → AreDistinct (rows_in r es)
+rows_differ r agree [] all once = tt
+rows_differ r agree (e ∷ es) all once = (no_other, rows_differ r agree es rest fewer)
+  where
+    rest : All (Runs r) es
+    rest = All-tail (Runs r) e es all
+
+    more : (id : ℕ) → times id (map (λ (z : Entry). z.task) (e ∷ es)) ≡ one_if (e.task == id) + times id (map (λ (z : Entry). z.task) es)
+    more id = times_cons id e.task (map (λ (z : Entry). z.task) es)
+
+    fewer : (id : ℕ) → times id (map (λ (z : Entry). z.task) es) ≤ 1
+    fewer id = omega (arith, once id, more id)
+
+    no_other : In (row_in (running_at r e.task)) (rows_in r es) → ⊥
+    no_other i =
+        let f = All-head (Runs r) e es all in
+        let some = among r agree e.task f.running f.is es rest (subst (λ (n : ℕ). In n (rows_in r es)) (ap row_in f.is) i) in
+        let one = one_same e.task e.task refl in
+        omega (arith, some, one, once e.task, more e.task)
+
+-- each is of a task that has not ended
+rows_live : (r : Roster) → IsRoster r → (es : List Entry) → All (Runs r) es → (s : ℕ) → In s (rows_in r es) → IsSome (task_of r s)
+rows_live r agree [] all s i = absurd i
+rows_live r agree (e ∷ es) all s (inl h) =
+    let f = All-head (Runs r) e es all in
+    let is = ap (task_of r) (h ∙ ap row_in f.is) ∙ task_at r agree e.task f.running f.is in
+    subst IsSome (sym is) refl
+rows_live r agree (e ∷ es) all s (inr i) = rows_live r agree es (All-tail (Runs r) e es all) s i
+
+-- ---- requests
+
+-- an entry makes one request at most
+one_request : (task : ℕ) (call : Call) (answer : Option Answer) (es : List Entry) → length (requests_of (record { task = task; call = call; answer = answer } ∷ es)) ≤ suc (length (requests_of es))
+one_request task Begin answer es = omega arith
+one_request task Due answer es = omega arith
+one_request task Seen answer es = omega arith
+one_request task Settled answer es = omega arith
+one_request task (Ask request) answer es = omega arith
+
+requests_fewer : (es : List Entry) → length (requests_of es) ≤ length es
+requests_fewer [] = omega arith
+requests_fewer (e ∷ es) = let one = one_request e.task e.call e.answer es in let fewer = requests_fewer es in omega (arith, one, fewer)
+
+pub few_requests : (r : Runner) → IsUnderway r → length (requests_of r.batch.current) ≤ 2000000
+few_requests r h =
+    let distinct = rows_differ r.roster shelved.agree r.batch.current all once in
+    let crew = h.going.course k (table_is_settled r.job.now r.input.now h.going.sound.names) in
+    let few = crew_few k r.job.now r.input.now r.world.tick (many r.roster) (crew_in r) crew (rows_in r.roster r.batch.current) distinct
+    (rows_live r.roster shelved.agree r.batch.current all) in
+    let long = rows_long r.roster r.batch.current in
+    let fewer = requests_fewer r.batch.current in
+    let size = h.going.sound.modest.size in
+    omega (arith, few, long, fewer, size)
+  where
+    k : Table
+    k = meaning_table r.job.now r.input.now
+
+    shelved : AreShelved None r
+    shelved = h.going.shelved
+
+    runs : (e : Entry) → IsCalled r.roster r.world e.task e.call → Runs r.roster e
+    runs e called = let x = some_is (running_at r.roster e.task) (λ (y : Running). GoesBy r.world y.task e.call) called in record { running = x.0; is = x.1 }
+
+    all : All (Runs r.roster) r.batch.current
+    all = All-weaker (λ (e : Entry). IsCalled r.roster r.world e.task e.call) (Runs r.roster) runs r.batch.current shelved.current
+
+    once : (id : ℕ) → times id (map (λ (e : Entry). e.task) r.batch.current) ≤ 1
+    once id =
+        let all_times : times_shelved r.batch r.sleepers.items id ≡ running_times r.world.book (running_at r.roster id) = shelved.once id tt in
+        let most = running_most r.world.book (running_at r.roster id) in
+        omega (arith, all_times, most)

@@ -1,0 +1,142 @@
+-- A run that is over: its rows show what the job means.
+use Rattle.std.proofs.Common.{◌≡◌, ℕ, ◌≤◌, Option, Some, None, List, [], ◌∷◌, map, refl, ap, sym, ◌∙◌, subst, arith}
+use Rattle.std.specs.Prelude.{All, IsSome, is_some}
+use Rattle.std.specs.Option.{option_map}
+use Rattle.std.proofs.lemmas.Option.{same_Some, none-some, slice_get_within}
+use Rattle.batch_commit.specs.declared.entry.Entry.{Entry}
+use Rattle.batch_commit.specs.declared.live.Live.{Live}
+use Rattle.batch_commit.specs.Live.{live_at}
+use Rattle.job_meaning.specs.Log.{Table}
+use Rattle.job_meaning.specs.Meaning.{meaning_end, meaning_table}
+use Rattle.job_meaning.specs.Shown.{row_of, shown}
+use Rattle.job_meaning.proofs.Settled.{table_is_settled}
+use Rattle.task_machine.specs.declared.world.World.{World}
+use Rattle.task_roster.specs.declared.record.Record.{Record}
+use Rattle.task_machine.specs.declared.entry.ScopeFrom.{ScopeFrom}
+use Rattle.task_machine.specs.Noted.{entry_of, from_of, IsSlice}
+use Rattle.task_roster.specs.Records.{row_in, AreSlices}
+use Rattle.run_course.specs.Rows as course
+use Rattle.run_crew.specs.Crew.{Gone, IsCrew}
+use Rattle.run_crew.specs.Over.{IsOver, ShowsRow}
+use Rattle.run_crew.proofs.Blocks.{root_last}
+use Rattle.run_crew.proofs.Over.{crew_over}
+use Rattle.job_runner.specs.declared.finished.Run.{Run}
+use Rattle.task_roster.specs.declared.roster.Roster.{Roster}
+use Rattle.task_roster.specs.declared.roster.Running.{Running}
+use Rattle.task_roster.specs.declared.rows.Ended.{Ended}
+use Rattle.task_roster.specs.declared.rows.Row.{Row}
+use Rattle.job_runner.specs.declared.runner.Phase.TheVariants as phases
+use Rattle.job_runner.specs.declared.runner.Runner.{Runner}
+use Rattle.job_runner.specs.Phases.{phase_by, phase_of}
+use Rattle.task_roster.specs.Roster.{children_by, crew_of, gone_by, gone_from, gone_of, many, row_at, running_at, start_by, task_by, task_in, task_of, task_unless}
+use Rattle.task_roster.specs.Rows.{AreShown, EndIsShown, IsShown, ShowRecords}
+use Rattle.job_runner.specs.Runs.{IsRun, froms_in, name_of, records_in}
+use Rattle.job_runner.specs.Shelves.{crew_in, IsUnderway}
+use Rattle.job_runner.proofs.Places.{all_by_place}
+
+-- ---- the root has ended
+
+gone_root : (es : List Entry) (kept : Option Gone) → phase_by es kept ≡ phases.Over → (g : Gone) × (kept ≡ Some g)
+gone_root [] (Some g) e = (g, refl)
+gone_root [] None e = absurd (let f : phases.Blocked ≡ phases.Over = e in cc)
+gone_root (x ∷ es) kept e = absurd (let f : phases.Ready ≡ phases.Over = e in cc)
+
+-- where an end is kept, the task lives no more
+end_some : (end : Option Ended) (g : Gone) → option_map gone_from end ≡ Some g → (x : Option Running) → task_unless end x ≡ None
+end_some None g e x = absurd (none-some g e)
+end_some (Some end) g e x = refl
+
+no_task : (live : Live Running) (row : Option Row) (g : Gone) → gone_by row ≡ Some g → task_by live row ≡ None
+no_task live None g e = absurd (none-some g e)
+no_task live (Some row) g e = end_some row.end g e (live_at live row.task)
+
+-- and where none lives, an end is kept
+none_lives : (end : Option Ended) (x : Option Running) (y : Running) → x ≡ Some y → task_unless end x ≡ None → IsSome end
+none_lives None x y e none = absurd (none-some y.task (sym none ∙ ap task_in e))
+none_lives (Some end) x y e none = refl
+
+-- ---- what is kept shows the row
+
+-- what is kept of an end, as it is read
+end_shown : (input : List ℕ) (row : course.Row) (end : Option Ended) (gone : Gone) → option_map gone_from end ≡ Some gone → gone.label ≡ row.label → gone.end ≡ row.end → gone.exc ≡ row.exc →
+    map entry_of gone.entries ≡ map (shown input) row.entries → All (IsSlice input) gone.entries → map from_of gone.froms ≡ row.froms → EndIsShown input row end
+end_shown input row None gone e label tick exc entries slices froms = tt
+end_shown input row (Some end) gone e label tick exc entries slices froms =
+    let is : gone_from end ≡ gone = same_Some (gone_from end) gone e in
+    record {
+      label = ap (λ (g : Gone). g.label) is ∙ label;
+      tick = ap (λ (g : Gone). g.end) is ∙ tick;
+      exc = ap (λ (g : Gone). g.exc) is ∙ exc;
+      entries = ap (λ (g : Gone). map entry_of g.entries) is ∙ entries;
+      slices = subst (λ (g : Gone). All (IsSlice input) g.entries) (sym is) slices;
+      froms = ap (λ (g : Gone). map from_of g.froms) is ∙ froms;
+    }
+
+row_shown : (input : List ℕ) (roster : Roster) (world : World) (turns s : ℕ) (row : course.Row) (held : Row) → row_at roster s ≡ Some held → ShowsRow input (crew_of roster world turns) s row →
+    IsShown input row held
+row_shown input roster world turns s row held e h =
+    record {
+      start = sym (ap start_by e) ∙ h.start;
+      children = sym (ap children_by e) ∙ h.children;
+      end = end_shown input row held.end h.gone (sym (ap gone_by e) ∙ h.is) h.label h.end h.exc h.entries h.slices h.froms;
+    }
+
+-- ---- a run that is over
+
+module _ (r : Runner) (w : IsUnderway r) (over : phase_of r ≡ phases.Over) where
+  abbrev k : Table
+  k = meaning_table r.job.now r.input.now
+
+  crew : IsCrew k r.job.now r.input.now r.world.tick (many r.roster) None (crew_in r)
+  crew = w.going.course k (table_is_settled r.job.now r.input.now w.going.sound.names)
+
+  root : (g : Gone) × (gone_of r.roster 0 ≡ Some g)
+  root = gone_root r.batch.current (gone_of r.roster 0) over
+
+  -- no task lives
+  none_left : (p : ℕ) → task_of r.roster p ≡ None
+  none_left p = root_last k r.job.now r.input.now r.world.tick (many r.roster) (crew_in r) crew (no_task r.roster.live (row_at r.roster 0) root.0 root.1) p
+
+  -- so each row has its end
+  pub all_ended : (rows : List Row) → rows ≡ r.roster.rows.items → All (λ (x : Row). IsSome x.end) rows
+  all_ended rows same = subst (All (λ (x : Row). IsSome x.end)) (sym same) (all_by_place (λ (x : Row). IsSome x.end) r.roster.rows.items (λ p row e. by_end p row e row.end refl))
+    where
+      by_end : (p : ℕ) (row : Row) → row_at r.roster p ≡ Some row → (end : Option Ended) → row.end ≡ end → IsSome row.end
+      by_end p row e None f =
+          let l = w.going.shelved.agree.lives p row e f in
+          none_lives row.end (running_at r.roster row.task) l.running l.is (sym (ap (task_by r.roster.live) e) ∙ none_left p)
+      by_end p row e (Some end) f = ap is_some f
+
+  is_over : IsOver r.job.now r.input.now (many r.roster) (crew_in r)
+  is_over = crew_over r.job.now r.input.now w.going.sound.names w.going.sound.starts r.world.tick (many r.roster) (crew_in r) crew none_left
+
+  are_shown : AreShown r.input.now is_over.rows r.roster.rows.items
+  are_shown s held e =
+      row_shown r.input.now r.roster r.world r.turns s (is_over.rows s) held e (is_over.shows s (slice_get_within r.roster.rows.items s held e))
+
+  -- the records and froms that rows come to
+  module _ (rows : List Row) (same : rows ≡ r.roster.rows.items) (records : List Record) (froms : List ScopeFrom)
+      (tells : (input : List ℕ) (rs : ℕ → course.Row) → AreShown input rs rows → ShowRecords input rs records froms) where
+    told : ShowRecords r.input.now is_over.rows records froms
+    told = tells r.input.now is_over.rows (subst (AreShown r.input.now is_over.rows) (sym same) are_shown)
+
+    pub is_run : (run : Run) → name_of run ≡ r.job.now.name → records_in run ≡ records → froms_in run ≡ froms → IsRun r.job.now r.input.now run
+    is_run run name rs fs =
+        record {
+          name = name;
+          rows = ap (map row_in) rs ∙ told.records ∙ ap (map (row_of r.input.now)) (is_over.records told.taken told.order);
+          slices = subst (AreSlices r.input.now) (sym rs) told.slices;
+          froms = ap (map from_of) fs ∙ told.froms ∙ is_over.froms told.taken told.order;
+        }
+
+    pub ends_in_time : meaning_end r.job.now r.input.now ≤ r.limit
+    ends_in_time =
+        let shows = is_over.shows 0 crew.some in
+        let ended = crew.ended 0 crew.some (none_left 0) in
+        let same : shows.gone ≡ ended.0 = same_Some shows.gone ended.0 (sym shows.is ∙ ended.1) in
+        let end : shows.gone.end ≡ (is_over.rows 0).end = shows.end in
+        let means : (is_over.rows 0).end ≡ meaning_end r.job.now r.input.now = is_over.end told.taken told.order in
+        let at : shows.gone.end ≡ ended.0.end = ap (λ (g : Gone). g.end) same in
+        let before : ended.0.end ≤ r.world.tick = ended.2.before in
+        let within : r.world.tick ≤ r.limit = w.going.shelved.within in
+        omega (arith, end, means, at, before, within)

@@ -1,0 +1,69 @@
+-- What lives, by its row and by its id.
+use Rattle.std.proofs.Common.{◌≡◌, ◌≢◌, ℕ, ◌<◌, Option, Some, None, refl, ap, sym, ◌∙◌}
+use Rattle.std.proofs.lemmas.Option.{slice_get_within}
+use Rattle.run_crew.proofs.ActsKeep.{not_both}
+use Rattle.run_crew.proofs.Found.{below_length}
+use Rattle.task_machine.proofs.Stacked.{one_of}
+use Rattle.task_machine.specs.declared.task.Task.{Task}
+use Rattle.task_roster.specs.declared.roster.Roster.{Roster}
+use Rattle.task_roster.specs.declared.roster.Running.{Running}
+use Rattle.task_roster.specs.declared.rows.Ended.{Ended}
+use Rattle.task_roster.specs.declared.rows.Row.{Row}
+use Rattle.task_roster.specs.Roster.{row_at, running_at, task_in, task_unless, task_by, id_by, task_of, id_of, many, HasRow, Lives, IsRoster}
+
+-- ---- what lives, by its row
+
+-- the task of a row that has not ended lives under the id of the row
+pub record LivesBy (r : Roster) (p : ℕ) (task : Task) : Type 0 where
+  pub running : Running
+  pub is : running_at r (id_of r p) ≡ Some running
+  pub task_is : running.task ≡ task
+  pub row_is : running.row ≡ p
+  pub below : p < many r
+
+lives_under : (r : Roster) (p : ℕ) (row : Row) (task : Task) → IsRoster r → row_at r p ≡ Some row → (x : Option Ended) → row.end ≡ x → task_by r.live (Some row) ≡ Some task → LivesBy r p task
+lives_under r p row task ok at (Some x) ends e =
+    absurd (not_both {o = task_by r.live (Some row)} (ap (λ (o : Option Ended). task_unless o (running_at r row.task)) ends) e)
+lives_under r p row task ok at None ends e =
+    let l : Lives r p row = ok.lives p row at ends in
+    record {
+      running = l.running;
+      is = ap (running_at r) (ap id_by at) ∙ l.is;
+      task_is = one_of l.running.task task (sym (ap (λ (o : Option Ended). task_unless o (running_at r row.task)) ends ∙ ap task_in l.is) ∙ e);
+      row_is = l.row_is;
+      below = below_length r.rows.items p row at;
+    }
+
+pub lives_by : (r : Roster) → IsRoster r → (p : ℕ) (task : Task) → task_of r p ≡ Some task → LivesBy r p task
+lives_by r ok p task e = by_row (row_at r p) refl e
+  where
+    by_row : (o : Option Row) → row_at r p ≡ o → task_by r.live o ≡ Some task → LivesBy r p task
+    by_row None at f = absurd (let g : None ≡ Some task = f in cc)
+    by_row (Some row) at f = lives_under r p row task ok at row.end refl f
+
+-- ---- what has which row
+
+-- the task of a row, by its id
+pub task_at : (r : Roster) → IsRoster r → (id : ℕ) (x : Running) → running_at r id ≡ Some x → task_of r x.row ≡ Some x.task
+task_at r agree id x lives =
+    let h : HasRow r x.row id = agree.rows id x lives in
+    ap (task_by r.live) h.is ∙ ap (λ (e : Option Ended). task_unless e (running_at r h.row.task)) h.endless ∙ ap (λ (n : ℕ). task_in (running_at r n)) h.id_is ∙ ap task_in lives
+
+pub row_below : (r : Roster) → IsRoster r → (id : ℕ) (x : Running) → running_at r id ≡ Some x → x.row < many r
+row_below r agree id x lives = let h : HasRow r x.row id = agree.rows id x lives in slice_get_within r.rows.items x.row h.row h.is
+
+-- two ids of one row are the same
+pub one_id : (r : Roster) → IsRoster r → (id other : ℕ) (x y : Running) → running_at r id ≡ Some x → running_at r other ≡ Some y → y.row ≡ x.row → other ≡ id
+one_id r agree id other x y e f same =
+    let h : HasRow r x.row id = agree.rows id x e in
+    let g : HasRow r y.row other = agree.rows other y f in
+    let both : Some g.row ≡ Some h.row = sym g.is ∙ (ap (row_at r) same ∙ h.is) in
+    let one : g.row ≡ h.row = one_of g.row h.row both in
+    sym g.id_is ∙ (ap (λ (z : Row). z.task) one ∙ h.id_is)
+
+pub rows_apart : (r : Roster) → IsRoster r → (id other : ℕ) (x y : Running) → running_at r id ≡ Some x → running_at r other ≡ Some y → other ≢ id → y.row ≢ x.row
+rows_apart r agree id other x y e f differs same = differs (one_id r agree id other x y e f same)
+
+-- and the id of its row is its own
+pub id_at : (r : Roster) → IsRoster r → (id : ℕ) (x : Running) → running_at r id ≡ Some x → id_of r x.row ≡ id
+id_at r ok id x e = let h : HasRow r x.row id = ok.rows id x e in ap id_by h.is ∙ h.id_is

@@ -1,0 +1,121 @@
+-- A run that begins: the root alone, which is called to begin.
+use Rattle.std.proofs.Common.{◌≡◌, ◌≢◌, inl, inr, ℕ, zero, suc, ◌+◌, ◌≤◌, true, false, Some, None, List, [], ◌∷◌, ◌++◌, map, length, ap, sym, ◌∙◌, subst, arith}
+use Rattle.std.specs.Prelude.{All, ◌==◌, ◌⊎◌}
+use Rattle.std.proofs.lemmas.Bool.Decides.{eqb_tells}
+use Rattle.std.proofs.lemmas.List.Elements.{All-cons, All-nil}
+use Rattle.std.proofs.lemmas.Option.{same_Some, none-some}
+use Rattle.autojump_clock.specs.Clock.{due_of, limit_of, now_of}
+use Rattle.batch_commit.specs.declared.entry.Call.TheVariants.{Begin}
+use Rattle.batch_commit.specs.declared.entry.Entry.{Entry}
+use Rattle.batch_commit.specs.Entries.{Added, NonePlaced, unplaced}
+use Rattle.job_meaning.specs.Log.{Table}
+use Rattle.job_meaning.specs.declared.limits.TheConstants.{MOST_INPUT}
+use Rattle.task_machine.specs.declared.stop.Halt.{Halt}
+use Rattle.task_machine.specs.declared.stop.Halt.TheVariants.{ToBegin}
+use Rattle.task_machine.specs.declared.stop.Wake.TheVariants as wakes
+use Rattle.task_machine.specs.declared.task.Task.{Task}
+use Rattle.task_machine.specs.declared.world.World.{World}
+use Rattle.task_machine.specs.Tasks.{scope_of}
+use Rattle.task_machine.specs.Waking.{WakesFrom}
+use Rattle.run_crew.specs.Begun.{IsNewWorld, IsRootTask}
+use Rattle.run_crew.specs.Crew.{IsCrew}
+use Rattle.run_crew.specs.Ready.{AreHomesOf, IsTimely, MayGo}
+use Rattle.run_crew.proofs.Begun.{crew_begun}
+use Rattle.job_runner.specs.declared.limits.TheConstants.{GREATEST_LIMIT}
+use Rattle.task_roster.specs.declared.roster.Running.{Running}
+use Rattle.job_runner.specs.declared.runner.Runner.{Runner}
+use Rattle.task_roster.specs.Roster.{many, parent_of, running_at, task_of, HasRoot, IsRoster}
+use Rattle.job_runner.specs.Shelves.{crew_in, halt_times, running_times, times_shelved, AreOnCourse, GoesBy, IsCalled, IsSleeper, IsSound, IsUnderway}
+use Rattle.task_roster.proofs.Apart.{one_if}
+use Rattle.job_runner.proofs.Places.{times_cons}
+use Rattle.job_runner.proofs.Shelving.{none_away, times_asleep, times_next, times_now}
+use Rattle.job_runner.proofs.Stopped.{some_has}
+
+-- the root may begin
+root_goes : (world : World) (root : Task) → root.halt ≡ ToBegin → GoesBy world root Begin
+root_goes world root halt answer wake right e =
+    let f : Some wakes.Begin ≡ Some wake = e in
+    subst (MayGo world root) (same_Some wakes.Begin wake f)
+    (record {
+      fits = subst (λ (h : Halt). WakesFrom h root.part world.book wakes.Begin) (sym halt) tt;
+      timely = subst (λ (h : Halt). IsTimely world (scope_of root) h wakes.Begin) (sym halt) tt;
+    })
+
+module _ (r : Runner) (root : Task) (id : ℕ) (sound : IsSound r.job.now) (small : length r.input.now ≤ MOST_INPUT) (world : IsNewWorld r.world) (is_root : IsRootTask r.job.now r.input.now root)
+    (has : HasRoot r.roster root id) (turns : r.turns ≡ 0) where
+  begun : (k : Table) → IsCrew k r.job.now r.input.now 0 1 None (crew_in r)
+  begun k =
+      crew_begun k r.job.now r.input.now (crew_in r) root sound.modest sound.starts sound.names small world is_root has.task
+      (λ p. let more : p + 1 ≡ suc p = omega arith in subst (λ (n : ℕ). task_of r.roster n ≡ None) more (has.none p)) has.gone has.start has.children turns
+
+  on_course : AreOnCourse r
+  on_course k settled =
+      subst (λ (t : ℕ). IsCrew k r.job.now r.input.now t (many r.roster) None (crew_in r)) (sym world.tick)
+      (subst (λ (m : ℕ). IsCrew k r.job.now r.input.now 0 m None (crew_in r)) (sym has.many) (begun k))
+
+  homeless : AreHomesOf (crew_in r) (parent_of r.roster)
+  homeless s task home lives is = absurd (by_serial s lives)
+    where
+      by_serial : (n : ℕ) → task_of r.roster n ≡ Some task → ⊥
+      by_serial zero e =
+          let same : root ≡ task = same_Some root task (sym has.task ∙ e) in
+          none-some home (sym is_root.home ∙ ap (λ (x : Task). x.home) same ∙ is)
+      by_serial (suc n) e =
+          let more : n + 1 ≡ suc n = omega arith in
+          none-some task (sym (has.none n) ∙ ap (task_of r.roster) more ∙ e)
+
+  module _ (agree : IsRoster r.roster) (now : now_of r.clock ≡ 0) (limit : limit_of r.clock ≡ r.limit) (bounded : r.limit ≤ GREATEST_LIMIT) (timers : (task : ℕ) → due_of r.clock task ≡ None)
+      (asleep : r.sleepers.items ≡ []) (before added : List Added) (none_before : before ≡ []) (was_added : added ≡ before ++ (id, Begin) ∷ []) (current : r.batch.current ≡ map unplaced added)
+      (next : r.batch.next ≡ []) (fresh : NonePlaced r.batch.current) where
+    abbrev its_entry : Entry
+    its_entry = unplaced (id, Begin)
+
+    one_entry : r.batch.current ≡ its_entry ∷ []
+    one_entry = current ∙ ap (map unplaced) (was_added ∙ ap (λ (xs : List Added). xs ++ (id, Begin) ∷ []) none_before)
+
+    stands_once : (other : ℕ) → times_shelved r.batch r.sleepers.items other ≡ running_times r.world.book (running_at r.roster other)
+    stands_once other =
+        let a : times_now other r.batch.current ≡ times_now other (its_entry ∷ []) = ap (times_now other) one_entry in
+        let b : times_now other (its_entry ∷ []) ≡ one_if (id == other) + 0 = times_cons other id [] in
+        let c : times_next other r.batch.next ≡ 0 = ap (times_next other) next in
+        let d : times_asleep other r.sleepers.items ≡ 0 = ap (times_asleep other) asleep in
+        let e : one_if (id == other) ≡ running_times r.world.book (running_at r.roster other) = by_test (eqb_tells id other) in
+        omega (arith, a, b, c, d, e)
+      where
+        by_test : (((id == other) ≡ true) × (id ≡ other)) ⊎ (((id == other) ≡ false) × (id ≢ other)) → one_if (id == other) ≡ running_times r.world.book (running_at r.roster other)
+        by_test (inl g) =
+            ap one_if g.0
+            ∙ sym (ap (λ (key : ℕ). running_times r.world.book (running_at r.roster key)) (sym g.1) ∙ ap (running_times r.world.book) has.lives ∙ ap (halt_times r.world.book) is_root.halt)
+        by_test (inr g) = ap one_if g.0 ∙ sym (ap (running_times r.world.book) (has.others other (λ e. g.1 (sym e))))
+
+    pub opened : IsUnderway r
+    opened =
+        record {
+          going =
+              record {
+                sound = sound;
+                shelved =
+                    record {
+                      agree = agree;
+                      homes = homeless;
+                      now = now ∙ sym world.tick;
+                      limit = limit;
+                      within = let none : r.world.tick ≡ 0 = world.tick in omega (arith, none);
+                      bounded = bounded;
+                      none_started = world.started;
+                      timers = λ task due e. absurd (none-some due (sym (timers task) ∙ e));
+                      sleepers = subst (All (IsSleeper r.roster r.world r.clock)) (sym asleep) (All-nil (IsSleeper r.roster r.world r.clock));
+                      current =
+                          subst (All (λ (e : Entry). IsCalled r.roster r.world e.task e.call)) (sym one_entry)
+                          (All-cons (λ (e : Entry). IsCalled r.roster r.world e.task e.call) its_entry []
+                          (some_has (running_at r.roster id) (λ (x : Running). GoesBy r.world x.task Begin) (record { task = root; row = 0 }) has.lives (root_goes r.world root is_root.halt))
+                          (All-nil (λ (e : Entry). IsCalled r.roster r.world e.task e.call)));
+                      next = subst (All (λ (a : Added). IsCalled r.roster r.world a.0 a.1)) (sym next) (All-nil (λ (a : Added). IsCalled r.roster r.world a.0 a.1));
+                      once = λ other h. stands_once other;
+                      away = none_away (λ (x : ℕ). times_shelved r.batch r.sleepers.items x ≡ 0);
+                    };
+                course = on_course;
+              };
+          unplaced = fresh;
+          nothing_added = next;
+        }

@@ -1,0 +1,80 @@
+-- A run goes on as long as turns are left.
+use Rattle.std.proofs.Common.{◌≡◌, ℕ, ◌+◌, ◌*◌, ◌<◌, ◌≤◌, List, [], ◌∷◌, Option, Some, None, length, ap, ◌∙◌, subst, arith}
+use Rattle.job_tree.specs.Names.{size_of}
+use Rattle.job_tree.specs.Tree.{Tree}
+use Rattle.job_meaning.specs.Meaning.{meaning_table}
+use Rattle.job_meaning.proofs.Settled.{table_is_settled}
+use Rattle.batch_commit.specs.declared.entry.Entry.{Entry}
+use Rattle.run_crew.specs.Crew.{Gone}
+use Rattle.run_crew.proofs.Blocks.{crew_turns}
+use Rattle.job_runner.specs.declared.runner.Phase.{Phase}
+use Rattle.job_runner.specs.declared.runner.Phase.TheVariants.{Ready, Blocked, Over}
+use Rattle.job_runner.specs.declared.runner.Runner.{Runner}
+use Rattle.task_roster.specs.Roster.{many}
+use Rattle.job_runner.specs.Phases.{phase_by, phase_of}
+use Rattle.job_runner.specs.Rounds.{jumps_before, most_turns, rounds_left}
+use Rattle.job_runner.specs.Shelves.{IsSameJob, IsUnderway, crew_in}
+
+pub few_turns : (r : Runner) → IsUnderway r → r.turns ≤ most_turns r
+few_turns r u =
+    crew_turns (meaning_table r.job.now r.input.now) r.job.now r.input.now r.world.tick (many r.roster) None (crew_in r)
+    (u.going.course (meaning_table r.job.now r.input.now) (table_is_settled r.job.now r.input.now u.going.sound.names))
+
+-- a task is ready where the run is
+pub ready_some : (es : List Entry) (ended : Option Gone) → phase_by es ended ≡ Ready → 0 < length es
+ready_some [] None e = absurd (let f : Blocked ≡ Ready = e in cc)
+ready_some [] (Some g) e = absurd (let f : Over ≡ Ready = e in cc)
+ready_some (x ∷ es) ended e = omega arith
+
+at_most_one : (p : Phase) → jumps_before p ≤ 1
+at_most_one Ready = omega arith
+at_most_one Blocked = omega arith
+at_most_one Over = omega arith
+
+same_most : (old new : Runner) → IsSameJob old new → most_turns new ≡ most_turns old
+same_most old new same = ap (λ (n : ℕ). 2 * n + 1) (ap (λ (b : _). size_of b.now.steps) same.job)
+
+-- after a batch
+pub fewer_turns : (old new : Runner) → IsSameJob old new → IsUnderway new → old.turns < new.turns → rounds_left new < rounds_left old
+fewer_turns old new same u more =
+    let e : most_turns new ≡ most_turns old = same_most old new same in
+    let few : new.turns ≤ most_turns new = few_turns new u in
+    let one : jumps_before (phase_of new) ≤ 1 = at_most_one (phase_of new) in
+    omega (arith, e, few, one, more)
+
+-- after a jump
+pub jump_made : (old new : Runner) → IsSameJob old new → new.turns ≡ old.turns → phase_of old ≡ Blocked → phase_of new ≡ Ready → rounds_left new < rounds_left old
+jump_made old new same turns was now =
+    let e : most_turns new ≡ most_turns old = same_most old new same in
+    let a : jumps_before (phase_of old) ≡ 1 = ap jumps_before was in
+    let b : jumps_before (phase_of new) ≡ 0 = ap jumps_before now in
+    omega (arith, e, turns, a, b)
+
+-- ---- what the rounds keep
+
+-- a run of this job over this input, up to this limit
+pub record RunsFor (job : Tree) (input : List ℕ) (limit : ℕ) (r : Runner) : Type 0 where
+  pub underway : IsUnderway r
+  pub job_is : r.job.now ≡ job
+  pub input_is : r.input.now ≡ input
+  pub limit_is : r.limit ≡ limit
+
+pub runs_on : (job : Tree) (input : List ℕ) (limit : ℕ) (old new : Runner) → RunsFor job input limit old → IsSameJob old new → IsUnderway new → RunsFor job input limit new
+runs_on job input limit old new h same u =
+    record {
+      underway = u;
+      job_is = ap (λ (b : _). b.now) same.job ∙ h.job_is;
+      input_is = ap (λ (b : _). b.now) same.input ∙ h.input_is;
+      limit_is = same.limit ∙ h.limit_is;
+    }
+
+-- what is said of the runner's job, input and limit is said of these
+pub said_for : (job : Tree) (input : List ℕ) (limit : ℕ) (r : Runner) → RunsFor job input limit r → (P : Tree → List ℕ → ℕ → Type 0) → P r.job.now r.input.now r.limit → P job input limit
+said_for job input limit r h P p =
+    subst (λ (n : ℕ). P job input n) h.limit_is (subst (λ (xs : List ℕ). P job xs r.limit) h.input_is (subst (λ (j : Tree). P j r.input.now r.limit) h.job_is p))
+
+pub turns_for : (job : Tree) (input : List ℕ) (limit n : ℕ) (r : Runner) → RunsFor job input limit r → n ≡ r.turns → n ≤ 2 * size_of job.steps + 1
+turns_for job input limit n r h e =
+    let few : r.turns ≤ most_turns r = few_turns r h.underway in
+    let same : size_of r.job.now.steps ≡ size_of job.steps = ap (λ (j : Tree). size_of j.steps) h.job_is in
+    omega (arith, few, same, e)

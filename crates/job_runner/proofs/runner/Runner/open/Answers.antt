@@ -1,0 +1,28 @@
+use Rattle.std.proofs.Common.{refl, ap, ◌∙◌}
+use Rattle.buffer_parts.specs.Part.{buffer_of, range_of}
+use Rattle.job_runner.proofs.Opening.{opened}
+use Rattle.job_runner.proofs.runner.Runner.open.Goals as goal
+
+pub returns-clause-underway : goal.returns-clause-underway
+returns-clause-underway c =
+    opened _ c.in_ok-task.task c.in_ok-roster.root
+    (record {
+      names = c.spelled_jobs_are_sound.ensures.names _ _ c.steps-steps.ensures.spelled;
+      starts = c.spelled_jobs_are_sound.ensures.starts _ _ c.steps-steps.ensures.spelled;
+      modest = c.steps-steps.ensures.modest;
+    })
+    c.requires.small
+    (record { tick = c.new.ensures.tick; scopes = c.new.ensures.scopes; labels = c.new.ensures.labels; book = c.new.ensures.book; started = c.new.ensures.started })
+    (record {
+      label = c.in_ok-task.ensures.label;
+      buffer = ap buffer_of c.in_ok-task.ensures.part ∙ c.whole.ensures.buffer;
+      range = ap range_of c.in_ok-task.ensures.part ∙ c.whole.ensures.range;
+      home = c.in_ok-task.ensures.home;
+      frames = c.in_ok-task.ensures.frames;
+      own = c.in_ok-task.ensures.own;
+      halt = c.in_ok-task.ensures.halt;
+      entries = c.in_ok-task.ensures.entries;
+      froms = c.in_ok-task.ensures.froms;
+    })
+    c.in_ok-roster.ensures.root refl c.in_ok-roster.ensures.agree c.new-2.ensures.now c.new-2.ensures.limit c.requires.bounded c.new-2.ensures.timers c.new-3.ensures.items c.new-batch.result.next
+    c.add.new.self.next c.new-batch.ensures.next c.in_ok-add.ensures.added c.turn_over.ensures.current c.turn_over.ensures.next c.turn_over.ensures.unplaced

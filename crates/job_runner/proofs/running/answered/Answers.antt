@@ -1,0 +1,18 @@
+use Rattle.std.proofs.Common.{length, ap, arith}
+use Rattle.task_roster.specs.Roster.{gone_of}
+use Rattle.job_runner.proofs.FewRequests.{few_requests}
+use Rattle.job_runner.proofs.Rounds.{ready_some}
+use Rattle.job_runner.proofs.running.answered.Goals as goal
+
+pub returns-clause-turns : goal.returns-clause-turns
+returns-clause-turns g c =
+    let more = c.in_ok-runner.ensures.turns in
+    let some = ready_some c.args.runner.batch.current (gone_of c.args.runner.roster 0) c.requires.ready in
+    omega (arith, more, some)
+
+pub work-requires-clause-few_requests : goal.work-requires-clause-few_requests
+work-requires-clause-few_requests g c =
+    let few = few_requests c.args.runner c.requires.underway in
+    let same = ap length c.in_ok-requests.ensures in
+    let slice = ap length c.as_slice.ensures.value in
+    omega (arith, few, same, slice)

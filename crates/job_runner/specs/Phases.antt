@@ -1,0 +1,17 @@
+-- What clauses read of a runner.
+use Rattle.std.specs.Prelude.{Option, Some, None, List, [], ◌∷◌}
+use Rattle.batch_commit.specs.declared.entry.Entry.{Entry}
+use Rattle.run_crew.specs.Crew.{Gone}
+use Rattle.task_roster.specs.Roster.{gone_of}
+use Rattle.job_runner.specs.declared.runner.Phase.{Phase}
+use Rattle.job_runner.specs.declared.runner.Phase.TheVariants.{Ready, Blocked, Over}
+use Rattle.job_runner.specs.declared.runner.Runner.{Runner}
+
+-- Tasks are ready as long as one stands in the current batch; where none does, the run is over once the root has ended.
+abbrev pub phase_by : List Entry → Option Gone → Phase
+phase_by (e ∷ es) ended = Ready
+phase_by [] (Some g) = Over
+phase_by [] None = Blocked
+
+abbrev pub phase_of : Runner → Phase
+phase_of r = phase_by r.batch.current (gone_of r.roster 0)

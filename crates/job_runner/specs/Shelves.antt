@@ -1,0 +1,161 @@
+-- Where the tasks of a run stand between their turns: in the current batch or the next one, among the sleepers, or waiting for a
+-- nursery of which a member runs.
+use Rattle.std.specs.Prelude.{◌≡◌, ◌≢◌, ℕ, ◌+◌, ◌<◌, ◌≤◌, if◌then◌else◌, false, Option, Some, None, List, [], map, All, IsSomeAnd, slice_get}
+use Rattle.std.specs.Option.{ForSome}
+use Rattle.autojump_clock.specs.Clock.{Clock, now_of, limit_of, due_of}
+use Rattle.batch_commit.specs.declared.entry.Call.{Call}
+use Rattle.batch_commit.specs.declared.entry.Call.TheVariants.{Ask}
+use Rattle.batch_commit.specs.declared.entry.Entry.{Entry}
+use Rattle.batch_commit.specs.Batch.{Batches}
+use Rattle.batch_commit.specs.Entries.{Added, NonePlaced, wake_of}
+use Rattle.cancel_scopes.specs.Sight.{seen}
+use Rattle.cancel_scopes.specs.Tree.{outer_of}
+use Rattle.job_tree.specs.Tree.{Tree}
+use Rattle.job_tree.specs.Names.{GivesNamesOnce}
+use Rattle.job_tree.specs.Starting.{StartsInNurseries}
+use Rattle.job_tree.specs.Modest.{IsModest}
+use Rattle.job_meaning.specs.Follow.{IsSettled}
+use Rattle.job_meaning.specs.Log.{Table}
+use Rattle.line_kernels.specs.Answers.{IsAnswer}
+use Rattle.line_kernels.specs.declared.answers.Answer.{Answer}
+use Rattle.nursery_book.specs.Nursery.{Nursery, is_settled}
+use Rattle.nursery_book.specs.Book.{nursery_at}
+use Rattle.nursery_book.specs.declared.book.NurseryBook.{NurseryBook}
+use Rattle.task_machine.specs.declared.stop.Halt.{Halt}
+use Rattle.task_machine.specs.declared.stop.Halt.TheVariants.{ToBegin, Asked, Asleep, Awaits, Over}
+use Rattle.task_machine.specs.declared.stop.Wake.{Wake}
+use Rattle.task_machine.specs.declared.task.Task.{Task}
+use Rattle.task_machine.specs.declared.world.World.{World}
+use Rattle.task_machine.specs.Tasks.{scope_of}
+use Rattle.run_crew.specs.Crew.{Crew, IsCrew}
+use Rattle.run_crew.specs.Ready.{MayGo, AreHomesOf}
+use Rattle.job_runner.specs.declared.limits.TheConstants.{GREATEST_LIMIT}
+use Rattle.task_roster.specs.declared.roster.Roster.{Roster}
+use Rattle.task_roster.specs.declared.roster.Running.{Running}
+use Rattle.job_runner.specs.declared.runner.Runner.{Runner}
+use Rattle.job_runner.specs.declared.runner.Sleeper.{Sleeper}
+use Rattle.task_roster.specs.Rows.{times}
+use Rattle.task_roster.specs.Roster.{running_at, parent_of, many, crew_of, IsRoster}
+
+-- ---- why a task is ready
+
+-- an answer that was placed for what was asked is that of the kernel
+abbrev pub IsRight : Call → Option Answer → Type 0
+IsRight (Ask request) (Some answer) = IsAnswer request.kernel request.part answer
+IsRight call answer = Unit {0}
+
+-- a task that is ready by this call may go on, with whatever right answer
+abbrev pub GoesBy : World → Task → Call → Type 0
+GoesBy world task call = (answer : Option Answer) (wake : Wake) → IsRight call answer → wake_of call answer ≡ Some wake → MayGo world task wake
+
+-- the task under an id lives, and is ready by this call
+abbrev pub IsCalled : Roster → World → ℕ → Call → Type 0
+IsCalled roster world id call = IsSomeAnd (running_at roster id) (λ x. GoesBy world x.task call)
+
+-- ---- sleepers
+
+-- A task sleeps as a sleeper says. It fell asleep by now, and its sleep is over later.
+pub record IsAsleep (world : World) (sleeper : Sleeper) (task : Task) : Type 0 where
+  pub ticks : ℕ
+  pub since : ℕ
+  pub halt : task.halt ≡ Asleep ticks since
+  pub due_is : sleeper.due ≡ since + ticks
+  pub began : since ≤ world.tick
+  pub later : world.tick < sleeper.due
+
+-- and it sees nothing yet
+pub record Dozes (world : World) (sleeper : Sleeper) (task : Task) : Type 0 where
+  pub asleep : IsAsleep world sleeper task
+  pub unseen : seen (outer_of world.scopes (scope_of task)) world.tick ≡ false
+
+-- a sleeper has its timer, and its task lives and dozes
+pub record IsSleeper (roster : Roster) (world : World) (clock : Clock) (sleeper : Sleeper) : Type 0 where
+  pub timer : due_of clock sleeper.task ≡ Some sleeper.due
+  pub dozes : IsSomeAnd (running_at roster sleeper.task) (λ (x : Running). Dozes world sleeper x.task)
+
+-- a timer is that of a sleeper
+pub record IsTimerOf (sleepers : List Sleeper) (id due : ℕ) : Type 0 where
+  pub place : ℕ
+  pub sleeper : Sleeper
+  pub stands : slice_get sleepers place ≡ Some sleeper
+  pub task_is : sleeper.task ≡ id
+  pub due_is : sleeper.due ≡ due
+
+-- ---- each task stands in one place
+
+-- how often an id stands among entries, what was added, and sleepers
+abbrev pub times_shelved : Batches → List Sleeper → ℕ → ℕ
+times_shelved batch sleepers id =
+    times id (map (λ (e : Entry). e.task) batch.current) + times id (map (λ (a : Added). a.0) batch.next) + times id (map (λ (s : Sleeper). s.task) sleepers)
+
+-- how often the task of a nursery that is waited for has to stand there
+abbrev pub settled_times : Option Nursery → ℕ
+settled_times None = 0
+settled_times (Some n) = if is_settled n then 1 else 0
+
+-- and a task, by what it goes on with: once, but for one that waits for a nursery of which a member runs
+abbrev pub halt_times : NurseryBook → Halt → ℕ
+halt_times book ToBegin = 1
+halt_times book (Asked kernel purpose) = 1
+halt_times book (Asleep ticks since) = 1
+halt_times book (Awaits id since) = settled_times (nursery_at book id)
+halt_times book Over = 0
+
+abbrev pub running_times : NurseryBook → Option Running → ℕ
+running_times book None = 0
+running_times book (Some x) = halt_times book x.task.halt
+
+-- an id that is not the one which is away
+abbrev pub IsElse : Option ℕ → ℕ → Type 0
+IsElse None id = Unit {0}
+IsElse (Some away) id = id ≢ away
+
+-- ---- a run between turns
+
+-- What the runner keeps fits together. The task under one id may be away: it is having its turn.
+pub record AreShelved (turning : Option ℕ) (r : Runner) : Type 0 where
+  pub agree : IsRoster r.roster
+  pub homes : AreHomesOf (crew_of r.roster r.world r.turns) (parent_of r.roster)
+  pub now : now_of r.clock ≡ r.world.tick
+  pub limit : limit_of r.clock ≡ r.limit
+  pub within : r.world.tick ≤ r.limit
+  pub bounded : r.limit ≤ GREATEST_LIMIT
+  pub none_started : r.world.started.items ≡ []
+  pub timers : (id due : ℕ) → due_of r.clock id ≡ Some due → IsTimerOf r.sleepers.items id due
+  pub sleepers : All (IsSleeper r.roster r.world r.clock) r.sleepers.items
+  pub current : All (λ (e : Entry). IsCalled r.roster r.world e.task e.call) r.batch.current
+  pub next : All (λ (a : Added). IsCalled r.roster r.world a.0 a.1) r.batch.next
+  pub once : (id : ℕ) → IsElse turning id → times_shelved r.batch r.sleepers.items id ≡ running_times r.world.book (running_at r.roster id)
+  pub away : ForSome turning (λ (id : ℕ). times_shelved r.batch r.sleepers.items id ≡ 0)
+
+-- the crew of a runner
+abbrev pub crew_in : Runner → Crew
+crew_in r = crew_of r.roster r.world r.turns
+
+-- For each settled table it is a run of the definitions.
+abbrev pub AreOnCourse : Runner → Type 0
+AreOnCourse r = (k : Table) → IsSettled k r.job.now r.input.now → IsCrew k r.job.now r.input.now r.world.tick (many r.roster) None (crew_in r)
+
+-- the job, the input and the limit stay
+pub record IsSameJob (old new : Runner) : Type 0 where
+  pub job : new.job ≡ old.job
+  pub input : new.input ≡ old.input
+  pub limit : new.limit ≡ old.limit
+
+-- what is known of each job that was read
+pub record IsSound (job : Tree) : Type 0 where
+  pub names : GivesNamesOnce job
+  pub starts : StartsInNurseries job
+  pub modest : IsModest job
+
+-- A run between two turns, or in one of the task under an id that is away.
+pub record IsGoing (away : Option ℕ) (r : Runner) : Type 0 where
+  pub sound : IsSound r.job.now
+  pub shelved : AreShelved away r
+  pub course : AreOnCourse r
+
+-- A run whose next batch is asked for, or has no one in it.
+pub record IsUnderway (r : Runner) : Type 0 where
+  pub going : IsGoing None r
+  pub unplaced : NonePlaced r.batch.current
+  pub nothing_added : r.batch.next ≡ []

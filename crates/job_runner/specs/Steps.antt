@@ -1,0 +1,88 @@
+-- What the steps of a turn leave, one after the other.
+use Rattle.std.specs.Prelude.{◌≡◌, ◌≢◌, ℕ, ◌+◌, ◌<◌, ◌≤◌, Bool, true, false, Option, Some, None, List, [], ◌∷◌, ◌++◌, length, map, slice_get, IsSomeAnd}
+use Rattle.exc_groups.specs.Exceptions.{Exc}
+use Rattle.batch_commit.specs.declared.entry.Call.TheVariants.{Begin, Settled}
+use Rattle.batch_commit.specs.Entries.{Added}
+use Rattle.job_meaning.specs.Follow.{IsSettled}
+use Rattle.job_meaning.specs.Log.{Table}
+use Rattle.nursery_book.specs.Nursery.{Nursery, is_settled, with_child}
+use Rattle.nursery_book.specs.Book.{HasNursery, Changes}
+use Rattle.task_machine.specs.declared.stop.Stop.{Stop}
+use Rattle.task_machine.specs.declared.task.Task.{Task}
+use Rattle.run_crew.specs.Step.{StopSays, StoppedIn}
+use Rattle.run_crew.specs.Turn.{serials_from}
+use Rattle.task_roster.specs.Rows.{times}
+use Rattle.task_roster.specs.Roster.{running_at, task_of, gone_of, start_of, children_of, parent_of, id_of, many, IsRoster}
+use Rattle.task_roster.specs.declared.roster.Roster.{Roster}
+use Rattle.task_roster.specs.declared.roster.Running.{Running}
+use Rattle.job_runner.specs.declared.runner.Runner.{Runner}
+use Rattle.job_runner.specs.Shelves.{IsSound, AreShelved, crew_in}
+
+-- ---- the tasks that one started
+
+-- These tasks were started in that tick by the one of that row, and have the next rows and these ids.
+pub record StartsAll (old new : Roster) (parent : ℕ) (tasks : List Task) (tick : ℕ) (ids : List ℕ) : Type 0 where
+  pub as_many : length ids ≡ length tasks
+  -- each lives under its id, under which nothing lived
+  pub lives :
+      (i id : ℕ) (task : Task) → slice_get ids i ≡ Some id → slice_get tasks i ≡ Some task →
+      (running_at old id ≡ None) × (running_at new id ≡ Some (record { task = task; row = many old + i }))
+  pub once : (id : ℕ) → times id ids ≤ 1
+  pub others : (id : ℕ) → times id ids ≡ 0 → running_at new id ≡ running_at old id
+  pub more : many new ≡ many old + length tasks
+  pub task : (i : ℕ) → task_of new (many old + i) ≡ slice_get tasks i
+  pub start : (i : ℕ) → i < length tasks → start_of new (many old + i) ≡ tick
+  pub childless : (i : ℕ) → i < length tasks → children_of new (many old + i) ≡ []
+  pub parent_is : (i : ℕ) → i < length tasks → parent_of new (many old + i) ≡ parent
+  pub child : children_of new parent ≡ children_of old parent ++ serials_from (many old) (length tasks)
+  pub same_task : (p : ℕ) → p < many old → task_of new p ≡ task_of old p
+  pub same_gone : (p : ℕ) → gone_of new p ≡ gone_of old p
+  pub same_start : (p : ℕ) → p < many old → start_of new p ≡ start_of old p
+  pub same_children : (p : ℕ) → p < many old → p ≢ parent → children_of new p ≡ children_of old p
+  pub same_parent : (p : ℕ) → p < many old → parent_of new p ≡ parent_of old p
+  pub same_id : (p : ℕ) → p < many old → id_of new p ≡ id_of old p
+
+abbrev pub to_begin : List ℕ → List Added
+to_begin ids = map (λ (id : ℕ). (id, Begin)) ids
+
+-- The tasks that waited in the world were taken, and are ready to begin.
+pub record TakesStarted (old new : Runner) (parent : ℕ) : Type 0 where
+  pub ids : List ℕ
+  pub starts : StartsAll old.roster new.roster parent old.world.started.items old.world.tick ids
+  pub agree : IsRoster new.roster
+  pub world : new.world ≡ record old.world { started = new.world.started }
+  pub none_left : new.world.started.items ≡ []
+  pub current : new.batch.current ≡ old.batch.current
+  pub next : new.batch.next ≡ old.batch.next ++ to_begin ids
+  pub rest : new ≡ record old { world = new.world; roster = new.roster; batch = new.batch }
+
+-- ---- a task that stopped
+
+-- The task under an id, of that row, stopped so in its turn, and the runner has not done yet what comes of it.
+pub record IsStopping (id row : ℕ) (stop : Stop) (r : Runner) : Type 0 where
+  pub sound : IsSound r.job.now
+  pub shelved : AreShelved (Some id) r
+  pub lives : IsSomeAnd (running_at r.roster id) (λ (x : Running). (x.row ≡ row) × StopSays r.world x.task stop)
+  pub course : (k : Table) → IsSettled k r.job.now r.input.now → StoppedIn k r.job.now r.input.now r.world.tick (many r.roster) row stop (crew_in r)
+
+-- what does not change where the runner does what comes of a stop
+pub record IsSameTurn (old new : Runner) : Type 0 where
+  pub job : new.job ≡ old.job
+  pub input : new.input ≡ old.input
+  pub limit : new.limit ≡ old.limit
+  pub turns : new.turns ≡ old.turns
+  pub current : new.batch.current ≡ old.batch.current
+
+-- ---- the end of a child is told
+
+abbrev pub called_if : Bool → ℕ → List Added
+called_if true id = (id, Settled) ∷ []
+called_if false id = []
+
+-- The nursery was told of the end of the child at that place, and the task under an id, which waits for it, is ready if it is
+-- settled now.
+pub record TellsEnd (old new : Runner) (nursery place : ℕ) (exc : Option Exc) (waiter : ℕ) : Type 0 where
+  pub book : Changes old.world.book new.world.book nursery (with_child place exc)
+  pub next : HasNursery new.world.book nursery (λ (n : Nursery). new.batch.next ≡ old.batch.next ++ called_if (is_settled n) waiter)
+  pub current : new.batch.current ≡ old.batch.current
+  pub rest : new ≡ record old { world = record old.world { book = new.world.book }; batch = new.batch }

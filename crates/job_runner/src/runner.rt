@@ -1,0 +1,215 @@
+ghost use Rattle.std.specs.Prelude.{◌≡◌, ◌≢◌, ◌+◌, ◌≤◌, ◌<◌, [], None, Some, IsSome, IsSomeAnd, IfOk, IfErr, OnOk, length};
+ghost use Rattle.batch_commit.specs.Entries.{requests_of};
+ghost use Rattle.job_meaning.specs.declared.limits.TheConstants.{MOST_INPUT};
+ghost use Rattle.job_meaning.specs.Meaning.{meaning_end};
+ghost use Rattle.run_crew.specs.Ready.{MayGo};
+ghost use Rattle.scoped_workers.specs.Slots.{AreAnswers};
+ghost use Rattle.task_roster.specs.Roster.{running_at, many, IsRoster};
+ghost use Rattle.job_runner.specs.declared.limits.TheConstants.{GREATEST_LIMIT};
+ghost use Rattle.job_runner.specs.declared.runner.Phase.TheVariants.{Ready, Over};
+ghost use Rattle.job_runner.specs.Phases.{phase_of};
+ghost use Rattle.job_runner.specs.Runs.{IsRun, turns_of};
+ghost use Rattle.job_runner.specs.Shelves.{IsGoing, IsSameJob, IsUnderway};
+ghost use Rattle.job_runner.specs.Steps.{TakesStarted, IsStopping, IsSameTurn};
+
+use crate::finished::Run;
+use autojump_clock::{MockClock, TaskId};
+use batch_commit::{Call, Pick, ReadyBatch};
+use buffer_parts::Part;
+use cancel_scopes::stacks_are_chains;
+use job_grammar::{Job, spelled_jobs_are_sound};
+use line_kernels::{Answer, Request};
+use std::alloc::{AllocError, Global};
+use task_machine::{Stop, Task, Wake, World};
+use task_roster::{Roster, records_of};
+
+/// What a run waits for.
+#[derive(Clone, Copy, Debug, PartialEq, Eq)]
+pub enum Phase {
+    /// Tasks are ready: the answers to the batch's requests.
+    Ready,
+    /// Every task is blocked: a jump of the clock.
+    Blocked,
+    /// Nothing: the root has ended.
+    Over,
+}
+
+// A task that sleeps.
+#[derive(Clone, Copy)]
+pub(crate) struct Sleeper {
+    // The task.
+    pub(crate) task: TaskId,
+    // The tick until which it sleeps.
+    pub(crate) due: u64,
+}
+
+/// A job that is run, one batch of ready tasks after the other, and one tick after the other.
+#[derive(Drop)]
+pub struct Runner<'a> {
+    pub(crate) alloc: Global,
+    pub(crate) job: &'a Job,
+    pub(crate) input: &'a [u8],
+    pub(crate) limit: u64,
+    pub(crate) world: World<'a>,
+    pub(crate) clock: MockClock,
+    pub(crate) roster: Roster<'a>,
+    // In the order in which they fell asleep.
+    pub(crate) sleepers: Vec<Sleeper>,
+    pub(crate) batch: ReadyBatch<'a>,
+    pub(crate) turns: u64,
+}
+
+impl<'a> Runner<'a> {
+    /// A run at tick 0, whose root is ready to begin. The limit is the last tick that it goes to. Want of memory is the only
+    /// error.
+    pub fn open(
+        alloc: Global,
+        job: &'a Job,
+        input: &'a [u8],
+        limit: u64,
+    ) -> Result<Runner<'a>, AllocError>
+        requires small { length input.now ≤ MOST_INPUT }
+        requires bounded { limit ≤ GREATEST_LIMIT }
+        ensures underway { IfOk result IsUnderway }
+        ensures ready { IfOk result (λ r. phase_of r ≡ Ready) }
+        ensures job { IfOk result (λ r. r.job.now ≡ job.now) }
+        ensures input { IfOk result (λ r. r.input.now ≡ input.now) }
+        ensures limit { IfOk result (λ r. r.limit ≡ limit) }
+        ensures turns { IfOk result (λ r. r.turns ≡ 0) }
+    {
+        spelled_jobs_are_sound();
+        let _steps = job.steps();
+        let task = Task::root(alloc, job, Part::whole(input))?;
+        let (roster, root) = Roster::of_root(alloc, task)?;
+        let mut batch = ReadyBatch::new(alloc);
+        batch.add(root, Call::Begin)?;
+        batch.turn_over();
+        Ok(Runner {
+            alloc,
+            job,
+            input,
+            limit,
+            world: World::new(alloc),
+            clock: MockClock::new(alloc, limit),
+            roster,
+            sleepers: Vec::new(alloc),
+            batch,
+            turns: 0,
+        })
+    }
+
+    /// What the run waits for.
+    pub fn phase(&self) -> Phase
+        requires { IsUnderway self.now }
+        ensures { result ≡ phase_of self.now }
+    {
+        if !self.batch.is_empty() {
+            return Phase::Ready;
+        }
+        if self.roster.is_over() {
+            return Phase::Over;
+        }
+        Phase::Blocked
+    }
+
+    /// How many turns the tasks had so far.
+    pub fn turns(&self) -> u64
+        ensures { result ≡ self.now.turns }
+    {
+        self.turns
+    }
+
+    /// The requests of the ready tasks, in the order of the batch.
+    pub fn requests(&self) -> Result<Vec<Request<'a>>, AllocError>
+        ensures { IfOk result (λ requests. requests.items ≡ requests_of self.now.batch.current) }
+    {
+        self.batch.requests()
+    }
+
+    /// Each ready task has one turn, in the order that the picker picks. The caller sees to it that each answer is that of the
+    /// request at its place. Want of memory is the only error.
+    pub fn commit<P: Pick>(
+        self,
+        answers: Vec<Answer<'a>>,
+        picker: &mut P,
+    ) -> Result<Runner<'a>, AllocError>
+        requires underway { IsUnderway self }
+        requires answers { AreAnswers (requests_of self.batch.current) answers.items }
+        ensures underway { IfOk result IsUnderway }
+        ensures same { IfOk result (IsSameJob self.entry) }
+        ensures turns { IfOk result (λ r. r.turns ≡ self.entry.turns + length self.entry.batch.current) }
+    {
+        let mut runner = self;
+        runner.batch.place(answers);
+        'turns: while let Some(turn) = runner.batch.next(picker) {
+            let (id, wake) = turn;
+            runner.take_turn(id, wake)?;
+        }
+        runner.batch.turn_over();
+        Ok(runner)
+    }
+
+    // The task under an id has its turn.
+    fn take_turn(&mut self, id: TaskId, wake: Wake<'a>) -> Result<(), AllocError>
+        requires going { IsGoing (Some id) self.old }
+        requires goes { IsSomeAnd (running_at self.old.roster id) (λ x. MayGo self.old.world x.task wake) }
+        ensures going { OnOk result (IsGoing None self.new) }
+        ensures same { OnOk result (IsSameJob self.old self.new) }
+        ensures current { OnOk result (self.new.batch.current ≡ self.old.batch.current) }
+        ensures turns { OnOk result (self.new.turns ≡ self.old.turns + 1) }
+    {
+        let row = self.roster.row(id);
+        let stop = self.go(id, row, wake)?;
+        self.stopped(id, row, stop)
+    }
+
+    // The task under an id, of that row, goes on to its next stop, and those that it started are ready to begin.
+    fn go(&mut self, id: TaskId, row: usize, wake: Wake<'a>) -> Result<Stop<'a>, AllocError>
+        requires going { IsGoing (Some id) self.old }
+        requires goes { IsSomeAnd (running_at self.old.roster id) (λ x. MayGo self.old.world x.task wake) }
+        requires row { IsSomeAnd (running_at self.old.roster id) (λ x. x.row ≡ row) }
+        ensures stopping { IfOk result (λ stop. IsStopping id row stop self.new) }
+        ensures same { OnOk result (IsSameJob self.old self.new) }
+        ensures current { OnOk result (self.new.batch.current ≡ self.old.batch.current) }
+        ensures turns { OnOk result (self.new.turns ≡ self.old.turns + 1) }
+    {
+        stacks_are_chains(self.world.scopes());
+        let stop = self.roster.turn(id, wake, &mut self.world)?;
+        stacks_are_chains(self.world.scopes());
+        self.turns += 1;
+        self.take_started(row)?;
+        Ok(stop)
+    }
+
+    // The tasks that the one of that row started are ready to begin.
+    fn take_started(&mut self, row: usize) -> Result<(), AllocError>
+        requires agree { IsRoster self.old.roster }
+        requires row { row < many self.old.roster }
+        ensures { OnOk result (TakesStarted self.old self.new row) }
+    {
+        'started: while let Some(task) = self.world.take_started() {
+            let id = self.roster.start(row, task, self.world.now())?;
+            self.batch.add(id, Call::Begin)?;
+        }
+        Ok(())
+    }
+
+    /// The records of a run that is over. Want of memory is the only error.
+    pub fn finish(self) -> Result<Run<'a>, AllocError>
+        requires underway { IsUnderway self }
+        requires over { phase_of self ≡ Over }
+        ensures run { IfOk result (IsRun self.entry.job.now self.entry.input.now) }
+        ensures in_time { IfOk result (λ _. meaning_end self.entry.job.now self.entry.input.now ≤ self.entry.limit) }
+        ensures turns { IfOk result (λ run. turns_of run ≡ self.entry.turns) }
+    {
+        let Runner {
+            alloc,
+            job,
+            roster,
+            turns,
+            ..
+        } = self;
+        let (records, froms) = records_of(alloc, roster.into_rows())?;
+        Ok(Run::new(job.name(), records, froms, turns))
+    }
+}

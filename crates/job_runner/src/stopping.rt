@@ -1,0 +1,123 @@
+ghost use Rattle.std.specs.Prelude.{◌≡◌, ◌<◌, None, Some, IfOk, OnOk, slice_get};
+ghost use Rattle.std.specs.Option.{option_map};
+ghost use Rattle.exc_groups.specs.Held.{exc_of};
+ghost use Rattle.nursery_book.specs.Book.{HasNursery};
+ghost use Rattle.task_machine.specs.declared.stop.Stop.TheVariants.{Ask, Sleep, Wait, Ended};
+ghost use Rattle.task_roster.specs.Roster.{parent_of, id_of, many};
+ghost use Rattle.job_runner.specs.Shelves.{IsGoing};
+ghost use Rattle.job_runner.specs.Steps.{IsStopping, IsSameTurn, TellsEnd};
+
+use crate::runner::{Runner, Sleeper};
+use autojump_clock::TaskId;
+use batch_commit::Call;
+use exc_groups::Exc;
+use line_kernels::Request;
+use nursery_book::{NurseryId, Place};
+use std::alloc::{AllocError, Global};
+use task_machine::Stop;
+
+impl<'a> Runner<'a> {
+    // What comes of the stop of the task under an id, of that row.
+    pub(crate) fn stopped(
+        &mut self,
+        id: TaskId,
+        row: usize,
+        stop: Stop<'a>,
+    ) -> Result<(), AllocError>
+        requires { IsStopping id row stop self.old }
+        ensures going { OnOk result (IsGoing None self.new) }
+        ensures same { OnOk result (IsSameTurn self.old self.new) }
+    {
+        match stop {
+            Stop::Ask(request) => self.asks(id, row, request)?,
+            Stop::Sleep(due) => self.falls_asleep(id, row, due)?,
+            Stop::Wait(nursery) => self.waits(id, row, nursery)?,
+            Stop::Ended(exc) => self.ends(id, row, exc)?,
+        }
+        Ok(())
+    }
+
+    // It is in the next batch with its request.
+    fn asks(&mut self, id: TaskId, row: usize, request: Request<'a>) -> Result<(), AllocError>
+        requires { IsStopping id row (Ask request) self.old }
+        ensures going { OnOk result (IsGoing None self.new) }
+        ensures same { OnOk result (IsSameTurn self.old self.new) }
+    {
+        let _row = row;
+        self.batch.add(id, Call::Ask(request))?;
+        Ok(())
+    }
+
+    // It is one of the sleepers.
+    fn falls_asleep(&mut self, id: TaskId, row: usize, due: u64) -> Result<(), AllocError>
+        requires { IsStopping id row (Sleep due) self.old }
+        ensures going { OnOk result (IsGoing None self.new) }
+        ensures same { OnOk result (IsSameTurn self.old self.new) }
+    {
+        let _row = row;
+        self.clock.sleep_until(id, due)?;
+        self.sleepers.push(Sleeper { task: id, due })?;
+        Ok(())
+    }
+
+    // It is in the next batch where its nursery is settled already, and waits otherwise.
+    fn waits(&mut self, id: TaskId, row: usize, nursery: NurseryId) -> Result<(), AllocError>
+        requires { IsStopping id row (Wait nursery) self.old }
+        ensures going { OnOk result (IsGoing None self.new) }
+        ensures same { OnOk result (IsSameTurn self.old self.new) }
+    {
+        let _row = row;
+        if self.world.book().settled(nursery) {
+            self.batch.add(id, Call::Settled)?;
+        }
+        Ok(())
+    }
+
+    // Its nursery is told of its end, if it has one, and its row keeps what is left of it.
+    fn ends(&mut self, id: TaskId, row: usize, exc: Option<Exc>) -> Result<(), AllocError>
+        requires { IsStopping id row (Ended exc) self.old }
+        ensures going { OnOk result (IsGoing None self.new) }
+        ensures same { OnOk result (IsSameTurn self.old self.new) }
+    {
+        let home = self.roster.home(id);
+        let told = copy_of(self.alloc, &exc)?;
+        self.roster.end(id, self.world.now(), exc);
+        if let Some(at) = home {
+            let (nursery, place) = at;
+            self.tell(row, nursery, place, told)?;
+        }
+        Ok(())
+    }
+
+    // A nursery is told how its child at that place ended, which is the task of that row.
+    fn tell(
+        &mut self,
+        row: usize,
+        nursery: NurseryId,
+        place: Place,
+        exc: Option<Exc>,
+    ) -> Result<(), AllocError>
+        requires runs { HasNursery self.old.world.book nursery (λ n. slice_get n.children place ≡ Some None) }
+        requires row { row < many self.old.roster }
+        requires parent { parent_of self.old.roster row < many self.old.roster }
+        ensures { OnOk result (TellsEnd self.old self.new nursery place (option_map exc_of exc)
+            (id_of self.old.roster (parent_of self.old.roster row))) }
+    {
+        self.world.book_mut().child_ended(nursery, place, exc);
+        if self.world.book().settled(nursery) {
+            let waiter = self.roster.parent(row);
+            self.batch.add(waiter, Call::Settled)?;
+        }
+        Ok(())
+    }
+}
+
+// An equal exception.
+fn copy_of(alloc: Global, exc: &Option<Exc>) -> Result<Option<Exc>, AllocError>
+    ensures { IfOk result (λ copy. option_map exc_of copy ≡ option_map exc_of exc.now) }
+{
+    match exc {
+        Some(exc) => Ok(Some(exc.copy(alloc)?)),
+        None => Ok(None),
+    }
+}

@@ -1,7 +1,0 @@
-use Rattle.std.proofs.Common.{◌≡◌, ◌++◌, take}
-use Rattle.std.specs.Prelude.{map}
-use Rattle.task_records.specs.declared.entry.Entry.TheVariants.{Line}
-use Rattle.plain_walk.proofs.log.push_lines.Given as goal
-
-abbrev pub invariant-lines : goal.invariant-lines
-invariant-lines l = l.entries.items ≡ l.fn.entries.items ++ map Line (take l.line-index l.lines)
