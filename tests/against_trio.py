@@ -12,128 +12,17 @@ tick, and waiting at a nursery's end is shielded.
 
 import contextlib
 import math
-import random
 import subprocess
 import sys
 
 import trio
 import trio.testing
 
+from jobs import Jobs, text_of_block
+
 LIMIT = 1_000_000
 FOREVER = 2**40
 INPUT = b"error one\nok\nwarning: error\n\nlast line"
-NEEDLES = ["er", "ok", "absent", "l"]
-NAMES = ["A", "B", "C"]
-
-
-# ---- jobs at random ----
-
-
-class Jobs:
-    """Random jobs: nested lists of steps, each a tuple whose first part is its keyword."""
-
-    def __init__(self, seed):
-        self.random = random.Random(seed)
-        self.names = 0
-
-    def job(self):
-        self.names = 0
-        return self.block(5, [], 4)
-
-    def name(self, kind):
-        self.names += 1
-        return f"{kind}{self.names}"
-
-    def block(self, depth, around, most):
-        return [self.step(depth, around) for _ in range(self.random.randint(1, most))]
-
-    def step(self, depth, around):
-        pick = self.random.random()
-        if depth == 0 or pick < 0.3:
-            return self.leaf(around)
-        if pick < 0.5:
-            return self.scope(depth, around)
-        if pick < 0.75:
-            return self.nursery(depth, around)
-        return self.handled(depth, around)
-
-    def leaf(self, around):
-        r = self.random
-        pick = r.random()
-        if pick < 0.50:
-            return ("sleep", r.randint(0, 5))
-        if pick < 0.55:
-            return ("checkpoint",)
-        if pick < 0.58:
-            return ("forever",)
-        if pick < 0.62:
-            return ("pace", r.randint(1, 4))
-        if pick < 0.66:
-            return ("find", r.choice(NEEDLES))
-        if pick < 0.69:
-            return r.choice([("head", r.randint(0, 2)), ("longest",)])
-        if pick < 0.72:
-            return ("need", r.choice(NEEDLES), r.choice(NAMES))
-        if pick < 0.90 or not around:
-            return ("raise", r.choice(NAMES))
-        return ("cancel", r.choice(around))
-
-    def scope(self, depth, around):
-        r = self.random
-        name = self.name("s")
-        deadline = r.choice([None, None, ("after", r.randint(0, 6)), ("after", r.randint(0, 6)), ("at", r.randint(0, 9))])
-        body = self.block(depth - 1, around + [name], 3)
-        return ("scope", name, deadline, r.random() < 0.3, r.random() < 0.3, body)
-
-    def nursery(self, depth, around):
-        r = self.random
-        name = self.name("n")
-        items = []
-        for _ in range(r.randint(1, 5)):
-            if r.random() < 0.7:
-                over = r.choice([None, None, None, 1, 2, 3])
-                items.append(("start", self.name("t"), over, self.block(depth - 1, around + [name], 3)))
-            else:
-                items.append(self.step(depth - 1, around + [name]))
-        return ("nursery", name, items)
-
-    def handled(self, depth, around):
-        r = self.random
-        body = self.block(depth - 1, around, 3)
-        handler = (r.choice(NAMES + ["TooSlow"]), self.block(depth - 1, around, 2)) if r.random() < 0.7 else None
-        cleanup = self.block(depth - 1, around, 2) if handler is None or r.random() < 0.5 else None
-        return ("try", body, handler, cleanup)
-
-
-def text_of_block(steps):
-    return "{ " + "".join(text_of(step) + " " for step in steps) + "}"
-
-
-def text_of(step):
-    match step:
-        case ("scope", name, deadline, shield, fail, body):
-            words = ["scope", name]
-            if deadline:
-                words += [deadline[0], str(deadline[1])]
-            words += ["shield"] * shield + ["fail"] * fail
-            return " ".join(words) + " " + text_of_block(body)
-        case ("nursery", name, items):
-            return f"nursery {name} " + text_of_block(items)
-        case ("start", name, over, body):
-            return f"start {name} " + (f"over {over} " if over else "") + text_of_block(body)
-        case ("try", body, handler, cleanup):
-            text = "try " + text_of_block(body)
-            if handler is not None:
-                text += f" except {handler[0]} " + text_of_block(handler[1])
-            if cleanup is not None:
-                text += " finally " + text_of_block(cleanup)
-            return text
-        case ("find", needle):
-            return f'find "{needle}";'
-        case ("need", needle, name):
-            return f'need "{needle}" {name};'
-        case _:
-            return " ".join(str(word) for word in step) + ";"
 
 
 # ---- the same job in Trio ----
