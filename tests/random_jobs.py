@@ -1,0 +1,198 @@
+#!/usr/bin/env python3
+"""Runs random texts through nursery under each order and number of workers, and compares the answers.
+
+    python3 tests/random_jobs.py PROGRAM [TEXTS [SEED]]
+
+PROGRAM is the built executable. It wants Python 3.10 or later. Of each text: the bytes and the status are the same under
+every order and with 1, 3 and 64 workers, and as a feed; each line shown is the input's slice at its place; a job's canonical
+text is its own canonical text and has the same report; the status fits what was written. Three texts in four are jobs, the
+others jobs with a few bytes changed, or bytes.
+"""
+
+import os
+import random
+import re
+import subprocess
+import sys
+import tempfile
+from collections import Counter
+from concurrent.futures import ThreadPoolExecutor
+
+from jobs import Jobs, text_of_block
+
+FIRST_LINE = b"trio-job 1\n"
+ORDERS = ["forward", "reverse", "turn"]
+WORKERS = ["1", "3", "64"]
+LIMIT = 1_000_000
+LINE = re.compile(rb"  line (\d+)\+(\d+) (.*)")
+REFUSED = re.compile(rb"refused J([1-9]|1[01]) (\w+) at (\d+)\n")
+KINDS = "TooLong NotAscii Version Token Number Syntax Depth Twice NotEnclosing Reserved TooLarge".split()
+
+
+class Wrong(Exception):
+    """What was found, in one sentence."""
+
+
+# ---- texts and inputs at random ----
+
+
+def job_text(seed):
+    return FIRST_LINE + b"job main " + text_of_block(Jobs(seed).job()).encode()
+
+
+def nearly(dice, text):
+    """A few bytes of the text changed, taken out, given twice, or cut off."""
+    text = bytearray(text)
+    for _ in range(dice.randint(1, 3)):
+        place = dice.randrange(len(text) + 1)
+        pick = dice.randrange(5)
+        if pick == 0:
+            text[place : place + 1] = bytes([dice.choice(b'{};" \n0a_\\\xff')])
+        elif pick == 1:
+            text[place:place] = dice.choice([b"}", b"{", b";", b" 0", b" forever;", b' find "\\x0a";', b" over 65"])
+        elif pick == 2:
+            del text[place : place + dice.randint(1, 8)]
+        elif pick == 3:
+            text[place:place] = text[max(0, place - 20) : place]
+        elif pick == 4 and dice.random() < 0.3:
+            del text[place:]
+    return bytes(text)
+
+
+def text_of(dice, seed):
+    pick = dice.random()
+    if pick < 0.75:
+        return job_text(seed)
+    if pick < 0.95:
+        return nearly(dice, job_text(seed))
+    return dice.choice([b"", FIRST_LINE]) + dice.randbytes(dice.randint(0, 60))
+
+
+def input_of(dice):
+    if dice.random() < 0.3:
+        return dice.randbytes(dice.randint(0, 300))
+    lines = [dice.choice([b"error one", b"ok", b"", b"warning: error", b"a\\b \x7f\x00\xff", b"l" * 40]) for _ in range(dice.randint(0, 12))]
+    return b"\n".join(lines)
+
+
+# ---- what must hold of an answer ----
+
+
+def shown(line):
+    """Bytes as a report shows them."""
+    return b"".join(b"\\\\" if b == 92 else bytes([b]) if 32 <= b <= 126 else b"\\x%02x" % b for b in line)
+
+
+def check_lines(report, data):
+    """Each line shown is a line of the input: the slice at its place, whole."""
+    for line in report.split(b"\n"):
+        found = LINE.fullmatch(line)
+        if not found:
+            continue
+        at, length = int(found[1]), int(found[2])
+        piece = data[at : at + length]
+        if len(piece) != length or b"\n" in piece or shown(piece) != found[3]:
+            raise Wrong(f"no slice of the input: {line!r}")
+        if (at and data[at - 1 : at] != b"\n") or data[at + length : at + length + 1] not in (b"", b"\n"):
+            raise Wrong(f"no whole line of the input: {line!r}")
+
+
+def check_status(status, out, err, text):
+    """The status fits what was written. Gives whether the text is a job."""
+    if status in (0, 1):
+        root = out.split(b"\n")[1].split(b" ")
+        ended_well = root[-1] == b"done"
+        if not out.startswith(b"job ") or not out.endswith(b"\n") or err or ended_well != (status == 0):
+            raise Wrong(f"status {status} beside {out!r}, {err!r}")
+        return True
+    if status == 3:
+        if out != b"limit %d\n" % LIMIT or err:
+            raise Wrong(f"status 3 beside {out!r}, {err!r}")
+        return True
+    refused = REFUSED.fullmatch(out)
+    if status != 2 or not refused or not err:
+        raise Wrong(f"status {status} beside {out!r}, {err!r}")
+    if KINDS[int(refused[1]) - 1].encode() != refused[2] or int(refused[3]) > max(len(text), 65_536):
+        raise Wrong(f"no refusal: {out!r}")
+    return False
+
+
+class Program:
+    """The program, with a folder for its files."""
+
+    def __init__(self, path, folder):
+        self.path = os.path.abspath(path)
+        self.job, self.input = os.path.join(folder, "job"), os.path.join(folder, "input")
+
+    def call(self, words, feed=b""):
+        run = subprocess.run([self.path, *words], input=feed, capture_output=True, timeout=60)
+        return run.returncode, run.stdout, run.stderr
+
+    def run(self, text, *words):
+        with open(self.job, "wb") as file:
+            file.write(text)
+        return self.call(["run", self.job, self.input, *words])
+
+    def check(self, text):
+        return self.call(["check", "-"], text)
+
+    def examine(self, text, data):
+        """Raises Wrong where something does not hold. Gives the status."""
+        with open(self.input, "wb") as file:
+            file.write(data)
+        status, out, err = self.run(text)
+        is_job = check_status(status, out, err, text)
+        check_lines(out, data)
+        for order in ORDERS:
+            for workers in WORKERS:
+                if self.run(text, "--order", order, "--workers", workers) != (status, out, err):
+                    raise Wrong(f"another answer with --order {order} --workers {workers}")
+        lines = text + b"\n"
+        if b"%input" not in text and self.call([], lines + b"%input\n" + data)[:2] != self.run(lines)[:2]:
+            raise Wrong("another answer to the feed")
+        self.examine_check(text, (status, out), is_job)
+        return status
+
+    def examine_check(self, text, answer, is_job):
+        status, out, _ = self.check(text)
+        if not is_job:
+            if (status, out) != answer:
+                raise Wrong("check and run refuse differently")
+            return
+        if status != 0 or len(out) > len(text) + 1:
+            raise Wrong(f"check gives status {status} and {out!r}")
+        canonical = out.removesuffix(b"\n")
+        if self.check(canonical) != (0, out, b""):
+            raise Wrong("the canonical text is not its own canonical text")
+        if self.run(canonical)[:2] != answer:
+            raise Wrong("the canonical text has another report")
+
+
+def examined(path, seed):
+    """The status of one text. What is wrong is told with the text and its input."""
+    dice = random.Random(seed)
+    text, data = text_of(dice, seed), input_of(dice)
+    with tempfile.TemporaryDirectory() as folder:
+        try:
+            return Program(path, folder).examine(text, data)
+        except Wrong as wrong:
+            raise Wrong(f"{wrong}\n-- seed\n{seed}\n-- text\n{text!r}\n-- input\n{data!r}") from wrong
+
+
+def main():
+    texts = int(sys.argv[2]) if len(sys.argv) > 2 else 1000
+    seed = int(sys.argv[3]) if len(sys.argv) > 3 else random.randrange(1_000_000)
+    print(f"random_jobs.py: {texts} texts, seed {seed}", flush=True)
+    with ThreadPoolExecutor(os.cpu_count()) as pool:
+        try:
+            seen = Counter(pool.map(lambda i: examined(sys.argv[1], seed * 1_000_000 + i), range(texts)))
+        except Wrong as wrong:
+            print(wrong)
+            pool.shutdown(cancel_futures=True)
+            return 1
+    print("random_jobs.py: " + ", ".join(f"{n} of status {status}" for status, n in sorted(seen.items())) + ", none wrong")
+    return 0
+
+
+if __name__ == "__main__":
+    sys.exit(main())
