@@ -1,0 +1,238 @@
+#!/usr/bin/env python3
+"""Times nursery, whole programs, beside native programs and Trio.
+
+    python3 bench/bench.py PROGRAM [ROUNDS]
+
+PROGRAM is the built executable. It wants Python 3.10 or later. Inputs and jobs are made from a fixed seed, in a folder that is
+taken away at the end. Each row is the least time of ROUNDS runs (5 without the word), the runs of one row one after the other
+in turn, so that a ratio compares times of the same minutes; and the most memory that a run held. A native program stands beside
+a row where `rustc` is there; `grep -F`, `rg`, `wc -l` and Trio where they are installed.
+"""
+
+import filecmp
+import os
+import random
+import shutil
+import subprocess
+import sys
+import tempfile
+import time
+
+HERE = os.path.dirname(os.path.abspath(__file__))
+MIB = 1024 * 1024
+
+
+# ---- inputs and jobs ----
+
+
+def words_of(dice, count):
+    return b" ".join(dice.choice([b"accept", b"read", b"write", b"close", b"retry", b"queue", b"flush"]) for _ in range(count))
+
+
+def log(size, share):
+    """Lines of about 80 bytes, a share of which hold `ERROR`."""
+    dice = random.Random(1)
+    pool = []
+    for i in range(1000):
+        head = b"ERROR " if i < share * 1000 else b"info  "
+        pool.append(b"%08d " % dice.randrange(10**8) + head + words_of(dice, 11) + b"\n")
+    lines, length = [], 0
+    while length < size:
+        line = dice.choice(pool)
+        lines.append(line)
+        length += len(line)
+    return b"".join(lines)[:size]
+
+
+def job(body):
+    return b"trio-job 1\njob main { " + body + b" }\n"
+
+
+def grid(inner, outer=64, middle=64):
+    return job(b"nursery n { start a over %d { nursery m { start b over %d { %s } } } }" % (outer, middle, inner))
+
+
+# ---- one run ----
+
+
+class Run:
+    """A command with its standard input from nowhere: its least time, and the most memory of one run.
+
+    Standard output is a file, for all alike: into nowhere `grep` stops at its first line.
+    """
+
+    out = os.devnull
+
+    def __init__(self, name, *words):
+        self.name, self.words = name, [str(word) for word in words]
+        self.seconds, self.memory = float("inf"), 0
+
+    def write_to(self, path):
+        with open(path, "wb") as out:
+            subprocess.run(self.words, stdin=subprocess.DEVNULL, stdout=out, stderr=subprocess.DEVNULL)
+        return path
+
+    def once(self):
+        with open(Run.out, "wb") as out:
+            begin = time.perf_counter()
+            child = subprocess.Popen(self.words, stdin=subprocess.DEVNULL, stdout=out, stderr=subprocess.DEVNULL)
+            _, status, used = os.wait4(child.pid, 0)
+            self.seconds = min(self.seconds, time.perf_counter() - begin)
+        self.memory = max(self.memory, used.ru_maxrss)
+        child.returncode = status
+        return status
+
+
+def measure(runs, rounds):
+    for _ in range(rounds):
+        for run in runs:
+            run.once()
+
+
+def milliseconds(seconds):
+    return f"{seconds * 1000:.1f}"
+
+
+class Table:
+    """Rows of a table in Markdown."""
+
+    def __init__(self, *heads):
+        print("| " + " | ".join(heads) + " |")
+        print("|" + "---|" * len(heads))
+
+    def row(self, *cells):
+        print("| " + " | ".join(str(cell) for cell in cells) + " |", flush=True)
+
+
+# ---- the tables ----
+
+
+class Bench:
+    def __init__(self, program, rounds, folder):
+        self.program, self.rounds, self.folder = program, rounds, folder
+        self.native = self.build_native()
+
+    def file(self, name, data):
+        path = os.path.join(self.folder, name)
+        with open(path, "wb") as file:
+            file.write(data)
+        return path
+
+    def made(self, name, make):
+        """A file whose bytes are made in a process of their own: a child's peak of memory begins at its parent's."""
+        path = os.path.join(self.folder, name)
+        child = os.fork()
+        if child == 0:
+            self.file(name, make())
+            os._exit(0)
+        os.waitpid(child, 0)
+        return path
+
+    def write_the_same(self, one, other):
+        paths = [run.write_to(os.path.join(self.folder, name)) for run, name in [(one, "one.out"), (other, "other.out")]]
+        return filecmp.cmp(*paths, shallow=False)
+
+    def build_native(self):
+        """The native program, built, or None."""
+        if not shutil.which("rustc"):
+            return None
+        path = os.path.join(self.folder, "native")
+        source = os.path.join(HERE, "native.rs")
+        built = subprocess.run(["rustc", "--edition", "2021", "-O", "-o", path, source], capture_output=True)
+        return path if built.returncode == 0 else None
+
+    def lines(self):
+        """Searches of lines in whole programs, beside native programs."""
+        errors = self.made("errors.txt", lambda: log(16 * MIB, 0.03))
+        every = self.made("every.txt", lambda: log(16 * MIB, 1.0))
+        short = self.made("short.txt", lambda: b"a line\n" * (2 * MIB))
+        one = self.made("one.txt", lambda: b"x" * (16 * MIB - 5) + b"ERROR")
+        last = self.made("last.txt", lambda: log(16 * MIB, 0.0)[: 16 * MIB - 6] + b"ERROR\n")
+        table = Table("Work", "nursery ms", "MB", "native ms", "MB", "ratio", "others ms")
+        errors_by = [("grep -F", "grep", "-F", "ERROR", errors), ("rg", "rg", "-F", "ERROR", errors)]
+        for name, step, native_step, path, others in [
+            ("find in 16 MiB, 3 % of the lines", b'find "ERROR";', ["find", "ERROR"], errors, errors_by),
+            ("find that every line meets", b'find "ERROR";', ["find", "ERROR"], every, [("grep -F", "grep", "-F", "ERROR", every)]),
+            ("find in 2 million short lines, each", b'find "a";', ["find", "a"], short, [("grep -F", "grep", "-F", "a", short)]),
+            ("head of 2 million short lines", b"head 1000000000;", ["head", ""], short, []),
+            ("need at the last line", b'need "ERROR" Missing;', ["need", "ERROR"], last, [("grep -F", "grep", "-F", "-m1", "ERROR", last)]),
+            ("find in one line of 16 MiB", b'find "ERROR";', ["find", "ERROR"], one, []),
+            ("pace: lines counted", b"pace 1000000;", ["pace", ""], every, [("wc -l", "wc", "-l", every)]),
+        ]:
+            text = self.file("lines.job", job(step))
+            ours = Run(name, self.program, "run", text, path)
+            native = [Run("native", self.native, *native_step, path)] if self.native else []
+            if native and not self.write_the_same(ours, native[0]):
+                raise SystemExit(f"{name}: the native program writes something else")
+            beside = [Run(*words) for words in others if shutil.which(words[1])]
+            measure([ours, *native, *beside], self.rounds)
+            cells = ["-", "-", "-"]
+            if native:
+                cells = [milliseconds(native[0].seconds), native[0].memory // 1024, f"{ours.seconds / native[0].seconds:.2f}"]
+            told = ", ".join(f"{run.name} {milliseconds(run.seconds)}" for run in beside) or "-"
+            table.row(name, milliseconds(ours.seconds), ours.memory // 1024, *cells, told)
+
+    def turns(self):
+        """Time per turn at growing sizes, in each order. A turn's cost is the run's time without that of an empty job."""
+        empty = Run("empty", self.program, "run", self.file("empty.job", job(b"")), os.devnull)
+        measure([empty], self.rounds)
+        table = Table("Tasks", "turns", "forward ms", "reverse ms", "turn ms", "ns a turn, each order", "MB")
+        sleeps = b"sleep 1; sleep 1; sleep 1;"
+        for outer, middle in [(16, 64), (64, 64)]:
+            self.turns_row(table, empty, grid(sleeps, outer, middle), 1 + outer + outer * middle, 2 * (1 + outer) + 4 * outer * middle)
+        for inner in [2, 4, 5]:
+            text = job(
+                b"nursery n { start a over 64 { nursery m { start b over 64 { nursery k { start c over %d { sleep 1; sleep 1; } } } } } }" % inner
+            )
+            tasks = 1 + 64 + 64 * 64 * (1 + inner)
+            self.turns_row(table, empty, text, tasks, 2 * (1 + 64 + 64 * 64) + 3 * 64 * 64 * inner)
+
+    def turns_row(self, table, empty, text, tasks, turns):
+        path = self.file("turns.job", text)
+        runs = [Run(order, self.program, "run", path, os.devnull, "--order", order) for order in ["forward", "reverse", "turn"]]
+        measure(runs, self.rounds)
+        each = "/".join(f"{(run.seconds - empty.seconds) * 1e9 / turns:.0f}" for run in runs)
+        table.row(tasks, turns, *[milliseconds(run.seconds) for run in runs], each, max(run.memory for run in runs) // 1024)
+
+    def workers(self):
+        """Workers beside one another: 64 searches of the whole input, its 64 parts, and many small requests."""
+        data = self.made("all.txt", lambda: log(16 * MIB, 0.03))
+        small = self.made("small.txt", lambda: b"a line of 15 b.\n" * 4096)
+        table = Table("Work", "workers", "ms", "of one worker's time")
+        whole = b"nursery n { " + b"".join(b'start t%d { need "absent" Missing; }' % i for i in range(64)) + b" }"
+        for name, body, path in [
+            ("64 searches of 16 MiB each", b"try { " + whole + b" } except Missing { }", data),
+            ("the 64 parts of 16 MiB", b'nursery n { start p over 64 { find "absent"; } }', data),
+            ("4,096 requests of 16 bytes", b'nursery n { start a over 64 { nursery m { start b over 64 { find "z"; } } } }', small),
+        ]:
+            text = self.file("workers.job", job(body))
+            runs = [Run(workers, self.program, "run", text, path, "--workers", workers) for workers in [1, 2, 4, 16, 64]]
+            measure(runs, self.rounds)
+            for run in runs:
+                table.row(name, run.name, milliseconds(run.seconds), f"{run.seconds / runs[0].seconds:.2f}")
+
+    def trio(self):
+        """Trio's MockClock on 64 x 64 tasks with three sleeps each."""
+        if subprocess.run([sys.executable, "-c", "import trio"], capture_output=True).returncode:
+            return
+        run = Run("Trio", sys.executable, os.path.join(HERE, "sleeps_in_trio.py"))
+        measure([run], min(self.rounds, 3))
+        ours = Run("nursery", self.program, "run", self.file("sleeps.job", grid(b"sleep 1; sleep 1; sleep 1;")), os.devnull)
+        measure([ours], self.rounds)
+        print(f"64 x 64 tasks, three sleeps each: nursery {milliseconds(ours.seconds)} ms, Trio {milliseconds(run.seconds)} ms")
+
+
+def main():
+    program = os.path.abspath(sys.argv[1])
+    rounds = int(sys.argv[2]) if len(sys.argv) > 2 else 5
+    with tempfile.TemporaryDirectory() as folder:
+        Run.out = os.path.join(folder, "out")
+        bench = Bench(program, rounds, folder)
+        for table in [bench.lines, bench.turns, bench.workers, bench.trio]:
+            print(f"\n{table.__doc__.splitlines()[0]}\n")
+            table()
+    return 0
+
+
+if __name__ == "__main__":
+    sys.exit(main())
