@@ -14,7 +14,8 @@ use std::thread::Threads;
 
 /// Runs a job text over an input, and writes the report of the job's one-thread meaning, or the refusal which that
 /// meaning names. The number of workers, the picker and the gate change no byte of it. All bytes are built before the
-/// first is sent, so after `NoMemory` nothing was sent. No thread is started yet: neither picker nor gate is called.
+/// first is sent, so after `NoMemory` nothing was sent. The picker is asked for each turn of a batch of tasks that are ready, and
+/// the gate is called before and after each request that a worker computes.
 pub fn serve<R: Threads + Sync, P: Pick, G: Gate + Sync, W: Out>(
     rt: &R,
     alloc: Global,
