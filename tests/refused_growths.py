@@ -1,0 +1,132 @@
+#!/usr/bin/env python3
+"""Refuses each growth of memory in turn, and compares what nursery answers then.
+
+    python3 tests/refused_growths.py PROGRAM
+
+PROGRAM is the built executable. It wants a C compiler for the shim that refuses (tests/refuse_growth.c), and Python 3.10. Of each
+job, with 1 and with 3 workers, the growth 0, 1, 2 and so on is refused until a run meets none: each time the program gives the
+job's own bytes and status, or `no memory`, status 5 and nothing on standard output. Where the growth that is refused is one
+of the system's for a thread, the others do its work, and the answer is the job's own; where it is one for the sentence that explains a
+refused text on standard error, the refusal stands without it.
+"""
+
+import os
+import subprocess
+import sys
+import tempfile
+
+HERE = os.path.dirname(os.path.abspath(__file__))
+TEN_BYTES = b"aa\nb\ncccc\n"
+
+# Each job's name, its steps or whole text, its input, its status and its bytes.
+ROWS = [
+    ("a search", b'find "er";', b"error\nok\n", 0, b"job main 0\ntask main 0 0 done\n  line 0+5 error\n"),
+    (
+        "a member that fails",
+        b"nursery n { start a { sleep 2; raise Boom; } start b { sleep 10; } start c { sleep 2; } }",
+        b"",
+        1,
+        b"job main 3\ntask main 0 3 raised n[Boom(a@2)]\n  nursery n 3 caught\n"
+        b"task a 0 2 raised Boom(a@2)\ntask b 0 3 cancelled\ntask c 0 2 done\n",
+    ),
+    (
+        "a cleanup with a shield",
+        b"scope s after 4 { try { forever; } finally { scope g shield { sleep 3; } sleep 1; } }",
+        b"",
+        0,
+        b"job main 7\ntask main 0 7 done\n  scope g 7 passed\n  scope s 7 caught\n",
+    ),
+    (
+        "kernels on parts",
+        b"nursery n { start p over 2 { longest; head 1; } }",
+        TEN_BYTES,
+        0,
+        b"job main 0\ntask main 0 0 done\n  nursery n 0 passed\ntask p.0 0 0 done\n  line 0+2 aa\n  line 0+2 aa\n"
+        b"task p.1 0 0 done\n  line 5+4 cccc\n  line 5+4 cccc\n",
+    ),
+    (
+        "a handler's group",
+        b"try { nursery n { start a { raise A; } start b { raise B; } } } except A { raise C; }",
+        b"",
+        1,
+        b"job main 0\ntask main 0 0 raised *[C(main@0), n[B(b@0)]]\n  nursery n 0 passed\n"
+        b"task a 0 0 raised A(a@0)\ntask b 0 0 raised B(b@0)\n",
+    ),
+    ("a job past its limit", b"sleep 101;", b"", 3, b"limit 100\n"),
+    ("a refused text", b"cancel x;", b"", 2, b"refused J9 NotEnclosing at 29\n"),
+]
+
+# What `check` writes of a row.
+CHECKS = {
+    "a search": b'trio-job 1\njob main{find"er";}\n',
+    "a refused text": b"refused J9 NotEnclosing at 29\n",
+}
+
+
+class Wrong(Exception):
+    """What was found, in one sentence."""
+
+
+class Shim:
+    """The built shim, in a folder with room for files."""
+
+    def __init__(self, folder):
+        self.folder = folder
+        self.path = os.path.join(folder, "refuse_growth.so")
+        source = os.path.join(HERE, "refuse_growth.c")
+        subprocess.run([os.environ.get("CC", "cc"), "-shared", "-fPIC", "-O1", "-o", self.path, source], check=True)
+
+    def run(self, words, growth):
+        """Runs the words while that growth is refused. Gives whether it was, and the status, output and error."""
+        told, tells = os.pipe()
+        variables = dict(os.environ, LD_PRELOAD=self.path, REFUSED_GROWTH=str(growth), REFUSAL_TOLD=str(tells))
+        run = subprocess.run(words, stdin=subprocess.DEVNULL, capture_output=True, env=variables, pass_fds=[tells], timeout=60)
+        os.close(tells)
+        with os.fdopen(told, "rb") as pipe:
+            was_refused = pipe.read() != b""
+        return was_refused, (run.returncode, run.stdout, run.stderr)
+
+
+def refuse_each(shim, words, status, right, told):
+    """Refuses each growth of one run, which tells something on standard error or not. Gives how many were refused, and how many of
+    those runs had no memory."""
+    growth, without = 0, 0
+    while True:
+        was_refused, (got, out, err) = shim.run(words, growth)
+        if got == 5 and was_refused:
+            if out != b"" or err != b"no memory\n":
+                raise Wrong(f"growth {growth}: {out!r}, {err!r}")
+            without += 1
+        elif (got, out) != (status, right) or (err and not told) or (told and not err and not was_refused):
+            raise Wrong(f"growth {growth}: status {got}, {out!r}, {err!r}")
+        if not was_refused:
+            return growth, without
+        growth += 1
+
+
+def main():
+    program = os.path.abspath(sys.argv[1])
+    with tempfile.TemporaryDirectory() as folder:
+        shim = Shim(folder)
+        job, data = os.path.join(folder, "job"), os.path.join(folder, "input")
+        for name, steps, buffer, status, right in ROWS:
+            for path, content in [(job, b"trio-job 1\njob main { " + steps + b" }"), (data, buffer)]:
+                with open(path, "wb") as file:
+                    file.write(content)
+            runs = [["run", job, data, "--limit", "100", "--workers", workers] for workers in ["1", "3"]]
+            if name in CHECKS:
+                runs.append(["check", job])
+            for words in runs:
+                bytes_of_run = CHECKS[name] if words[0] == "check" else right
+                shown = f"{name}, {words[0]}" + (f" with {words[-1]} workers" if words[0] == "run" else "")
+                try:
+                    growths, without = refuse_each(shim, [program, *words], status, bytes_of_run, status == 2)
+                except Wrong as wrong:
+                    print(f"{shown}: {wrong}")
+                    return 1
+                print(f"{shown}: {growths} growths refused, {without} times no memory")
+    return 0
+
+
+if __name__ == "__main__":
+    sys.exit(main())
