@@ -1,8 +1,13 @@
 pub mod StackLemmas
 pub mod DepthLemmas
+pub mod SlotLemmas
+pub mod PlaceLemmas
+pub mod MarkLemmas
+pub mod RefreshLemmas
 pub mod SightLemmas
 pub mod CancelLemmas
 pub mod OpenLemmas
 pub mod CloseLemmas
+pub mod ReadyLemmas
 pub mod CatchLemmas
 pub mod ChainLemmas

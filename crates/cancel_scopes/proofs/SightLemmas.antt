@@ -4,9 +4,8 @@ use Rattle.std.specs.Prelude.{nat_lt, if◌then◌else◌}
 use Rattle.std.proofs.lemmas.Bool.Decides.{nat_tests}
 use Rattle.cancel_scopes.specs.Sight.{Tick, earlier, sight}
 use Rattle.cancel_scopes.specs.Tree.{Stack}
-use Rattle.cancel_scopes.specs.Kept.{Find, full, round, upward, IsUnder}
+use Rattle.cancel_scopes.specs.Kept.{Outline, Find, full, round, upward, IsUnder}
 use Rattle.cancel_scopes.proofs.StackLemmas.{upward-under}
-use Rattle.cancel_scopes.specs.declared.tree.Scope.{Scope}
 
 -- the earliest so far, where the last scope that was looked at has this shield, and these stand round it
 abbrev pub onward : Tick → Bool → Stack → Tick
@@ -30,14 +29,14 @@ onward-none None = refl
 onward-none (Some t) = refl
 
 -- a step up from a scope with no shield
-pub onward-up : (find : Find) (from : Tick) (s above : Scope) (parent : ℕ) → IsUnder find s.depth s.parent → s.parent ≡ Some parent → find parent ≡ Some above → s.shield ≡ false → onward from s.shield (round find s) ≡ onward (earlier from above.from) above.shield (round find above)
+pub onward-up : (find : Find) (from : Tick) (s above : Outline) (parent : ℕ) → IsUnder find s.depth s.parent → s.parent ≡ Some parent → find parent ≡ Some above → s.shield ≡ false → onward from s.shield (round find s) ≡ onward (earlier from above.from) above.shield (round find above)
 onward-up find from s above parent under up kept bare =
     let at : IsUnder find s.depth (Some parent) = subst (IsUnder find s.depth) up under in
     let e : round find s ≡ full find parent above = ap (upward find s.depth) up ∙ upward-under find s.depth parent above at kept in
     rw (bare, e) (onward-level from above.from above.shield parent (round find above))
 
 -- the end, at an outermost scope
-pub onward-end : (find : Find) (from : Tick) (s : Scope) → IsUnder find s.depth s.parent → s.parent ≡ None → onward from s.shield (round find s) ≡ from
+pub onward-end : (find : Find) (from : Tick) (s : Outline) → IsUnder find s.depth s.parent → s.parent ≡ None → onward from s.shield (round find s) ≡ from
 onward-end find from s under up =
     let deep : s.depth ≡ 0 = subst (IsUnder find s.depth) up under in
     let e : round find s ≡ [] = rw (up, deep) refl in

@@ -1,0 +1,131 @@
+-- What calls leave of the tree that contracts see.
+use Rattle.std.proofs.Common.{◌≡◌, ◌≢◌, ◌⊎◌, ℕ, ◌+◌, ◌-◌, ◌<◌, ◌≤◌, Bool, true, false, List, length, get_or, slice_set, Option, Some, None, is_some, refl, sym, ap, ◌∙◌, arith, inl, inr}
+use Rattle.std.specs.Prelude.{◌||◌}
+use Rattle.std.proofs.lemmas.Bool.{cases_eq}
+use Rattle.std.specs.Option.{option_map}
+use Rattle.cancel_scopes.specs.Sight.{Tick, earlier, before, sight}
+use Rattle.cancel_scopes.specs.Tree.{Stack, Tree, stack_of, is_changed, SameStacks, OtherMarksKeep, after_cancel}
+use Rattle.cancel_scopes.specs.Kept.{Outline, Slots, Find, IsTree, outline_of, scope_in, find_in, tree_of, stack_at, own_sight, sight_of, seen_at, HasSights, place_of, places_in, is_listed, IsListed, IsReady, SameScopes, Marks, AllFresh}
+use Rattle.cancel_scopes.proofs.StackLemmas.{stack_of-tree_of, stack_seen, mark_seen, is_changed-tree_of, found_at}
+use Rattle.cancel_scopes.proofs.SlotLemmas.{written, unwritten, same_by}
+use Rattle.cancel_scopes.proofs.MarkLemmas.{same_find, same-tree, same-sights, listed-same}
+use Rattle.cancel_scopes.proofs.CancelLemmas.{Cancels, cancels, IsTree-cancelled, stack_at-cancelled, tree_cancelled}
+use Rattle.cancel_scopes.proofs.CloseLemmas.{Closes, IsTree-closes, stack_at-closes}
+use Rattle.cancel_scopes.specs.declared.store.Scope.{Scope}
+
+-- a scope is cancelled, and the sights are found again
+module _ (slots : Slots) (key tick : ℕ) (s : Scope) (from : Tick) where
+  abbrev pub set_from : Slots
+  set_from = slice_set slots key (Some (record s { from = from }))
+
+  pub cancels-slots : scope_in slots key ≡ Some s → from ≡ earlier s.from (Some (tick + 1)) → Cancels (find_in slots) (find_in set_from) key tick
+  cancels-slots kept is =
+      cancels (find_in slots) (find_in set_from) key tick (outline_of s) (found_at slots key s kept)
+      (ap (option_map outline_of) (written slots key s (Some (record s { from = from })) kept)
+      ∙ ap (λ (f : Tick). let o : Option Outline = Some (record { parent = s.parent; shield = s.shield; from = f; depth = s.depth }) in o) is)
+      (λ other differs. ap (option_map outline_of) (unwritten slots key other (Some (record s { from = from })) differs))
+
+  pub cancelled-tree : scope_in slots key ≡ Some s → from ≡ earlier s.from (Some (tick + 1)) → IsTree (find_in slots) → IsTree (find_in set_from)
+  cancelled-tree kept is tree = IsTree-cancelled (find_in slots) (find_in set_from) key tick (cancels-slots kept is) tree
+
+  pub cancelled-listed : (changed : List ℕ) → scope_in slots key ≡ Some s → IsListed slots changed → IsListed set_from changed
+  cancelled-listed changed kept listed =
+      listed-same slots set_from changed (same_by place_of slots key s (Some (record s { from = from })) kept refl) listed
+
+  pub cancelled-ready : (new : Slots) (changed : List ℕ) (room : ℕ) → scope_in slots key ≡ Some s → from ≡ earlier s.from (Some (tick + 1)) → IsTree (find_in slots) → AllFresh set_from new → IsListed new changed → length new ≤ room → IsReady new changed room
+  cancelled-ready new changed room kept is tree h listed fits = record {
+    tree = same-tree set_from new h.finds (cancelled-tree kept is tree);
+    sights = λ k. (h.fresh k).0 ∙ ap (λ (find : Find). seen_at find k) (sym (same_find set_from new h.finds));
+    listed = listed;
+    fits = fits;
+  }
+
+  pub cancelled-stacks : (tree : Tree) (new : Slots) (id : ℕ) → scope_in slots key ≡ Some s → from ≡ earlier s.from (Some (tick + 1)) → tree_of slots ≡ tree → key ≡ id → AllFresh set_from new → (at : ℕ) → stack_of (tree_of new) at ≡ option_map (after_cancel id tick) (stack_of tree at)
+  cancelled-stacks tree new id kept is seen same h =
+      tree_cancelled tree slots new key id tick seen same (λ k. h.finds k ∙ cancels-slots kept is k)
+
+  pub cancelled-marks : (tree : Tree) (new : Slots) → scope_in slots key ≡ Some s → from ≡ earlier s.from (Some (tick + 1)) → tree_of slots ≡ tree → HasSights slots → AllFresh set_from new → (at : ℕ) (stack : Stack) → stack_of tree at ≡ Some stack → is_changed (tree_of new) at ≡ (is_changed tree at || before (sight (after_cancel key tick stack)) (sight stack))
+  cancelled-marks tree new kept is seen sights h at stack has =
+      let old : stack_at (find_in slots) at ≡ Some stack = sym (stack_seen tree slots at at seen refl) ∙ has in
+      let later : stack_at (find_in set_from) at ≡ Some (after_cancel key tick stack) =
+      stack_at-cancelled (find_in slots) (find_in set_from) key tick (cancels-slots kept is) at ∙ ap (option_map (after_cancel key tick)) old in
+      let mark : is_listed (scope_in set_from at) ≡ is_changed tree at =
+      same_by is_listed slots key s (Some (record s { from = from })) kept refl at ∙ sym (mark_seen tree slots at seen) in
+      let was : own_sight (scope_in set_from at) ≡ sight stack =
+      same_by own_sight slots key s (Some (record s { from = from })) kept refl at ∙ sights at ∙ ap sight_of old in
+      let now : own_sight (scope_in new at) ≡ sight (after_cancel key tick stack) = (h.fresh at).0 ∙ ap sight_of later in
+      is_changed-tree_of new at
+      ∙ (h.fresh at).1
+      ∙ ap (λ (b : Bool). b || before (own_sight (scope_in new at)) (own_sight (scope_in set_from at))) mark
+      ∙ ap (λ (t : Tick). is_changed tree at || before t (own_sight (scope_in set_from at))) now
+      ∙ ap (λ (t : Tick). is_changed tree at || before (sight (after_cancel key tick stack)) t) was
+
+-- only which scopes are marked changes
+pub marked-ready : (old new : Slots) (was changed : List ℕ) (room : ℕ) → IsReady old was room → SameScopes old new → IsListed new changed → IsReady new changed room
+marked-ready old new was changed room h same listed = record {
+  tree = same-tree old new same.finds h.tree;
+  sights = same-sights old new same h.sights;
+  listed = listed;
+  fits = (let e = same.long in let f = h.fits in omega (arith, e, f));
+}
+
+pub marked-stacks : (tree : Tree) (old new : Slots) → tree_of old ≡ tree → SameScopes old new → SameStacks tree (tree_of new)
+marked-stacks tree old new is same at =
+    stack_of-tree_of new at
+    ∙ ap (λ (find : Find). stack_at find at) (same_find old new same.finds)
+    ∙ sym (stack_seen tree old at at is refl)
+
+pub marked-others : (tree : Tree) (old new : Slots) (key : ℕ) (mark : Bool) → tree_of old ≡ tree → Marks old new key mark → OtherMarksKeep tree (tree_of new) key
+marked-others tree old new key mark is h other differs =
+    is_changed-tree_of new other ∙ h.others other differs ∙ sym (mark_seen tree old other is)
+
+pub marked-here : (old new : Slots) (key : ℕ) (mark : Bool) → Marks old new key mark → is_changed (tree_of new) key ≡ mark
+marked-here old new key mark h = is_changed-tree_of new key ∙ h.here
+
+-- nothing is marked where the list is empty
+pub none_marked : (tree : Tree) (slots : Slots) (changed : List ℕ) → tree_of slots ≡ tree → IsListed slots changed → length changed ≤ 0 → (key : ℕ) → is_changed tree key ≡ false
+none_marked tree slots changed is listed empty key = mark_seen tree slots key is ∙ by_place (places_in slots key) refl
+  where
+    by_place : (o : Option ℕ) → places_in slots key ≡ o → is_some (places_in slots key) ≡ false
+    by_place None e = ap is_some e
+    by_place (Some place) e = absurd (omega (arith, (listed.places.stands key place e).0, empty))
+
+-- what stands last is marked
+pub last_marked : (tree : Tree) (slots : Slots) (changed : List ℕ) (key : ℕ) → tree_of slots ≡ tree → IsListed slots changed → 0 < length changed → key ≡ get_or changed (length changed - 1) 0 → is_changed tree key ≡ true
+last_marked tree slots changed key is listed some last =
+    mark_seen tree slots key is
+    ∙ ap (λ (k : ℕ). is_listed (scope_in slots k)) last
+    ∙ ap is_some (listed.places.placed (length changed - 1) (omega (arith, some)))
+
+-- a scope that was unmarked is closed
+module _ (slots unmarked new : Slots) (key : ℕ) (o : Outline) where
+  pub closed-ready : (was changed : List ℕ) (room : ℕ) → IsReady slots was room → Marks slots unmarked key false → IsListed unmarked changed → Closes (find_in slots) (find_in new) key o → length new ≡ length unmarked → scope_in new key ≡ None → ((other : ℕ) → other ≢ key → scope_in new other ≡ scope_in unmarked other) → IsReady new changed room
+  closed-ready was changed room h marks listed closes long free others = record {
+    tree = IsTree-closes closes h.tree;
+    sights = λ k. sight_at k (cases_eq k key);
+    listed = listed-same unmarked new changed (λ k. place_at k (cases_eq k key)) listed;
+    fits = (let e = marks.same.long in let f = h.fits in omega (arith, e, f, long));
+  }
+    where
+      sight_at : (k : ℕ) → (k ≡ key) ⊎ (k ≢ key) → own_sight (scope_in new k) ≡ seen_at (find_in new) k
+      sight_at k (inl same) =
+          let none : scope_in new k ≡ None = ap (scope_in new) same ∙ free in
+          let found : stack_at (find_in new) k ≡ None = rw none refl in
+          ap own_sight none ∙ sym (ap sight_of found)
+      sight_at k (inr differs) =
+          ap own_sight (others k differs) ∙ marks.same.sights k ∙ h.sights k
+          ∙ sym (ap sight_of (stack_at-closes (find_in slots) (find_in new) key o closes k differs))
+
+      no_place : (o : Option ℕ) → is_some o ≡ false → o ≡ None
+      no_place None e = refl
+      no_place (Some p) e = absurd (let f : true ≡ false = e in cc)
+
+      place_at : (k : ℕ) → (k ≡ key) ⊎ (k ≢ key) → places_in new k ≡ places_in unmarked k
+      place_at k (inl same) =
+          ap place_of (ap (scope_in new) same ∙ free) ∙ sym (no_place (places_in unmarked k) (ap (λ (n : ℕ). is_listed (scope_in unmarked n)) same ∙ marks.here))
+      place_at k (inr differs) = ap place_of (others k differs)
+
+  pub closed-marks : (tree : Tree) (id : ℕ) → tree_of slots ≡ tree → key ≡ id → Marks slots unmarked key false → ((other : ℕ) → other ≢ key → scope_in new other ≡ scope_in unmarked other) → OtherMarksKeep tree (tree_of new) id
+  closed-marks tree id is same marks others other differs =
+      let away : other ≢ key = λ e. differs (e ∙ same) in
+      is_changed-tree_of new other ∙ ap is_listed (others other away) ∙ marks.others other away ∙ sym (mark_seen tree slots other is)
