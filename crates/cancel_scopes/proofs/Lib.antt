@@ -3,8 +3,11 @@ pub mod DepthLemmas
 pub mod SlotLemmas
 pub mod PlaceLemmas
 pub mod MarkLemmas
+pub mod LowerLemmas
 pub mod RefreshLemmas
-pub mod SightLemmas
+pub mod WorkLemmas
+pub mod StartLemmas
+pub mod ChildLemmas
 pub mod CancelLemmas
 pub mod OpenLemmas
 pub mod CloseLemmas

@@ -4,7 +4,8 @@ use Rattle.std.proofs.Math.Path.{fun_ext}
 use Rattle.std.proofs.lemmas.List.{length-append, length-set}
 use Rattle.std.proofs.lemmas.List.Sums.{count_by-le-length}
 use Rattle.std.specs.Option.{option_map}
-use Rattle.cancel_scopes.specs.Kept.{Slots, Find, IsTree, outline_of, scope_in, find_in, own_sight, seen_at, HasSights, place_of, places_in, is_listed, IsPlaced, IsListed, SameScopes, Marks}
+use Rattle.cancel_scopes.specs.Kept.{Slots, Find, IsTree, outline_of, scope_in, find_in, own_sight, seen_at, HasSights, place_of, places_in, is_listed, IsPlaced, IsListed, SameScopes, Marks, place_under, children_at, Family}
+use Rattle.cancel_scopes.specs.Lowering.{lists, lists_at}
 use Rattle.cancel_scopes.proofs.DepthLemmas.{count_more}
 use Rattle.cancel_scopes.proofs.SlotLemmas.{written, unwritten, same_by, count_set, count_same}
 use Rattle.cancel_scopes.proofs.PlaceLemmas.{placed-push, placed-removed, some_same}
@@ -20,6 +21,15 @@ pub same-sights : (old new : Slots) → SameScopes old new → HasSights old →
 same-sights old new h sights key =
     h.sights key ∙ sights key ∙ ap (λ (find : Find). seen_at find key) (sym (same_find old new h.finds))
 
+-- the children of each scope stay where parents, places and lists do
+pub family-same : (old new : Slots) → ((parent key : ℕ) → place_under parent (scope_in new key) ≡ place_under parent (scope_in old key)) → ((key : ℕ) → children_at (scope_in new key) ≡ children_at (scope_in old key)) → Family old → Family new
+family-same old new places children family = record {
+  children = λ parent.
+      let P : (ℕ → Option ℕ) → Type 0 = λ f. IsPlaced f (children_at (scope_in new parent)) in
+      let Q : List ℕ → Type 0 = λ l. IsPlaced (λ key. place_under parent (scope_in old key)) l in
+      subst P (sym (fun_ext (places parent))) (subst Q (sym (children parent)) (family.children parent));
+}
+
 -- a list of places serves where all places stay
 pub listed-same : (old new : Slots) (changed : List ℕ) → ((key : ℕ) → places_in new key ≡ places_in old key) → IsListed old changed → IsListed new changed
 listed-same old new changed h listed = record {
@@ -33,6 +43,8 @@ same-placed slots key s listed kept = record {
   long = length-set slots key (Some (record s { listed = listed }));
   finds = same_by (option_map outline_of) slots key s (Some (record s { listed = listed })) kept refl;
   sights = same_by own_sight slots key s (Some (record s { listed = listed })) kept refl;
+  places = λ p. same_by (place_under p) slots key s (Some (record s { listed = listed })) kept refl;
+  children = same_by children_at slots key s (Some (record s { listed = listed })) kept refl;
 }
 
 abbrev weight : Option ℕ → ℕ
@@ -48,17 +60,29 @@ unlisted_fits slots changed key s kept none listed =
     implied None h = h
     implied (Some s) h = refl
 
-pub marked : (slots : Slots) (changed : List ℕ) (key place : ℕ) (s : Scope) → scope_in slots key ≡ Some s → places_in slots key ≡ None → place ≡ length changed → IsListed slots changed → IsListed (slice_set slots key (Some (record s { listed = Some place }))) (changed ++ key ∷ [])
-marked slots changed key place s kept none long listed =
-    let after : Option Scope = Some (record s { listed = Some place }) in
-    let new : Slots = slice_set slots key after in
+pub marked : (slots : Slots) (changed : List ℕ) (key place : ℕ) (s t : Scope) → scope_in slots key ≡ Some s → places_in slots key ≡ None → place ≡ length changed → t.listed ≡ Some place → IsListed slots changed → IsListed (slice_set slots key (Some t)) (changed ++ key ∷ [])
+marked slots changed key place s t kept none long now listed =
+    let new : Slots = slice_set slots key (Some t) in
     let free : s.listed ≡ None = sym (ap place_of kept) ∙ none in
     let unmarked : weight s.listed ≡ weight None = ap weight free in
-    let count = count_set slots key s after kept in
+    let one : weight t.listed ≡ weight (Some place) = ap weight now in
+    let count = count_set is_listed slots key s (Some t) kept in
     record {
-      places = placed-push (places_in slots) (places_in new) changed key listed.places none (ap place_of (written slots key s after kept) ∙ ap Some long) (λ other differs. ap place_of (unwritten slots key other after differs));
-      counted = omega (arith, count, unmarked, listed.counted, length-append changed (key ∷ []));
+      places = placed-push (places_in slots) (places_in new) changed key listed.places none (ap place_of (written slots key s (Some t) kept) ∙ now ∙ ap Some long) (λ other differs. ap place_of (unwritten slots key other (Some t) differs));
+      counted = omega (arith, count, unmarked, one, listed.counted, length-append changed (key ∷ []));
     }
+
+-- a scope that gets this place among the changed ones
+pub lists-listed : (slots : Slots) (changed now : List ℕ) (key place : ℕ) (s t : Scope) → scope_in slots key ≡ Some s → lists key (scope_in slots key) changed now place → t.listed ≡ Some place → IsListed slots changed → IsListed (slice_set slots key (Some t)) now
+lists-listed slots changed now key place s t kept h is listed = by_place (places_in slots key) refl h
+  where
+    by_place : (o : Option ℕ) → places_in slots key ≡ o → lists_at o key changed now place → IsListed (slice_set slots key (Some t)) now
+    by_place None none h =
+        subst (λ (l : List ℕ). IsListed (slice_set slots key (Some t)) l) (sym h.1) (marked slots changed key place s t kept none h.0 is listed)
+    by_place (Some at) was h =
+        let same : place_of (Some t) ≡ place_of (Some s) = is ∙ ap Some h.0 ∙ sym was ∙ ap place_of kept in
+        subst (λ (l : List ℕ). IsListed (slice_set slots key (Some t)) l) (sym h.1)
+        (listed-same slots (slice_set slots key (Some t)) changed (same_by place_of slots key s (Some t) kept same) listed)
 
 -- what is left of the changed ones when one is taken out of its place
 pub record Removed (changed rest : List ℕ) (place : ℕ) : Type 0 where
@@ -82,7 +106,7 @@ module _ (slots : Slots) (changed rest : List ℕ) (key place : ℕ) (s : Scope)
 
   counted_one : scope_in slots key ≡ Some s → places_in slots key ≡ Some place → Removed changed rest place → IsListed slots changed → length rest ≡ count_by is_listed after_one
   counted_one kept at h listed =
-      let count = count_set slots key s (Some (record s { listed = None })) kept in
+      let count = count_set is_listed slots key s (Some (record s { listed = None })) kept in
       let one : weight s.listed ≡ weight (Some place) = ap weight (was_listed kept at) in
       omega (arith, count, one, h.long, listed.counted)
 
@@ -118,7 +142,7 @@ module _ (slots : Slots) (changed rest : List ℕ) (key place : ℕ) (s : Scope)
         let differs : moved ≢ key = λ same. moved_differs at h listed inside (sym is ∙ same) in
         let had : m.listed ≡ Some (length changed - 1) = sym (ap place_of (kept_before differs stays)) ∙ ap (places_in slots) is ∙ moved_from h listed inside in
         let one : weight m.listed ≡ weight (Some (length changed - 1)) = ap weight had in
-        let count = count_set after_one moved m t stays in
+        let count = count_set is_listed after_one moved m t stays in
         record {
           places = placed-removed (places_in slots) (places_in after_two) changed rest key place listed.places at h.long h.seam h.keeps
               (ap place_of (unwritten after_one moved key t (λ e. differs (sym e)) ∙ written slots key s (Some (record s { listed = None })) kept))
@@ -139,6 +163,8 @@ module _ (slots : Slots) (changed rest : List ℕ) (key place : ℕ) (s : Scope)
             long = two.long ∙ one.long;
             finds = λ k. two.finds k ∙ one.finds k;
             sights = λ k. two.sights k ∙ one.sights k;
+            places = λ p k. two.places p k ∙ one.places p k;
+            children = λ k. two.children k ∙ one.children k;
           };
           here = ap is_listed (unwritten after_one moved key t (λ e. differs (sym e)) ∙ written slots key s (Some (record s { listed = None })) kept);
           others = λ other away.

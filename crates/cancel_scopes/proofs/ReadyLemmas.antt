@@ -1,14 +1,17 @@
 -- What calls leave of the tree that contracts see.
-use Rattle.std.proofs.Common.{◌≡◌, ◌≢◌, ◌⊎◌, ℕ, ◌+◌, ◌-◌, ◌<◌, ◌≤◌, Bool, true, false, List, length, get_or, slice_set, Option, Some, None, is_some, refl, sym, ap, ◌∙◌, arith, inl, inr}
+use Rattle.std.proofs.Common.{◌≡◌, ◌≢◌, ◌⊎◌, ℕ, ◌+◌, ◌-◌, ◌<◌, ◌≤◌, Bool, true, false, List, length, get_or, slice_set, Option, Some, None, is_some, refl, sym, ap, ◌∙◌, arith, inl, inr, subst}
 use Rattle.std.specs.Prelude.{◌||◌}
 use Rattle.std.proofs.lemmas.Bool.{cases_eq}
 use Rattle.std.specs.Option.{option_map}
 use Rattle.cancel_scopes.specs.Sight.{Tick, earlier, before, sight}
 use Rattle.cancel_scopes.specs.Tree.{Stack, Tree, stack_of, is_changed, SameStacks, OtherMarksKeep, after_cancel}
-use Rattle.cancel_scopes.specs.Kept.{Outline, Slots, Find, IsTree, outline_of, scope_in, find_in, tree_of, stack_at, own_sight, sight_of, seen_at, HasSights, place_of, places_in, is_listed, IsListed, IsReady, SameScopes, Marks, AllFresh}
+use Rattle.cancel_scopes.specs.Kept.{Outline, Slots, Find, IsTree, outline_of, scope_in, find_in, tree_of, stack_at, own_sight, sight_of, seen_at, HasSights, place_of, places_in, is_listed, IsListed, IsReady, SameScopes, Marks, AllFresh, place_under, children_at, Family}
+use Rattle.cancel_scopes.specs.Lowering.{sight_by, outer_sight, AllRight, Along, Starts}
+use Rattle.std.proofs.lemmas.List.{length-set}
+use Rattle.cancel_scopes.proofs.LowerLemmas.{sights_of, rights_of}
 use Rattle.cancel_scopes.proofs.StackLemmas.{stack_of-tree_of, stack_seen, mark_seen, is_changed-tree_of, found_at}
 use Rattle.cancel_scopes.proofs.SlotLemmas.{written, unwritten, same_by}
-use Rattle.cancel_scopes.proofs.MarkLemmas.{same_find, same-tree, same-sights, listed-same}
+use Rattle.cancel_scopes.proofs.MarkLemmas.{same_find, same-tree, same-sights, listed-same, family-same}
 use Rattle.cancel_scopes.proofs.CancelLemmas.{Cancels, cancels, IsTree-cancelled, stack_at-cancelled, tree_cancelled}
 use Rattle.cancel_scopes.proofs.CloseLemmas.{Closes, IsTree-closes, stack_at-closes}
 use Rattle.cancel_scopes.specs.declared.store.Scope.{Scope}
@@ -32,12 +35,35 @@ module _ (slots : Slots) (key tick : ℕ) (s : Scope) (from : Tick) where
   cancelled-listed changed kept listed =
       listed-same slots set_from changed (same_by place_of slots key s (Some (record s { from = from })) kept refl) listed
 
-  pub cancelled-ready : (new : Slots) (changed : List ℕ) (room : ℕ) → scope_in slots key ≡ Some s → from ≡ earlier s.from (Some (tick + 1)) → IsTree (find_in slots) → AllFresh set_from new → IsListed new changed → length new ≤ room → IsReady new changed room
-  cancelled-ready new changed room kept is tree h listed fits = record {
+  pub cancelled-starts : (changed : List ℕ) → scope_in slots key ≡ Some s → from ≡ earlier s.from (Some (tick + 1)) → IsTree (find_in slots) → Family slots → HasSights slots → IsListed slots changed → Starts (tick + 1) key set_from changed
+  cancelled-starts changed kept is tree family sights listed =
+      let after : Option Scope = Some (record s { from = from }) in
+      let all : AllRight slots = rights_of slots tree sights in
+      record {
+        tree = cancelled-tree kept is tree;
+        family = family-same slots set_from (λ p. same_by (place_under p) slots key s after kept refl) (same_by children_at slots key s after kept refl) family;
+        listed = cancelled-listed changed kept listed;
+        others = λ other t differs found. all.right other t (sym (unwritten slots key other after differs) ∙ found) ∙ ap (sight_by t.shield t.from) (outer_same kept t.parent);
+        own = λ t found.
+            let e : after ≡ Some t = sym (written slots key s after kept) ∙ found in
+            let same : record s { from = from } ≡ t = cc in
+            subst (λ (u : Scope). (f : Tick) × (u.from ≡ earlier f (Some (tick + 1))) × (u.sight ≡ sight_by u.shield f (outer_sight set_from u.parent))) same
+            (s.from, is, all.right key s kept ∙ ap (sight_by s.shield s.from) (outer_same kept s.parent));
+      }
+    where
+      outer_same : scope_in slots key ≡ Some s → (o : Option ℕ) → outer_sight slots o ≡ outer_sight set_from o
+      outer_same kept None = refl
+      outer_same kept (Some p) = sym (same_by own_sight slots key s (Some (record s { from = from })) kept refl p)
+
+  pub cancelled-ready : (new : Slots) (changed : List ℕ) (changed_room lowered lowered_room : ℕ) → scope_in slots key ≡ Some s → from ≡ earlier s.from (Some (tick + 1)) → IsTree (find_in slots) → Family slots → Along (tick + 1) set_from new → AllRight new → IsListed new changed → length slots ≤ changed_room → lowered ≡ 0 → length slots ≤ lowered_room → IsReady new changed changed_room lowered lowered_room
+  cancelled-ready new changed changed_room lowered lowered_room kept is tree family h all listed changed_fits none lowered_fits = record {
     tree = same-tree set_from new h.finds (cancelled-tree kept is tree);
-    sights = λ k. (h.fresh k).0 ∙ ap (λ (find : Find). seen_at find k) (sym (same_find set_from new h.finds));
+    family = family-same set_from new h.places h.children (family-same slots set_from (λ p. same_by (place_under p) slots key s (Some (record s { from = from })) kept refl) (same_by children_at slots key s (Some (record s { from = from })) kept refl) family);
+    sights = sights_of new (same-tree set_from new h.finds (cancelled-tree kept is tree)) all;
     listed = listed;
-    fits = fits;
+    changed_fits = (let e = h.long in omega (arith, e, length-set slots key (Some (record s { from = from })), changed_fits));
+    none_lowered = none;
+    lowered_fits = (let e = h.long in omega (arith, e, length-set slots key (Some (record s { from = from })), lowered_fits));
   }
 
   pub cancelled-stacks : (tree : Tree) (new : Slots) (id : ℕ) → scope_in slots key ≡ Some s → from ≡ earlier s.from (Some (tick + 1)) → tree_of slots ≡ tree → key ≡ id → AllFresh set_from new → (at : ℕ) → stack_of (tree_of new) at ≡ option_map (after_cancel id tick) (stack_of tree at)
@@ -61,12 +87,15 @@ module _ (slots : Slots) (key tick : ℕ) (s : Scope) (from : Tick) where
       ∙ ap (λ (t : Tick). is_changed tree at || before (sight (after_cancel key tick stack)) t) was
 
 -- only which scopes are marked changes
-pub marked-ready : (old new : Slots) (was changed : List ℕ) (room : ℕ) → IsReady old was room → SameScopes old new → IsListed new changed → IsReady new changed room
-marked-ready old new was changed room h same listed = record {
+pub marked-ready : (old new : Slots) (was changed : List ℕ) (changed_room lowered lowered_room : ℕ) → IsReady old was changed_room lowered lowered_room → SameScopes old new → IsListed new changed → IsReady new changed changed_room lowered lowered_room
+marked-ready old new was changed changed_room lowered lowered_room h same listed = record {
   tree = same-tree old new same.finds h.tree;
+  family = family-same old new same.places same.children h.family;
   sights = same-sights old new same h.sights;
   listed = listed;
-  fits = (let e = same.long in let f = h.fits in omega (arith, e, f));
+  changed_fits = (let e = same.long in let f = h.changed_fits in omega (arith, e, f));
+  none_lowered = h.none_lowered;
+  lowered_fits = (let e = same.long in let f = h.lowered_fits in omega (arith, e, f));
 }
 
 pub marked-stacks : (tree : Tree) (old new : Slots) → tree_of old ≡ tree → SameScopes old new → SameStacks tree (tree_of new)
@@ -97,14 +126,17 @@ last_marked tree slots changed key is listed some last =
     ∙ ap (λ (k : ℕ). is_listed (scope_in slots k)) last
     ∙ ap is_some (listed.places.placed (length changed - 1) (omega (arith, some)))
 
--- a scope that was unmarked is closed
+-- a scope that was unmarked is closed, and leaves its parent's children
 module _ (slots unmarked new : Slots) (key : ℕ) (o : Outline) where
-  pub closed-ready : (was changed : List ℕ) (room : ℕ) → IsReady slots was room → Marks slots unmarked key false → IsListed unmarked changed → Closes (find_in slots) (find_in new) key o → length new ≡ length unmarked → scope_in new key ≡ None → ((other : ℕ) → other ≢ key → scope_in new other ≡ scope_in unmarked other) → IsReady new changed room
-  closed-ready was changed room h marks listed closes long free others = record {
+  pub closed-ready : (was changed : List ℕ) (changed_room lowered lowered_room : ℕ) → IsReady slots was changed_room lowered lowered_room → Marks slots unmarked key false → IsListed unmarked changed → Closes (find_in slots) (find_in new) key o → length new ≡ length unmarked → scope_in new key ≡ None → ((other : ℕ) → other ≢ key → own_sight (scope_in new other) ≡ own_sight (scope_in unmarked other)) → ((other : ℕ) → other ≢ key → places_in new other ≡ places_in unmarked other) → Family new → IsReady new changed changed_room lowered lowered_room
+  closed-ready was changed changed_room lowered lowered_room h marks listed closes long free sights places family = record {
     tree = IsTree-closes closes h.tree;
+    family = family;
     sights = λ k. sight_at k (cases_eq k key);
     listed = listed-same unmarked new changed (λ k. place_at k (cases_eq k key)) listed;
-    fits = (let e = marks.same.long in let f = h.fits in omega (arith, e, f, long));
+    changed_fits = (let e = marks.same.long in let f = h.changed_fits in omega (arith, e, f, long));
+    none_lowered = h.none_lowered;
+    lowered_fits = (let e = marks.same.long in let f = h.lowered_fits in omega (arith, e, f, long));
   }
     where
       sight_at : (k : ℕ) → (k ≡ key) ⊎ (k ≢ key) → own_sight (scope_in new k) ≡ seen_at (find_in new) k
@@ -113,19 +145,19 @@ module _ (slots unmarked new : Slots) (key : ℕ) (o : Outline) where
           let found : stack_at (find_in new) k ≡ None = rw none refl in
           ap own_sight none ∙ sym (ap sight_of found)
       sight_at k (inr differs) =
-          ap own_sight (others k differs) ∙ marks.same.sights k ∙ h.sights k
+          sights k differs ∙ marks.same.sights k ∙ h.sights k
           ∙ sym (ap sight_of (stack_at-closes (find_in slots) (find_in new) key o closes k differs))
 
-      no_place : (o : Option ℕ) → is_some o ≡ false → o ≡ None
+      no_place : (p : Option ℕ) → is_some p ≡ false → p ≡ None
       no_place None e = refl
       no_place (Some p) e = absurd (let f : true ≡ false = e in cc)
 
       place_at : (k : ℕ) → (k ≡ key) ⊎ (k ≢ key) → places_in new k ≡ places_in unmarked k
       place_at k (inl same) =
           ap place_of (ap (scope_in new) same ∙ free) ∙ sym (no_place (places_in unmarked k) (ap (λ (n : ℕ). is_listed (scope_in unmarked n)) same ∙ marks.here))
-      place_at k (inr differs) = ap place_of (others k differs)
+      place_at k (inr differs) = places k differs
 
-  pub closed-marks : (tree : Tree) (id : ℕ) → tree_of slots ≡ tree → key ≡ id → Marks slots unmarked key false → ((other : ℕ) → other ≢ key → scope_in new other ≡ scope_in unmarked other) → OtherMarksKeep tree (tree_of new) id
-  closed-marks tree id is same marks others other differs =
+  pub closed-marks : (tree : Tree) (id : ℕ) → tree_of slots ≡ tree → key ≡ id → Marks slots unmarked key false → ((other : ℕ) → other ≢ key → places_in new other ≡ places_in unmarked other) → OtherMarksKeep tree (tree_of new) id
+  closed-marks tree id is same marks places other differs =
       let away : other ≢ key = λ e. differs (e ∙ same) in
-      is_changed-tree_of new other ∙ ap is_listed (others other away) ∙ marks.others other away ∙ sym (mark_seen tree slots other is)
+      is_changed-tree_of new other ∙ ap is_some (places other away) ∙ marks.others other away ∙ sym (mark_seen tree slots other is)

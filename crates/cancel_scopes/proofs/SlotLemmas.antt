@@ -28,10 +28,10 @@ same_by f slots key s o kept e k =
       | inr differs ↦ ap f (unwritten slots key k o differs)
     ]
 
--- how many are listed after a write
-pub count_set : (slots : Slots) (key : ℕ) (s : Scope) (o : Option Scope) → scope_in slots key ≡ Some s → count_by is_listed (slice_set slots key o) + cond (is_listed (Some s)) 1 0 ≡ count_by is_listed slots + cond (is_listed o) 1 0
-count_set slots key s o kept =
-    let f : Option Scope → ℕ = λ x. cond (is_listed x) 1 0 in
+-- how many pass a test after a write
+pub count_set : (p : Option Scope → Bool) (slots : Slots) (key : ℕ) (s : Scope) (o : Option Scope) → scope_in slots key ≡ Some s → count_by p (slice_set slots key o) + cond (p (Some s)) 1 0 ≡ count_by p slots + cond (p o) 1 0
+count_set p slots key s o kept =
+    let f : Option Scope → ℕ = λ x. cond (p x) 1 0 in
     let e = sum_by-set f slots key o None (key_within slots key s kept) in
     let here : f (scope_in slots key) ≡ f (Some s) = ap f kept in
     omega (arith, e, here)

@@ -1,5 +1,5 @@
 -- How a tree of cancel scopes is kept. No public clause cites this module.
-use Rattle.std.specs.Prelude.{◌≡◌, ◌≢◌, ℕ, zero, suc, ◌<◌, ◌≤◌, Bool, ◌||◌, List, [], ◌∷◌, map, length, count_by, Option, Some, None, is_some, slice_index_or, slice_index}
+use Rattle.std.specs.Prelude.{◌≡◌, ◌≢◌, ℕ, zero, suc, ◌<◌, ◌≤◌, Bool, true, false, ◌||◌, ◌==◌, if◌then◌else◌, List, [], ◌∷◌, map, length, count_by, Option, Some, None, is_some, slice_index_or, slice_index}
 use Rattle.std.specs.Option.{option_map}
 use Rattle.std.specs.List.{range_with_len}
 use Rattle.cancel_scopes.specs.Sight.{Level, Tick, before, sight}
@@ -108,11 +108,30 @@ pub record IsListed (slots : Slots) (changed : List ℕ) : Type 0 where
   pub places : IsPlaced (places_in slots) changed
   pub counted : length changed ≡ count_by is_listed slots
 
+-- the place of a scope among the children of this parent, if it is its own
+abbrev pub parent_is : ℕ → Option ℕ → Bool
+parent_is parent None = false
+parent_is parent (Some other) = other == parent
+
+abbrev pub place_under : ℕ → Option Scope → Option ℕ
+place_under parent None = None
+place_under parent (Some s) = if parent_is parent s.parent then Some s.place else None
+
+abbrev pub children_at : Option Scope → List ℕ
+children_at None = []
+children_at (Some s) = s.children.items
+
+-- the children of each scope are those with a place there
+pub record Family (slots : Slots) : Type 0 where
+  pub children : (parent : ℕ) → IsPlaced (λ key. place_under parent (scope_in slots key)) (children_at (scope_in slots parent))
+
 -- all stays but which scopes are marked
 pub record SameScopes (old new : Slots) : Type 0 where
   pub long : length new ≡ length old
   pub finds : (key : ℕ) → find_in new key ≡ find_in old key
   pub sights : (key : ℕ) → own_sight (scope_in new key) ≡ own_sight (scope_in old key)
+  pub places : (parent key : ℕ) → place_under parent (scope_in new key) ≡ place_under parent (scope_in old key)
+  pub children : (key : ℕ) → children_at (scope_in new key) ≡ children_at (scope_in old key)
 
 -- the scope of this key is marked now or not, and every other keeps its mark
 pub record Marks (old new : Slots) (key : ℕ) (mark : Bool) : Type 0 where
@@ -126,31 +145,18 @@ IsFresh old new key =
     (own_sight (scope_in new key) ≡ seen_at (find_in old) key)
     × (is_listed (scope_in new key) ≡ (is_listed (scope_in old key) || before (own_sight (scope_in new key)) (own_sight (scope_in old key))))
 
--- this key is fresh, and the others stay
-pub record Refreshes (old new : Slots) (key : ℕ) : Type 0 where
-  pub long : length new ≡ length old
-  pub finds : (key : ℕ) → find_in new key ≡ find_in old key
-  pub here : IsFresh old new key
-  pub sights : (other : ℕ) → other ≢ key → own_sight (scope_in new other) ≡ own_sight (scope_in old other)
-  pub marks : (other : ℕ) → other ≢ key → is_listed (scope_in new other) ≡ is_listed (scope_in old other)
-
--- so many keys are fresh, and the others stay
-pub record Refreshed (old new : Slots) (count : ℕ) : Type 0 where
-  pub long : length new ≡ length old
-  pub finds : (key : ℕ) → find_in new key ≡ find_in old key
-  pub fresh : (key : ℕ) → key < count → IsFresh old new key
-  pub sights : (key : ℕ) → count ≤ key → own_sight (scope_in new key) ≡ own_sight (scope_in old key)
-  pub marks : (key : ℕ) → count ≤ key → is_listed (scope_in new key) ≡ is_listed (scope_in old key)
-
 -- each scope's sight was found again, and each whose sight came earlier is marked
 pub record AllFresh (old new : Slots) : Type 0 where
   pub long : length new ≡ length old
   pub finds : (key : ℕ) → find_in new key ≡ find_in old key
   pub fresh : (key : ℕ) → IsFresh old new key
 
--- between calls
-pub record IsReady (slots : Slots) (changed : List ℕ) (room : ℕ) : Type 0 where
+-- between calls, with room for so many keys in both lists
+pub record IsReady (slots : Slots) (changed : List ℕ) (changed_room lowered lowered_room : ℕ) : Type 0 where
   pub tree : IsTree (find_in slots)
+  pub family : Family slots
   pub sights : HasSights slots
   pub listed : IsListed slots changed
-  pub fits : length slots ≤ room
+  pub changed_fits : length slots ≤ changed_room
+  pub none_lowered : lowered ≡ 0
+  pub lowered_fits : length slots ≤ lowered_room

@@ -23,7 +23,7 @@ pub struct ScopeTree {
 }
 
 impl Model for ScopeTree {
-    ghost use Rattle.std.specs.Prelude.{vec_capacity};
+    ghost use Rattle.std.specs.Prelude.{vec_len, vec_capacity};
     ghost use Rattle.cancel_scopes.specs.Tree.{Tree};
 
     ghost Value = { Tree };
@@ -32,7 +32,7 @@ impl Model for ScopeTree {
 
     ghost view = { λ t. tree_of t.store.scopes.slots };
 
-    ghost invariant = { λ t. IsReady t.store.scopes.slots t.store.changed.items (vec_capacity t.store.changed) };
+    ghost invariant = { λ t. IsReady t.store.scopes.slots t.store.changed.items (vec_capacity t.store.changed) (vec_len t.store.lowered) (vec_capacity t.store.lowered) };
 }
 
 impl ScopeTree {
@@ -45,6 +45,7 @@ impl ScopeTree {
             store: Store {
                 scopes: Slab::new(alloc),
                 changed: Vec::new(alloc),
+                lowered: Vec::new(alloc),
             },
         }
     }
@@ -66,17 +67,11 @@ impl ScopeTree {
         ensures err { OnErr result (SameStacks self.old self.new) }
         ensures marks { SameMarks self.old self.new }
     {
-        let scope = scope_under(&self.store.scopes, parent, shield, deadline);
-        self.store.scopes.reserve(1)?;
-        let missing = self
-            .store
-            .scopes
-            .capacity()
-            .saturating_sub(self.store.changed.len());
-        self.store.changed.reserve(missing)?;
+        self.store.make_room(parent)?;
+        let children = self.store.no_children();
+        let scope = scope_under(&self.store.scopes, parent, shield, deadline, children);
         let key = self.store.scopes.insert_reserved(scope);
-        // Each slot still has room among the changed.
-        let _capacity = self.store.scopes.capacity();
+        self.store.add_child(parent, key);
         Ok(ScopeId { key })
     }
 
@@ -108,7 +103,7 @@ impl ScopeTree {
     {
         let scope = &mut self.store.scopes[id.key];
         scope.from = earlier(scope.from, Some(tick + 1));
-        self.store.refresh_all();
+        self.store.lower_from(id.key, tick + 1);
     }
 
     /// The tick from which a task in this scope sees a cancellation: none is never. It is the earliest from which the
@@ -154,7 +149,9 @@ impl ScopeTree {
         ensures marks { OtherMarksKeep self.old self.new id }
     {
         self.store.unmark(id.key);
-        self.store.scopes.remove(id.key).from
+        let scope = self.store.scopes.remove(id.key);
+        self.store.remove_child(scope.parent, scope.place);
+        scope.from
     }
 
     /// Hands out a scope whose sight a `cancel` lowered since it was last handed out, each once, in no order that is
@@ -192,6 +189,7 @@ fn scope_under(
     parent: Option<ScopeId>,
     shield: bool,
     from: Option<u64>,
+    children: Vec<usize>,
 ) -> Scope
     requires tree { IsTree (find_in scopes.now.slots) }
     requires sights { HasSights scopes.now.slots }
@@ -215,6 +213,8 @@ fn scope_under(
                 earlier(from, scopes[parent.key].sight)
             },
             listed: None,
+            children,
+            place: scopes[parent.key].children.len(),
         },
         None => Scope {
             parent: None,
@@ -223,6 +223,8 @@ fn scope_under(
             depth: 0,
             sight: from,
             listed: None,
+            children,
+            place: 0,
         },
     }
 }
