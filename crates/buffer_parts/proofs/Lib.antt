@@ -5,4 +5,3 @@ pub mod SearchLemmas
 pub mod JoinLemmas
 pub mod SkipLemmas
 pub mod LongerLemmas
-pub mod NextCut

@@ -1,4 +1,3 @@
 pub mod Lines
 pub mod Cuts
 pub mod Part
-pub mod Giving

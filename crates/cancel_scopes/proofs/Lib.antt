@@ -1,16 +1,8 @@
 pub mod StackLemmas
 pub mod DepthLemmas
-pub mod SlotLemmas
-pub mod PlaceLemmas
-pub mod MarkLemmas
-pub mod LowerLemmas
-pub mod RefreshLemmas
-pub mod WorkLemmas
-pub mod StartLemmas
-pub mod ChildLemmas
+pub mod SightLemmas
 pub mod CancelLemmas
 pub mod OpenLemmas
 pub mod CloseLemmas
-pub mod ReadyLemmas
 pub mod CatchLemmas
 pub mod ChainLemmas

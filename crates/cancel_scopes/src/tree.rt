@@ -1,52 +1,56 @@
-ghost use Rattle.std.specs.Prelude.{◌≡◌, ◌≢◌, ℕ, ◌+◌, ◌<◌, ◌^◌, ◌∷◌, ◌||◌, true, false, Some, None, is_some, IsSome, IfOk, OnErr, MatchOption};
+ghost use Rattle.std.specs.Prelude.{◌≡◌, ◌≢◌, ℕ, ◌+◌, ◌<◌, ◌^◌, ◌∷◌, Some, None, is_some, IsSome, IfOk, OnErr};
 ghost use Rattle.std.specs.Option.{ForSome, option_map};
-ghost use Rattle.cancel_scopes.specs.Sight.{before, sight, seen as is_seen};
-ghost use Rattle.cancel_scopes.specs.Tree.{stack_of, is_changed, IsOpen, outer_of, SameStacks, OthersKeep, SameMarks, OtherMarksKeep, after_cancel, catches, own_from, behind_own, IsInnermost, IsOwn, IsChain, IsApart};
-ghost use Rattle.cancel_scopes.specs.Kept.{IsTree, IsUnder, HasSights, find_in, upward};
-ghost use Rattle.slab.specs.Slab.{ContainsKey};
+ghost use Rattle.cancel_scopes.specs.Sight.{sight, seen as is_seen};
+ghost use Rattle.cancel_scopes.specs.Tree.{stack_of, IsOpen, outer_of, SameStacks, OthersKeep, after_cancel, catches, own_from, behind_own, IsInnermost, IsOwn, IsChain, IsApart};
+ghost use Rattle.cancel_scopes.specs.Kept.{IsTree, IsUnder, stack_at};
+ghost use Rattle.slab.specs.Slab.{get, ContainsKey};
 
 use crate::scope_id::ScopeId;
-use crate::store::{Scope, Store};
 use crate::ticks::{earlier, reached};
 use slab::Slab;
 use std::alloc::{AllocError, Global};
 use std::marker::Model;
 
+// What is kept of a scope.
+#[derive(Clone, Copy)]
+struct Scope {
+    parent: Option<ScopeId>,
+    shield: bool,
+    // The tick from which it is cancelled.
+    from: Option<u64>,
+    // How many scopes are round it.
+    depth: usize,
+}
+
 /// The cancel scopes that are open, each under its parent. A contract sees the stack of each: the scope itself, its
-/// parent, and so on to the outermost; and whether its sight was lowered since it was last handed out.
+/// parent, and so on to the outermost.
 ///
 /// The caller sees to it that ids are open, that a scope is closed after those in it, and that deadlines and ticks (of
 /// `cancel` the tick after) are below 2 to the 41.
 #[derive(Drop)]
 pub struct ScopeTree {
-    store: Store,
+    scopes: Slab<Scope>,
 }
 
 impl Model for ScopeTree {
-    ghost use Rattle.std.specs.Prelude.{vec_len, vec_capacity};
     ghost use Rattle.cancel_scopes.specs.Tree.{Tree};
 
     ghost Value = { Tree };
 
-    ghost use Rattle.cancel_scopes.specs.Kept.{IsReady, tree_of};
+    ghost use Rattle.cancel_scopes.specs.Kept.{IsTree, stacks, find_in};
 
-    ghost view = { λ t. tree_of t.store.scopes.slots };
+    ghost view = { λ t. stacks t.scopes.slots };
 
-    ghost invariant = { λ t. IsReady t.store.scopes.slots t.store.changed.items (vec_capacity t.store.changed) (vec_len t.store.lowered) (vec_capacity t.store.lowered) };
+    ghost invariant = { λ t. IsTree (find_in t.scopes.slots) };
 }
 
 impl ScopeTree {
     /// A tree with no scope. Takes no memory.
     pub fn new(alloc: Global) -> ScopeTree
         ensures empty { (key : ℕ) → stack_of result key ≡ None }
-        ensures unchanged { (key : ℕ) → is_changed result key ≡ false }
     {
         ScopeTree {
-            store: Store {
-                scopes: Slab::new(alloc),
-                changed: Vec::new(alloc),
-                lowered: Vec::new(alloc),
-            },
+            scopes: Slab::new(alloc),
         }
     }
 
@@ -65,13 +69,10 @@ impl ScopeTree {
             Some (record { label = id; shield = shield; from = deadline } ∷ outer_of self.old parent)) }
         ensures others { IfOk result (OthersKeep self.old self.new) }
         ensures err { OnErr result (SameStacks self.old self.new) }
-        ensures marks { SameMarks self.old self.new }
     {
-        self.store.make_room(parent)?;
-        let children = self.store.no_children();
-        let scope = scope_under(&self.store.scopes, parent, shield, deadline, children);
-        let key = self.store.scopes.insert_reserved(scope);
-        self.store.add_child(parent, key);
+        let scope = scope_under(&self.scopes, parent, shield, deadline);
+        self.scopes.reserve(1)?;
+        let key = self.scopes.insert_reserved(scope);
         Ok(ScopeId { key })
     }
 
@@ -79,7 +80,7 @@ impl ScopeTree {
     pub fn is_open(&self, id: ScopeId) -> bool
         ensures { result ≡ is_some (stack_of self.now id) }
     {
-        self.store.scopes.contains(id.key)
+        self.scopes.contains(id.key)
     }
 
     /// The scope right round this one, if there is one.
@@ -88,22 +89,19 @@ impl ScopeTree {
         ensures parent_open { ForSome result (IsOpen self.now) }
         ensures round { ForSome (stack_of self.now id) (λ stack. outer_of self.now result ≡ behind_own stack) }
     {
-        self.store.scopes[id.key].parent
+        self.scopes[id.key].parent
     }
 
     /// Cancels a scope in a tick: it is cancelled from the next tick on, or from when it already was, if that is
-    /// earlier. Each scope whose sight this lowers is changed until it is handed out or closed. Takes no memory.
+    /// earlier.
     pub fn cancel(&mut self, id: ScopeId, tick: u64)
         requires id { IsOpen self.old id }
         requires tick { tick + 1 < 2 ^ 41 }
-        ensures stacks { (key : ℕ) →
+        ensures { (key : ℕ) →
             stack_of self.new key ≡ option_map (after_cancel id tick) (stack_of self.old key) }
-        ensures marks { (key : ℕ) → ForSome (stack_of self.old key) (λ stack. is_changed self.new key
-            ≡ (is_changed self.old key || before (sight (after_cancel id tick stack)) (sight stack))) }
     {
-        let scope = &mut self.store.scopes[id.key];
+        let scope = &mut self.scopes[id.key];
         scope.from = earlier(scope.from, Some(tick + 1));
-        self.store.lower_from(id.key, tick + 1);
     }
 
     /// The tick from which a task in this scope sees a cancellation: none is never. It is the earliest from which the
@@ -112,7 +110,7 @@ impl ScopeTree {
         requires { IsOpen self.now id }
         ensures { ForSome (stack_of self.now id) (λ stack. result ≡ sight stack) }
     {
-        self.store.scopes[id.key].sight
+        sight_from(&self.scopes, id)
     }
 
     /// Whether a task in this scope sees a cancellation at a tick.
@@ -129,7 +127,7 @@ impl ScopeTree {
         requires { IsOpen self.now id }
         ensures { ForSome (stack_of self.now id) (λ stack. result ≡ catches stack tick) }
     {
-        let scope = &self.store.scopes[id.key];
+        let scope = &self.scopes[id.key];
         if !reached(scope.from, tick) {
             return false;
         }
@@ -146,29 +144,8 @@ impl ScopeTree {
         ensures closed { stack_of self.new id ≡ None }
         ensures others { OthersKeep self.old self.new id }
         ensures from { ForSome (stack_of self.old id) (λ stack. result ≡ own_from stack) }
-        ensures marks { OtherMarksKeep self.old self.new id }
     {
-        self.store.unmark(id.key);
-        let scope = self.store.scopes.remove(id.key);
-        self.store.remove_child(scope.parent, scope.place);
-        scope.from
-    }
-
-    /// Hands out a scope whose sight a `cancel` lowered since it was last handed out, each once, in no order that is
-    /// promised: none where no such scope is left. Takes no memory, and changes no stack.
-    pub fn take_changed(&mut self) -> Option<ScopeId>
-        ensures stacks { SameStacks self.old self.new }
-        ensures taken { MatchOption result ((key : ℕ) → is_changed self.old key ≡ false) (λ id.
-            (is_changed self.old id ≡ true) × (is_changed self.new id ≡ false)
-            × OtherMarksKeep self.old self.new id) }
-        ensures none { result ≡ None → SameMarks self.old self.new }
-    {
-        let Some(last) = self.store.changed.last() else {
-            return None;
-        };
-        let key = *last;
-        self.store.unmark(key);
-        Some(ScopeId { key })
+        self.scopes.remove(id.key).from
     }
 }
 
@@ -180,7 +157,7 @@ pub fn stacks_are_chains(tree: &ScopeTree)
     ensures apart { IsApart tree.now }
 {
     // The law is read off what the tree keeps.
-    let _scopes = &tree.store;
+    let _scopes = &tree.scopes;
 }
 
 // What is kept of a scope that is opened under this parent.
@@ -189,17 +166,13 @@ fn scope_under(
     parent: Option<ScopeId>,
     shield: bool,
     from: Option<u64>,
-    children: Vec<usize>,
 ) -> Scope
-    requires tree { IsTree (find_in scopes.now.slots) }
-    requires sights { HasSights scopes.now.slots }
+    requires tree { IsTree (get scopes.now) }
     requires parent { ForSome parent (ContainsKey scopes.now) }
     ensures parent { result.parent ≡ parent }
     ensures shield { result.shield ≡ shield }
     ensures from { result.from ≡ from }
-    ensures under { IsUnder (find_in scopes.now.slots) result.depth result.parent }
-    ensures sight { result.sight ≡ sight (record { label = 0; shield = shield; from = from } ∷ upward (find_in scopes.now.slots) result.depth parent) }
-    ensures unmarked { result.listed ≡ None }
+    ensures under { IsUnder (get scopes.now) result.depth result.parent }
 {
     match parent {
         Some(parent) => Scope {
@@ -207,36 +180,40 @@ fn scope_under(
             shield,
             from,
             depth: depth_under(scopes, parent),
-            sight: if shield {
-                from
-            } else {
-                earlier(from, scopes[parent.key].sight)
-            },
-            listed: None,
-            children,
-            place: scopes[parent.key].children.len(),
         },
         None => Scope {
             parent: None,
             shield,
             from,
             depth: 0,
-            sight: from,
-            listed: None,
-            children,
-            place: 0,
         },
     }
 }
 
 // How many scopes are round one that is opened under this parent.
 fn depth_under(scopes: &Slab<Scope>, parent: ScopeId) -> usize
-    requires tree { IsTree (find_in scopes.now.slots) }
+    requires tree { IsTree (get scopes.now) }
     requires parent { ContainsKey scopes.now parent }
-    ensures { IsUnder (find_in scopes.now.slots) result (Some parent) }
+    ensures { IsUnder (get scopes.now) result (Some parent) }
 {
     let depth = scopes[parent.key].depth;
     // Each scope round it is another one that is kept.
     prove!(depth < scopes.len());
     depth + 1
+}
+
+// The tick from which a stack is cancelled, up to and including the first scope with a shield.
+fn sight_from(scopes: &Slab<Scope>, id: ScopeId) -> Option<u64>
+    requires tree { IsTree (get scopes.now) }
+    requires id { ContainsKey scopes.now id }
+    ensures { ForSome (stack_at (get scopes.now) id) (λ stack. result ≡ sight stack) }
+{
+    let mut scope = &scopes[id.key];
+    let mut from = scope.from;
+    'up: while !scope.shield {
+        let Some(parent) = scope.parent else { break };
+        scope = &scopes[parent.key];
+        from = earlier(from, scope.from);
+    }
+    from
 }

@@ -50,8 +50,7 @@ impl<'a> Task<'a> {
         let left = left_with(self.alloc, catches, exc)?;
         let caught = left.caught;
         let exc = exc_after(self.alloc, kind, &label, world.now(), left)?;
-        let entry = kind.entry(self.alloc, label, world.now(), caught)?;
-        self.entries.push(entry)?;
+        self.entries.push(kind.entry(label, world.now(), caught))?;
         Ok(exc)
     }
 
