@@ -5,3 +5,4 @@ pub mod SearchLemmas
 pub mod JoinLemmas
 pub mod SkipLemmas
 pub mod LongerLemmas
+pub mod NextCut

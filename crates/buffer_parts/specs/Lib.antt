@@ -1,3 +1,4 @@
 pub mod Lines
 pub mod Cuts
 pub mod Part
+pub mod Giving

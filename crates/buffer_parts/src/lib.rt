@@ -6,12 +6,14 @@
 //! alone, and no call takes memory.
 #![tactic(auto)]
 
+mod cuts;
 mod laws;
 mod line;
 mod part;
 #[cfg(test)]
 mod tests;
 
+pub use cuts::Cuts;
 pub use laws::{cuts_keep_bytes, cuts_keep_lines, cuts_meet};
 pub use line::{Line, Lines};
 pub use part::Part;

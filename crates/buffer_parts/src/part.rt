@@ -1,15 +1,16 @@
 ghost use Rattle.std.specs.Prelude.{◌≡◌, ℕ, ◌+◌, ◌-◌, ◌*◌, ◌/◌, ◌<◌, ◌≤◌, ◌==◌, ◌||◌, ◌↔◌, IsTrue, IsSome, IfSome, List, length, slice_range};
 ghost use Rattle.buffer_parts.specs.Cuts.{starts_line};
 
+use crate::cuts::Cuts;
 use crate::line::Lines;
 use memchr::memchr;
 
 /// A range of a borrowed buffer that starts where a line starts, or is empty.
 #[derive(Clone, Copy)]
 pub struct Part<'a> {
-    buffer: &'a [u8],
-    start: usize,
-    end: usize,
+    pub(crate) buffer: &'a [u8],
+    pub(crate) start: usize,
+    pub(crate) end: usize,
     ghost ordered: { start ≤ end },
     ghost within: { end ≤ length buffer.now },
     ghost aligned: { IsTrue (starts_line buffer.now start || start == end) },
@@ -19,6 +20,7 @@ impl<'a> Part<'a> {
     ghost use Rattle.buffer_parts.specs.Lines.{Range, bytes_of, lines_of};
     ghost use Rattle.buffer_parts.specs.Cuts.{next_start, cut_point, cut_of};
     ghost use Rattle.buffer_parts.specs.Part.{buffer_of, range_of, source_of, range_left, lines_left};
+    ghost use Rattle.buffer_parts.specs.Giving.{part_cut, cut_count, cuts_given};
 
     /// The whole of a buffer.
     pub fn whole(buffer: &'a [u8]) -> Part<'a>
@@ -90,6 +92,17 @@ impl<'a> Part<'a> {
         )
     }
 
+    /// The cuts of the part, in order, found in one pass over it.
+    pub fn cuts(self, k: usize) -> Cuts<'a>
+        requires some { 1 ≤ k }
+        requires few { k ≤ 64 }
+        ensures part { part_cut result ≡ self.entry }
+        ensures count { cut_count result ≡ k }
+        ensures given { cuts_given result ≡ 0 }
+    {
+        Cuts::of(self, k)
+    }
+
     /// This part and the next one as one, where the next begins at this one's end.
     pub fn join(self, next: Part<'a>) -> Option<Part<'a>>
         requires { buffer_of self ≡ buffer_of next }
@@ -135,7 +148,7 @@ impl<'a> Part<'a> {
     }
 
     /// The first line start of the part from a place on, or the part's end where there is none.
-    fn next_start(self, place: usize) -> usize
+    pub(crate) fn next_start(self, place: usize) -> usize
         requires { place ≤ self.end }
         ensures { result ≡ next_start (buffer_of self.entry) place ((range_of self.entry).to - place) }
     {
@@ -150,7 +163,7 @@ impl<'a> Part<'a> {
 }
 
 /// How far `i` of `k` equal steps lead through a length, rounded down.
-fn steps(length: usize, k: usize, i: usize) -> usize
+pub(crate) fn steps(length: usize, k: usize, i: usize) -> usize
     requires some { 1 ≤ k }
     requires few { k ≤ 64 }
     requires within { i ≤ k }

@@ -34,6 +34,22 @@ fn cuts_start_where_lines_start(rt: HostRuntime) {
 }
 
 #[test]
+fn cuts_come_in_order(rt: HostRuntime) {
+    // The second row is one line: all of it is in its first cut.
+    let rows = [
+        (BUFFER, [(0, 3), (3, 7), (10, 0)]),
+        (b"aaaaaaaa", [(0, 8), (8, 0), (8, 0)]),
+        (b"", [(0, 0), (0, 0), (0, 0)]),
+    ];
+    for (buffer, expected) in rows {
+        let mut cuts = Part::whole(buffer).cuts(3);
+        for place_of_cut in expected {
+            assert_eq!(rt; place(cuts.next_cut()), place_of_cut);
+        }
+    }
+}
+
+#[test]
 fn parts_join_where_they_meet(rt: HostRuntime) {
     let whole = Part::whole(BUFFER);
     let (first, middle, last) = (whole.cut(3, 0), whole.cut(3, 1), whole.cut(3, 2));

@@ -1,5 +1,7 @@
 -- One more line of those that contain a string.
-use Rattle.std.proofs.Common.{◌≡◌, ℕ, Bool, true, false, List, [], ◌∷◌, ◌++◌, map, filter, refl, sym, ap, ◌∙◌, append_assoc}
+use Rattle.std.proofs.Common.{◌≡◌, ℕ, Bool, true, false, List, [], ◌∷◌, ◌++◌, map, filter, Some, None, refl, sym, ap, ⊎_elim, ◌∙◌, append_assoc}
+use Rattle.std.specs.List.{find}
+use Rattle.std.proofs.lemmas.Bool.{cases_Bool}
 use Rattle.std.proofs.lemmas.List.{map_push}
 use Rattle.buffer_parts.specs.Lines.{Span, text_of}
 use Rattle.buffer_parts.specs.Part.{span_of, line_text, IsLineOf}
@@ -27,3 +29,26 @@ stands_in-line buffer needle line test placed is = ap (contains needle) (sym pla
 pub append-nil : {X : Type 0} (xs : List X) → xs ++ [] ≡ xs
 append-nil [] = refl
 append-nil (x ∷ xs) = ap (λ ys. x ∷ ys) (append-nil xs)
+
+-- where no element passes, none is found
+pub find-none : {X : Type 0} (p : X → Bool) (xs : List X) → filter p xs ≡ [] → find p xs ≡ None
+find-none p [] none = refl
+find-none p (x ∷ xs) none =
+    ⊎_elim
+    (λ (passes : p x ≡ true).
+    let some : x ∷ filter p xs ≡ [] = sym (filter-passed p x xs passes) ∙ none in
+    absurd (cc))
+    (λ (fails : p x ≡ false). rw fails (find-none p xs (sym (filter-dropped p x xs fails) ∙ none)))
+    (cases_Bool (p x))
+
+-- the first that passes is the one that is found
+pub find-first : {X : Type 0} (p : X → Bool) (xs : List X) (first : X) (rest : List X) → filter p xs ≡ first ∷ rest → find p xs ≡ Some first
+find-first p [] first rest is = absurd (let none : [] ≡ first ∷ rest = is in cc)
+find-first p (x ∷ xs) first rest is =
+    ⊎_elim
+    (λ (passes : p x ≡ true).
+    let both : x ∷ filter p xs ≡ first ∷ rest = sym (filter-passed p x xs passes) ∙ is in
+    let same : x ≡ first = cc in
+    rw passes (ap Some same))
+    (λ (fails : p x ≡ false). rw fails (find-first p xs first rest (sym (filter-dropped p x xs fails) ∙ is)))
+    (cases_Bool (p x))

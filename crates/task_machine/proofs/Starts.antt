@@ -1,5 +1,6 @@
 -- Children that are started.
 use Rattle.std.proofs.Common.{◌≡◌, ℕ, zero, suc, ◌+◌, Option, Some, None, List, [], ◌∷◌, ◌++◌, length, length-append, append_assoc, refl, ap, sym, ◌∙◌, subst, arith}
+use Rattle.std.proofs.lemmas.List.{append-nil}
 use Rattle.std.specs.Option.{IsSomeAnd}
 use Rattle.buffer_parts.specs.Part.{buffer_of, range_of}
 use Rattle.buffer_parts.specs.Cuts.{cut_of}
@@ -57,6 +58,22 @@ next_home : (id i : ℕ) (n : Nursery) → (let more : Nursery = record n { chil
 next_home id i n =
     ap (λ (p : ℕ). (let h : Home = record { nursery = id; place = p; scope = n.scope } in h))
     (let e = length-append n.children (running i) in let f = running_length i in omega (arith, e, f))
+
+-- at first none is
+pub starts_none : (self : Task) (world : World) (id k : ℕ) (name : List ℕ) (body : Steps) (P : Nursery → Type 0) → HasNursery world.book id P → StartsOver self world world id name k body 0
+starts_none self world id k name body P has = by_nursery (nursery_at world.book id) refl has
+  where
+    by_nursery : (o : Option Nursery) → nursery_at world.book id ≡ o → IsSomeAnd o P → StartsOver self world world id name k body 0
+    by_nursery None e has = absurd has
+    by_nursery (Some n) e has =
+        record {
+          nursery = n;
+          was = e;
+          book = record { changed = e ∙ ap (λ (es : List End). Some (record n { children = es })) (sym (append-nil n.children)); others = λ other differs. refl };
+          tasks = [];
+          started = sym (append-nil world.started.items);
+          children = refl;
+        }
 
 pub starts_more : (self : Task) (old mid new : World) (id k i : ℕ) (name : List ℕ) (label : Label) (part : Part) (body : Steps) → StartsOver self old mid id name k body i →
     StartsOne mid new id label part body → label ≡ record { name = name; indices = self.label.indices ++ i ∷ [] } → buffer_of part ≡ buffer_of self.part →

@@ -96,8 +96,9 @@ impl<'a> Task<'a> {
         ensures rest { OnOk result (world.new ≡ record world.old { book = world.new.book; started = world.new.started }) }
         ensures started { OnOk result (StartsOver self.now world.old world.new nursery name copies body.now copies) }
     {
+        let mut cuts = self.part.cuts(copies as usize);
         'copies: for i in 0..copies {
-            let part = self.part.cut(copies as usize, i as usize);
+            let part = cuts.next_cut();
             let label = self.label.named(self.alloc, name)?.indexed(i)?;
             self.start(nursery, label, part, body, world)?;
         }

@@ -1,8 +1,9 @@
-use Rattle.std.proofs.Common.{◌≡◌, ℕ, suc, ◌+◌, ◌∷◌, [], ◌++◌, ap, ◌∙◌, subst, arith}
+use Rattle.std.proofs.Common.{◌≡◌, ℕ, suc, ◌+◌, ◌∷◌, [], ◌++◌, None, refl, ap, ◌∙◌, subst, arith}
+use Rattle.buffer_parts.specs.Part.{buffer_of}
 use Rattle.exc_groups.specs.Exceptions.{Label}
 use Rattle.task_machine.specs.declared.world.World.{World}
 use Rattle.task_machine.specs.Started.{StartsOver}
-use Rattle.task_machine.proofs.Starts.{starts_more, runs_on}
+use Rattle.task_machine.proofs.Starts.{starts_none, starts_more, runs_on}
 use Rattle.task_machine.proofs.task.Task.start_over.Goals as goal
 
 pub copies-preserved : goal.copies-preserved
@@ -11,11 +12,23 @@ copies-preserved c =
     let started = c.in_ok-start.ensures in
     let name : c.in_ok-label.label ≡ record { name = c.args.name; indices = c.args.self.now.label.indices ++ i ∷ [] } =
     c.in_ok-label.ensures ∙ ap (λ (l : Label). record { name = l.name; indices = l.indices ++ i ∷ [] }) c.in_ok-named.ensures in
-    let next : suc i ≡ i + 1 = omega arith in (
+    let next : suc i ≡ i + 1 = omega arith in
+    let gives = c.next_cut-part.ensures in
+    let whole = c.copies.invariant.4 in
+    let count = c.copies.invariant.5 in
+    let given = c.copies.invariant.6 in (
       omega (arith, c.copies-test.true),
       subst (λ (j : ℕ). StartsOver c.args.self.now c.args.world.now c.start.new.world c.args.nursery c.args.name c.args.copies c.args.body.now j) next
-          (starts_more c.args.self.now c.args.world.now c.copies.world c.start.new.world c.args.nursery c.args.copies i c.args.name c.in_ok-label.label c.cut-part.result c.args.body.now
-          c.copies.invariant.1 started.started name c.cut-part.ensures.buffer c.cut-part.ensures.range),
-      runs_on c.copies.world c.start.new.world c.args.nursery c.in_ok-label.label c.cut-part.result c.args.body.now started.started c.copies.invariant.2,
+          (starts_more c.args.self.now c.args.world.now c.copies.world c.start.new.world c.args.nursery c.args.copies i c.args.name c.in_ok-label.label c.next_cut-part.result c.args.body.now
+          c.copies.invariant.1 started.started name (gives.buffer ∙ ap buffer_of whole) (rw (whole, count, given) at gives.range)),
+      runs_on c.copies.world c.start.new.world c.args.nursery c.in_ok-label.label c.next_cut-part.result c.args.body.now started.started c.copies.invariant.2,
       started.rest ∙ ap (λ (w : World). record w { book = c.start.new.world.book; started = c.start.new.world.started }) c.copies.invariant.3,
+      gives.same_part ∙ whole,
+      gives.same_count ∙ count,
+      gives.one_more ∙ ap (λ (n : ℕ). n + 1) given,
     )
+
+pub copies-init : goal.copies-init
+copies-init c =
+    let none = starts_none c.args.self.now c.args.world.now c.args.nursery c.args.copies c.args.name c.args.body.now (λ n. n.body ≡ None) c.requires.nursery in
+    (omega arith, none, c.requires.nursery, refl, c.cuts-cuts.ensures.part, c.cuts-cuts.ensures.count, c.cuts-cuts.ensures.given)

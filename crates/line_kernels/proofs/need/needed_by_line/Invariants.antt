@@ -3,7 +3,7 @@ use Rattle.std.specs.List.{find}
 use Rattle.buffer_parts.specs.Part.{buffer_of, range_of, source_of, lines_left}
 use Rattle.line_kernels.specs.Kernels.{needed_in}
 use Rattle.line_kernels.proofs.FindLemmas.{stands_in}
-use Rattle.line_kernels.proofs.need.needed_line.Given as goal
+use Rattle.line_kernels.proofs.need.needed_by_line.Given as goal
 
 abbrev pub invariant-loop-line : goal.invariant-loop-line
 invariant-loop-line l = record {
