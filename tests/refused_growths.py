@@ -1,19 +1,24 @@
 #!/usr/bin/env python3
 """Refuses each growth of memory in turn, and compares what nursery answers then.
 
-    python3 tests/refused_growths.py PROGRAM
+    python3 tests/refused_growths.py PROGRAM [CRATES]
 
-PROGRAM is the built executable. It wants a C compiler for the shim that refuses (tests/refuse_growth.c), and Python 3.10. Of each
-job, with 1 and with 3 workers, the growth 0, 1, 2 and so on is refused until a run meets none: each time the program gives the
-job's own bytes and status, or `no memory`, status 5 and nothing on standard output. Where the growth that is refused is one
+PROGRAM is the built executable, CRATES the folder of the crates with their built tests. It wants a C compiler for the shim that
+refuses (tests/refuse_growth.c), and Python 3.10. Of each job, with 1 and with 3 workers, the growth 0, 1, 2 and so on is refused until a run
+meets none: each time the program gives the job's own bytes and status, or `no memory`, status 5 and nothing on standard output. Where the growth that is refused is one
 of the system's for a thread, the others do its work, and the answer is the job's own; where it is one for the sentence that explains a
 refused text on standard error, the refusal stands without it.
+
+With CRATES the same is done with each crate's tests: each time a test passes, or ends with want of memory. Of a test with more than
+500 growths, one in a hundred is refused behind them.
 """
 
+import glob
 import os
 import subprocess
 import sys
 import tempfile
+from concurrent.futures import ThreadPoolExecutor
 
 HERE = os.path.dirname(os.path.abspath(__file__))
 TEN_BYTES = b"aa\nb\ncccc\n"
@@ -76,11 +81,11 @@ class Shim:
         source = os.path.join(HERE, "refuse_growth.c")
         subprocess.run([os.environ.get("CC", "cc"), "-shared", "-fPIC", "-O1", "-o", self.path, source], check=True)
 
-    def run(self, words, growth):
-        """Runs the words while that growth is refused. Gives whether it was, and the status, output and error."""
+    def run(self, words, growth, folder=None):
+        """Runs the words in a folder while that growth is refused. Gives whether it was, and the status, output and error."""
         told, tells = os.pipe()
         variables = dict(os.environ, LD_PRELOAD=self.path, REFUSED_GROWTH=str(growth), REFUSAL_TOLD=str(tells))
-        run = subprocess.run(words, stdin=subprocess.DEVNULL, capture_output=True, env=variables, pass_fds=[tells], timeout=60)
+        run = subprocess.run(words, stdin=subprocess.DEVNULL, capture_output=True, env=variables, pass_fds=[tells], cwd=folder)
         os.close(tells)
         with os.fdopen(told, "rb") as pipe:
             was_refused = pipe.read() != b""
@@ -104,6 +109,46 @@ def refuse_each(shim, words, status, right, told):
         growth += 1
 
 
+# What a test says that ends for want of memory.
+WANT_OF_MEMORY = [b"AllocError", b"AllocFailed", b"NoMemory"]
+
+# Growths that are refused of a test, before one in so many is.
+EACH, ONE_IN = 500, 100
+
+
+def tests_of(crates):
+    """The built tests of each crate: its folder, the executable, and a test's name."""
+    for built in sorted(glob.glob(os.path.join(os.path.abspath(crates), "*", "out", "*_tests"))):
+        folder = os.path.dirname(os.path.dirname(built))
+        listed = subprocess.run([built, "--list"], cwd=folder, capture_output=True, check=True).stdout.decode()
+        for line in listed.splitlines():
+            name, colon, kind = line.rpartition(": ")
+            # That two threads run at once wants the second of them.
+            if kind == "test" and not name.endswith("_at_once"):
+                yield folder, built, name
+
+
+def refuse_in_test(shim, folder, built, name):
+    """Refuses growths of one test. Gives how many."""
+    growth, count = 0, 0
+    while True:
+        was_refused, (got, out, err) = shim.run([built, name], growth, folder)
+        told = out + err
+        if got != 0 and not (was_refused and got == 101 and any(word in told for word in WANT_OF_MEMORY)):
+            raise Wrong(f"{os.path.basename(folder)} {name}, growth {growth}: status {got}, {told!r}")
+        if not was_refused:
+            return count
+        growth, count = growth + (1 if growth < EACH else ONE_IN), count + 1
+
+
+def refuse_in_tests(shim, crates):
+    """Refuses growths of all tests, several at a time."""
+    tests = list(tests_of(crates))
+    with ThreadPoolExecutor(os.cpu_count()) as pool:
+        counts = list(pool.map(lambda test: refuse_in_test(shim, *test), tests))
+    print(f"{len(tests)} tests: {sum(counts)} growths refused, in one of them at most {max(counts)}")
+
+
 def main():
     program = os.path.abspath(sys.argv[1])
     with tempfile.TemporaryDirectory() as folder:
@@ -125,6 +170,12 @@ def main():
                     print(f"{shown}: {wrong}")
                     return 1
                 print(f"{shown}: {growths} growths refused, {without} times no memory")
+        if len(sys.argv) > 2:
+            try:
+                refuse_in_tests(shim, sys.argv[2])
+            except Wrong as wrong:
+                print(wrong)
+                return 1
     return 0
 
 

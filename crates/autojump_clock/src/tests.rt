@@ -1,5 +1,23 @@
+ghost use Rattle.std.specs.Prelude.{◌≡◌, ◌<◌, ◌^◌, None, Some, OnOk};
+ghost use Rattle.autojump_clock.specs.Clock.{now_of, due_of, SameTime, Updates};
+
 use crate::{Jump, MockClock, TaskId};
+use std::alloc::AllocError;
 use std::test::Fail;
+
+// Sets a timer. Where memory is refused nothing changes, and it is set again.
+fn sleep_again(clock: &mut MockClock, task: TaskId, due: u64) -> Result<(), AllocError>
+    requires awake { due_of clock.old task ≡ None }
+    requires later { now_of clock.old < due }
+    requires bounded { due < 2 ^ 41 }
+    ensures timers { OnOk result (Updates clock.old clock.new task (Some due)) }
+    ensures time { OnOk result (SameTime clock.old clock.new) }
+{
+    if clock.sleep_until(task, due).is_ok() {
+        return Ok(());
+    }
+    clock.sleep_until(task, due)
+}
 
 #[test]
 fn timers_and_cancellations_move_the_clock(rt: HostRuntime) -> Result<(), Fail> {
@@ -7,9 +25,9 @@ fn timers_and_cancellations_move_the_clock(rt: HostRuntime) -> Result<(), Fail> 
     let first = TaskId::of(1);
     let second = TaskId::of(2);
     let third = TaskId::of(3);
-    clock.sleep_until(first, 5)?;
-    clock.sleep_until(second, 5)?;
-    clock.sleep_until(third, 9)?;
+    sleep_again(&mut clock, first, 5)?;
+    sleep_again(&mut clock, second, 5)?;
+    sleep_again(&mut clock, third, 9)?;
     assert_eq!(rt; clock.take_due(), None);
     assert_eq!(rt; clock.jump(Some(7)), Jump::To(5));
     assert_eq!(rt; clock.take_due(), Some(first));
@@ -17,7 +35,7 @@ fn timers_and_cancellations_move_the_clock(rt: HostRuntime) -> Result<(), Fail> 
     assert_eq!(rt; clock.take_due(), None);
     assert_eq!(rt; clock.jump(Some(7)), Jump::To(7));
     clock.wake(third);
-    clock.sleep_until(first, 101)?;
+    sleep_again(&mut clock, first, 101)?;
     assert_eq!(rt; clock.take_due(), None);
     assert_eq!(rt; clock.jump(None), Jump::Limit);
     assert_eq!(rt; clock.now(), 7);

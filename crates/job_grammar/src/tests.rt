@@ -2,16 +2,17 @@ use super::*;
 use std::alloc::{AllocError, Global};
 use std::test::*;
 
-// The number of a refusal and its place, and two zeros for a job.
-fn answer(alloc: Global, text: &[u8]) -> (u64, usize) {
+// The number of a refusal and its place, and two zeros for a job. Want of memory is an error.
+fn answer(alloc: Global, text: &[u8]) -> Result<(u64, usize), JobFault> {
     match read_job(alloc, text) {
-        Ok(_) => (0, 0),
-        Err(fault) => (fault.kind.number(), fault.at),
+        Ok(_) => Ok((0, 0)),
+        Err(fault) if matches!(fault.kind, JobKind::NoMemory) => Err(fault),
+        Err(fault) => Ok((fault.kind.number(), fault.at)),
     }
 }
 
 #[test]
-fn refusals(rt: HostRuntime) {
+fn refusals(rt: HostRuntime) -> Result<(), Fail> {
     let rows = [
         (b"".as_slice(), 3, 0),
         (b"trio-job 3\njob main { }".as_slice(), 3, 0),
@@ -51,12 +52,13 @@ fn refusals(rt: HostRuntime) {
         (b"trio-job 1\njob main { } }".as_slice(), 6, 24),
     ];
     for (text, number, at) in rows {
-        assert_eq!(rt; answer(rt.alloc(), text), (number, at));
+        assert_eq!(rt; answer(rt.alloc(), text)?, (number, at));
     }
+    Ok(())
 }
 
 #[test]
-fn refusals_of_names(rt: HostRuntime) {
+fn refusals_of_names(rt: HostRuntime) -> Result<(), Fail> {
     let rows = [
         (
             b"trio-job 1\njob main { scope s { } scope s { } }".as_slice(),
@@ -98,19 +100,21 @@ fn refusals_of_names(rt: HostRuntime) {
         ),
     ];
     for (text, number, at) in rows {
-        assert_eq!(rt; answer(rt.alloc(), text), (number, at));
+        assert_eq!(rt; answer(rt.alloc(), text)?, (number, at));
     }
+    Ok(())
 }
 
 #[test]
-fn too_large(rt: HostRuntime) {
+fn too_large(rt: HostRuntime) -> Result<(), Fail> {
     let text =
         b"trio-job 1\njob main { nursery n { start a over 64 { nursery m { start b over 64 { nursery q { start c over 64 { } } } } } } }".as_slice();
-    assert_eq!(rt; answer(rt.alloc(), text), (11, 0));
+    assert_eq!(rt; answer(rt.alloc(), text)?, (11, 0));
+    Ok(())
 }
 
 #[test]
-fn accepted(rt: HostRuntime) {
+fn accepted(rt: HostRuntime) -> Result<(), Fail> {
     let rows = [
         b"trio-job 1\njob main{sleep 5;find\"\\x00\\\\\";raise A;}".as_slice(),
         b"trio-job 1\njob main { scope a { raise a; } }".as_slice(),
@@ -118,8 +122,9 @@ fn accepted(rt: HostRuntime) {
         b"trio-job 1\njob main { scope s { nursery n { start a { cancel s; cancel n; } } } }".as_slice(),
     ];
     for text in rows {
-        assert_eq!(rt; answer(rt.alloc(), text), (0, 0));
+        assert_eq!(rt; answer(rt.alloc(), text)?, (0, 0));
     }
+    Ok(())
 }
 
 // A job of so many blocks in one another, each with these bytes in front and behind.
@@ -140,7 +145,7 @@ fn depth(rt: HostRuntime) -> Result<(), Fail> {
     let rows = [(31, 0, 0), (32, 7, 212), (3_000, 7, 212)];
     for (depth, number, at) in rows {
         let text = nested(rt.alloc(), depth, b" try {", b" } finally { }")?;
-        assert_eq!(rt; answer(rt.alloc(), &text), (number, at));
+        assert_eq!(rt; answer(rt.alloc(), &text)?, (number, at));
     }
     let mut scopes = Vec::from_slice(rt.alloc(), b"trio-job 1\njob main {")?;
     for i in 1..33u64 {
@@ -150,20 +155,20 @@ fn depth(rt: HostRuntime) -> Result<(), Fail> {
     for _ in 0..33u64 {
         scopes.extend_from_slice(b" }")?;
     }
-    assert_eq!(rt; answer(rt.alloc(), &scopes), (7, 404));
+    assert_eq!(rt; answer(rt.alloc(), &scopes)?, (7, 404));
     Ok(())
 }
 
 #[test]
 fn too_long(rt: HostRuntime) -> Result<(), Fail> {
     let text = vec![in rt.alloc(); b' '; 65_537]?;
-    assert_eq!(rt; answer(rt.alloc(), &text), (1, 65_536));
-    assert_eq!(rt; answer(rt.alloc(), &text[..65_536]), (3, 0));
+    assert_eq!(rt; answer(rt.alloc(), &text)?, (1, 65_536));
+    assert_eq!(rt; answer(rt.alloc(), &text[..65_536])?, (3, 0));
     Ok(())
 }
 
 #[test]
-fn prefixes(rt: HostRuntime) {
+fn prefixes(rt: HostRuntime) -> Result<(), Fail> {
     let whole = b"trio-job 1\njob main{find\"er\";}".as_slice();
     for len in 0..31 {
         let wanted = match len {
@@ -176,8 +181,9 @@ fn prefixes(rt: HostRuntime) {
             28..30 => (6, len),
             _ => (0, 0),
         };
-        assert_eq!(rt; answer(rt.alloc(), &whole[..len]), wanted);
+        assert_eq!(rt; answer(rt.alloc(), &whole[..len])?, wanted);
     }
+    Ok(())
 }
 
 #[test]
@@ -205,7 +211,7 @@ fn canonical_texts(rt: HostRuntime) -> Result<(), Fail> {
         ),
     ];
     for (text, wanted) in rows {
-        let job = read_job(rt.alloc(), text).ok().ok_or("a job")?;
+        let job = read_job(rt.alloc(), text)?;
         let written = write_job(rt.alloc(), &job)?;
         assert_eq!(rt; written.as_slice(), wanted);
     }
@@ -215,7 +221,7 @@ fn canonical_texts(rt: HostRuntime) -> Result<(), Fail> {
 #[test]
 fn parts_of_a_job(rt: HostRuntime) -> Result<(), Fail> {
     let text = b"trio-job 1\njob main { sleep 1; nursery n { start p over 3 { sleep 1; } } }";
-    let job = read_job(rt.alloc(), text).ok().ok_or("a job")?;
+    let job = read_job(rt.alloc(), text)?;
     assert_eq!(rt; job.name().bytes(), b"main".as_slice());
     assert_eq!(rt; job.steps().len(), 2);
     assert_eq!(rt; job.size(), 8);

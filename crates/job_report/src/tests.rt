@@ -23,10 +23,10 @@ fn report_of<R: Threads + Sync + Abort>(
     input: &[u8],
 ) -> Result<Vec<u8>, Fail> {
     assert!(rt; input.len() <= MOST_INPUT);
-    let job = read_job(alloc, text).ok().ok_or("a job")?;
+    let job = read_job(alloc, text)?;
     let settings = Settings::new(1, 100).ok_or("settings")?;
-    let done = run(rt, alloc, &job, input, settings, &mut Forward, &NoGate);
-    Ok(report(alloc, &done.ok().ok_or("a run")?)?)
+    let done = run(rt, alloc, &job, input, settings, &mut Forward, &NoGate)?;
+    Ok(report(alloc, &done)?)
 }
 
 #[test]
@@ -122,12 +122,12 @@ fn entries(rt: HostRuntime) -> Result<(), Fail> {
     let entries = vec![in alloc;
         Entry::Line(line),
         Entry::Scope {
-            label: label(alloc, b"s")?,
+            label: Box::new(alloc, label(alloc, b"s")?)?,
             tick: 2,
             caught: true
         },
         Entry::Nursery {
-            label: label(alloc, b"n")?,
+            label: Box::new(alloc, label(alloc, b"n")?)?,
             tick: 3,
             caught: false
         },

@@ -12,11 +12,9 @@ fn turns<R: Threads + Sync, P: Pick>(
     picker: &mut P,
     seen: &mut String,
 ) -> Result<u64, Fail> {
-    let job = read_job(alloc, text).ok().ok_or("a job")?;
+    let job = read_job(alloc, text)?;
     let settings = Settings::new(1, 1_000_000).ok_or("settings")?;
-    let done = run(rt, alloc, &job, b"", settings, picker, &NoGate)
-        .ok()
-        .ok_or("in time")?;
+    let done = run(rt, alloc, &job, b"", settings, picker, &NoGate)?;
     for record in done.records() {
         let start = record.from_tick;
         let end = record.to_tick;

@@ -1,5 +1,4 @@
-use crate::serve;
-use crate::tests::assert_serves;
+use crate::tests::{assert_serves, serve_again};
 use job_grammar::read_job;
 use job_report::{MemOut, Out};
 use job_runner::{Forward, MOST_INPUT, NoGate, Settings, run};
@@ -17,14 +16,12 @@ fn served<R: Abort + Threads + Sync + AllocGlobal>(
     let text = format!(in rt.alloc(); "trio-job 1\njob main {{ {steps} }}")?;
     let settings = Settings::new(1, 100).expect(rt, "settings");
     let mut out = MemOut::new(rt.alloc(), 1_000_000, 65_536, None)?;
-    let verdict = serve(
+    let verdict = serve_again(
         rt,
-        rt.alloc(),
         text.as_bytes(),
         input,
         settings,
         &mut Forward,
-        &NoGate,
         &mut out,
     );
     assert!(rt; verdict.is_ok(), "{steps}");
@@ -131,11 +128,9 @@ fn froms_of_scopes_and_nurseries(rt: HostRuntime) -> Result<(), Fail> {
         ),
     ];
     for (text, expected) in rows {
-        let job = read_job(rt.alloc(), text).ok().ok_or("a job")?;
+        let job = read_job(rt.alloc(), text)?;
         let settings = Settings::new(1, 100).ok_or("settings")?;
-        let finished = run(&rt, rt.alloc(), &job, b"", settings, &mut Forward, &NoGate)
-            .ok()
-            .ok_or("a run")?;
+        let finished = run(&rt, rt.alloc(), &job, b"", settings, &mut Forward, &NoGate)?;
         let mut froms = finished.froms().iter();
         for wanted in expected {
             let Some((name, seen)) = wanted else {

@@ -1,6 +1,7 @@
 use crate::{Reverse, Turn, explain};
 use job_grammar::{JobFault, JobKind, read_job};
 use job_runner::Pick;
+use std::alloc::Global;
 use std::test::Fail;
 
 #[test]
@@ -132,10 +133,19 @@ const WRONG: [Row; 13] = [
     ),
 ];
 
+// Why a text is refused. Want of memory is an error.
+fn refusal_of(alloc: Global, text: &[u8]) -> Result<JobFault, Fail> {
+    let fault = read_job(alloc, text).err().ok_or("a refusal")?;
+    if matches!(fault.kind, JobKind::NoMemory) {
+        Err(fault)?;
+    }
+    Ok(fault)
+}
+
 #[test]
 fn syntax_is_told_by_what_was_expected(rt: HostRuntime) -> Result<(), Fail> {
     for (text, told) in EXPECTED {
-        let fault = read_job(rt.alloc(), text).err().ok_or("a refusal")?;
+        let fault = refusal_of(rt.alloc(), text)?;
         let shown = explain(rt.alloc(), "f", text, fault)?;
         assert_eq!(rt; shown.as_str(), told);
     }
@@ -145,7 +155,7 @@ fn syntax_is_told_by_what_was_expected(rt: HostRuntime) -> Result<(), Fail> {
 #[test]
 fn other_refusals_are_told_by_what_is_wrong(rt: HostRuntime) -> Result<(), Fail> {
     for (text, told) in WRONG {
-        let fault = read_job(rt.alloc(), text).err().ok_or("a refusal")?;
+        let fault = refusal_of(rt.alloc(), text)?;
         let shown = explain(rt.alloc(), "f", text, fault)?;
         assert_eq!(rt; shown.as_str(), told);
     }

@@ -18,6 +18,26 @@ const TWO_LINES: &[u8] = b"error\nok\n";
 
 const FOUND: &str = "job main 0\ntask main 0 0 done\n  line 0+5 error\n";
 
+// Serves a text. Where memory is refused nothing was sent, and the text is served again.
+pub fn serve_again<R: Abort + Threads + Sync + AllocGlobal, P: Pick>(
+    rt: &R,
+    text: &[u8],
+    input: &[u8],
+    settings: Settings,
+    picker: &mut P,
+    out: &mut MemOut,
+) -> Result<Verdict, ServeFault> {
+    assert!(rt; input.len() <= MOST_INPUT);
+    assert_eq!(rt; out.failures(), 0);
+    let verdict = serve(rt, rt.alloc(), text, input, settings, picker, &NoGate, out);
+    if !matches!(verdict, Err(ServeFault::NoMemory)) {
+        return verdict;
+    }
+    assert_eq!(rt; out.failures(), 0);
+    assert_eq!(rt; out.taken(), b"".as_slice());
+    serve(rt, rt.alloc(), text, input, settings, picker, &NoGate, out)
+}
+
 // What `serve` writes for the job `main` of these steps, with the limit 100, by 1 and 64 workers in each order of picks.
 pub fn assert_serves<R: Abort + Threads + Sync + AllocGlobal>(
     rt: &R,
@@ -47,16 +67,7 @@ fn assert_writes<R: Abort + Threads + Sync + AllocGlobal, P: Pick>(
 ) -> Result<(), Fail> {
     assert!(rt; input.len() <= MOST_INPUT);
     let mut out = MemOut::new(rt.alloc(), 65_536, 4_096, None)?;
-    let verdict = serve(
-        rt,
-        rt.alloc(),
-        text.as_bytes(),
-        input,
-        settings,
-        picker,
-        &NoGate,
-        &mut out,
-    );
+    let verdict = serve_again(rt, text.as_bytes(), input, settings, picker, &mut out);
     assert!(rt; verdict.is_ok(), "{text}");
     assert_eq!(rt; out.taken(), expected.as_bytes(), "{text}");
     Ok(())
@@ -122,14 +133,12 @@ fn refusals_are_told_by_a_line(rt: HostRuntime) -> Result<(), Fail> {
     ] {
         let settings = Settings::new(1, 100).expect(&rt, "settings");
         let mut out = MemOut::new(rt.alloc(), 100, 7, None)?;
-        let verdict = serve(
+        let verdict = serve_again(
             &rt,
-            rt.alloc(),
             text.as_bytes(),
             b"",
             settings,
             &mut Forward,
-            &NoGate,
             &mut out,
         );
         assert!(rt; matches!(verdict, Ok(Verdict::JobRefused(_))), "{text}");
@@ -143,14 +152,12 @@ fn a_writer_that_fails_took_the_front(rt: HostRuntime) -> Result<(), Fail> {
     let settings = Settings::new(1, 100).expect(&rt, "settings");
     let mut out = MemOut::new(rt.alloc(), 10, 4, None)?;
     let text = "trio-job 1\njob main { find \"er\"; }";
-    let answer = serve(
+    let answer = serve_again(
         &rt,
-        rt.alloc(),
         text.as_bytes(),
         TWO_LINES,
         settings,
         &mut Forward,
-        &NoGate,
         &mut out,
     );
     assert!(rt; matches!(answer, Err(ServeFault::Send { sent: 10 })));
@@ -163,22 +170,22 @@ fn a_writer_that_fails_took_the_front(rt: HostRuntime) -> Result<(), Fail> {
 fn check_writes_the_canonical_text(rt: HostRuntime) -> Result<(), Fail> {
     let mut out = MemOut::new(rt.alloc(), 100, 100, None)?;
     let text = b"trio-job 1\njob main {\n  find \"er\" ;\n}\n";
-    let verdict = check(rt.alloc(), text, &mut out);
-    assert!(rt; matches!(verdict, Ok(CheckVerdict::Fine)));
+    let verdict = check(rt.alloc(), text, &mut out)?;
+    assert!(rt; matches!(verdict, CheckVerdict::Fine));
     assert_eq!(rt;
         out.taken(),
         b"trio-job 1\njob main{find\"er\";}\n".as_slice()
     );
 
     let mut out = MemOut::new(rt.alloc(), 100, 100, None)?;
-    let verdict = check(rt.alloc(), b"trio-job 1\njob main { sleep", &mut out);
+    let verdict = check(rt.alloc(), b"trio-job 1\njob main { sleep", &mut out)?;
     assert!(rt;
         matches!(
             verdict,
-            Ok(CheckVerdict::JobRefused(JobFault {
+            CheckVerdict::JobRefused(JobFault {
                 at: 27,
                 kind: JobKind::Syntax
-            }))
+            })
         )
     );
     assert_eq!(rt; out.taken(), b"refused J6 Syntax at 27\n".as_slice());
@@ -190,14 +197,12 @@ fn status_of<R: Abort + Threads + Sync + AllocGlobal>(rt: &R, steps: &str) -> Re
     let text = format!(in rt.alloc(); "trio-job 1\njob main {{ {steps} }}")?;
     let settings = Settings::new(1, 100).expect(rt, "settings");
     let mut out = MemOut::new(rt.alloc(), 1_000, 1_000, None)?;
-    let verdict = serve(
+    let verdict = serve_again(
         rt,
-        rt.alloc(),
         text.as_bytes(),
         TWO_LINES,
         settings,
         &mut Forward,
-        &NoGate,
         &mut out,
     );
     Ok(verdict.map_or(5, |verdict| verdict.status()))
@@ -277,6 +282,9 @@ fn reading_whole(rt: HostRuntime) -> Result<(), Fail> {
     ] {
         let mut reader = Piecewise { left, each, fails };
         let answer = read_whole(rt.alloc(), &mut reader, most).map(|bytes| bytes.len());
+        if answer == Err(ReadFault::NoMemory) {
+            answer?;
+        }
         assert_eq!(rt; answer, expected);
         let reads = left.saturating_sub(reader.left);
         assert!(rt; reads <= (most as u64).saturating_add(2));
@@ -285,13 +293,33 @@ fn reading_whole(rt: HostRuntime) -> Result<(), Fail> {
 }
 
 #[test]
+fn a_reader_may_fail_at_each_read(rt: HostRuntime) -> Result<(), Fail> {
+    for left in 0..6u64 {
+        let mut reader = Piecewise {
+            left,
+            each: 1,
+            fails: true,
+        };
+        let answer = read_whole(rt.alloc(), &mut reader, 9).map(|bytes| bytes.len());
+        if answer == Err(ReadFault::NoMemory) {
+            answer?;
+        }
+        assert_eq!(rt; answer, Err(ReadFault::Device));
+    }
+    Ok(())
+}
+
+#[test]
 fn reading_a_slice_whole(rt: HostRuntime) -> Result<(), Fail> {
     let mut five = b"error".as_slice();
-    let bytes = read_whole(rt.alloc(), &mut five, 5).expect(&rt, "five bytes");
+    let bytes = read_whole(rt.alloc(), &mut five, 5)?;
     assert_eq!(rt; bytes.as_slice(), b"error".as_slice());
     let one_too_many = vec![in rt.alloc(); b'x'; 16_777_217]?;
     let mut all = one_too_many.as_slice();
     let answer = read_whole(rt.alloc(), &mut all, MOST_INPUT).map(|bytes| bytes.len());
+    if answer == Err(ReadFault::NoMemory) {
+        answer?;
+    }
     assert_eq!(rt; answer, Err(ReadFault::TooLong));
     Ok(())
 }
@@ -315,7 +343,7 @@ fn a_text_that_nests_thousands_deep_is_refused(rt: HostRuntime) -> Result<(), Fa
         text.extend_from_slice(b"try{")?;
     }
     let mut out = MemOut::new(rt.alloc(), 100, 100, None)?;
-    let verdict = check(rt.alloc(), text.as_slice(), &mut out);
-    assert!(rt; matches!(verdict, Ok(CheckVerdict::JobRefused(_))));
+    let verdict = check(rt.alloc(), text.as_slice(), &mut out)?;
+    assert!(rt; matches!(verdict, CheckVerdict::JobRefused(_)));
     Ok(())
 }

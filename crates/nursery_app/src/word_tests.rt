@@ -11,11 +11,12 @@ fn words_of(alloc: Global, line: &str) -> Result<Vec<String>, AllocError> {
     Ok(words)
 }
 
-// The text that refuses a line; empty where it is a command.
+// The text that refuses a line; empty where it is a command. Want of memory is an error.
 fn refusal_of(alloc: Global, line: &str) -> Result<String, AllocError> {
     let words = words_of(alloc, line)?;
     match read_command(alloc, words.as_slice()) {
         Ok(_command) => Ok(String::new(alloc)),
+        Err(CommandFault::NoMemory) => Err(AllocError),
         Err(fault) => fault.to_string(alloc),
     }
 }

@@ -83,7 +83,7 @@ fn two_workers_serve_at_once(rt: HostRuntime) -> Result<(), Fail> {
         &gate,
         &mut out,
     );
-    assert!(rt; verdict.is_ok());
+    verdict?;
     assert_eq!(rt; out.taken(), TWO_REPORTS);
     for begun in &gate.begun {
         assert_eq!(rt; begun.load(Ordering::SeqCst), 1);
@@ -136,16 +136,14 @@ fn assert_goes<R: Abort + Threads + Sync + AllocGlobal>(
     requests: u64,
 ) -> Result<(), Fail> {
     assert!(rt; input.len() <= MOST_INPUT);
-    let job = read_job(rt.alloc(), text).ok().ok_or("a job")?;
+    let job = read_job(rt.alloc(), text)?;
     let settings = Settings::new(2, 100).ok_or("settings")?;
     let gate = Counting {
         before: AtomicU64::new(0),
         after: AtomicU64::new(0),
     };
     let mut picker = Noting { noted: 0 };
-    let done = run(rt, rt.alloc(), &job, input, settings, &mut picker, &gate)
-        .ok()
-        .ok_or("in time")?;
+    let done = run(rt, rt.alloc(), &job, input, settings, &mut picker, &gate)?;
     assert_eq!(rt; done.turns(), turns);
     assert_eq!(rt; picker.noted, noted);
     assert_eq!(rt; gate.before.load(Ordering::SeqCst), requests);

@@ -10,8 +10,8 @@ use Rattle.task_machine.specs.declared.entry.ScopeFrom.{ScopeFrom}
 -- an entry as it is shown
 abbrev pub entry_of : Entry → Shown
 entry_of (Line line) = line_shown (span_of line).at (line_text line)
-entry_of (Scope label tick caught) = scope_shown label tick caught
-entry_of (Nursery label tick caught) = nursery_shown label tick caught
+entry_of (Scope label tick caught) = scope_shown label.value tick caught
+entry_of (Nursery label tick caught) = nursery_shown label.value tick caught
 
 -- an entry's line, if it is one, is the slice of the input at its place
 abbrev pub IsSlice : List ℕ → Entry → Type 0

@@ -9,8 +9,8 @@ pub enum Entry<'a> {
     Line(Line<'a>),
     /// A cancel scope that the task left.
     Scope {
-        /// The scope's label.
-        label: Label,
+        /// The scope's label, boxed: an entry for a line is not to have room for one.
+        label: Box<Label>,
         /// The tick in which the task left it.
         tick: u64,
         /// Whether it took a `Cancelled` away.
@@ -18,8 +18,8 @@ pub enum Entry<'a> {
     },
     /// A nursery that the task left.
     Nursery {
-        /// The nursery's label.
-        label: Label,
+        /// The nursery's label, boxed as a scope's.
+        label: Box<Label>,
         /// The tick in which its last member ended, and the task left it.
         tick: u64,
         /// Whether it took a `Cancelled` away.

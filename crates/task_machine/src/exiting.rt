@@ -50,7 +50,8 @@ impl<'a> Task<'a> {
         let left = left_with(self.alloc, catches, exc)?;
         let caught = left.caught;
         let exc = exc_after(self.alloc, kind, &label, world.now(), left)?;
-        self.entries.push(kind.entry(label, world.now(), caught))?;
+        let entry = kind.entry(self.alloc, label, world.now(), caught)?;
+        self.entries.push(entry)?;
         Ok(exc)
     }
 

@@ -34,12 +34,18 @@ impl Kind {
     }
 
     // The entry of a block that was left.
-    pub(crate) fn entry<'a>(self, label: Label, tick: u64, caught: bool) -> Entry<'a>
-        ensures shown { (input : List ℕ) →
-            entry_of result ≡ shown_at input tick (left_as (kind_of self) label caught) }
-        ensures slice { (input : List ℕ) → IsSlice input result }
+    pub(crate) fn entry<'a>(
+        self,
+        alloc: Global,
+        label: Label,
+        tick: u64,
+        caught: bool,
+    ) -> Result<Entry<'a>, AllocError>
+        ensures { IfOk result (λ entry. (input : List ℕ) → IsSlice input entry
+            × (entry_of entry ≡ shown_at input tick (left_as (kind_of self) label caught))) }
     {
-        match self {
+        let label = Box::new(alloc, label)?;
+        Ok(match self {
             Kind::Scope { .. } => Entry::Scope {
                 label,
                 tick,
@@ -50,7 +56,7 @@ impl Kind {
                 tick,
                 caught,
             },
-        }
+        })
     }
 }
 

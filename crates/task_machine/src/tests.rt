@@ -21,7 +21,7 @@ fn label(alloc: Global, text: &[u8]) -> Result<Label, Fail> {
 fn job(alloc: Global, text: &[u8]) -> Result<Job, Fail> {
     match read_job(alloc, text) {
         Ok(job) => Ok(job),
-        Err(_) => Err("a job")?,
+        Err(fault) => Err(fault)?,
     }
 }
 

@@ -153,6 +153,7 @@ impl<'a> Task<'a> {
 fn push_lines<'a>(entries: &mut Vec<Entry<'a>>, lines: &[Line<'a>]) -> Result<(), AllocError>
     ensures { OnOk result (entries.new.items ≡ entries.old.items ++ map Entry.Line lines.now) }
 {
+    entries.reserve(lines.len())?;
     'lines: for line in lines {
         entries.push(Entry::Line(*line))?;
     }

@@ -64,7 +64,7 @@ fn rows_come_depth_first(rt: HostRuntime) -> Result<(), Fail> {
 fn job(alloc: Global, text: &[u8]) -> Result<Job, Fail> {
     match read_job(alloc, text) {
         Ok(job) => Ok(job),
-        Err(_) => Err("a job")?,
+        Err(fault) => Err(fault)?,
     }
 }
 
