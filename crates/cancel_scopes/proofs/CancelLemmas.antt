@@ -1,34 +1,34 @@
 -- A cancellation changes one level of each stack.
-use Rattle.std.proofs.Common.{◌≡◌, ◌⊎◌, ℕ, zero, suc, ◌+◌, ◌<◌, ◌≤◌, Bool, true, false, List, Option, Some, None, refl, sym, ap, subst, ◌∙◌, inl, inr, length, slice_set}
+use Rattle.std.proofs.Common.{◌≡◌, ◌≢◌, ℕ, zero, suc, ◌+◌, Bool, true, false, Option, Some, None, refl, sym, ap, subst, ◌∙◌, inl, inr}
 use Rattle.std.specs.Prelude.{◌==◌, if◌then◌else◌}
 use Rattle.std.specs.Option.{option_map}
-use Rattle.std.proofs.lemmas.Bool.{cases_eq, cases_lt, eq-eqb, cases_Bool, eqb-true}
-use Rattle.std.proofs.lemmas.List.{get_or-set_same, get_or-set_other, get_or_past}
+use Rattle.std.proofs.lemmas.Bool.{cases_eq, eq-eqb, cases_Bool, eqb-true}
 use Rattle.cancel_scopes.specs.Sight.{Tick, earlier}
 use Rattle.cancel_scopes.specs.Tree.{Stack, Tree, stack_of, after_cancel, level_after_cancel}
-use Rattle.cancel_scopes.specs.Kept.{Find, level_of, onto, full, upward, stack_at, find_in, stacks, IsUnder, IsTree}
-use Rattle.cancel_scopes.proofs.StackLemmas.{stack_of-stacks}
-use Rattle.cancel_scopes.specs.declared.tree.Scope.{Scope}
+use Rattle.cancel_scopes.specs.Kept.{Outline, Slots, Find, level_of, onto, full, upward, stack_at, find_in, tree_of, IsUnder, IsTree}
+use Rattle.cancel_scopes.proofs.StackLemmas.{stack_of-tree_of}
 
 -- what is kept under a key once the scope of an id is cancelled in a tick
 abbrev pub from_cancelled : Bool → ℕ → Tick → Tick
 from_cancelled true tick from = earlier from (Some (tick + 1))
 from_cancelled false tick from = from
 
-abbrev pub scope_cancelled : ℕ → ℕ → ℕ → Scope → Scope
+-- what is kept under a key, once the scope of this id is cancelled
+abbrev pub scope_cancelled : ℕ → ℕ → ℕ → Outline → Outline
 scope_cancelled id tick key s = record s { from = from_cancelled (key == id) tick s.from }
 
-level_of-cancelled : (id tick key : ℕ) (s : Scope) → level_of key (scope_cancelled id tick key s) ≡ level_after_cancel id tick (level_of key s)
+level_of-cancelled : (id tick key : ℕ) (s : Outline) → level_of key (scope_cancelled id tick key s) ≡ level_after_cancel id tick (level_of key s)
 level_of-cancelled id tick key s = by_test (key == id)
   where
     by_test : (b : Bool) → record { label = key; shield = s.shield; from = from_cancelled b tick s.from } ≡ (if b then record { label = key; shield = s.shield; from = earlier s.from (Some (tick + 1)) } else level_of key s)
     by_test true = refl
     by_test false = refl
 
+-- the scope of an id alone is cancelled
 abbrev pub Cancels : Find → Find → ℕ → ℕ → Type 0
 Cancels old new id tick = (key : ℕ) → new key ≡ option_map (scope_cancelled id tick key) (old key)
 
-onto-cancelled : (id tick key : ℕ) (o : Option Scope) (above later : Scope → Stack) → ((s : Scope) → later (scope_cancelled id tick key s) ≡ after_cancel id tick (above s)) → onto key (option_map (scope_cancelled id tick key) o) later ≡ after_cancel id tick (onto key o above)
+onto-cancelled : (id tick key : ℕ) (o : Option Outline) (above later : Outline → Stack) → ((s : Outline) → later (scope_cancelled id tick key s) ≡ after_cancel id tick (above s)) → onto key (option_map (scope_cancelled id tick key) o) later ≡ after_cancel id tick (onto key o above)
 onto-cancelled id tick key None above later h = refl
 onto-cancelled id tick key (Some s) above later h =
     let e = level_of-cancelled id tick key s in
@@ -41,16 +41,18 @@ upward-cancelled old new id tick h (suc n) None = refl
 upward-cancelled old new id tick h (suc n) (Some key) =
     rw (h key) (onto-cancelled id tick key (old key) (λ s. upward old n s.parent) (λ s. upward new n s.parent) (λ s. upward-cancelled old new id tick h n s.parent))
 
+-- each stack changes at that level alone
 pub stack_at-cancelled : (old new : Find) (id tick : ℕ) → Cancels old new id tick → (key : ℕ) → stack_at new key ≡ option_map (after_cancel id tick) (stack_at old key)
 stack_at-cancelled old new id tick h key = ap (option_map (full new key)) (h key) ∙ by_kept (old key)
   where
-    by_kept : (o : Option Scope) → option_map (full new key) (option_map (scope_cancelled id tick key) o) ≡ option_map (after_cancel id tick) (option_map (full old key) o)
+    by_kept : (o : Option Outline) → option_map (full new key) (option_map (scope_cancelled id tick key) o) ≡ option_map (after_cancel id tick) (option_map (full old key) o)
     by_kept None = refl
     by_kept (Some s) =
         let e = level_of-cancelled id tick key s in
         let f = upward-cancelled old new id tick h s.depth s.parent in
         cc
 
+-- parents and depths stay
 pub IsTree-cancelled : (old new : Find) (id tick : ℕ) → Cancels old new id tick → IsTree old → IsTree new
 IsTree-cancelled old new id tick h tree = record { placed = λ key s kept. by_kept key s (old key) refl (sym (h key) ∙ kept) }
   where
@@ -58,39 +60,33 @@ IsTree-cancelled old new id tick h tree = record { placed = λ key s kept. by_ke
     by_parent depth None under = under
     by_parent depth (Some parent) under = (scope_cancelled id tick parent under.0, h parent ∙ ap (option_map (scope_cancelled id tick parent)) under.1, under.2)
 
-    by_kept : (key : ℕ) (s : Scope) (o : Option Scope) → old key ≡ o → option_map (scope_cancelled id tick key) o ≡ Some s → IsUnder new s.depth s.parent
+    by_kept : (key : ℕ) (s : Outline) (o : Option Outline) → old key ≡ o → option_map (scope_cancelled id tick key) o ≡ Some s → IsUnder new s.depth s.parent
     by_kept key s None is same = absurd (let e : None ≡ Some s = same in cc)
     by_kept key s (Some before) is same =
         let e : scope_cancelled id tick key before ≡ s = cc in
-        subst (λ (s : Scope). IsUnder new s.depth s.parent) e (by_parent before.depth before.parent (tree.placed key before is))
+        subst (λ (s : Outline). IsUnder new s.depth s.parent) e (by_parent before.depth before.parent (tree.placed key before is))
 
--- writing the cancelled scope back
-pub cancels-set : (slots : List (Option Scope)) (id tick : ℕ) (s : Scope) (from : Tick) → find_in slots id ≡ Some s → from ≡ earlier s.from (Some (tick + 1)) → Cancels (find_in slots) (find_in (slice_set slots id (Some (record s { from = from })))) id tick
-cancels-set slots id tick s from kept is key =
-    let after : Scope = record s { from = from } in
+-- the cancelled scope, written back
+pub cancels : (old new : Find) (id tick : ℕ) (s : Outline) → old id ≡ Some s → new id ≡ Some (record s { from = earlier s.from (Some (tick + 1)) }) → ((other : ℕ) → other ≢ id → new other ≡ old other) → Cancels old new id tick
+cancels old new id tick s kept written others key =
     elim (cases_eq key id) [
       | inl same ↦
-          let within : id < length slots = inside (cases_lt id (length slots)) in
-          let written : find_in (slice_set slots id (Some after)) id ≡ Some after = get_or-set_same slots id (Some after) None within in
           let test : scope_cancelled id tick id s ≡ record s { from = earlier s.from (Some (tick + 1)) } =
-          ap (λ (b : Bool). let t : Scope = record s { from = from_cancelled b tick s.from } in t) (eq-eqb id id refl) in
-          let here : find_in (slice_set slots id (Some after)) id ≡ option_map (scope_cancelled id tick id) (find_in slots id) =
-          written ∙ ap Some (ap (λ (f : Tick). let t : Scope = record s { from = f } in t) is ∙ sym test) ∙ sym (ap (option_map (scope_cancelled id tick id)) kept) in
-          subst (λ (k : ℕ). find_in (slice_set slots id (Some after)) k ≡ option_map (scope_cancelled id tick k) (find_in slots k)) (sym same) here
+          ap (λ (b : Bool). let t : Outline = record s { from = from_cancelled b tick s.from } in t) (eq-eqb id id refl) in
+          let here : new id ≡ option_map (scope_cancelled id tick id) (old id) =
+          written ∙ ap Some (sym test) ∙ sym (ap (option_map (scope_cancelled id tick id)) kept) in
+          subst (λ (k : ℕ). new k ≡ option_map (scope_cancelled id tick k) (old k)) (sym same) here
       | inr other ↦
-          get_or-set_other slots id key (Some (record s { from = from })) None other
-          ∙ by_kept (find_in slots key) (elim (cases_Bool (key == id)) [ inl equal ↦ absurd (other (eqb-true key id equal)) | inr differs ↦ differs ])
+          others key other
+          ∙ by_kept (old key) (elim (cases_Bool (key == id)) [ inl equal ↦ absurd (other (eqb-true key id equal)) | inr differs ↦ differs ])
     ]
   where
-    inside : (id < length slots) ⊎ (length slots ≤ id) → id < length slots
-    inside (inl h) = h
-    inside (inr past) = absurd (let e = get_or_past slots id None past in cc)
-
-    by_kept : (o : Option Scope) → (key == id) ≡ false → o ≡ option_map (scope_cancelled id tick key) o
+    by_kept : (o : Option Outline) → (key == id) ≡ false → o ≡ option_map (scope_cancelled id tick key) o
     by_kept None misses = refl
     by_kept (Some before) misses = rw misses refl
 
-pub tree_cancelled : (tree : Tree) (slots new : List (Option Scope)) (key id tick : ℕ) → stacks slots ≡ tree → key ≡ id → Cancels (find_in slots) (find_in new) key tick → (at : ℕ) → stack_of (stacks new) at ≡ option_map (after_cancel id tick) (stack_of tree at)
+-- the same of what contracts see
+pub tree_cancelled : (tree : Tree) (slots new : Slots) (key id tick : ℕ) → tree_of slots ≡ tree → key ≡ id → Cancels (find_in slots) (find_in new) key tick → (at : ℕ) → stack_of (tree_of new) at ≡ option_map (after_cancel id tick) (stack_of tree at)
 tree_cancelled tree slots new key id tick is same h at =
     rw (← is, ← same)
-    (stack_of-stacks new at ∙ stack_at-cancelled (find_in slots) (find_in new) key tick h at ∙ sym (ap (option_map (after_cancel key tick)) (stack_of-stacks slots at)))
+    (stack_of-tree_of new at ∙ stack_at-cancelled (find_in slots) (find_in new) key tick h at ∙ sym (ap (option_map (after_cancel key tick)) (stack_of-tree_of slots at)))

@@ -1,14 +1,13 @@
 -- Each scope in a stack has for its own stack the rest of that one from it on.
-use Rattle.std.proofs.Common.{◌≡◌, ◌≢◌, ℕ, zero, suc, ◌+◌, List, [], ◌∷◌, ◌++◌, length, Option, Some, None, refl, sym, ap, subst, ◌∙◌, arith}
+use Rattle.std.proofs.Common.{◌≡◌, ◌≢◌, ℕ, zero, suc, ◌+◌, [], ◌∷◌, ◌++◌, length, Option, Some, None, refl, sym, ap, subst, ◌∙◌, arith}
 use Rattle.std.specs.List.{All}
 use Rattle.std.proofs.lemmas.List.{length-append}
 use Rattle.std.proofs.lemmas.List.Elements.{All-nil, All-cons}
 use Rattle.cancel_scopes.specs.Sight.{Level}
 use Rattle.cancel_scopes.specs.Tree.{Stack, Tree, stack_of, outer_of, behind_own, own_label, IsOpen, IsOwn, IsChain, IsApart}
-use Rattle.cancel_scopes.specs.Kept.{Find, level_of, full, round, upward, stack_at, find_in, stacks, IsUnder, IsTree}
-use Rattle.cancel_scopes.proofs.StackLemmas.{stack_of-stacks, stack_at-kept, kept_stack, upward-under}
+use Rattle.cancel_scopes.specs.Kept.{Outline, Slots, Find, level_of, full, round, upward, stack_at, find_in, tree_of, IsUnder, IsTree}
+use Rattle.cancel_scopes.proofs.StackLemmas.{stack_of-tree_of, stack_at-kept, kept_stack, upward-under}
 use Rattle.cancel_scopes.proofs.CatchLemmas.{stack_is, stack_round}
-use Rattle.cancel_scopes.specs.declared.tree.Scope.{Scope}
 
 -- the law, of one list of levels
 abbrev pub Chains : Find → Stack → Type 0
@@ -20,7 +19,7 @@ chains-none find [] l behind is = absurd (let e : [] ≡ l ∷ behind = is in cc
 chains-none find (b ∷ bs) l behind is = absurd (let e : [] ≡ b ∷ bs ++ l ∷ behind = is in cc)
 
 -- of a kept scope, where what is round it has the law
-chains-full : (find : Find) (key : ℕ) (s : Scope) → find key ≡ Some s → Chains find (round find s) → Chains find (full find key s)
+chains-full : (find : Find) (key : ℕ) (s : Outline) → find key ≡ Some s → Chains find (round find s) → Chains find (full find key s)
 chains-full find key s kept outer [] l behind is =
     let first : level_of key s ≡ l = cc in
     subst (λ (m : Level ℕ). stack_at find m.label ≡ Some (l ∷ behind)) first (stack_at-kept find key s kept ∙ ap Some is)
@@ -31,27 +30,29 @@ chains-upward : (find : Find) → IsTree find → (n : ℕ) (o : Option ℕ) →
 chains-upward find tree zero o under = chains-none find
 chains-upward find tree (suc n) None under = chains-none find
 chains-upward find tree (suc n) (Some key) under =
-    let above : Scope = under.0 in
+    let above : Outline = under.0 in
     let deep : above.depth ≡ n = omega (arith, under.2) in
     let at : IsUnder find n above.parent = subst (λ (d : ℕ). IsUnder find d above.parent) deep (tree.placed key above under.1) in
     let outer : Chains find (round find above) = subst (λ (d : ℕ). Chains find (upward find d above.parent)) (sym deep) (chains-upward find tree n above.parent at) in
     subst (Chains find) (sym (upward-under find (suc n) key above under under.1)) (chains-full find key above under.1 outer)
 
-chains-at : (find : Find) → IsTree find → (key : ℕ) (stack : Stack) (o : Option Scope) → find key ≡ o → stack_at find key ≡ Some stack → Chains find stack
+chains-at : (find : Find) → IsTree find → (key : ℕ) (stack : Stack) (o : Option Outline) → find key ≡ o → stack_at find key ≡ Some stack → Chains find stack
 chains-at find tree key stack None is seen = absurd (let e : stack_at find key ≡ None = rw is refl in cc)
 chains-at find tree key stack (Some s) is seen =
     subst (Chains find) (sym (kept_stack find key s stack is seen)) (chains-full find key s is (chains-upward find tree s.depth s.parent (tree.placed key s is)))
 
-pub is_chain : (slots : List (Option Scope)) → IsTree (find_in slots) → IsChain (stacks slots)
+-- the rest of a stack is the stack of the scope that it begins with
+pub is_chain : (slots : Slots) → IsTree (find_in slots) → IsChain (tree_of slots)
 is_chain slots tree key stack seen before l behind is =
-    stack_of-stacks slots l.label ∙ chains-at (find_in slots) tree key stack (find_in slots key) refl (sym (stack_of-stacks slots key) ∙ seen) before l behind is
+    stack_of-tree_of slots l.label ∙ chains-at (find_in slots) tree key stack (find_in slots key) refl (sym (stack_of-tree_of slots key) ∙ seen) before l behind is
 
-own_at : (find : Find) (key : ℕ) (o : Option Scope) → find key ≡ o → (stack : Stack) → stack_at find key ≡ Some stack → own_label stack ≡ Some key
+own_at : (find : Find) (key : ℕ) (o : Option Outline) → find key ≡ o → (stack : Stack) → stack_at find key ≡ Some stack → own_label stack ≡ Some key
 own_at find key None is stack seen = absurd (let e : stack_at find key ≡ None = rw is refl in cc)
 own_at find key (Some s) is stack seen = ap own_label (kept_stack find key s stack is seen)
 
-pub is_own : (slots : List (Option Scope)) → IsOwn (stacks slots)
-is_own slots key stack seen = own_at (find_in slots) key (find_in slots key) refl stack (sym (stack_of-stacks slots key) ∙ seen)
+-- each stack begins with the scope whose stack it is
+pub is_own : (slots : Slots) → IsOwn (tree_of slots)
+is_own slots key stack seen = own_at (find_in slots) key (find_in slots key) refl stack (sym (stack_of-tree_of slots key) ∙ seen)
 
 -- what stands nowhere in a list
 lacks : (id : ℕ) (ls : Stack) → ((before : Stack) (m : Level ℕ) (behind : Stack) → ls ≡ before ++ m ∷ behind → m.label ≢ id) → All (λ m. m.label ≢ id) ls
@@ -72,10 +73,11 @@ is_apart tree chain key stack seen before l behind is =
     absurd (omega (arith, long, short)))
 
 -- the parent of a scope that is kept
-pub parent_open : (tree : Tree) (slots : List (Option Scope)) (key parent : ℕ) (s : Scope) → stacks slots ≡ tree → IsTree (find_in slots) → find_in slots key ≡ Some s → s.parent ≡ Some parent → IsOpen tree parent
+pub parent_open : (tree : Tree) (slots : Slots) (key parent : ℕ) (s : Outline) → tree_of slots ≡ tree → IsTree (find_in slots) → find_in slots key ≡ Some s → s.parent ≡ Some parent → IsOpen tree parent
 parent_open tree slots key parent s is root kept up = rw (stack_round tree slots key parent s is root kept up) refl
 
-pub parent_round : (tree : Tree) (slots : List (Option Scope)) (key id : ℕ) (s : Scope) (stack : Stack) → stacks slots ≡ tree → key ≡ id → IsTree (find_in slots) → find_in slots key ≡ Some s → stack_of tree id ≡ Some stack → outer_of tree s.parent ≡ behind_own stack
+-- round a scope stands its parent's stack
+pub parent_round : (tree : Tree) (slots : Slots) (key id : ℕ) (s : Outline) (stack : Stack) → tree_of slots ≡ tree → key ≡ id → IsTree (find_in slots) → find_in slots key ≡ Some s → stack_of tree id ≡ Some stack → outer_of tree s.parent ≡ behind_own stack
 parent_round tree slots key id s stack is same root kept seen =
     by_parent s.parent refl ∙ sym (ap behind_own (stack_is tree slots key id s stack is same kept seen))
   where

@@ -1,20 +1,30 @@
 -- How a tree of cancel scopes is kept. No public clause cites this module.
-use Rattle.std.specs.Prelude.{◌≡◌, ℕ, zero, suc, List, [], ◌∷◌, map, length, Option, Some, None, slice_index_or}
+use Rattle.std.specs.Prelude.{◌≡◌, ◌≢◌, ℕ, zero, suc, ◌<◌, ◌≤◌, Bool, false, ◌||◌, ◌==◌, if◌then◌else◌, List, [], ◌∷◌, map, length, count_by, Option, Some, None, is_some, slice_index_or, slice_index}
 use Rattle.std.specs.Option.{option_map}
 use Rattle.std.specs.List.{range_with_len}
-use Rattle.cancel_scopes.specs.Sight.{Level}
+use Rattle.cancel_scopes.specs.Sight.{Level, Tick, before, sight}
 use Rattle.cancel_scopes.specs.Tree.{Stack, Tree}
-use Rattle.cancel_scopes.specs.declared.tree.Scope.{Scope}
+use Rattle.cancel_scopes.specs.declared.store.Scope.{Scope}
+
+-- what of a scope its stack is made of
+pub record Outline : Type 0 where
+  pub parent : Option ℕ
+  pub shield : Bool
+  pub from : Tick
+  pub depth : ℕ
+
+abbrev pub outline_of : Scope → Outline
+outline_of s = record { parent = s.parent; shield = s.shield; from = s.from; depth = s.depth }
 
 -- what is kept under each key
 abbrev pub Find : Type 0
-Find = ℕ → Option Scope
+Find = ℕ → Option Outline
 
-abbrev pub level_of : ℕ → Scope → Level ℕ
+abbrev pub level_of : ℕ → Outline → Level ℕ
 level_of key s = record { label = key; shield = s.shield; from = s.from }
 
 -- the level of what is kept under a key, in front of what is above it
-abbrev pub onto : ℕ → Option Scope → (Scope → Stack) → Stack
+abbrev pub onto : ℕ → Option Outline → (Outline → Stack) → Stack
 onto key None above = []
 onto key (Some s) above = level_of key s ∷ above s
 
@@ -25,11 +35,11 @@ upward find (suc n) None = []
 upward find (suc n) (Some key) = onto key (find key) (λ s. upward find n s.parent)
 
 -- the scopes round a scope
-abbrev pub round : Find → Scope → Stack
+abbrev pub round : Find → Outline → Stack
 round find s = upward find s.depth s.parent
 
 -- the stack of a scope
-abbrev pub full : Find → ℕ → Scope → Stack
+abbrev pub full : Find → ℕ → Outline → Stack
 full find key s = level_of key s ∷ round find s
 
 abbrev pub stack_at : Find → ℕ → Option Stack
@@ -38,15 +48,112 @@ stack_at find key = option_map (full find key) (find key)
 -- the parent, if there is one, is kept and one scope nearer the outermost
 abbrev pub IsUnder : Find → ℕ → Option ℕ → Type 0
 IsUnder find depth None = depth ≡ 0
-IsUnder find depth (Some parent) = (above : Scope) × (find parent ≡ Some above) × (depth ≡ suc above.depth)
+IsUnder find depth (Some parent) = (above : Outline) × (find parent ≡ Some above) × (depth ≡ suc above.depth)
 
 -- so going up ends
 pub record IsTree (find : Find) : Type 0 where
-  pub placed : (key : ℕ) (s : Scope) → find key ≡ Some s → IsUnder find s.depth s.parent
+  pub placed : (key : ℕ) (s : Outline) → find key ≡ Some s → IsUnder find s.depth s.parent
 
-abbrev pub find_in : List (Option Scope) → Find
-find_in slots key = slice_index_or slots key None
+-- the open scopes by their keys
+abbrev pub Slots : Type 0
+Slots = List (Option Scope)
 
--- the stacks of a list of scopes by their keys
-abbrev pub stacks : List (Option Scope) → Tree
-stacks slots = map (stack_at (find_in slots)) (range_with_len 0 (length slots))
+abbrev pub scope_in : Slots → ℕ → Option Scope
+scope_in slots key = slice_index_or slots key None
+
+abbrev pub find_in : Slots → Find
+find_in slots key = option_map outline_of (scope_in slots key)
+
+-- its place among the changed scopes, if it stands there
+abbrev pub place_of : Option Scope → Option ℕ
+place_of None = None
+place_of (Some s) = s.listed
+
+abbrev pub is_listed : Option Scope → Bool
+is_listed o = is_some (place_of o)
+
+-- what contracts see of the open scopes
+abbrev pub tree_of : Slots → Tree
+tree_of slots = record { stacks = map (stack_at (find_in slots)) (range_with_len 0 (length slots)); changed = map (λ key. is_listed (scope_in slots key)) (range_with_len 0 (length slots)) }
+
+abbrev pub own_sight : Option Scope → Tick
+own_sight None = None
+own_sight (Some s) = s.sight
+
+abbrev pub sight_of : Option Stack → Tick
+sight_of None = None
+sight_of (Some stack) = sight stack
+
+-- the sight of what is kept under a key
+abbrev pub seen_at : Find → ℕ → Tick
+seen_at find key = sight_of (stack_at find key)
+
+-- each scope keeps the sight of its stack
+abbrev pub HasSights : Slots → Type 0
+HasSights slots = (key : ℕ) → own_sight (scope_in slots key) ≡ seen_at (find_in slots) key
+
+-- each key that has a place stands there in the list, and each in the list has its place
+pub record IsPlaced (places : ℕ → Option ℕ) (list : List ℕ) : Type 0 where
+  pub stands : (key place : ℕ) → places key ≡ Some place → (place < length list) × (slice_index list place ≡ key)
+  pub placed : (place : ℕ) → place < length list → places (slice_index list place) ≡ Some place
+
+abbrev pub places_in : Slots → ℕ → Option ℕ
+places_in slots key = place_of (scope_in slots key)
+
+-- the changed scopes are those with a place there
+pub record IsListed (slots : Slots) (changed : List ℕ) : Type 0 where
+  pub places : IsPlaced (places_in slots) changed
+  pub counted : length changed ≡ count_by is_listed slots
+
+-- the place of a scope among the children of this parent, if it is its own
+abbrev pub parent_is : ℕ → Option ℕ → Bool
+parent_is parent None = false
+parent_is parent (Some other) = other == parent
+
+abbrev pub place_under : ℕ → Option Scope → Option ℕ
+place_under parent None = None
+place_under parent (Some s) = if parent_is parent s.parent then Some s.place else None
+
+abbrev pub children_at : Option Scope → List ℕ
+children_at None = []
+children_at (Some s) = s.children.items
+
+-- the children of each scope are those with a place there
+pub record Family (slots : Slots) : Type 0 where
+  pub children : (parent : ℕ) → IsPlaced (λ key. place_under parent (scope_in slots key)) (children_at (scope_in slots parent))
+
+-- all stays but which scopes are marked
+pub record SameScopes (old new : Slots) : Type 0 where
+  pub long : length new ≡ length old
+  pub finds : (key : ℕ) → find_in new key ≡ find_in old key
+  pub sights : (key : ℕ) → own_sight (scope_in new key) ≡ own_sight (scope_in old key)
+  pub places : (parent key : ℕ) → place_under parent (scope_in new key) ≡ place_under parent (scope_in old key)
+  pub children : (key : ℕ) → children_at (scope_in new key) ≡ children_at (scope_in old key)
+
+-- the scope of this key is marked now or not, and every other keeps its mark
+pub record Marks (old new : Slots) (key : ℕ) (mark : Bool) : Type 0 where
+  pub same : SameScopes old new
+  pub here : is_listed (scope_in new key) ≡ mark
+  pub others : (other : ℕ) → other ≢ key → is_listed (scope_in new other) ≡ is_listed (scope_in old other)
+
+-- a key has the sight of its stack now, and is marked where that came earlier
+abbrev pub IsFresh : Slots → Slots → ℕ → Type 0
+IsFresh old new key =
+    (own_sight (scope_in new key) ≡ seen_at (find_in old) key)
+    × (is_listed (scope_in new key) ≡ (is_listed (scope_in old key) || before (own_sight (scope_in new key)) (own_sight (scope_in old key))))
+
+-- each scope has the sight of its stack now, and each whose sight came earlier is marked
+pub record AllFresh (old new : Slots) : Type 0 where
+  pub long : length new ≡ length old
+  pub finds : (key : ℕ) → find_in new key ≡ find_in old key
+  pub fresh : (key : ℕ) → IsFresh old new key
+
+-- between calls, with room for so many keys in both lists
+pub record IsReady (slots : Slots) (changed : List ℕ) (changed_room lowered lowered_room : ℕ) : Type 0 where
+  pub tree : IsTree (find_in slots)
+  pub family : Family slots
+  pub sights : HasSights slots
+  pub listed : IsListed slots changed
+  pub changed_fits : length slots ≤ changed_room
+  pub none_lowered : lowered ≡ 0
+  pub lowered_fits : length slots ≤ lowered_room

@@ -1,5 +1,5 @@
 -- What a task sees of the cancel scopes round it (Trio reference, cancellation semantics).
-use Rattle.std.specs.Prelude.{ℕ, ◌+◌, Bool, false, not, ◌&&◌, ◌||◌, Option, Some, None, List, [], ◌∷◌, nat_le, nat_lt, if◌then◌else◌}
+use Rattle.std.specs.Prelude.{ℕ, ◌+◌, Bool, true, false, not, ◌&&◌, ◌||◌, Option, Some, None, List, [], ◌∷◌, nat_le, nat_lt, if◌then◌else◌}
 
 -- a tick, or never
 abbrev pub Tick : Type 0
@@ -10,6 +10,12 @@ abbrev pub earlier : Tick → Tick → Tick
 earlier None u = u
 earlier (Some t) None = Some t
 earlier (Some t) (Some u) = Some (if nat_lt u t then u else t)
+
+-- whether one comes before another: never comes behind all
+abbrev pub before : Tick → Tick → Bool
+before None u = false
+before (Some t) None = true
+before (Some t) (Some u) = nat_lt t u
 
 -- whether it has come at a tick
 abbrev pub reached : Tick → ℕ → Bool

@@ -1,5 +1,5 @@
 -- A tree of cancel scopes as contracts see it: the stack of each open scope, innermost first. Labels are keys.
-use Rattle.std.specs.Prelude.{◌≡◌, ◌≢◌, ℕ, ◌+◌, Bool, false, ◌==◌, if◌then◌else◌, List, [], ◌∷◌, ◌++◌, map, Option, Some, None, IsSome, slice_index_or}
+use Rattle.std.specs.Prelude.{◌≡◌, ◌≢◌, ℕ, ◌+◌, Bool, true, false, ◌==◌, if◌then◌else◌, List, [], ◌∷◌, ◌++◌, map, Option, Some, None, IsSome, slice_index_or}
 use Rattle.std.specs.Option.{unwrap_or, ForSome}
 use Rattle.std.specs.List.{All}
 use Rattle.cancel_scopes.specs.Sight.{Tick, Level, earlier}
@@ -8,13 +8,18 @@ use Rattle.cancel_scopes.specs.Sight as sights
 abbrev pub Stack : Type 0
 Stack = List (Level ℕ)
 
--- what stands at each key from 0 on
-abbrev pub Tree : Type 0
-Tree = List (Option Stack)
+-- What stands at each key from 0 on: the stack of an open scope, and whether its sight was lowered since it was last handed out.
+pub record Tree : Type 0 where
+  pub stacks : List (Option Stack)
+  pub changed : List Bool
 
 -- the stack of a key: none where the key is not open
 abbrev pub stack_of : Tree → ℕ → Option Stack
-stack_of tree key = slice_index_or tree key None
+stack_of tree key = slice_index_or tree.stacks key None
+
+-- whether a scope's sight was lowered since it was last handed out: false where the key is not open
+abbrev pub is_changed : Tree → ℕ → Bool
+is_changed tree key = slice_index_or tree.changed key false
 
 abbrev pub IsOpen : Tree → ℕ → Type 0
 IsOpen tree key = IsSome (stack_of tree key)
@@ -31,6 +36,21 @@ SameStacks old new = (key : ℕ) → stack_of new key ≡ stack_of old key
 -- every other key keeps its stack
 abbrev pub OthersKeep : Tree → Tree → ℕ → Type 0
 OthersKeep old new key = (other : ℕ) → other ≢ key → stack_of new other ≡ stack_of old other
+
+-- every key keeps its mark
+abbrev pub SameMarks : Tree → Tree → Type 0
+SameMarks old new = (key : ℕ) → is_changed new key ≡ is_changed old key
+
+-- every other key keeps its mark
+abbrev pub OtherMarksKeep : Tree → Tree → ℕ → Type 0
+OtherMarksKeep old new key = (other : ℕ) → other ≢ key → is_changed new other ≡ is_changed old other
+
+-- an open scope that was marked is marked no more, and every other key keeps its mark
+pub record TakesChanged (old new : Tree) (key : ℕ) : Type 0 where
+  pub was_open : IsOpen old key
+  pub was : is_changed old key ≡ true
+  pub is : is_changed new key ≡ false
+  pub others : OtherMarksKeep old new key
 
 -- a level once the scope of that label is cancelled in a tick: from the next tick on, unless it was earlier
 abbrev pub level_after_cancel : ℕ → ℕ → Level ℕ → Level ℕ

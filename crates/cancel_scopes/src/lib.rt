@@ -5,11 +5,13 @@
 //! checkpoint asks, from which tick a task in a scope sees a cancellation, and which scope catches it on the way out.
 //! Time is a count of ticks, and a cancellation that is made in a tick is seen from the next one on.
 //!
-//! The layer promises that each open scope has a stack, that sights and exits are those of the stack, and that a call
-//! changes the scope named alone. It stands on `slab`.
+//! The layer promises that each open scope has a stack, that sights and exits are those of the stack, that a call
+//! changes the scope named alone, and that each scope whose sight a cancellation lowered is handed out once. It stands
+//! on `slab`.
 #![tactic(auto)]
 
 mod scope_id;
+mod store;
 #[cfg(test)]
 mod tests;
 mod ticks;

@@ -26,3 +26,10 @@ impl ScopeId {
         self.key
     }
 }
+
+// The number of a scope, if there is one.
+pub(crate) fn key_of(id: Option<ScopeId>) -> Option<usize>
+    ensures { result ≡ id }
+{
+    id.map(ScopeId::key)
+}

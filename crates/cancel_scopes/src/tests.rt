@@ -18,6 +18,32 @@ fn a_shield_hides_what_is_outside(rt: HostRuntime) -> Result<(), Fail> {
 }
 
 #[test]
+fn lowered_scopes_are_handed_out_once(rt: HostRuntime) -> Result<(), Fail> {
+    let mut tree = ScopeTree::new(rt.alloc());
+    let outer = tree.open(None, false, Some(3))?;
+    let inner = tree.open(Some(outer), true, None)?;
+    tree.cancel(inner, 4);
+    assert_eq!(rt; tree.take_changed(), Some(inner));
+    assert_eq!(rt; tree.take_changed(), None);
+    tree.cancel(outer, 1);
+    assert_eq!(rt; tree.take_changed(), Some(outer));
+    assert_eq!(rt; tree.take_changed(), None);
+    Ok(())
+}
+
+#[test]
+fn a_closed_scope_is_not_handed_out(rt: HostRuntime) -> Result<(), Fail> {
+    let mut tree = ScopeTree::new(rt.alloc());
+    let first = tree.open(None, false, None)?;
+    tree.cancel(first, 4);
+    assert_eq!(rt; tree.close(first), Some(5));
+    let second = tree.open(None, false, None)?;
+    assert_eq!(rt; second, first);
+    assert_eq!(rt; tree.take_changed(), None);
+    Ok(())
+}
+
+#[test]
 fn the_outermost_of_two_catches(rt: HostRuntime) -> Result<(), Fail> {
     let mut tree = ScopeTree::new(rt.alloc());
     let outer = tree.open(None, false, Some(3))?;

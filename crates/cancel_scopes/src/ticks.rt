@@ -1,5 +1,5 @@
 ghost use Rattle.std.specs.Prelude.{◌≡◌};
-ghost use Rattle.cancel_scopes.specs.Sight.{earlier as lesser, reached as has_come};
+ghost use Rattle.cancel_scopes.specs.Sight.{before as comes_before, earlier as lesser, reached as has_come};
 
 /// The earlier of two ticks, each of which may never come (`None`).
 pub fn earlier(first: Option<u64>, second: Option<u64>) -> Option<u64>
@@ -9,6 +9,17 @@ pub fn earlier(first: Option<u64>, second: Option<u64>) -> Option<u64>
         (Some(first), Some(second)) => Some(if second < first { second } else { first }),
         (Some(_), None) => first,
         (None, _) => second,
+    }
+}
+
+// Whether a tick comes before another, each of which may never come.
+pub(crate) fn before(first: Option<u64>, second: Option<u64>) -> bool
+    ensures { result ≡ comes_before first second }
+{
+    match (first, second) {
+        (Some(first), Some(second)) => first < second,
+        (Some(_), None) => true,
+        (None, _) => false,
     }
 }
 

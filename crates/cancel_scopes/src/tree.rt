@@ -1,56 +1,52 @@
-ghost use Rattle.std.specs.Prelude.{◌≡◌, ◌≢◌, ℕ, ◌+◌, ◌<◌, ◌^◌, ◌∷◌, Some, None, is_some, IsSome, IfOk, OnErr};
+ghost use Rattle.std.specs.Prelude.{◌≡◌, ◌≢◌, ℕ, ◌+◌, ◌<◌, ◌^◌, ◌∷◌, ◌||◌, [], length, true, false, Some, None, is_some, IsSome, IfOk, OnErr, MatchOption};
 ghost use Rattle.std.specs.Option.{ForSome, option_map};
-ghost use Rattle.cancel_scopes.specs.Sight.{sight, seen as is_seen};
-ghost use Rattle.cancel_scopes.specs.Tree.{stack_of, IsOpen, outer_of, SameStacks, OthersKeep, after_cancel, catches, own_from, behind_own, IsInnermost, IsOwn, IsChain, IsApart};
-ghost use Rattle.cancel_scopes.specs.Kept.{IsTree, IsUnder, stack_at};
-ghost use Rattle.slab.specs.Slab.{get, ContainsKey};
+ghost use Rattle.cancel_scopes.specs.Sight.{before, sight, seen as is_seen};
+ghost use Rattle.cancel_scopes.specs.Tree.{stack_of, is_changed, IsOpen, outer_of, SameStacks, OthersKeep, SameMarks, OtherMarksKeep, TakesChanged, after_cancel, catches, own_from, behind_own, IsInnermost, IsOwn, IsChain, IsApart};
+ghost use Rattle.cancel_scopes.specs.Kept.{IsTree, IsUnder, HasSights, find_in, scope_in, children_at, upward};
+ghost use Rattle.slab.specs.Slab.{ContainsKey};
 
-use crate::scope_id::ScopeId;
+use crate::scope_id::{ScopeId, key_of};
+use crate::store::{Scope, Store};
 use crate::ticks::{earlier, reached};
 use slab::Slab;
 use std::alloc::{AllocError, Global};
 use std::marker::Model;
 
-// What is kept of a scope.
-#[derive(Clone, Copy)]
-struct Scope {
-    parent: Option<ScopeId>,
-    shield: bool,
-    // The tick from which it is cancelled.
-    from: Option<u64>,
-    // How many scopes are round it.
-    depth: usize,
-}
-
 /// The cancel scopes that are open, each under its parent. A contract sees the stack of each: the scope itself, its
-/// parent, and so on to the outermost.
+/// parent, and so on to the outermost; and whether its sight was lowered since it was last handed out.
 ///
 /// The caller sees to it that ids are open, that a scope is closed after those in it, and that deadlines and ticks (of
 /// `cancel` the tick after) are below 2 to the 41.
 #[derive(Drop)]
 pub struct ScopeTree {
-    scopes: Slab<Scope>,
+    store: Store,
 }
 
 impl Model for ScopeTree {
+    ghost use Rattle.std.specs.Prelude.{vec_len, vec_capacity};
     ghost use Rattle.cancel_scopes.specs.Tree.{Tree};
 
     ghost Value = { Tree };
 
-    ghost use Rattle.cancel_scopes.specs.Kept.{IsTree, stacks, find_in};
+    ghost use Rattle.cancel_scopes.specs.Kept.{IsReady, tree_of};
 
-    ghost view = { λ t. stacks t.scopes.slots };
+    ghost view = { λ t. tree_of t.store.scopes.slots };
 
-    ghost invariant = { λ t. IsTree (find_in t.scopes.slots) };
+    ghost invariant = { λ t. IsReady t.store.scopes.slots t.store.changed.items (vec_capacity t.store.changed) (vec_len t.store.lowered) (vec_capacity t.store.lowered) };
 }
 
 impl ScopeTree {
     /// A tree with no scope. Takes no memory.
     pub fn new(alloc: Global) -> ScopeTree
         ensures empty { (key : ℕ) → stack_of result key ≡ None }
+        ensures unchanged { (key : ℕ) → is_changed result key ≡ false }
     {
         ScopeTree {
-            scopes: Slab::new(alloc),
+            store: Store {
+                scopes: Slab::new(alloc),
+                changed: Vec::new(alloc),
+                lowered: Vec::new(alloc),
+            },
         }
     }
 
@@ -69,10 +65,15 @@ impl ScopeTree {
             Some (record { label = id; shield = shield; from = deadline } ∷ outer_of self.old parent)) }
         ensures others { IfOk result (OthersKeep self.old self.new) }
         ensures err { OnErr result (SameStacks self.old self.new) }
+        ensures marks { SameMarks self.old self.new }
     {
-        let scope = scope_under(&self.scopes, parent, shield, deadline);
-        self.scopes.reserve(1)?;
-        let key = self.scopes.insert_reserved(scope);
+        let parent = key_of(parent);
+        self.store.make_room(parent)?;
+        let scope = scope_under(&self.store, parent, shield, deadline);
+        let key = self.store.scopes.insert_reserved(scope);
+        // Each slot still has room in both lists.
+        let _capacity = self.store.scopes.capacity();
+        self.store.add_child(parent, key);
         Ok(ScopeId { key })
     }
 
@@ -80,7 +81,7 @@ impl ScopeTree {
     pub fn is_open(&self, id: ScopeId) -> bool
         ensures { result ≡ is_some (stack_of self.now id) }
     {
-        self.scopes.contains(id.key)
+        self.store.scopes.contains(id.key)
     }
 
     /// The scope right round this one, if there is one.
@@ -89,19 +90,22 @@ impl ScopeTree {
         ensures parent_open { ForSome result (IsOpen self.now) }
         ensures round { ForSome (stack_of self.now id) (λ stack. outer_of self.now result ≡ behind_own stack) }
     {
-        self.scopes[id.key].parent
+        self.store.scopes[id.key].parent
     }
 
     /// Cancels a scope in a tick: it is cancelled from the next tick on, or from when it already was, if that is
-    /// earlier.
+    /// earlier. Each scope whose sight this lowers is changed until it is handed out or closed. Takes no memory.
     pub fn cancel(&mut self, id: ScopeId, tick: u64)
         requires id { IsOpen self.old id }
         requires tick { tick + 1 < 2 ^ 41 }
-        ensures { (key : ℕ) →
+        ensures stacks { (key : ℕ) →
             stack_of self.new key ≡ option_map (after_cancel id tick) (stack_of self.old key) }
+        ensures marks { (key : ℕ) → ForSome (stack_of self.old key) (λ stack. is_changed self.new key
+            ≡ (is_changed self.old key || before (sight (after_cancel id tick stack)) (sight stack))) }
     {
-        let scope = &mut self.scopes[id.key];
+        let scope = &mut self.store.scopes[id.key];
         scope.from = earlier(scope.from, Some(tick + 1));
+        self.store.lower_from(id.key, tick + 1);
     }
 
     /// The tick from which a task in this scope sees a cancellation: none is never. It is the earliest from which the
@@ -110,7 +114,7 @@ impl ScopeTree {
         requires { IsOpen self.now id }
         ensures { ForSome (stack_of self.now id) (λ stack. result ≡ sight stack) }
     {
-        sight_from(&self.scopes, id)
+        self.store.scopes[id.key].sight
     }
 
     /// Whether a task in this scope sees a cancellation at a tick.
@@ -127,7 +131,7 @@ impl ScopeTree {
         requires { IsOpen self.now id }
         ensures { ForSome (stack_of self.now id) (λ stack. result ≡ catches stack tick) }
     {
-        let scope = &self.scopes[id.key];
+        let scope = &self.store.scopes[id.key];
         if !reached(scope.from, tick) {
             return false;
         }
@@ -144,8 +148,27 @@ impl ScopeTree {
         ensures closed { stack_of self.new id ≡ None }
         ensures others { OthersKeep self.old self.new id }
         ensures from { ForSome (stack_of self.old id) (λ stack. result ≡ own_from stack) }
+        ensures marks { OtherMarksKeep self.old self.new id }
     {
-        self.scopes.remove(id.key).from
+        self.store.unmark(id.key);
+        let scope = self.store.scopes.remove(id.key);
+        self.store.remove_child(key_of(scope.parent), scope.place);
+        scope.from
+    }
+
+    /// Hands out a scope whose sight a `cancel` lowered since it was last handed out, each once, in no order that is
+    /// promised: none where no such scope is left. Takes no memory, and changes no stack.
+    pub fn take_changed(&mut self) -> Option<ScopeId>
+        ensures stacks { self.new ≡ record self.old { changed = self.new.changed } }
+        ensures taken { MatchOption result ((key : ℕ) → is_changed self.old key ≡ false) (TakesChanged self.old self.new) }
+        ensures none { result ≡ None → SameMarks self.old self.new }
+    {
+        let Some(last) = self.store.changed.last() else {
+            return None;
+        };
+        let key = *last;
+        self.store.unmark(key);
+        Some(ScopeId { key })
     }
 }
 
@@ -157,63 +180,61 @@ pub fn stacks_are_chains(tree: &ScopeTree)
     ensures apart { IsApart tree.now }
 {
     // The law is read off what the tree keeps.
-    let _scopes = &tree.scopes;
+    let _scopes = &tree.store;
 }
 
 // What is kept of a scope that is opened under this parent.
-fn scope_under(
-    scopes: &Slab<Scope>,
-    parent: Option<ScopeId>,
-    shield: bool,
-    from: Option<u64>,
-) -> Scope
-    requires tree { IsTree (get scopes.now) }
-    requires parent { ForSome parent (ContainsKey scopes.now) }
+fn scope_under(store: &Store, parent: Option<usize>, shield: bool, from: Option<u64>) -> Scope
+    requires tree { IsTree (find_in store.now.scopes.slots) }
+    requires sights { HasSights store.now.scopes.slots }
+    requires parent { ForSome parent (ContainsKey store.now.scopes) }
     ensures parent { result.parent ≡ parent }
     ensures shield { result.shield ≡ shield }
     ensures from { result.from ≡ from }
-    ensures under { IsUnder (get scopes.now) result.depth result.parent }
+    ensures under { IsUnder (find_in store.now.scopes.slots) result.depth result.parent }
+    ensures sight { result.sight ≡ sight (record { label = 0; shield = shield; from = from } ∷ upward (find_in store.now.scopes.slots) result.depth parent) }
+    ensures unmarked { result.listed ≡ None }
+    ensures childless { result.children.items ≡ [] }
+    ensures place { ForSome parent (λ p. result.place ≡ length (children_at (scope_in store.now.scopes.slots p))) }
 {
+    let scopes = &store.scopes;
+    let children = store.no_children();
     match parent {
         Some(parent) => Scope {
-            parent: Some(parent),
+            parent: Some(ScopeId { key: parent }),
             shield,
             from,
             depth: depth_under(scopes, parent),
+            sight: if shield {
+                from
+            } else {
+                earlier(from, scopes[parent].sight)
+            },
+            listed: None,
+            children,
+            place: scopes[parent].children.len(),
         },
         None => Scope {
             parent: None,
             shield,
             from,
             depth: 0,
+            sight: from,
+            listed: None,
+            children,
+            place: 0,
         },
     }
 }
 
 // How many scopes are round one that is opened under this parent.
-fn depth_under(scopes: &Slab<Scope>, parent: ScopeId) -> usize
-    requires tree { IsTree (get scopes.now) }
+fn depth_under(scopes: &Slab<Scope>, parent: usize) -> usize
+    requires tree { IsTree (find_in scopes.now.slots) }
     requires parent { ContainsKey scopes.now parent }
-    ensures { IsUnder (get scopes.now) result (Some parent) }
+    ensures { IsUnder (find_in scopes.now.slots) result (Some parent) }
 {
-    let depth = scopes[parent.key].depth;
+    let depth = scopes[parent].depth;
     // Each scope round it is another one that is kept.
     prove!(depth < scopes.len());
     depth + 1
-}
-
-// The tick from which a stack is cancelled, up to and including the first scope with a shield.
-fn sight_from(scopes: &Slab<Scope>, id: ScopeId) -> Option<u64>
-    requires tree { IsTree (get scopes.now) }
-    requires id { ContainsKey scopes.now id }
-    ensures { ForSome (stack_at (get scopes.now) id) (λ stack. result ≡ sight stack) }
-{
-    let mut scope = &scopes[id.key];
-    let mut from = scope.from;
-    'up: while !scope.shield {
-        let Some(parent) = scope.parent else { break };
-        scope = &scopes[parent.key];
-        from = earlier(from, scope.from);
-    }
-    from
 }

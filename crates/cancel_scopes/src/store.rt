@@ -1,0 +1,252 @@
+ghost use Rattle.std.specs.Prelude.{◌≡◌, ℕ, ◌+◌, ◌*◌, ◌<◌, ◌≤◌, ◌++◌, ◌∷◌, [], false, Some, OnOk, length, vec_len, vec_capacity};
+ghost use Rattle.cancel_scopes.specs.Kept.{IsListed, Marks, SameScopes, Family, places_in, scope_in, own_sight, children_at};
+ghost use Rattle.cancel_scopes.specs.Lowering.{Lowering, Lowers, Along, AllRight, Starts, work, below, or_child, lists};
+ghost use Rattle.slab.specs.Slab.{ContainsKey, HasRoomFor, get};
+ghost use Rattle.std.specs.Option.{ForSome};
+ghost use Rattle.cancel_scopes.specs.Children.{HasPlace, SameOutlines, Orphaned, Lost};
+
+use crate::scope_id::ScopeId;
+use crate::ticks::before;
+use slab::Slab;
+use std::alloc::AllocError;
+
+// What is kept of a scope.
+#[derive(Drop)]
+pub(crate) struct Scope {
+    pub(crate) parent: Option<ScopeId>,
+    pub(crate) shield: bool,
+    // The tick from which it is cancelled.
+    pub(crate) from: Option<u64>,
+    // How many scopes are round it.
+    pub(crate) depth: usize,
+    // The tick from which a task in it sees a cancellation.
+    pub(crate) sight: Option<u64>,
+    // Its place among the changed scopes, if it stands there.
+    pub(crate) listed: Option<usize>,
+    // The keys of the scopes right inside it.
+    pub(crate) children: Vec<usize>,
+    // Its own place among its parent's.
+    pub(crate) place: usize,
+}
+
+// The open scopes by their keys. Both lists have room for the key of each slot.
+#[derive(Drop)]
+pub(crate) struct Store {
+    pub(crate) scopes: Slab<Scope>,
+    // The scopes whose sight was lowered since they were last handed out.
+    pub(crate) changed: Vec<usize>,
+    // Scopes that this call of `cancel` lowered, and inside which it has not looked yet.
+    pub(crate) lowered: Vec<usize>,
+}
+
+impl Store {
+    // Lowers a scope's sight to a tick, if it is later, and the sights below it as far as shields let it.
+    pub(crate) fn lower_from(&mut self, key: usize, tick: u64)
+        requires kept { ContainsKey self.old.scopes key }
+        requires starts { Starts tick key self.old.scopes.slots self.old.changed.items }
+        requires none_lowered { vec_len self.old.lowered ≡ 0 }
+        requires changed_room { length self.old.scopes.slots ≤ vec_capacity self.old.changed }
+        requires lowered_room { length self.old.scopes.slots ≤ vec_capacity self.old.lowered }
+        ensures right { AllRight self.new.scopes.slots }
+        ensures listed { IsListed self.new.scopes.slots self.new.changed.items }
+        ensures along { Along tick self.old.scopes.slots self.new.scopes.slots }
+        ensures none_lowered { vec_len self.new.lowered ≡ 0 }
+        ensures changed_room { vec_capacity self.new.changed ≡ vec_capacity self.old.changed }
+        ensures lowered_room { vec_capacity self.new.lowered ≡ vec_capacity self.old.lowered }
+    {
+        if !before(Some(tick), self.scopes[key].sight) {
+            return;
+        }
+        self.lower(key, tick);
+        self.lower_below(tick);
+    }
+
+    // Lowers the sights below the scopes that were lowered.
+    fn lower_below(&mut self, tick: u64)
+        requires state { Lowering tick (below self.old.lowered.items) self.old.scopes.slots self.old.changed.items self.old.lowered.items }
+        requires changed_room { length self.old.scopes.slots ≤ vec_capacity self.old.changed }
+        requires lowered_room { length self.old.scopes.slots ≤ vec_capacity self.old.lowered }
+        ensures right { AllRight self.new.scopes.slots }
+        ensures listed { IsListed self.new.scopes.slots self.new.changed.items }
+        ensures along { Along tick self.old.scopes.slots self.new.scopes.slots }
+        ensures none_lowered { vec_len self.new.lowered ≡ 0 }
+        ensures changed_room { vec_capacity self.new.changed ≡ vec_capacity self.old.changed }
+        ensures lowered_room { vec_capacity self.new.lowered ≡ vec_capacity self.old.lowered }
+    {
+        'below: while let Some(parent) = self.lowered.pop() {
+            self.lower_children(parent, tick);
+        }
+    }
+
+    // Lowers the sights of the scopes right inside one that was lowered.
+    fn lower_children(&mut self, parent: usize, tick: u64)
+        requires state { Lowering tick (or_child parent 0 self.old.lowered.items) self.old.scopes.slots self.old.changed.items self.old.lowered.items }
+        requires parent { own_sight (scope_in self.old.scopes.slots parent) ≡ Some tick }
+        requires changed_room { length self.old.scopes.slots ≤ vec_capacity self.old.changed }
+        requires lowered_room { length self.old.scopes.slots ≤ vec_capacity self.old.lowered }
+        ensures state { Lowering tick (below self.new.lowered.items) self.new.scopes.slots self.new.changed.items self.new.lowered.items }
+        ensures along { Along tick self.old.scopes.slots self.new.scopes.slots }
+        ensures work { work tick self.new.scopes.slots self.new.lowered.items ≤ work tick self.old.scopes.slots self.old.lowered.items }
+        ensures changed_room { vec_capacity self.new.changed ≡ vec_capacity self.old.changed }
+        ensures lowered_room { vec_capacity self.new.lowered ≡ vec_capacity self.old.lowered }
+    {
+        'children: for place in 0..self.scopes[parent].children.len() {
+            self.lower_child(parent, place, tick);
+        }
+    }
+
+    // Lowers the sight of the child at this place, if it has no shield and sees later.
+    fn lower_child(&mut self, parent: usize, place: usize, tick: u64)
+        requires state { Lowering tick (or_child parent place self.old.lowered.items) self.old.scopes.slots self.old.changed.items self.old.lowered.items }
+        requires parent { own_sight (scope_in self.old.scopes.slots parent) ≡ Some tick }
+        requires place { place < length (children_at (scope_in self.old.scopes.slots parent)) }
+        requires changed_room { length self.old.scopes.slots ≤ vec_capacity self.old.changed }
+        requires lowered_room { length self.old.scopes.slots ≤ vec_capacity self.old.lowered }
+        ensures state { Lowering tick (or_child parent (place + 1) self.new.lowered.items) self.new.scopes.slots self.new.changed.items self.new.lowered.items }
+        ensures along { Along tick self.old.scopes.slots self.new.scopes.slots }
+        ensures work { work tick self.new.scopes.slots self.new.lowered.items ≤ work tick self.old.scopes.slots self.old.lowered.items }
+        ensures changed_room { vec_capacity self.new.changed ≡ vec_capacity self.old.changed }
+        ensures lowered_room { vec_capacity self.new.lowered ≡ vec_capacity self.old.lowered }
+    {
+        let key = self.scopes[parent].children[place];
+        let scope = &self.scopes[key];
+        if scope.shield {
+            return;
+        }
+        if before(Some(tick), scope.sight) {
+            self.lower(key, tick);
+        }
+    }
+
+    // Lowers the sight of a scope to a tick, and marks it.
+    fn lower(&mut self, key: usize, tick: u64)
+        requires kept { ContainsKey self.old.scopes key }
+        requires listed { IsListed self.old.scopes.slots self.old.changed.items }
+        requires changed_room { length self.old.scopes.slots ≤ vec_capacity self.old.changed }
+        requires lowered_room { vec_len self.old.lowered < vec_capacity self.old.lowered }
+        ensures lowers { Lowers tick self.old.scopes.slots self.new.scopes.slots key }
+        ensures listed { IsListed self.new.scopes.slots self.new.changed.items }
+        ensures lowered { self.new.lowered.items ≡ self.old.lowered.items ++ key ∷ [] }
+        ensures changed_room { vec_capacity self.new.changed ≡ vec_capacity self.old.changed }
+        ensures lowered_room { vec_capacity self.new.lowered ≡ vec_capacity self.old.lowered }
+    {
+        let place = self.listing(key);
+        let scope = &mut self.scopes[key];
+        scope.sight = Some(tick);
+        scope.listed = Some(place);
+        self.lowered.push_reserved(key);
+    }
+
+    // The place of a scope among the changed ones, where it comes last if it does not stand there.
+    fn listing(&mut self, key: usize) -> usize
+        requires kept { ContainsKey self.old.scopes key }
+        requires listed { IsListed self.old.scopes.slots self.old.changed.items }
+        requires room { length self.old.scopes.slots ≤ vec_capacity self.old.changed }
+        ensures scopes { self.new.scopes ≡ self.old.scopes }
+        ensures lists { lists key (get self.old.scopes key) self.old.changed.items self.new.changed.items result }
+        ensures room { vec_capacity self.new.changed ≡ vec_capacity self.old.changed }
+        ensures lowered { self.new.lowered ≡ self.old.lowered }
+    {
+        if let Some(place) = self.scopes[key].listed {
+            return place;
+        }
+        let place = self.changed.len();
+        self.changed.push_reserved(key);
+        place
+    }
+
+    // Takes a scope out of the changed ones, if it stands there.
+    pub(crate) fn unmark(&mut self, key: usize)
+        requires kept { ContainsKey self.old.scopes key }
+        requires listed { IsListed self.old.scopes.slots self.old.changed.items }
+        ensures marks { Marks self.old.scopes.slots self.new.scopes.slots key false }
+        ensures lowered { self.new.lowered ≡ self.old.lowered }
+        ensures listed { IsListed self.new.scopes.slots self.new.changed.items }
+        ensures room { vec_capacity self.new.changed ≡ vec_capacity self.old.changed }
+    {
+        let Some(place) = self.scopes[key].listed else {
+            return;
+        };
+        let _ = self.changed.swap_remove(place);
+        let scope = &mut self.scopes[key];
+        scope.listed = None;
+        if place < self.changed.len() {
+            let moved = self.changed[place];
+            let scope = &mut self.scopes[moved];
+            scope.listed = Some(place);
+        }
+    }
+}
+
+impl Store {
+    // Makes room for one more scope, and for it among its parent's children.
+    pub(crate) fn make_room(&mut self, parent: Option<usize>) -> Result<(), AllocError>
+        requires parent { ForSome parent (ContainsKey self.old.scopes) }
+        ensures same { SameScopes self.old.scopes.slots self.new.scopes.slots }
+        ensures marks { (key : ℕ) → places_in self.new.scopes.slots key ≡ places_in self.old.scopes.slots key }
+        ensures changed { self.new.changed.items ≡ self.old.changed.items }
+        ensures lowered { vec_len self.new.lowered ≡ vec_len self.old.lowered }
+        ensures room { OnOk result (HasRoomFor self.new.scopes 1) }
+        ensures changed_grows { vec_capacity self.old.changed ≤ vec_capacity self.new.changed }
+        ensures lowered_grows { vec_capacity self.old.lowered ≤ vec_capacity self.new.lowered }
+        ensures changed_room { OnOk result (self.new.scopes.capacity ≤ vec_capacity self.new.changed) }
+        ensures lowered_room { OnOk result (self.new.scopes.capacity ≤ vec_capacity self.new.lowered) }
+        ensures place { OnOk result (HasPlace self.new.scopes.slots parent) }
+    {
+        self.scopes.reserve(1)?;
+        let capacity = self.scopes.capacity();
+        self.changed
+            .reserve(capacity.saturating_sub(self.changed.len()))?;
+        self.lowered.reserve(capacity)?;
+        let Some(parent) = parent else {
+            return Ok(());
+        };
+        let scope = &mut self.scopes[parent];
+        scope.children.reserve(1)?;
+        Ok(())
+    }
+
+    // The children of a new scope.
+    pub(crate) fn no_children(&self) -> Vec<usize>
+        ensures { result.items ≡ [] }
+    {
+        Vec::new(*self.changed.allocator())
+    }
+
+    // Puts a child last among its parent's, where there is room.
+    pub(crate) fn add_child(&mut self, parent: Option<usize>, key: usize)
+        requires parent { HasPlace self.old.scopes.slots parent }
+        requires orphan { Orphaned self.old.scopes.slots key parent }
+        ensures same { SameOutlines self.old.scopes.slots self.new.scopes.slots }
+        ensures family { Family self.new.scopes.slots }
+        ensures changed { self.new.changed ≡ self.old.changed }
+        ensures lowered { self.new.lowered ≡ self.old.lowered }
+        ensures capacity { self.new.scopes.capacity ≡ self.old.scopes.capacity }
+    {
+        let Some(parent) = parent else {
+            return;
+        };
+        let scope = &mut self.scopes[parent];
+        scope.children.push_reserved(key);
+    }
+
+    // Takes a child out of its parent's, where the last of them comes into its place.
+    pub(crate) fn remove_child(&mut self, parent: Option<usize>, place: usize)
+        requires lost { Lost self.old.scopes.slots parent place }
+        ensures same { SameOutlines self.old.scopes.slots self.new.scopes.slots }
+        ensures family { Family self.new.scopes.slots }
+        ensures changed { self.new.changed ≡ self.old.changed }
+        ensures lowered { self.new.lowered ≡ self.old.lowered }
+    {
+        let Some(parent) = parent else {
+            return;
+        };
+        let scope = &mut self.scopes[parent];
+        let _ = scope.children.swap_remove(place);
+        if place < scope.children.len() {
+            let moved = scope.children[place];
+            let scope = &mut self.scopes[moved];
+            scope.place = place;
+        }
+    }
+}
