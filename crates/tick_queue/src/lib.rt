@@ -1,0 +1,13 @@
+//! Keys with their ticks, found both ways: the tick of a key, and the first tick with its key.
+//!
+//! Each key has at most one tick. A caller gives a key its tick, gives it another or takes it away, and asks at any time
+//! for the earliest tick of all; each call takes the logarithm of how many keys have one.
+//!
+//! The layer promises a map from keys to ticks, and says nothing of how it is kept. It stands on nothing.
+#![tactic(auto)]
+
+mod queue;
+#[cfg(test)]
+mod tests;
+
+pub use queue::TickQueue;
