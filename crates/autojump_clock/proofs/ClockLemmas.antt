@@ -1,7 +1,8 @@
 -- What the clock's jump meets.
 use Rattle.std.proofs.Common.{◌≡◌, ℕ, Option, Some, None, min, refl, ap, ◌∙◌, inl, inr, arith}
 use Rattle.std.proofs.lemmas.Bool.{cases_lt}
-use Rattle.autojump_clock.specs.Timers.{earlier_of, IsFirst}
+use Rattle.tick_queue.specs.Ticks.{IsFirst}
+use Rattle.autojump_clock.specs.Kept.{earlier_of}
 use Rattle.autojump_clock.specs.Clock.{Clock, IsUnchanged, IsNext}
 
 -- a clock is unchanged from itself

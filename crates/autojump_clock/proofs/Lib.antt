@@ -1,2 +1,1 @@
-pub mod TimerLemmas
 pub mod ClockLemmas

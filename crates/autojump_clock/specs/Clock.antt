@@ -1,7 +1,7 @@
 -- What clauses see of the clock: its tick, its limit, and a map from the keys of tasks to the ticks at which their
 -- timers are due. No clause says how the clock keeps that map.
 use Rattle.std.specs.Prelude.{◌≡◌, ◌≢◌, ◌⊎◌, ℕ, ◌<◌, ◌≤◌, List, Option, Some, None}
-use Rattle.autojump_clock.specs.Timers.{due_in}
+use Rattle.tick_queue.specs.Ticks.{tick_in}
 
 pub record Clock : Type 0 where
   pub tick : ℕ
@@ -18,7 +18,7 @@ limit_of c = c.limit
 
 -- the tick at which the timer of a task is due, if it has one
 abbrev pub due_of : Clock → ℕ → Option ℕ
-due_of c task = due_in c.timers task
+due_of c task = tick_in c.timers task
 
 -- some task has a timer
 abbrev pub HasTimer : Clock → Type 0

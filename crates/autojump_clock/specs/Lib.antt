@@ -1,3 +1,3 @@
-pub mod Timers
 pub mod Clock
 pub mod Answers
+pub mod Kept

@@ -1,9 +1,10 @@
 ghost use Rattle.std.specs.Prelude.{◌≡◌, ℕ, ◌<◌, ◌^◌, ◌≤◌, Some, None, OnOk, OnErr, IsSome, MatchOption};
+ghost use Rattle.autojump_clock.specs.Kept.{earlier_of};
 
 use crate::task_id::TaskId;
-use crate::timers::{Timers, earlier};
 use std::alloc::{AllocError, Global};
 use std::marker::Model;
+use tick_queue::TickQueue;
 
 /// What the clock did once every task was blocked.
 #[derive(Clone, Copy, Debug, PartialEq, Eq)]
@@ -19,7 +20,7 @@ pub enum Jump {
 pub struct MockClock {
     tick: u64,
     limit: u64,
-    timers: Timers,
+    timers: TickQueue,
 }
 
 impl Model for MockClock {
@@ -27,7 +28,7 @@ impl Model for MockClock {
 
     ghost Value = { Clock };
 
-    ghost use Rattle.autojump_clock.specs.Timers.{NoneBefore};
+    ghost use Rattle.autojump_clock.specs.Kept.{NoneBefore};
 
     ghost view = { λ c. record { tick = c.tick; limit = c.limit; timers = c.timers } };
 
@@ -48,7 +49,7 @@ impl MockClock {
         MockClock {
             tick: 0,
             limit,
-            timers: Timers::new(alloc),
+            timers: TickQueue::new(alloc),
         }
     }
 
@@ -114,4 +115,11 @@ impl MockClock {
         self.timers.remove(task);
         Some(TaskId::of(task))
     }
+}
+
+// The earlier of a tick and the next cancellation's.
+fn earlier(due: u64, next_cancel: Option<u64>) -> u64
+    ensures { result ≡ earlier_of next_cancel due }
+{
+    next_cancel.map_or(due, |cancel| due.min(cancel))
 }

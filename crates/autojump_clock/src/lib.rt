@@ -4,14 +4,13 @@
 //! jumps to the earliest timer or cancellation and wakes the tasks that are due, the least id first. Unlike Trio's
 //! clock it has a limit, past which it does not jump.
 //!
-//! The layer promises a map from tasks to due ticks, and says nothing of how it is kept. It stands on nothing.
+//! The layer promises a map from tasks to due ticks, and says nothing of how it is kept. It stands on `tick_queue`.
 #![tactic(auto)]
 
 mod clock;
 mod task_id;
 #[cfg(test)]
 mod tests;
-mod timers;
 
 pub use clock::{Jump, MockClock};
 pub use task_id::TaskId;

@@ -1,4 +1,4 @@
-use Rattle.autojump_clock.specs.Timers.{IsFirst}
+use Rattle.tick_queue.specs.Ticks.{IsFirst}
 use Rattle.autojump_clock.proofs.ClockLemmas.{same_clock, first_is_next}
 use Rattle.autojump_clock.proofs.clock.MockClock.jump.Goals as goal
 
