@@ -1,0 +1,66 @@
+-- How sleepers are kept. No public clause cites this module.
+use Rattle.std.specs.Prelude.{◌≡◌, ◌≢◌, ℕ, ◌<◌, ◌==◌, if◌then◌else◌, List, [], length, Option, Some, None, slice_index_or, slice_index}
+use Rattle.std.specs.List.{slice_get}
+use Rattle.std.specs.declared.vec.Vec.{Vec}
+use Rattle.tick_queue.specs.Ticks.{tick_in}
+use Rattle.sleeper_sights.specs.Sleeping.{scope_at}
+use Rattle.sleeper_sights.specs.declared.berths.Berth.{Berth}
+
+-- no task sleeps
+abbrev pub HasNone : List (Option ℕ) → Type 0
+HasNone scopes = (task : ℕ) → scope_at scopes task ≡ None
+
+-- no task sleeps right in the scope
+abbrev pub IsEmpty : List (Option ℕ) → ℕ → Type 0
+IsEmpty scopes scope = (task : ℕ) → scope_at scopes task ≢ Some scope
+
+-- each task sleeps where it did
+abbrev pub IsSame : List (Option ℕ) → List (Option ℕ) → Type 0
+IsSame old new = (task : ℕ) → scope_at new task ≡ scope_at old task
+
+-- the task sleeps there now, or nowhere, and every other task where it did
+pub record Puts (old new : List (Option ℕ)) (task : ℕ) (scope : Option ℕ) : Type 0 where
+  pub changed : scope_at new task ≡ scope
+  pub others : (other : ℕ) → other ≢ task → scope_at new other ≡ scope_at old other
+
+-- a scope that has a tick is one in which somebody sleeps
+abbrev pub AllSleptIn : List (Option ℕ) → List (ℕ × ℕ) → Type 0
+AllSleptIn scopes sights = (scope tick : ℕ) → tick_in sights scope ≡ Some tick → (task : ℕ) × (scope_at scopes task ≡ Some scope)
+
+abbrev pub scope_of : Option Berth → Option ℕ
+scope_of None = None
+scope_of (Some berth) = Some berth.scope
+
+-- where a task sleeps
+abbrev pub berth_at : List (Option Berth) → ℕ → Option Berth
+berth_at berths task = slice_index_or berths task None
+
+-- its place among the tasks that sleep in this scope, if it sleeps there
+abbrev pub place_under : ℕ → Option Berth → Option ℕ
+place_under scope None = None
+place_under scope (Some berth) = if berth.scope == scope then Some berth.place else None
+
+abbrev pub tasks_of : {Z : Type 0} → Option (Vec ℕ Z) → List ℕ
+tasks_of None = []
+tasks_of (Some tasks) = tasks.items
+
+-- the tasks that sleep right in a scope
+abbrev pub tasks_at : {Z : Type 0} → List (Vec ℕ Z) → ℕ → List ℕ
+tasks_at lists scope = tasks_of (slice_get lists scope)
+
+-- each task that has a place stands there in the list, and each in the list has its place
+pub record IsPlaced (places : ℕ → Option ℕ) (list : List ℕ) : Type 0 where
+  pub stands : (task place : ℕ) → places task ≡ Some place → (place < length list) × (slice_index list place ≡ task)
+  pub placed : (place : ℕ) → place < length list → places (slice_index list place) ≡ Some place
+
+-- the list of each scope has the tasks whose places are in it
+pub record AllPlaced {Z : Type 0} (berths : List (Option Berth)) (lists : List (Vec ℕ Z)) : Type 0 where
+  pub placed : (scope : ℕ) → IsPlaced (λ task. place_under scope (berth_at berths task)) (tasks_at lists scope)
+
+-- each task keeps its berth
+abbrev pub SameBerths : List (Option Berth) → List (Option Berth) → Type 0
+SameBerths old new = (task : ℕ) → berth_at new task ≡ berth_at old task
+
+-- each scope keeps its list
+abbrev pub SameTasks : {Z : Type 0} → List (Vec ℕ Z) → List (Vec ℕ Z) → Type 0
+SameTasks old new = (scope : ℕ) → tasks_at new scope ≡ tasks_at old scope

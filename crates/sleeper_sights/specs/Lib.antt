@@ -1,0 +1,2 @@
+pub mod Sleeping
+pub mod Kept

@@ -1,0 +1,119 @@
+//! Which task sleeps in which scope, found both ways.
+ghost use Rattle.std.specs.Prelude.{None, Some, ◌≡◌, ◌<◌, OnOk, OnErr, MatchOption, vec_len};
+ghost use Rattle.sleeper_sights.specs.Kept.{berth_at, tasks_at, SameBerths, SameTasks};
+
+use std::alloc::{AllocError, Global};
+use std::marker::Model;
+
+// Where a task sleeps: its scope, and its place among the tasks that sleep right in it.
+#[derive(Clone, Copy)]
+struct Berth {
+    scope: usize,
+    place: usize,
+}
+
+// Tasks and the scopes in which they sleep, by the keys of both.
+#[derive(Drop)]
+pub(crate) struct Berths {
+    // Where each task sleeps.
+    by_task: Vec<Option<Berth>>,
+    // The tasks that sleep right in each scope.
+    by_scope: Vec<Vec<usize>>,
+}
+
+impl Model for Berths {
+    ghost use Rattle.std.specs.Prelude.{ℕ, List, map, Option};
+
+    ghost Value = { List (Option ℕ) };
+
+    ghost use Rattle.sleeper_sights.specs.Kept.{scope_of, AllPlaced};
+
+    ghost view = { λ b. map scope_of b.by_task.items };
+
+    ghost invariant = { λ b. AllPlaced b.by_task.items b.by_scope.items };
+}
+
+impl Berths {
+    ghost use Rattle.sleeper_sights.specs.Sleeping.{scope_at};
+    ghost use Rattle.sleeper_sights.specs.Kept.{HasNone, IsEmpty, IsSame, Puts};
+
+    // No task sleeps.
+    pub(crate) fn new(alloc: Global) -> Berths
+        ensures { HasNone result }
+    {
+        Berths {
+            by_task: Vec::new(alloc),
+            by_scope: Vec::new(alloc),
+        }
+    }
+
+    // Lets a task that does not sleep yet sleep in a scope. On want of memory no task sleeps elsewhere than before.
+    pub(crate) fn add(&mut self, task: usize, scope: usize) -> Result<(), AllocError>
+        requires { scope_at self.old task ≡ None }
+        ensures ok { OnOk result (Puts self.old self.new task (Some scope)) }
+        ensures err { OnErr result (IsSame self.old self.new) }
+    {
+        grow_to_task(&mut self.by_task, task)?;
+        grow_to_scope(&mut self.by_scope, scope)?;
+        let tasks = &mut self.by_scope[scope];
+        let place = tasks.len();
+        tasks.push(task)?;
+        self.by_task[task] = Some(Berth { scope, place });
+        Ok(())
+    }
+
+    // Lets a task sleep no more, and tells in which scope it slept: none where it did not sleep.
+    pub(crate) fn remove(&mut self, task: usize) -> Option<usize>
+        ensures scope { result ≡ scope_at self.old task }
+        ensures moves { Puts self.old self.new task None }
+    {
+        if task >= self.by_task.len() {
+            return None;
+        }
+        let Some(berth) = self.by_task[task] else {
+            return None;
+        };
+        self.by_task[task] = None;
+        let tasks = &mut self.by_scope[berth.scope];
+        tasks.swap_remove(berth.place);
+        if berth.place < tasks.len() {
+            // The last task of the scope lies in that place now.
+            let moved = tasks[berth.place];
+            self.by_task[moved] = Some(berth);
+        }
+        Some(berth.scope)
+    }
+
+    // A task that sleeps right in the scope: none exactly where none does.
+    pub(crate) fn sleeper_in(&self, scope: usize) -> Option<usize>
+        ensures { MatchOption result (IsEmpty self.now scope) (λ task. scope_at self.now task ≡ Some scope) }
+    {
+        let Some(tasks) = self.by_scope.get(scope) else {
+            return None;
+        };
+        tasks.last().copied()
+    }
+}
+
+// Makes the table long enough for a task.
+fn grow_to_task(berths: &mut Vec<Option<Berth>>, task: usize) -> Result<(), AllocError>
+    ensures same { SameBerths berths.old.items berths.new.items }
+    ensures long { OnOk result (task < vec_len berths.new) }
+{
+    'grow: while berths.len() <= task {
+        berths.push(None)?;
+    }
+    Ok(())
+}
+
+// Makes the table long enough for a scope.
+fn grow_to_scope(lists: &mut Vec<Vec<usize>>, scope: usize) -> Result<(), AllocError>
+    ensures same { SameTasks lists.old.items lists.new.items }
+    ensures long { OnOk result (scope < vec_len lists.new) }
+{
+    'grow: while lists.len() <= scope {
+        let none = Vec::new(*lists.allocator());
+        lists.push(none)?;
+    }
+    Ok(())
+}
