@@ -90,7 +90,7 @@ StandsAt key f ps s = (st : Stack) × (stack_of s.tree key ≡ Some st) × AreAt
 pub at_signs : {t : ℕ} {label : Label} {s m : Scoping} → (key : ℕ) (f : Table) (st : Stack) (ps : List Place) → (g : Signs t label s m) → Apart s → stack_of s.tree key ≡ Some st →
     AreAt s.labels f st ps → (stack_of m.tree key ≡ Some (after_cancel g.key t st)) × AreAt m.labels (lowered f label t) (after_cancel g.key t st) ps
 at_signs {t} {label} {s} {m} key f st ps g h e a = (
-  g.stacks key ∙ ap (option_map (after_cancel g.key t)) e,
+  g.cancels.stacks key ∙ ap (option_map (after_cancel g.key t)) e,
   subst (λ (z : Labels). AreAt z (lowered f label t) (after_cancel g.key t st) ps) (sym g.labels)
       (signed_at s.labels f st ps g.key t label g.labelled (alone_of s h g.key label g.labelled st) a),
 )

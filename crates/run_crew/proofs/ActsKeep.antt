@@ -111,7 +111,7 @@ among_all key k (l ∷ ls) a (inr i) = among_all key k ls (All-tail (λ (m : Lev
 -- the stack that a cancellation made another
 before_sign : {t : ℕ} {label : Label} {s m : Scoping} → (g : Signs t label s m) → (key : ℕ) (st : Stack) → stack_of m.tree key ≡ Some st →
     (b : Stack) × (stack_of s.tree key ≡ Some b) × (after_cancel g.key t b ≡ st)
-before_sign {t} {label} {s} {m} g key st e = mapped (after_cancel g.key t) (stack_of s.tree key) st (sym (g.stacks key) ∙ e)
+before_sign {t} {label} {s} {m} g key st e = mapped (after_cancel g.key t) (stack_of s.tree key) st (sym (g.cancels.stacks key) ∙ e)
 
 pub sound_signs : {t : ℕ} {label : Label} {s m : Scoping} → Signs t label s m → Sound s → Sound m
 sound_signs {t} {label} {s} {m} g h = record { own = own; round = round }
@@ -125,7 +125,7 @@ sound_signs {t} {label} {s} {m} g h = record { own = own; round = round }
     round key st e k i =
         let b = before_sign g key st e in
         let before : IsOpen s.tree k = h.round key b.0 b.1 k (is_key_before k g.key t b.0 (subst (IsKey k) (sym b.2) i)) in
-        subst IsSome (sym (g.stacks k)) (mapped_is (after_cancel g.key t) (stack_of s.tree k) before)
+        subst IsSome (sym (g.cancels.stacks k)) (mapped_is (after_cancel g.key t) (stack_of s.tree k) before)
 
 -- a scope that was open is another than one that was not
 pub open_differs : (tree : Tree) (key other : ℕ) → stack_of tree key ≡ None → IsOpen tree other → other ≢ key

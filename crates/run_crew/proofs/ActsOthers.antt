@@ -27,7 +27,7 @@ IsKept f s key l = (st : Stack) × (stack_of s.tree key ≡ Some st) × (s.label
 kept_signs : {t : ℕ} {label : Label} {s m : Scoping} → (f : Table) (key : ℕ) (l : Label) → Signs t label s m → Sound s → Apart s → IsKept f s key l → IsKept (lowered f label t) m key l
 kept_signs {t} {label} {s} {m} f key l g sound apart k = (
   after_cancel g.key t k.0,
-  g.stacks key ∙ ap (option_map (after_cancel g.key t)) k.1,
+  g.cancels.stacks key ∙ ap (option_map (after_cancel g.key t)) k.1,
   ap (λ (z : Labels). z key) g.labels ∙ k.2,
   own_from_signed f k.0 key l g apart (sound.own key k.0 k.1) k.2 k.3,
 )
@@ -68,7 +68,7 @@ AreLabelled s = (key : ℕ) (l : Label) → s.labels key ≡ Some l → IsOpen s
 
 labelled_signs : {t : ℕ} {label : Label} {s m : Scoping} → Signs t label s m → AreLabelled s → AreLabelled m
 labelled_signs {t} {label} {s} {m} g h key l e =
-    subst IsSome (sym (g.stacks key)) (mapped_is (after_cancel g.key t) (stack_of s.tree key) (h key l (sym (ap (λ (z : Labels). z key) g.labels) ∙ e)))
+    subst IsSome (sym (g.cancels.stacks key)) (mapped_is (after_cancel g.key t) (stack_of s.tree key) (h key l (sym (ap (λ (z : Labels). z key) g.labels) ∙ e)))
 
 labelled_enters : {label : Label} {d : Tick} {s m : Scoping} → Enters label d s m → AreLabelled s → AreLabelled m
 labelled_enters {label} {d} {s} {m} g h key l e = by_key (labelled_before g.labelled key l e)

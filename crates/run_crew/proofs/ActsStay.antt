@@ -72,7 +72,7 @@ pub stays_signs : {t : ℕ} {label : Label} {s m : Scoping} {key : ℕ} {st : St
 stays_signs {t} {label} {s} {m} {key} {st} g e others =
     record {
       after = after_cancel g.key t st;
-      at = g.stacks key ∙ ap (option_map (after_cancel g.key t)) e;
+      at = g.cancels.stacks key ∙ ap (option_map (after_cancel g.key t)) e;
       levels = levels_cancelled g.key t st;
       labels = same_on s.labels m.labels st g.labels;
       others = subst (AreOthers key) (sym g.own) others;
@@ -142,7 +142,7 @@ mapped_was f (Some b) i = refl
 
 pub else_signs : {t : ℕ} {label : Label} {s m : Scoping} {key : ℕ} → Signs t label s m → IsElse key m → IsElse key s
 else_signs {t} {label} {s} {m} {key} g i =
-    (mapped_was (after_cancel g.key t) (stack_of s.tree key) (subst IsSome (g.stacks key) i.0), subst (AreOthers key) g.own i.1)
+    (mapped_was (after_cancel g.key t) (stack_of s.tree key) (subst IsSome (g.cancels.stacks key) i.0), subst (AreOthers key) g.own i.1)
 
 pub else_enters : {label : Label} {d : Tick} {s m : Scoping} {key : ℕ} → Enters label d s m → IsElse key m → IsElse key s
 else_enters {label} {d} {s} {m} {key} g i =

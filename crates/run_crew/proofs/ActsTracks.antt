@@ -131,7 +131,7 @@ tracks_signs {known} {f} {entered} {t} {label} {s} {m} g sound apart h =
         let k = h.kept o i (got o i e) in (
           after_cancel g.key t k.0,
           k.1,
-          g.stacks o.id ∙ ap (option_map (after_cancel g.key t)) k.2,
+          g.cancels.stacks o.id ∙ ap (option_map (after_cancel g.key t)) k.2,
           label_is o.id k.1 k.3,
           own_from_signed f k.0 o.id k.1 g apart (sound.own o.id k.0 k.2) k.3 k.4,
         )

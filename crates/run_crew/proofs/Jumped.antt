@@ -74,7 +74,7 @@ module _ (t u m : ℕ) (le : t ≤ u) (old new : Crew) (at : ℕ → Started) (n
               opened = h.goes.opened;
             };
         notes = h.notes;
-        tracks = h.tracks;
+        tracks = record { labels = h.tracks.labels; differ = h.tracks.differ; named = h.tracks.named; kept = h.tracks.kept; left = h.tracks.left };
         home = home_moved s task.home h.home;
         nurseries = λ id has. nursery_moved (numbers s) (at s) id (nursery_at old.world.book id) (h.nurseries id has);
       }

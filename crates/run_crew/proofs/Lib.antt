@@ -4,6 +4,7 @@ pub mod ActsStay
 pub mod ActsFroms
 pub mod ActsTracks
 pub mod ActsOthers
+pub mod ActsSights
 pub mod NurseryPlaces
 pub mod Homes
 pub mod Parts
@@ -36,3 +37,4 @@ pub mod Found
 pub mod Going
 pub mod Blocks
 pub mod Keeping
+pub mod SightsStay

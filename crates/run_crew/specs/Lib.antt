@@ -7,3 +7,4 @@ pub mod Ready
 pub mod Step
 pub mod Moved
 pub mod Laws
+pub mod Sights

@@ -1,4 +1,5 @@
--- A crew whose clock jumps, or whose started tasks are taken from the world: nothing else of it changes.
+-- A crew whose clock jumps, whose started tasks are taken from the world, or whose changed scopes are handed out: nothing else
+-- of it changes.
 use Rattle.std.specs.Prelude.{◌≡◌, ℕ}
 use Rattle.task_machine.specs.declared.world.World.{World}
 use Rattle.run_crew.specs.Crew.{Crew}
@@ -11,6 +12,6 @@ pub record SameTasks (old new : Crew) : Type 0 where
   pub start : (p : ℕ) → new.start p ≡ old.start p
   pub children : (p : ℕ) → new.children p ≡ old.children p
 
--- the world of a crew with another tick, and other tasks that were started and not taken
+-- the world of a crew with another tick, other tasks that were started and not taken, and other scopes marked as changed
 abbrev pub moved_world : World → ℕ → World → World
-moved_world w u x = record w { tick = u; started = x.started }
+moved_world w u x = record w { tick = u; started = x.started; scopes = record (w.scopes) { changed = x.scopes.changed } }

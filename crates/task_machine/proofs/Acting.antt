@@ -123,7 +123,7 @@ one_signed : (before after : Task) (old new : World) (key : ℕ) (label : Label)
     Acts old.tick (scoping_of before old) (signs label old.tick ∷ []) (scoping_of after new)
 one_signed before after old new key label own froms labels labelled signed =
     act_signs (scoping_of before old) (scoping_of after new) (scoping_of after new) label []
-    (record { key = key; labelled = labelled; stacks = signed; labels = labels; own = own; froms = froms }) (no_act (scoping_of after new))
+    (record { key = key; labelled = labelled; cancels = signed; labels = labels; own = own; froms = froms }) (no_act (scoping_of after new))
 
 none_signed : (before after : Task) (old new : World) → after.own.items ≡ before.own.items → after.froms.items ≡ before.froms.items → label_at new ≡ label_at old →
     Signed old new None → Acts old.tick (scoping_of before old) [] (scoping_of after new)
@@ -176,6 +176,7 @@ entered_acts before after old new label deadline e =
       named = e.named;
       from = e.from;
       others = e.others;
+      marks = e.marks;
       labelled = e.labelled;
     })
     (no_act (scoping_of after new))
@@ -195,6 +196,7 @@ left_acts before after old new t entry e =
       froms = e.froms;
       closed = e.closed;
       others = e.others;
+      marks = e.marks;
       unlabelled = e.unlabelled;
     })
     (act_noted (scoping_of after new) (scoping_of after new) t entry [] (no_act (scoping_of after new)))
@@ -224,7 +226,7 @@ acts_stay tick _ u _ key (no_act s) h = h
 acts_stay tick _ u _ key (act_noted s x t e ds a) h = acts_stay tick s u ds key a h
 acts_stay tick _ u _ key (act_starts s x i l t ds a) h = acts_stay tick s u ds key a h
 acts_stay tick _ u _ key (act_signs s m x l ds g a) h =
-    acts_stay tick m u ds key a (signed_open key g.key tick s.tree m.tree g.stacks h.0, subst (AreOthers key) (sym g.own) h.1)
+    acts_stay tick m u ds key a (signed_open key g.key tick s.tree m.tree g.cancels.stacks h.0, subst (AreOthers key) (sym g.own) h.1)
 acts_stay tick _ u _ key (act_enters s m x l t d ds g a) h =
     acts_stay tick m u ds key a (
       subst IsSome (sym (g.others key other)) h.0,

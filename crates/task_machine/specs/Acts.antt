@@ -1,9 +1,9 @@
 -- What a task does to scopes: what it and its world have of them, and how that changes as events are made.
-use Rattle.std.specs.Prelude.{◌≡◌, ℕ, Option, Some, None, List, [], ◌∷◌, ◌++◌, length, slice_get, slice_set}
+use Rattle.std.specs.Prelude.{◌≡◌, ℕ, ◌||◌, Option, Some, None, List, [], ◌∷◌, ◌++◌, length, slice_get, slice_set}
 use Rattle.std.specs.Option.{ForSome, option_map}
 use Rattle.exc_groups.specs.Exceptions.{Label, Exc}
-use Rattle.cancel_scopes.specs.Sight.{Tick, Level}
-use Rattle.cancel_scopes.specs.Tree.{Stack, Tree, stack_of, outer_of, own_from, own_label, after_cancel, OthersKeep, IsInnermost}
+use Rattle.cancel_scopes.specs.Sight.{Tick, Level, before, sight}
+use Rattle.cancel_scopes.specs.Tree.{Stack, Tree, stack_of, outer_of, own_from, own_label, after_cancel, is_changed, OthersKeep, SameMarks, OtherMarksKeep, IsInnermost}
 use Rattle.job_meaning.specs.Log as log
 use Rattle.job_meaning.specs.Rest.{Event, noted, signs, enters, starts}
 use Rattle.task_machine.specs.declared.entry.ScopeFrom.{ScopeFrom}
@@ -23,11 +23,17 @@ pub record Scoping : Type 0 where
 abbrev pub scoping_of : Task → World → Scoping
 scoping_of task world = record { tree = world.scopes; labels = label_at world; own = task.own.items; froms = task.froms.items }
 
+-- the scope of this key is cancelled in a tick: so it is in each stack, and each scope whose sight that lowers is marked as changed
+pub record Cancels (key tick : ℕ) (old new : Tree) : Type 0 where
+  pub stacks : (other : ℕ) → stack_of new other ≡ option_map (after_cancel key tick) (stack_of old other)
+  pub marks :
+      (other : ℕ) → ForSome (stack_of old other) (λ st. is_changed new other ≡ (is_changed old other || before (sight (after_cancel key tick st)) (sight st)))
+
 -- a scope of this label is cancelled in a tick
 pub record Signs (tick : ℕ) (label : Label) (old new : Scoping) : Type 0 where
   pub key : ℕ
   pub labelled : old.labels key ≡ Some label
-  pub stacks : (other : ℕ) → stack_of new.tree other ≡ option_map (after_cancel key tick) (stack_of old.tree other)
+  pub cancels : Cancels key tick old.tree new.tree
   pub labels : new.labels ≡ old.labels
   pub own : new.own ≡ old.own
   pub froms : new.froms ≡ old.froms
@@ -45,6 +51,7 @@ pub record Enters (label : Label) (deadline : Tick) (old new : Scoping) : Type 0
   pub named : level.label ≡ scope.id
   pub from : level.from ≡ deadline
   pub others : OthersKeep old.tree new.tree scope.id
+  pub marks : SameMarks old.tree new.tree
   pub labelled : Updates old.labels new.labels scope.id (Some label)
 
 -- the last scope that the task opened is closed, which is round no other, and its from is kept at its place
@@ -59,6 +66,7 @@ pub record Leaves (old new : Scoping) : Type 0 where
   pub froms : new.froms ≡ slice_set old.froms scope.at (record entry { seen = from })
   pub closed : stack_of new.tree scope.id ≡ None
   pub others : OthersKeep old.tree new.tree scope.id
+  pub marks : OtherMarksKeep old.tree new.tree scope.id
   pub unlabelled : Updates old.labels new.labels scope.id None
 
 -- From one state to another in a tick, while these events are made: for each sign a scope is cancelled, for each scope or
@@ -74,7 +82,7 @@ pub data Acts (tick : ℕ) : Scoping → List Event → Scoping → Type 0 where
 -- the scope of this key is cancelled in the tick of a world, or none is
 abbrev pub Signed : World → World → Option ℕ → Type 0
 Signed old new None = new.scopes ≡ old.scopes
-Signed old new (Some key) = (other : ℕ) → stack_of new.scopes other ≡ option_map (after_cancel key old.tick) (stack_of old.scopes other)
+Signed old new (Some key) = Cancels key old.tick old.scopes new.scopes
 
 -- who ends with an exception signs for the innermost scope
 abbrev pub key_failed : Option Exc → Stack → Option ℕ

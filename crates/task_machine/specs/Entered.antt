@@ -7,7 +7,7 @@ use Rattle.nursery_book.specs.Book.{nursery_at}
 use Rattle.nursery_book.specs.Book as book
 use Rattle.exc_groups.specs.Exceptions.{Label}
 use Rattle.cancel_scopes.specs.Sight.{Tick, Level}
-use Rattle.cancel_scopes.specs.Tree.{stack_of, outer_of, OthersKeep}
+use Rattle.cancel_scopes.specs.Tree.{stack_of, outer_of, OthersKeep, SameMarks}
 use Rattle.job_meaning.specs.Log.{Table}
 use Rattle.task_turns.specs.Midway.{Place}
 use Rattle.task_turns.specs.Names.{IsName, names_at, OwnNames}
@@ -48,6 +48,7 @@ pub record EntersOne (before after : Task) (old new : World) (label : Label) (de
   pub named : level.label ≡ own.id
   pub from : level.from ≡ deadline
   pub others : OthersKeep old.scopes new.scopes own.id
+  pub marks : SameMarks old.scopes new.scopes
   pub labelled : Updates (label_at old) (label_at new) own.id (Some label)
 
 -- a frame that holds the steps of a block

@@ -3,7 +3,7 @@ use Rattle.std.specs.Prelude.{◌≡◌, ℕ, Option, Some, None, List, [], ◌�
 use Rattle.std.specs.Option.{ForSome}
 use Rattle.std.specs.List.{last_or}
 use Rattle.cancel_scopes.specs.Sight.{Tick, Level, catches}
-use Rattle.cancel_scopes.specs.Tree.{Tree, Stack, stack_of, outer_of, own_from, OthersKeep, IsInnermost}
+use Rattle.cancel_scopes.specs.Tree.{Tree, Stack, stack_of, outer_of, own_from, OthersKeep, OtherMarksKeep, IsInnermost}
 use Rattle.job_meaning.specs.Log.{Table}
 use Rattle.task_turns.specs.Midway.{Place, stack_at}
 use Rattle.task_machine.specs.declared.entry.ScopeFrom.{ScopeFrom}
@@ -41,6 +41,7 @@ pub record LeavesOne (before after : Task) (old new : World) : Type 0 where
   pub froms : after.froms.items ≡ slice_set before.froms.items last.at (record entry { seen = from })
   pub closed : stack_of new.scopes last.id ≡ None
   pub others : OthersKeep old.scopes new.scopes last.id
+  pub marks : OtherMarksKeep old.scopes new.scopes last.id
   pub unlabelled : Updates (label_at old) (label_at new) last.id None
 
 -- The innermost place is left: the task is in those round it, with the same froms, and the scope that was left catches as

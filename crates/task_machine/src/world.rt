@@ -1,8 +1,8 @@
-ghost use Rattle.std.specs.Prelude.{◌≡◌, ℕ, ◌+◌, ◌<◌, ◌≤◌, ◌^◌, [], ◌∷◌, Some, None, IsSome, IfOk, OnOk};
+ghost use Rattle.std.specs.Prelude.{◌≡◌, ℕ, ◌+◌, ◌<◌, ◌≤◌, ◌^◌, ◌||◌, false, [], ◌∷◌, Some, None, IsSome, IfOk, OnOk};
 ghost use Rattle.std.specs.Option.{ForSome, option_map};
 ghost use Rattle.std.specs.Borrow.{sem};
-ghost use Rattle.cancel_scopes.specs.Sight.{seen};
-ghost use Rattle.cancel_scopes.specs.Tree.{stack_of, IsOpen, outer_of, OthersKeep, after_cancel, own_from, IsInnermost};
+ghost use Rattle.cancel_scopes.specs.Sight.{before, seen, sight};
+ghost use Rattle.cancel_scopes.specs.Tree.{stack_of, is_changed, IsOpen, outer_of, OthersKeep, SameMarks, OtherMarksKeep, after_cancel, own_from, IsInnermost};
 ghost use Rattle.cancel_scopes.specs.Tree as tree;
 ghost use Rattle.nursery_book.specs.Book.{nursery_at};
 ghost use Rattle.task_machine.specs.Labels.{Updates};
@@ -42,6 +42,7 @@ impl<'a> World<'a> {
         ensures scopes { (key : ℕ) → stack_of result.scopes key ≡ None }
         ensures labels { (key : ℕ) → label_at result key ≡ None }
         ensures book { (key : ℕ) → nursery_at result.book key ≡ None }
+        ensures unchanged { (key : ℕ) → is_changed result.scopes key ≡ false }
         ensures started { result.started.items ≡ [] }
     {
         World {
@@ -123,6 +124,7 @@ impl<'a> World<'a> {
         ensures opened { IfOk result (λ id. stack_of self.new.scopes id ≡
             Some (record { label = id; shield = shield; from = deadline } ∷ outer_of self.old.scopes outer)) }
         ensures others { IfOk result (OthersKeep self.old.scopes self.new.scopes) }
+        ensures marks { SameMarks self.old.scopes self.new.scopes }
         ensures label { IfOk result (λ id. Updates (label_at self.old) (label_at self.new) id (Some label)) }
         ensures rest { self.new ≡ record self.old { scopes = self.new.scopes; labels = self.new.labels } }
     {
@@ -140,6 +142,7 @@ impl<'a> World<'a> {
         ensures from { ForSome (stack_of self.old.scopes id) (λ stack. result.1 ≡ own_from stack) }
         ensures closed { stack_of self.new.scopes id ≡ None }
         ensures others { OthersKeep self.old.scopes self.new.scopes id }
+        ensures marks { OtherMarksKeep self.old.scopes self.new.scopes id }
         ensures taken { Updates (label_at self.old) (label_at self.new) id None }
         ensures rest { self.new ≡ record self.old { scopes = self.new.scopes; labels = self.new.labels } }
     {
@@ -154,6 +157,8 @@ impl<'a> World<'a> {
         requires tick { self.old.tick + 1 < 2 ^ 41 }
         ensures stacks { (key : ℕ) → stack_of self.new.scopes key
             ≡ option_map (after_cancel id self.old.tick) (stack_of self.old.scopes key) }
+        ensures marks { (key : ℕ) → ForSome (stack_of self.old.scopes key) (λ stack. is_changed self.new.scopes key
+            ≡ (is_changed self.old.scopes key || before (sight (after_cancel id self.old.tick stack)) (sight stack))) }
         ensures rest { self.new ≡ record self.old { scopes = self.new.scopes } }
     {
         self.scopes.cancel(id, self.tick);

@@ -17,7 +17,7 @@ returns-in-Some-clause-at c =
     let world = c.args.world.now in
     let found = ap (λ (s : Option ℕ). scope_named (label_at world) c.args.name (outer_of world.scopes s)) (sym c.scope.ensures) ∙ sym c.find.ensures ∙ c.in-Some.is in
     record {
-      signed = subst (λ (o : Option ℕ). Signed world c.sign.new.self o) (sym found) c.sign.ensures.stacks;
+      signed = subst (λ (o : Option ℕ). Signed world c.sign.new.self o) (sym found) (record { stacks = c.sign.ensures.stacks; marks = c.sign.ensures.marks });
       lowered =
           cancels_at (label_at world) (label_at c.sign.new.self) world.scopes c.sign.new.self.scopes _ c.args.name c.in-Some.id world.tick (ap label_at c.sign.ensures.rest)
           c.sign.ensures.stacks found;

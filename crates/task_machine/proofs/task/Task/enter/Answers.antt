@@ -36,5 +36,6 @@ returns-clause-own c =
       named = refl;
       from = refl;
       others = entered.others;
+      marks = c.enter.ensures.marks;
       labelled = subst (λ (l : Label). Updates (label_at world) (label_at c.enter.new.self) c.in_ok-id.id (Some l)) c.in_ok-label.ensures entered.label;
     }

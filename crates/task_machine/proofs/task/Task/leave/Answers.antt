@@ -39,6 +39,7 @@ returns-clause-left c =
       froms = refl;
       closed = c.leave-label.ensures.closed;
       others = c.leave-label.ensures.others;
+      marks = c.leave-label.ensures.marks;
       unlabelled = c.leave-label.ensures.taken;
     }
 
