@@ -17,7 +17,8 @@ use Rattle.task_roster.specs.declared.roster.Running.{Running}
 use Rattle.job_runner.specs.declared.runner.Runner.{Runner}
 use Rattle.task_roster.specs.Roster.{running_at}
 use Rattle.task_roster.specs.Rows.{times}
-use Rattle.job_runner.specs.Shelves.{AreShelved, GoesBy, IsCalled, IsGoing, IsRight, IsSameJob, IsUnderway, running_times, times_shelved}
+use Rattle.job_runner.specs.Shelves.{AreShelved, GoesBy, IsCalled, IsGoing, IsRight, IsSameJob, IsUnderway, NoneChanged, running_times, times_shelved}
+use Rattle.job_runner.specs.Steps.{SeesOnly}
 use Rattle.task_roster.proofs.Apart.{one_if}
 use Rattle.job_runner.proofs.Places.{at_place, times_cons}
 use Rattle.job_runner.proofs.Shelving.{times_now, times_next, one_else, one_same, none_away}
@@ -75,16 +76,16 @@ shelved_placed r b answers s current next =
       within = s.within;
       bounded = s.bounded;
       none_started = s.none_started;
-      timers = s.timers;
-      sleepers = s.sleepers;
+      doze = s.doze;
+      known = s.known;
       current = subst (All (λ (e : Entry). IsCalled r.roster r.world e.task e.call)) (sym current) (placed_same (IsCalled r.roster r.world) r.batch.current answers s.current);
       next = subst (All (λ (a : Added). IsCalled r.roster r.world a.0 a.1)) (sym next) s.next;
       once = λ id other.
-          let all : times_shelved r.batch r.sleepers.items id ≡ running_times r.world.book (running_at r.roster id) = s.once id other in
+          let all : times_shelved r.batch r.clock id ≡ running_times r.world.book (running_at r.roster id) = s.once id other in
           let a : times_now id b.current ≡ times_now id r.batch.current = ap (times_now id) current ∙ ap (times id) (placed_tasks r.batch.current answers) in
           let c : times_next id b.next ≡ times_next id r.batch.next = ap (times_next id) next in
           omega (arith, all, a, c);
-      away = none_away (λ (x : ℕ). times_shelved b r.sleepers.items x ≡ 0);
+      away = none_away (λ (x : ℕ). times_shelved b r.clock x ≡ 0);
     }
 
 -- ---- one entry is taken out
@@ -123,26 +124,26 @@ shelved_out r b place e s is current next =
       within = s.within;
       bounded = s.bounded;
       none_started = s.none_started;
-      timers = s.timers;
-      sleepers = s.sleepers;
+      doze = s.doze;
+      known = s.known;
       current =
           subst (All (λ (x : Entry). IsCalled r.roster r.world x.task x.call)) (sym current) (all_without (λ (x : Entry). IsCalled r.roster r.world x.task x.call) r.batch.current place s.current);
       next = subst (All (λ (a : Added). IsCalled r.roster r.world a.0 a.1)) (sym next) s.next;
       once = λ id other.
-          let all : times_shelved r.batch r.sleepers.items id ≡ running_times r.world.book (running_at r.roster id) = s.once id tt in
-          let less : times_shelved r.batch r.sleepers.items id ≡ one_if (e.task == id) + times_shelved b r.sleepers.items id = fewer id in
+          let all : times_shelved r.batch r.clock id ≡ running_times r.world.book (running_at r.roster id) = s.once id tt in
+          let less : times_shelved r.batch r.clock id ≡ one_if (e.task == id) + times_shelved b r.clock id = fewer id in
           let none : one_if (e.task == id) ≡ 0 = one_else e.task id (λ f. other (sym f)) in
           omega (arith, all, less, none);
       away = λ id f.
           let key : e.task ≡ id = same_Some e.task id f in
-          let all : times_shelved r.batch r.sleepers.items id ≡ running_times r.world.book (running_at r.roster id) = s.once id tt in
+          let all : times_shelved r.batch r.clock id ≡ running_times r.world.book (running_at r.roster id) = s.once id tt in
           let most : running_times r.world.book (running_at r.roster id) ≤ 1 = running_most r.world.book (running_at r.roster id) in
-          let less : times_shelved r.batch r.sleepers.items id ≡ one_if (e.task == id) + times_shelved b r.sleepers.items id = fewer id in
+          let less : times_shelved r.batch r.clock id ≡ one_if (e.task == id) + times_shelved b r.clock id = fewer id in
           let one : one_if (e.task == id) ≡ 1 = one_same e.task id key in
           omega (arith, all, most, less, one);
     }
   where
-    fewer : (id : ℕ) → times_shelved r.batch r.sleepers.items id ≡ one_if (e.task == id) + times_shelved b r.sleepers.items id
+    fewer : (id : ℕ) → times_shelved r.batch r.clock id ≡ one_if (e.task == id) + times_shelved b r.clock id
     fewer id =
         let a : times_now id r.batch.current ≡ one_if (e.task == id) + times_now id (remove r.batch.current place) = times_out id r.batch.current place e is in
         let c : times_now id b.current ≡ times_now id (remove r.batch.current place) = ap (times_now id) current in
@@ -213,23 +214,35 @@ module _ {P : Type 0} (picks : P → ℕ → ℕ → P → Type 0) (was r : Runn
               omega (arith, a, c, d, turns);
         }
 
--- none is left of the batch
-pub commits_last : (was r : Runner) (left b : Batches) → IsCommitting was r → left ≡ r.batch → r.batch.current ≡ [] → b.current ≡ map unplaced left.next → b.next ≡ [] → NonePlaced b.current →
-    IsUnderway (record r { batch = b })
-commits_last was r left b h same over current next fresh =
-    record {
-      going =
-          record {
-            sound = h.going.sound;
-            shelved = turned_over r b h.going.shelved over (current ∙ ap (λ (x : Batches). map unplaced x.next) same) next;
-            course = h.going.course;
-          };
-      unplaced = fresh;
-      nothing_added = next;
-    }
+-- none is left of the batch, and the sleepers know of each sight that was lowered
+module _ (was r told : Runner) (left b : Batches) (h : IsCommitting was r) (same : left ≡ r.batch) (over : r.batch.current ≡ []) (only : SeesOnly (record r { batch = left }) told) (going : IsGoing None told)
+    (unchanged : NoneChanged told.world) (current : b.current ≡ map unplaced told.batch.next) (next : b.next ≡ []) (fresh : NonePlaced b.current) where
+  told_batch : told.batch ≡ r.batch
+  told_batch = ap (λ (x : Runner). x.batch) only ∙ same
 
-pub commits_same : (was r : Runner) (b : Batches) → IsCommitting was r → IsSameJob was (record r { batch = b })
-commits_same was r b h = record { job = h.same.job; input = h.same.input; limit = h.same.limit }
+  told_over : told.batch.current ≡ []
+  told_over = ap (λ (x : Batches). x.current) told_batch ∙ over
 
-pub commits_turns : (was r : Runner) → IsCommitting was r → r.batch.current ≡ [] → r.turns ≡ was.turns + length was.batch.current
-commits_turns was r h over = let a : length r.batch.current ≡ 0 = ap length over in let b : r.turns + length r.batch.current ≡ was.turns + length was.batch.current = h.turns in omega (arith, a, b)
+  pub commits_last : IsUnderway (record told { batch = b })
+  commits_last =
+      record {
+        going = record { sound = going.sound; shelved = turned_over told b going.shelved told_over current next; course = going.course };
+        unchanged = unchanged;
+        unplaced = fresh;
+        nothing_added = next;
+      }
+
+  pub commits_same : IsSameJob was (record told { batch = b })
+  commits_same =
+      record {
+        job = ap (λ (x : Runner). x.job) only ∙ h.same.job;
+        input = ap (λ (x : Runner). x.input) only ∙ h.same.input;
+        limit = ap (λ (x : Runner). x.limit) only ∙ h.same.limit;
+      }
+
+  pub commits_turns : told.turns ≡ was.turns + length was.batch.current
+  commits_turns =
+      let a : length r.batch.current ≡ 0 = ap length over in
+      let c : r.turns + length r.batch.current ≡ was.turns + length was.batch.current = h.turns in
+      let d : told.turns ≡ r.turns = ap (λ (x : Runner). x.turns) only in
+      omega (arith, a, c, d)

@@ -1,6 +1,6 @@
 -- A task has ended: what it was before, and what stays of all others.
 use Rattle.std.proofs.Common.{◌≡◌, ◌≢◌, ℕ, ◌+◌, ◌<◌, ◌==◌, Option, Some, None, List, [], ◌∷◌, refl, ap, sym, ◌∙◌, subst, arith}
-use Rattle.std.specs.Prelude.{All, map, slice_get}
+use Rattle.std.specs.Prelude.{All, map, slice_get, IsSomeAnd}
 use Rattle.std.specs.Option.{option_map}
 use Rattle.std.proofs.lemmas.List.Elements.{All-cons, All-head, All-nil, All-tail}
 use Rattle.std.proofs.lemmas.List.Sums.{sum_by-cons}
@@ -33,14 +33,15 @@ use Rattle.run_crew.proofs.Told.{same_owner}
 use Rattle.task_roster.specs.declared.roster.Roster.{Roster}
 use Rattle.task_roster.specs.declared.roster.Running.{Running}
 use Rattle.job_runner.specs.declared.runner.Runner.{Runner}
-use Rattle.job_runner.specs.declared.runner.Sleeper.{Sleeper}
 use Rattle.task_roster.specs.Roster.{running_at, task_of, gone_of, parent_of, many, IsRoster, Ends}
 use Rattle.task_roster.specs.Rows.{times}
-use Rattle.job_runner.specs.Shelves.{GoesBy, IsCalled, Dozes, IsSleeper, times_shelved, running_times, crew_in, AreOnCourse, IsGoing}
+use Rattle.job_runner.specs.Shelves.{GoesBy, IsCalled, Dozes, berth_of, AreKnown, times_shelved, running_times, crew_in, AreOnCourse, IsGoing}
+use Rattle.autojump_clock.specs.Clock.{due_of}
+use Rattle.std.proofs.lemmas.Option.{none-some}
 use Rattle.job_runner.specs.Steps.{IsStopping}
 use Rattle.task_roster.proofs.Apart.{one_if}
 use Rattle.job_runner.proofs.Shelving.{one_same, none_away}
-use Rattle.job_runner.proofs.Stopped.{some_is, some_has}
+use Rattle.job_runner.proofs.Stopped.{some_is, some_has, no_timer}
 use Rattle.job_runner.proofs.Lived.{LivesBy, lives_by, task_at}
 
 -- a home is at a place of a nursery
@@ -181,37 +182,46 @@ module _ (r : Runner) (roster : Roster) (book : NurseryBook) (b : Batches) (id r
       let x = some_is (running_at r.roster key) (λ (y : Running). GoesBy r.world y.task call) c in
       some_has (running_at roster key) (λ (y : Running). GoesBy (record r.world { book = book }) y.task call) x.0 (e.others key differs ∙ x.1) (goes_after x.0.task call x.2)
 
-  sleeps_after : (s : Sleeper) → s.task ≢ id → IsSleeper r.roster r.world r.clock s → IsSleeper roster (record r.world { book = book }) r.clock s
-  sleeps_after s differs z =
-      let x = some_is (running_at r.roster s.task) (λ (y : Running). Dozes r.world s y.task) z.dozes in
-      record {
-        timer = z.timer;
-        dozes = some_has (running_at roster s.task) (λ (y : Running). Dozes (record r.world { book = book }) s y.task) x.0 (e.others s.task differs ∙ x.1)
-            (record {
-              asleep =
-                  record {
-                    ticks = x.2.asleep.ticks;
-                    since = x.2.asleep.since;
-                    halt = x.2.asleep.halt;
-                    due_is = x.2.asleep.due_is;
-                    began = x.2.asleep.began;
-                    later = x.2.asleep.later;
-                  };
-              unseen = x.2.unseen;
-            });
-      }
+  -- who has a timer is another task
+  timer_else : (key due : ℕ) → due_of r.clock key ≡ Some due → key ≢ id
+  timer_else key due f same =
+      none-some due (sym (no_timer (due_of r.clock id) (let a : times_shelved r.batch r.clock id ≡ 0 = h.shelved.away id refl in omega (arith, a))) ∙ (ap (due_of r.clock) (sym same) ∙ f))
 
-  none : times_shelved r.batch r.sleepers.items id ≡ 0
+  dozes_after : (key due : ℕ) → due_of r.clock key ≡ Some due → IsSomeAnd (running_at roster key) (λ (y : Running). Dozes (record r.world { book = book }) due y.task)
+  dozes_after key due f =
+      let x = some_is (running_at r.roster key) (λ (y : Running). Dozes r.world due y.task) (h.shelved.doze key due f) in
+      some_has (running_at roster key) (λ (y : Running). Dozes (record r.world { book = book }) due y.task) x.0 (e.others key (timer_else key due f) ∙ x.1)
+      (record {
+        asleep =
+            record {
+              ticks = x.2.asleep.ticks;
+              since = x.2.asleep.since;
+              halt = x.2.asleep.halt;
+              due_is = x.2.asleep.due_is;
+              began = x.2.asleep.began;
+              later = x.2.asleep.later;
+            };
+        unseen = x.2.unseen;
+      })
+
+  known_after : AreKnown roster (record r.world { book = book }) r.clock r.sleepers
+  known_after = record { berths = λ key. h.shelved.known.berths key ∙ berth key (due_of r.clock key) refl; sights = h.shelved.known.sights }
+    where
+      berth : (key : ℕ) (d : Option ℕ) → due_of r.clock key ≡ d → berth_of (due_of r.clock key) (running_at r.roster key) ≡ berth_of (due_of r.clock key) (running_at roster key)
+      berth key None f = ap (λ (o : Option ℕ). berth_of o (running_at r.roster key)) f ∙ sym (ap (λ (o : Option ℕ). berth_of o (running_at roster key)) f)
+      berth key (Some due) f = ap (berth_of (due_of r.clock key)) (sym (e.others key (timer_else key due f)))
+
+  none : times_shelved r.batch r.clock id ≡ 0
   none = h.shelved.away id refl
 
   pub added_after : All (λ (a : Added). IsCalled roster (record r.world { book = book }) a.0 a.1) r.batch.next
   added_after =
-      each_other (λ (a : Added). a.0) id r.batch.next (let n : times_shelved r.batch r.sleepers.items id ≡ 0 = none in omega (arith, n))
+      each_other (λ (a : Added). a.0) id r.batch.next (let n : times_shelved r.batch r.clock id ≡ 0 = none in omega (arith, n))
       (λ (a : Added). IsCalled r.roster r.world a.0 a.1) (λ (a : Added). IsCalled roster (record r.world { book = book }) a.0 a.1) h.shelved.next (λ a differs c. called_after a.0 a.1 differs c)
 
   -- where those that were added go on, and each stands as often as it has to
   pub ended_going : IsRoster roster → b.current ≡ r.batch.current → All (λ (a : Added). IsCalled roster (record r.world { book = book }) a.0 a.1) b.next →
-      ((other : ℕ) → times_shelved b r.sleepers.items other ≡ running_times book (running_at roster other)) → IsGoing None (ended_runner r roster book b)
+      ((other : ℕ) → times_shelved b r.clock other ≡ running_times book (running_at roster other)) → IsGoing None (ended_runner r roster book b)
   ended_going agree current next once =
       record {
         sound = h.sound;
@@ -224,18 +234,16 @@ module _ (r : Runner) (roster : Roster) (book : NurseryBook) (b : Batches) (id r
               within = h.shelved.within;
               bounded = h.shelved.bounded;
               none_started = h.shelved.none_started;
-              timers = h.shelved.timers;
-              sleepers =
-                  each_other (λ (s : Sleeper). s.task) id r.sleepers.items (let n : times_shelved r.batch r.sleepers.items id ≡ 0 = none in omega (arith, n)) (IsSleeper r.roster r.world r.clock)
-                  (IsSleeper roster (record r.world { book = book }) r.clock) h.shelved.sleepers sleeps_after;
+              doze = dozes_after;
+              known = known_after;
               current =
                   subst (All (λ (x : Entry). IsCalled roster (record r.world { book = book }) x.task x.call)) (sym current)
-                  (each_other (λ (x : Entry). x.task) id r.batch.current (let n : times_shelved r.batch r.sleepers.items id ≡ 0 = none in omega (arith, n))
+                  (each_other (λ (x : Entry). x.task) id r.batch.current (let n : times_shelved r.batch r.clock id ≡ 0 = none in omega (arith, n))
                   (λ (x : Entry). IsCalled r.roster r.world x.task x.call) (λ (x : Entry). IsCalled roster (record r.world { book = book }) x.task x.call) h.shelved.current
                   (λ x differs c. called_after x.task x.call differs c));
               next = next;
               once = λ other any. once other;
-              away = none_away (λ (x : ℕ). times_shelved b r.sleepers.items x ≡ 0);
+              away = none_away (λ (x : ℕ). times_shelved b r.clock x ≡ 0);
             };
         course = course_after;
       }

@@ -130,6 +130,6 @@ few_requests r h =
 
     once : (id : ℕ) → times id (map (λ (e : Entry). e.task) r.batch.current) ≤ 1
     once id =
-        let all_times : times_shelved r.batch r.sleepers.items id ≡ running_times r.world.book (running_at r.roster id) = shelved.once id tt in
+        let all_times : times_shelved r.batch r.clock id ≡ running_times r.world.book (running_at r.roster id) = shelved.once id tt in
         let most = running_most r.world.book (running_at r.roster id) in
         omega (arith, all_times, most)

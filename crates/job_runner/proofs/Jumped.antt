@@ -1,15 +1,16 @@
 -- The clock jumps: until when all tasks stay, who sleeps, and what holds in the later tick.
-use Rattle.std.proofs.Common.{◌≡◌, ◌≢◌, inl, inr, ℕ, zero, suc, ◌+◌, ◌<◌, ◌≤◌, ◌||◌, if◌then◌else◌, Bool, true, false, Option, Some, None, List, [], ◌∷◌, map, length, refl, ap, sym, ◌∙◌, subst, arith}
-use Rattle.std.specs.Prelude.{All, IsSomeAnd, ◌==◌, ◌⊎◌, nat_le, nat_lt, slice_get, get_or}
+use Rattle.std.proofs.Common.{◌≡◌, inl, inr, ℕ, ◌<◌, ◌≤◌, if◌then◌else◌, Bool, true, false, Option, Some, None, List, [], map, refl, ap, sym, ◌∙◌, subst, arith}
+use Rattle.std.specs.Prelude.{All, IsSomeAnd, ◌⊎◌, nat_le}
 use Rattle.std.proofs.lemmas.Bool.{le-leb}
-use Rattle.std.proofs.lemmas.Bool.Decides.{eqb_tells, leb_tells}
-use Rattle.std.proofs.lemmas.List.Elements.{All-get_or}
+use Rattle.std.proofs.lemmas.Bool.Decides.{leb_tells}
+use Rattle.std.proofs.lemmas.List.Elements.{All-nil}
+use Rattle.std.specs.Option.{ForSome}
 use Rattle.std.proofs.lemmas.Option.{same_Some, none-some}
 use Rattle.batch_commit.specs.declared.entry.Entry.{Entry}
 use Rattle.batch_commit.specs.Entries.{Added}
 use Rattle.autojump_clock.specs.Clock.{Clock, now_of, limit_of, due_of, HasTimer, AllLater, IsNext}
-use Rattle.cancel_scopes.specs.Sight.{Tick, earlier, reached, sight}
-use Rattle.cancel_scopes.specs.Tree.{outer_of}
+use Rattle.cancel_scopes.specs.Sight.{Tick, reached, seen, sight}
+use Rattle.cancel_scopes.specs.Tree.{outer_of, IsOpen}
 use Rattle.nursery_book.specs.Nursery.{Nursery, is_settled}
 use Rattle.nursery_book.specs.Book.{nursery_at}
 use Rattle.nursery_book.specs.declared.book.NurseryBook.{NurseryBook}
@@ -18,8 +19,6 @@ use Rattle.job_meaning.specs.Follow.{IsSettled}
 use Rattle.job_meaning.specs.Log.{Table}
 use Rattle.job_meaning.specs.Meaning.{meaning_table, meaning_end}
 use Rattle.job_meaning.specs.Rest.{Stopped, at_end}
-use Rattle.job_meaning.proofs.Ticks.{reached_earlier}
-use Rattle.job_meaning.proofs.Clips.{upto_earlier, upto_most}
 use Rattle.job_meaning.proofs.Settled.{table_is_settled}
 use Rattle.task_machine.specs.declared.stop.Halt.{Halt}
 use Rattle.task_machine.specs.declared.stop.Halt.TheVariants.{ToBegin, Asked, Asleep, Awaits, Over}
@@ -36,13 +35,14 @@ use Rattle.run_crew.proofs.Jumped.{crew_jumps}
 use Rattle.task_roster.specs.declared.roster.Roster.{Roster}
 use Rattle.task_roster.specs.declared.roster.Running.{Running}
 use Rattle.job_runner.specs.declared.runner.Runner.{Runner}
-use Rattle.job_runner.specs.declared.runner.Sleeper.{Sleeper}
-use Rattle.job_runner.specs.Jumps.{sight_by, sight_in, next_cancel_of, HasOpenScope, Slept, IsAnyNow, HasJumped}
+use Rattle.job_runner.specs.Jumps.{sight_by, sight_in, Slept, IsAnyNow, IsWaking}
+use Rattle.sleeper_sights.specs.Sleeping.{IsFirst}
 use Rattle.task_roster.specs.Roster.{running_at, task_of, gone_of, id_of, many, crew_of, IsRoster}
 use Rattle.task_roster.specs.Rows.{times}
-use Rattle.job_runner.specs.Shelves.{Dozes, IsSleeper, settled_times, halt_times, running_times, times_shelved, crew_in, IsGoing, IsUnderway}
+use Rattle.job_runner.specs.Shelves.{IsCalled, Dozes, berth_of, timer_times, settled_times, halt_times, running_times, times_shelved, crew_in, IsGoing, IsUnderway}
 use Rattle.task_roster.proofs.Apart.{one_if}
-use Rattle.job_runner.proofs.Places.{at_place, all_by_place, times_cons}
+use Rattle.job_runner.proofs.Known.{seen_by, sees_from}
+use Rattle.job_runner.proofs.Stopped.{some_is, some_has}
 use Rattle.job_runner.proofs.Lived.{lives_by, task_at}
 
 -- ---- who lives under which id
@@ -57,74 +57,20 @@ record LivesAt (r : Roster) (task : Task) : Type 0 where
 lives_at : (r : Roster) → IsRoster r → (p : ℕ) (task : Task) → task_of r p ≡ Some task → LivesAt r task
 lives_at r agree p task e = let l = lives_by r agree p task e in record { id = id_of r p; running = l.running; is = l.is; task_is = l.task_is }
 
--- ---- who stands where
-
--- a sleeper with this id
-record Standing (id : ℕ) (ss : List Sleeper) : Type 0 where
-  place : ℕ
-  sleeper : Sleeper
-  stands : slice_get ss place ≡ Some sleeper
-  task_is : sleeper.task ≡ id
-
-standing : (id n : ℕ) (ss : List Sleeper) → times id (map (λ (s : Sleeper). s.task) ss) ≡ suc n → Standing id ss
-standing id n [] e = absurd (let f : 0 ≡ suc n = e in omega (arith, f))
-standing id n (s ∷ ss) e = by_test (eqb_tells s.task id) (λ f. standing id n ss f)
-  where
-    more : times id (map (λ (s : Sleeper). s.task) (s ∷ ss)) ≡ one_if (s.task == id) + times id (map (λ (s : Sleeper). s.task) ss)
-    more = times_cons id s.task (map (λ (s : Sleeper). s.task) ss)
-
-    by_test : (((s.task == id) ≡ true) × (s.task ≡ id)) ⊎ (((s.task == id) ≡ false) × (s.task ≢ id)) → (times id (map (λ (s : Sleeper). s.task) ss) ≡ suc n → Standing id ss) → Standing id (s ∷ ss)
-    by_test (inl h) rest = record { place = zero; sleeper = s; stands = refl; task_is = h.1 }
-    by_test (inr h) rest =
-        let zero_if : one_if (s.task == id) ≡ 0 = ap one_if h.0 in
-        let r = rest (omega (arith, more, e, zero_if)) in
-        record { place = suc r.place; sleeper = r.sleeper; stands = r.stands; task_is = r.task_is }
-
 -- ---- a run of which nobody is ready
 
 crew_now : (r : Runner) → IsGoing None r → IsCrew (meaning_table r.job.now r.input.now) r.job.now r.input.now r.world.tick (many r.roster) None (crew_in r)
 crew_now r g = g.course (meaning_table r.job.now r.input.now) (table_is_settled r.job.now r.input.now g.sound.names)
 
 -- the scope of each task is open
-pub scopes_open : (r : Runner) → IsGoing None r → (id : ℕ) (x : Running) → running_at r.roster id ≡ Some x → HasOpenScope r.world x
+pub scopes_open : (r : Runner) → IsGoing None r → (id : ℕ) (x : Running) → running_at r.roster id ≡ Some x → ForSome (scope_of x.task) (IsOpen r.world.scopes)
 scopes_open r g id x is = ((crew_now r g).follows x.row x.task (task_at r.roster g.shelved.agree id x is)).goes.scope
-
--- and so is that of each sleeper
-pub sleepers_see : (r : Runner) → IsGoing None r → (s : Sleeper) → IsSleeper r.roster r.world r.clock s → IsSomeAnd (running_at r.roster s.task) (HasOpenScope r.world)
-sleepers_see r g s h = by_running (running_at r.roster s.task) refl h.dozes
-  where
-    by_running : (o : Option Running) → running_at r.roster s.task ≡ o → IsSomeAnd o (λ (x : Running). Dozes r.world s x.task) → IsSomeAnd o (HasOpenScope r.world)
-    by_running None e d = absurd d
-    by_running (Some x) e d = scopes_open r g s.task x e
-
--- one of the sleepers in order
-pub item_sees : (r : Runner) → IsUnderway r → (items : List Sleeper) → items ≡ r.sleepers.items → (i : ℕ) → i < length items → (s : Sleeper) → s ≡ get_or items i s →
-    IsSomeAnd (running_at r.roster s.task) (HasOpenScope r.world)
-item_sees r w items same i lt s is =
-    sleepers_see r w.going s
-    (subst (IsSleeper r.roster r.world r.clock) (sym is) (All-get_or (IsSleeper r.roster r.world r.clock) items i s lt (subst (All (IsSleeper r.roster r.world r.clock)) (sym same) w.going.shelved.sleepers)))
 
 -- ---- until when they stay
 
 over_has_ended : (ns : Numbers) (book : NurseryBook) (stopped : Stopped) → IsHalt ns book Over stopped → live stopped ≡ true → ⊥
 over_has_ended ns book (at_end t x) i l = let f : false ≡ true = l in cc
 over_has_ended ns book _ i l = absurd i
-
--- where the first of two ticks has not come by the earlier one, the second is that
-earlier_second : (a b : Tick) (t : ℕ) → earlier a b ≡ Some t → reached a t ≡ false → b ≡ Some t
-earlier_second None b t e f = e
-earlier_second (Some x) None t e f =
-    absurd (let le : nat_le x t ≡ true = ap (λ (y : ℕ). nat_le x y) (sym (same_Some x t e)) ∙ le_true x in let g : true ≡ false = sym le ∙ f in cc)
-  where
-    le_true : (y : ℕ) → nat_le y y ≡ true
-    le_true y = le-leb y y (omega arith)
-earlier_second (Some x) (Some y) t e f = by_less (nat_lt y x) refl
-  where
-    by_less : (b : Bool) → nat_lt y x ≡ b → Some y ≡ Some t
-    by_less true g = ap (λ (b : Bool). Some (if b then y else x)) (sym g) ∙ e
-    by_less false g =
-        let same : x ≡ t = same_Some x t (ap (λ (b : Bool). Some (if b then y else x)) (sym g) ∙ e) in
-        absurd (let h : true ≡ false = sym (le-leb x t (omega (arith, same))) ∙ f in cc)
 
 same_sleep : (a b c d : ℕ) → Asleep a b ≡ Asleep c d → (a ≡ c) × (b ≡ d)
 same_sleep a b c d e = (cc, cc)
@@ -134,10 +80,10 @@ module _ (r : Runner) (w : IsUnderway r) (none : r.batch.current ≡ []) where
   crew : IsCrew (meaning_table r.job.now r.input.now) r.job.now r.input.now r.world.tick (many r.roster) None (crew_in r)
   crew = crew_now r w.going
 
-  -- a task that lives stands among the sleepers as often as its halt says
-  stands_times : (task : Task) (at : LivesAt r.roster task) → times at.id (map (λ (s : Sleeper). s.task) r.sleepers.items) ≡ halt_times r.world.book task.halt
-  stands_times task at =
-      let all : times_shelved r.batch r.sleepers.items at.id ≡ running_times r.world.book (running_at r.roster at.id) = w.going.shelved.once at.id tt in
+  -- a task that lives has a timer as often as its halt says
+  timed_times : (task : Task) (at : LivesAt r.roster task) → timer_times (due_of r.clock at.id) ≡ halt_times r.world.book task.halt
+  timed_times task at =
+      let all : times_shelved r.batch r.clock at.id ≡ running_times r.world.book (running_at r.roster at.id) = w.going.shelved.once at.id tt in
       let current : times at.id (map (λ (e : Entry). e.task) r.batch.current) ≡ 0 = ap (λ (es : List Entry). times at.id (map (λ (e : Entry). e.task) es)) none in
       let next : times at.id (map (λ (a : Added). a.0) r.batch.next) ≡ 0 = ap (λ (es : List Added). times at.id (map (λ (a : Added). a.0) es)) w.nothing_added in
       let its : running_times r.world.book (running_at r.roster at.id) ≡ halt_times r.world.book task.halt =
@@ -146,36 +92,34 @@ module _ (r : Runner) (w : IsUnderway r) (none : r.batch.current ≡ []) where
 
   -- and where that is once, it sleeps
   record SleepsAs (task : Task) : Type 0 where
-    place : ℕ
-    sleeper : Sleeper
-    stands : slice_get r.sleepers.items place ≡ Some sleeper
-    is_sleeper : IsSleeper r.roster r.world r.clock sleeper
-    seen_by : sight_in r.roster r.world sleeper.task ≡ sight (outer_of r.world.scopes (scope_of task))
-    dozes : Dozes r.world sleeper task
+    id : ℕ
+    due : ℕ
+    timer : due_of r.clock id ≡ Some due
+    seen_by : sight_in r.roster r.world id ≡ sight (outer_of r.world.scopes (scope_of task))
+    dozes : Dozes r.world due task
 
   sleeps_as : (task : Task) → LivesAt r.roster task → halt_times r.world.book task.halt ≡ 1 → SleepsAs task
-  sleeps_as task at one =
-      record {
-        place = s.place;
-        sleeper = s.sleeper;
-        stands = s.stands;
-        is_sleeper = its;
-        seen_by = ap (sight_by r.world) here ∙ ap (λ (t : Task). sight (outer_of r.world.scopes (scope_of t))) at.task_is;
-        dozes = subst (Dozes r.world s.sleeper) at.task_is (subst (λ (o : Option Running). IsSomeAnd o (λ (x : Running). Dozes r.world s.sleeper x.task)) here its.dozes);
-      }
+  sleeps_as task at one = by_timer (due_of r.clock at.id) refl
     where
-      s : Standing at.id r.sleepers.items
-      s = standing at.id 0 r.sleepers.items (stands_times task at ∙ one)
-
-      its : IsSleeper r.roster r.world r.clock s.sleeper
-      its = at_place (IsSleeper r.roster r.world r.clock) r.sleepers.items s.place s.sleeper s.stands w.going.shelved.sleepers
-
-      here : running_at r.roster s.sleeper.task ≡ Some at.running
-      here = ap (running_at r.roster) s.task_is ∙ at.is
+      by_timer : (d : Option ℕ) → due_of r.clock at.id ≡ d → SleepsAs task
+      by_timer None e =
+          let zero_times : timer_times (due_of r.clock at.id) ≡ 0 = ap timer_times e in
+          let its = timed_times task at in
+          absurd (omega (arith, zero_times, its, one))
+      by_timer (Some due) e =
+          record {
+            id = at.id;
+            due = due;
+            timer = e;
+            seen_by = ap (sight_by r.world) at.is ∙ ap (λ (t : Task). sight (outer_of r.world.scopes (scope_of t))) at.task_is;
+            dozes =
+                subst (Dozes r.world due) at.task_is
+                (subst (λ (o : Option Running). IsSomeAnd o (λ (x : Running). Dozes r.world due x.task)) at.is (w.going.shelved.doze at.id due e));
+          }
 
   -- no sleeper is due before a tick, or sees a cancellation before it
   abbrev pub NoneBefore : ℕ → Type 0
-  NoneBefore u = (i : ℕ) (s : Sleeper) → slice_get r.sleepers.items i ≡ Some s → (u ≤ s.due) × (upto u (sight_in r.roster r.world s.task) ≡ u)
+  NoneBefore u = (id due : ℕ) → due_of r.clock id ≡ Some due → (u ≤ due) × (upto u (sight_in r.roster r.world id) ≡ u)
 
   pub all_stay : (u : ℕ) → NoneBefore u → AllStay (crew_in r) u
   all_stay u bound p task e = by_halt task.halt refl
@@ -207,7 +151,7 @@ module _ (r : Runner) (w : IsUnderway r) (none : r.batch.current ≡ []) where
           absurd (let k : Asked kernel purpose ≡ Asleep a.dozes.asleep.ticks a.dozes.asleep.since = sym h ∙ a.dozes.asleep.halt in cc)
       by_halt (Asleep ticks since) h =
           let a = asleep_as (Asleep ticks since) h refl in
-          let b = bound a.place a.sleeper a.stands in
+          let b = bound a.id a.due a.timer in
           let same = same_sleep ticks since a.dozes.asleep.ticks a.dozes.asleep.since (sym h ∙ a.dozes.asleep.halt) in
           ((let le = b.0 in let due = a.dozes.asleep.due_is in let x = same.0 in let y = same.1 in omega (arith, le, due, x, y)), ap (upto u) (sym a.seen_by) ∙ b.1)
       by_halt (Awaits id since) h =
@@ -218,47 +162,19 @@ module _ (r : Runner) (w : IsUnderway r) (none : r.batch.current ≡ []) where
 
   -- ---- what the clock asks
 
-  -- a timer is that of a sleeper who dozes, and later than now
+  -- who has a timer lives and dozes
+  dozer : (id due : ℕ) → due_of r.clock id ≡ Some due → (x : Running) × (running_at r.roster id ≡ Some x) × Dozes r.world due x.task
+  dozer id due e = some_is (running_at r.roster id) (λ (x : Running). Dozes r.world due x.task) (w.going.shelved.doze id due e)
+
+  -- so a timer is later than now
   pub timers_later : AllLater r.clock (now_of r.clock)
   timers_later id due e =
-      let t = w.going.shelved.timers id due e in
-      let its = at_place (IsSleeper r.roster r.world r.clock) r.sleepers.items t.place t.sleeper t.stands w.going.shelved.sleepers in
-      let later = by_running t.sleeper (running_at r.roster t.sleeper.task) its.dozes in
+      let later = (dozer id due e).2.asleep.later in
       let now : now_of r.clock ≡ r.world.tick = w.going.shelved.now in
-      let same : t.sleeper.due ≡ due = t.due_is in
-      omega (arith, later, now, same)
-    where
-      by_running : (s : Sleeper) → (o : Option Running) → IsSomeAnd o (λ (x : Running). Dozes r.world s x.task) → r.world.tick < s.due
-      by_running s None d = absurd d
-      by_running s (Some x) d = d.asleep.later
-
-  -- none sees a cancellation yet
-  none_seen : (ss : List Sleeper) → ((i : ℕ) (s : Sleeper) → slice_get ss i ≡ Some s → IsSleeper r.roster r.world r.clock s) → reached (next_cancel_of r.roster r.world ss) r.world.tick ≡ false
-  none_seen [] all = refl
-  none_seen (s ∷ ss) all =
-      reached_earlier (sight_in r.roster r.world s.task) (next_cancel_of r.roster r.world ss) r.world.tick
-      ∙ ap (λ (b : Bool). b || reached (next_cancel_of r.roster r.world ss) r.world.tick) (by_running (running_at r.roster s.task) (all zero s refl).dozes)
-      ∙ none_seen ss (λ i x e. all (suc i) x e)
-    where
-      by_running : (o : Option Running) → IsSomeAnd o (λ (x : Running). Dozes r.world s x.task) → reached (sight_by r.world o) r.world.tick ≡ false
-      by_running None d = absurd d
-      by_running (Some x) d = d.unseen
-
-  pub cancel_later : (cancel : ℕ) → next_cancel_of r.roster r.world r.sleepers.items ≡ Some cancel → now_of r.clock < cancel
-  cancel_later cancel e =
-      let unseen : nat_le cancel r.world.tick ≡ false =
-      sym (ap (λ (t : Tick). reached t r.world.tick) e)
-      ∙ none_seen r.sleepers.items (λ i s f. at_place (IsSleeper r.roster r.world r.clock) r.sleepers.items i s f w.going.shelved.sleepers) in
-      let now : now_of r.clock ≡ r.world.tick = w.going.shelved.now in
-      by_test now unseen (leb_tells cancel r.world.tick)
-    where
-      by_test : now_of r.clock ≡ r.world.tick → nat_le cancel r.world.tick ≡ false → ((nat_le cancel r.world.tick ≡ true) × (cancel ≤ r.world.tick)) ⊎ ((nat_le cancel r.world.tick ≡ false) × (r.world.tick < cancel)) →
-          now_of r.clock < cancel
-      by_test now unseen (inl h) = absurd (let f : true ≡ false = sym h.0 ∙ unseen in cc)
-      by_test now unseen (inr h) = let lt = h.1 in omega (arith, lt, now)
+      omega (arith, later, now)
 
   none_before_zero : NoneBefore 0
-  none_before_zero i s e = (omega arith, by_tick (sight_in r.roster r.world s.task))
+  none_before_zero id due e = (omega arith, by_tick (sight_in r.roster r.world id))
     where
       by_tick : (t : Tick) → upto 0 t ≡ 0
       by_tick None = refl
@@ -270,7 +186,7 @@ module _ (r : Runner) (w : IsUnderway r) (none : r.batch.current ≡ []) where
       let h = crew_sleeps (meaning_table r.job.now r.input.now) r.job.now r.input.now r.world.tick (many r.roster) (crew_in r) (table_is_settled r.job.now r.input.now w.going.sound.names) w.going.sound.names
       w.going.sound.starts crew 0 (all_stay 0 none_before_zero) s task e in
       let a = sleeps_as h.task (lives_at r.roster w.going.shelved.agree h.serial h.task h.lives) (ap (halt_times r.world.book) h.asleep) in
-      (a.sleeper.task, a.sleeper.due, a.is_sleeper.timer)
+      (a.id, a.due, a.timer)
 
   -- the root lives where it has not ended
   pub root_lives : gone_of r.roster 0 ≡ None → (task : Task) × (task_of r.roster 0 ≡ Some task)
@@ -280,113 +196,127 @@ module _ (r : Runner) (w : IsUnderway r) (none : r.batch.current ≡ []) where
       by_task (Some task) f = (task, f)
       by_task None f = let g = crew.ended 0 crew.some f in absurd (none-some g.0 (sym e ∙ g.1))
 
-  -- ---- the next tick
+  -- ---- the first tick from which a sleeper sees a cancellation
 
-  module _ (t : ℕ) (next : IsNext r.clock (next_cancel_of r.roster r.world r.sleepers.items) t) where
-    pub next_later : r.world.tick < t
-    next_later = let now : now_of r.clock ≡ r.world.tick = w.going.shelved.now in by_one now next.is_one
+  module _ (first : Tick) (is_first : IsFirst r.sleepers first) where
+    -- some sleeper sees from that tick on
+    seer : (t : ℕ) → first ≡ Some t → (id : ℕ) × (due : ℕ) × (x : Running) × (due_of r.clock id ≡ Some due) × (running_at r.roster id ≡ Some x) × (sight (outer_of r.world.scopes (scope_of x.task)) ≡ Some t)
+    seer t e =
+        let one = is_first.is_one t e in
+        let z = seen_by r.roster r.world r.clock r.sleepers w.going.shelved.known w.unchanged one.0 t one.1 in
+        (one.0, z.0.due, z.0.running, z.0.timer, z.0.lives, z.1)
+
+    pub cancel_later : (cancel : ℕ) → first ≡ Some cancel → now_of r.clock < cancel
+    cancel_later cancel e =
+        let z = seer cancel e in
+        let d = dozer z.0 z.1 z.3 in
+        let same : d.0 ≡ z.2 = same_Some d.0 z.2 (sym d.1 ∙ z.4) in
+        let unseen : nat_le cancel r.world.tick ≡ false =
+        sym (ap (λ (t : Tick). reached t r.world.tick) z.5)
+        ∙ (ap (λ (x : Running). seen (outer_of r.world.scopes (scope_of x.task)) r.world.tick) (sym same) ∙ d.2.unseen) in
+        by_test w.going.shelved.now unseen (leb_tells cancel r.world.tick)
       where
-        by_one : now_of r.clock ≡ r.world.tick → (next_cancel_of r.roster r.world r.sleepers.items ≡ Some t) ⊎ ((task : ℕ) × (due_of r.clock task ≡ Some t)) → r.world.tick < t
-        by_one now (inl e) = let lt = cancel_later t e in omega (arith, lt, now)
-        by_one now (inr h) = let lt = timers_later h.0 t h.1 in omega (arith, lt, now)
+        by_test : now_of r.clock ≡ r.world.tick → nat_le cancel r.world.tick ≡ false → ((nat_le cancel r.world.tick ≡ true) × (cancel ≤ r.world.tick)) ⊎ ((nat_le cancel r.world.tick ≡ false) × (r.world.tick < cancel)) →
+            now_of r.clock < cancel
+        by_test now unseen (inl h) = absurd (let f : true ≡ false = sym h.0 ∙ unseen in cc)
+        by_test now unseen (inr h) = let lt = h.1 in omega (arith, lt, now)
 
-    upto_next : (c : Tick) → ((cancel : ℕ) → c ≡ Some cancel → t ≤ cancel) → upto t c ≡ t
-    upto_next None h = refl
-    upto_next (Some cancel) h = let le = h cancel refl in omega (arith, le)
+    -- ---- the next tick
 
-    upto_each : (ss : List Sleeper) → upto t (next_cancel_of r.roster r.world ss) ≡ t → (i : ℕ) (s : Sleeper) → slice_get ss i ≡ Some s → upto t (sight_in r.roster r.world s.task) ≡ t
-    upto_each [] e i s f = absurd (none-some s f)
-    upto_each (x ∷ ss) e zero s f =
-        let both = upto_earlier t (sight_in r.roster r.world x.task) (next_cancel_of r.roster r.world ss) in
-        let a = upto_most t (sight_in r.roster r.world x.task) in
-        let first : upto t (sight_in r.roster r.world x.task) ≡ t = omega (arith, both, e, a) in
-        ap (λ (y : Sleeper). upto t (sight_in r.roster r.world y.task)) (sym (same_Some x s f)) ∙ first
-    upto_each (x ∷ ss) e (suc i) s f =
-        let both = upto_earlier t (sight_in r.roster r.world x.task) (next_cancel_of r.roster r.world ss) in
-        let a = upto_most t (next_cancel_of r.roster r.world ss) in
-        upto_each ss (omega (arith, both, e, a)) i s f
+    module _ (t : ℕ) (next : IsNext r.clock first t) where
+      pub next_later : r.world.tick < t
+      next_later = let now : now_of r.clock ≡ r.world.tick = w.going.shelved.now in by_one now next.is_one
+        where
+          by_one : now_of r.clock ≡ r.world.tick → (first ≡ Some t) ⊎ ((task : ℕ) × (due_of r.clock task ≡ Some t)) → r.world.tick < t
+          by_one now (inl e) = let lt = cancel_later t e in omega (arith, lt, now)
+          by_one now (inr h) = let lt = timers_later h.0 t h.1 in omega (arith, lt, now)
 
-    none_before_next : NoneBefore t
-    none_before_next i s e = (
-      next.by_timers s.task s.due (at_place (IsSleeper r.roster r.world r.clock) r.sleepers.items i s e w.going.shelved.sleepers).timer,
-      upto_each r.sleepers.items (upto_next (next_cancel_of r.roster r.world r.sleepers.items) next.by_cancel) i s e,
-    )
+      -- no sleeper sees a cancellation before it
+      none_earlier : (id due : ℕ) (x : Running) → due_of r.clock id ≡ Some due → running_at r.roster id ≡ Some x → upto t (sight (outer_of r.world.scopes (scope_of x.task))) ≡ t
+      none_earlier id due x e f = by_sight (sight (outer_of r.world.scopes (scope_of x.task))) refl
+        where
+          by_sight : (c : Tick) → sight (outer_of r.world.scopes (scope_of x.task)) ≡ c → upto t c ≡ t
+          by_sight None g = refl
+          by_sight (Some cancel) g =
+              let u = some_is first (λ (v : ℕ). v ≤ cancel) (is_first.least id cancel (sees_from r.roster r.world r.clock r.sleepers w.going.shelved.known w.unchanged id due x cancel e f g)) in
+              let le : t ≤ u.0 = next.by_cancel u.0 u.1 in
+              let more : u.0 ≤ cancel = u.2 in
+              omega (arith, le, more)
 
-    abbrev later_world : World
-    later_world = record r.world { tick = t }
+      none_before_next : NoneBefore t
+      none_before_next id due e =
+          let d = dozer id due e in
+          (next.by_timers id due e, ap (λ (o : Option Running). upto t (sight_by r.world o)) d.1 ∙ none_earlier id due d.0 e d.1)
 
-    -- the same tasks are a run of the definitions in that tick
-    pub course_jumps : (k : Table) → IsSettled k r.job.now r.input.now → IsCrew k r.job.now r.input.now t (many r.roster) None (crew_of r.roster (record r.world { tick = t }) r.turns)
-    course_jumps k settled =
-        let c = w.going.course k settled in
-        crew_jumps k r.job.now r.input.now r.world.tick t (many r.roster) (crew_in r) (crew_of r.roster later_world r.turns) (let lt = next_later in omega (arith, lt))
-        (record { turns = refl; task = λ p. refl; gone = λ p. refl; start = λ p. refl; children = λ p. refl }) refl c
-        (crew_blocked k r.job.now r.input.now r.world.tick (many r.roster) (crew_in r) c t (all_stay t none_before_next))
+      abbrev later_world : World
+      later_world = record r.world { tick = t }
 
-    -- and while one lives, the meaning does not end before it
-    pub ends_later : (s : ℕ) (task : Task) → task_of r.roster s ≡ Some task → t ≤ meaning_end r.job.now r.input.now
-    ends_later s task e =
-        crew_in_time r.job.now r.input.now t (many r.roster) (crew_of r.roster later_world r.turns) w.going.sound.names w.going.sound.starts
-        (course_jumps (meaning_table r.job.now r.input.now) (table_is_settled r.job.now r.input.now w.going.sound.names)) s task e
+      -- the same tasks are a run of the definitions in that tick
+      pub course_jumps : (k : Table) → IsSettled k r.job.now r.input.now → IsCrew k r.job.now r.input.now t (many r.roster) None (crew_of r.roster (record r.world { tick = t }) r.turns)
+      course_jumps k settled =
+          let c = w.going.course k settled in
+          crew_jumps k r.job.now r.input.now r.world.tick t (many r.roster) (crew_in r) (crew_of r.roster later_world r.turns) (let lt = next_later in omega (arith, lt))
+          (record { turns = refl; task = λ p. refl; gone = λ p. refl; start = λ p. refl; children = λ p. refl }) refl c
+          (crew_blocked k r.job.now r.input.now r.world.tick (many r.roster) (crew_in r) c t (all_stay t none_before_next))
 
-    -- one is due in that tick, or sees a cancellation
-    any_now : IsAnyNow r.roster later_world r.sleepers.items
-    any_now = by_one next.is_one
-      where
-        by_each : (ss : List Sleeper) → next_cancel_of r.roster r.world ss ≡ Some t → IsAnyNow r.roster later_world ss
-        by_each [] e = absurd (none-some t e)
-        by_each (x ∷ ss) e = by_seen (reached (sight_in r.roster r.world x.task) t) refl (λ f. by_each ss f)
-          where
-            by_seen : (b : Bool) → reached (sight_in r.roster r.world x.task) t ≡ b → (next_cancel_of r.roster r.world ss ≡ Some t → IsAnyNow r.roster later_world ss) → IsAnyNow r.roster later_world (x ∷ ss)
-            by_seen true f rest = record { place = zero; sleeper = x; stands = refl; timely = inr f }
-            by_seen false f rest =
-                let h = rest (earlier_second (sight_in r.roster r.world x.task) (next_cancel_of r.roster r.world ss) t e f) in
-                record { place = suc h.place; sleeper = h.sleeper; stands = h.stands; timely = h.timely }
+      -- and while one lives, the meaning does not end before it
+      pub ends_later : (s : ℕ) (task : Task) → task_of r.roster s ≡ Some task → t ≤ meaning_end r.job.now r.input.now
+      ends_later s task e =
+          crew_in_time r.job.now r.input.now t (many r.roster) (crew_of r.roster later_world r.turns) w.going.sound.names w.going.sound.starts
+          (course_jumps (meaning_table r.job.now r.input.now) (table_is_settled r.job.now r.input.now w.going.sound.names)) s task e
 
-        by_one : (next_cancel_of r.roster r.world r.sleepers.items ≡ Some t) ⊎ ((task : ℕ) × (due_of r.clock task ≡ Some t)) → IsAnyNow r.roster later_world r.sleepers.items
-        by_one (inl e) = by_each r.sleepers.items e
-        by_one (inr h) =
-            let it = w.going.shelved.timers h.0 t h.1 in
-            let due : it.sleeper.due ≡ t = it.due_is in
-            record { place = it.place; sleeper = it.sleeper; stands = it.stands; timely = inl (omega (arith, due)) }
+      -- one is due in that tick, or sees a cancellation
+      any_now : (clock : Clock) → ((task : ℕ) → due_of clock task ≡ due_of r.clock task) → IsAnyNow r.roster later_world clock
+      any_now clock timers = by_one next.is_one
+        where
+          by_one : (first ≡ Some t) ⊎ ((task : ℕ) × (due_of r.clock task ≡ Some t)) → IsAnyNow r.roster later_world clock
+          by_one (inl e) =
+              let z = seer t e in
+              record {
+                id = z.0;
+                due = z.1;
+                timer = timers z.0 ∙ z.3;
+                timely = inr (ap (λ (o : Option Running). reached (sight_by later_world o) t) z.4 ∙ (ap (λ (c : Tick). reached c t) z.5 ∙ le-leb t t (omega arith)));
+              }
+          by_one (inr h) = record { id = h.0; due = t; timer = timers h.0 ∙ h.1; timely = inl (omega arith) }
 
-    slept : All (λ (s : Sleeper). IsSomeAnd (running_at r.roster s.task) (λ (x : Running). Slept later_world s x.task)) r.sleepers.items
-    slept = all_by_place (λ (s : Sleeper). IsSomeAnd (running_at r.roster s.task) (λ (x : Running). Slept later_world s x.task)) r.sleepers.items each
-      where
-        by_running : (s : Sleeper) → t ≤ s.due → (o : Option Running) → running_at r.roster s.task ≡ o → IsSomeAnd o (λ (x : Running). Dozes r.world s x.task) → IsSomeAnd o (λ (x : Running). Slept later_world s x.task)
-        by_running s le None e d = d
-        by_running s le (Some x) e d =
-            record {
-              ticks = d.asleep.ticks;
-              since = d.asleep.since;
-              halt = d.asleep.halt;
-              due_is = d.asleep.due_is;
-              began = (let a = d.asleep.began in let lt = next_later in omega (arith, a, lt));
-              not_over = le;
-              in_scope = scopes_open r w.going s.task x e;
-            }
+      slept : (id due : ℕ) → due_of r.clock id ≡ Some due → IsSomeAnd (running_at r.roster id) (λ (x : Running). Slept later_world due x.task)
+      slept id due e =
+          let d = dozer id due e in
+          some_has (running_at r.roster id) (λ (x : Running). Slept later_world due x.task) d.0 d.1
+          (record {
+            ticks = d.2.asleep.ticks;
+            since = d.2.asleep.since;
+            halt = d.2.asleep.halt;
+            due_is = d.2.asleep.due_is;
+            began = (let a = d.2.asleep.began in let lt = next_later in omega (arith, a, lt));
+            not_over = next.by_timers id due e;
+          })
 
-        each : (i : ℕ) (s : Sleeper) → slice_get r.sleepers.items i ≡ Some s → IsSomeAnd (running_at r.roster s.task) (λ (x : Running). Slept later_world s x.task)
-        each i s e =
-            by_running s (none_before_next i s e).0 (running_at r.roster s.task) refl (at_place (IsSleeper r.roster r.world r.clock) r.sleepers.items i s e w.going.shelved.sleepers).dozes
-
-    -- the runner whose clock jumped there
-    pub has_jumped : (clock : Clock) → t ≤ limit_of r.clock → now_of clock ≡ t → limit_of clock ≡ limit_of r.clock → ((task : ℕ) → due_of clock task ≡ due_of r.clock task) →
-        HasJumped (record r { clock = clock; world = record r.world { tick = t } })
-    has_jumped clock within now limit timers =
-        record {
-          agree = w.going.shelved.agree;
-          homes = λ s task home e f. (let k = w.going.shelved.homes s task home e f in record { task = k.task; lives = k.lives; owned = k.owned });
-          now = now;
-          limit = limit ∙ w.going.shelved.limit;
-          within = (let a : limit_of r.clock ≡ r.limit = w.going.shelved.limit in omega (arith, a, within));
-          bounded = w.going.shelved.bounded;
-          none_started = w.going.shelved.none_started;
-          timers = λ id due e. w.going.shelved.timers id due (sym (timers id) ∙ e);
-          timed = λ i d lt. timers (get_or r.sleepers.items i d).task ∙ (w.going.shelved.sleepers i d lt).timer;
-          slept = slept;
-          none_current = none;
-          none_next = w.nothing_added;
-          once = λ id. w.going.shelved.once id tt;
-          someone = any_now;
-        }
+      -- the runner whose clock jumped there
+      pub has_jumped : (clock : Clock) → t ≤ limit_of r.clock → now_of clock ≡ t → limit_of clock ≡ limit_of r.clock → ((task : ℕ) → due_of clock task ≡ due_of r.clock task) →
+          IsWaking (record r { clock = clock; world = record r.world { tick = t } })
+      has_jumped clock within now limit timers =
+          record {
+            agree = w.going.shelved.agree;
+            homes = λ s task home e f. (let k = w.going.shelved.homes s task home e f in record { task = k.task; lives = k.lives; owned = k.owned });
+            now = now;
+            limit = limit ∙ w.going.shelved.limit;
+            within = (let a : limit_of r.clock ≡ r.limit = w.going.shelved.limit in omega (arith, a, within));
+            bounded = w.going.shelved.bounded;
+            none_started = w.going.shelved.none_started;
+            slept = λ id due e. slept id due (sym (timers id) ∙ e);
+            known =
+                record {
+                  berths = λ id. w.going.shelved.known.berths id ∙ ap (λ (d : Option ℕ). berth_of d (running_at r.roster id)) (sym (timers id));
+                  sights = w.going.shelved.known.sights;
+                };
+            unchanged = w.unchanged;
+            none_current = none;
+            next = subst (All (λ (a : Added). IsCalled r.roster later_world a.0 a.1)) (sym w.nothing_added) (All-nil (λ (a : Added). IsCalled r.roster later_world a.0 a.1));
+            once = λ id.
+                let all : times_shelved r.batch r.clock id ≡ running_times r.world.book (running_at r.roster id) = w.going.shelved.once id tt in
+                let same : timer_times (due_of clock id) ≡ timer_times (due_of r.clock id) = ap timer_times (timers id) in
+                omega (arith, all, same);
+            someone = inr (any_now clock timers);
+          }

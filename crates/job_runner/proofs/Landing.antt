@@ -3,7 +3,7 @@ use Rattle.std.proofs.Common.{◌≡◌, ◌≢◌, ℕ, ◌<◌, ◌≤◌, Opt
 use Rattle.std.specs.Prelude.{All}
 use Rattle.std.proofs.lemmas.List.Elements.{All-map, All-nil}
 use Rattle.std.proofs.lemmas.Option.{none-some}
-use Rattle.autojump_clock.specs.Clock.{Clock, now_of, limit_of, HasTimer, AllLater, IsNext, JumpsTo, MeetsLimit}
+use Rattle.autojump_clock.specs.Clock.{Clock, now_of, limit_of, HasTimer, AllLater, JumpsTo, MeetsLimit}
 use Rattle.batch_commit.specs.declared.entry.Entry.{Entry}
 use Rattle.batch_commit.specs.Batch.{Batches}
 use Rattle.batch_commit.specs.Entries.{Added, NonePlaced, unplaced}
@@ -13,12 +13,13 @@ use Rattle.task_machine.specs.declared.task.Task.{Task}
 use Rattle.task_machine.specs.declared.world.World.{World}
 use Rattle.run_crew.specs.Crew.{Gone}
 use Rattle.job_runner.specs.declared.runner.Phase.TheVariants as phases
+use Rattle.sleeper_sights.specs.Sleeping.{IsFirst}
 use Rattle.job_runner.specs.declared.runner.Runner.{Runner}
-use Rattle.job_runner.specs.Jumps.{next_cancel_of, HasJumped}
+use Rattle.job_runner.specs.Jumps.{IsWaking, WakesOnly}
 use Rattle.job_runner.specs.Phases.{phase_by, phase_of}
 use Rattle.task_roster.specs.Roster.{running_at, task_of, gone_of}
 use Rattle.task_roster.specs.Rows.{times}
-use Rattle.job_runner.specs.Shelves.{IsCalled, AreShelved, AreOnCourse, IsSound, IsUnderway, running_times, times_shelved}
+use Rattle.job_runner.specs.Shelves.{IsCalled, AreShelved, AreOnCourse, IsSound, IsUnderway, NoneChanged, running_times, times_shelved}
 use Rattle.job_runner.proofs.Jumped.{timers_later, cancel_later, has_timer, root_lives, next_later, course_jumps, ends_later, has_jumped}
 
 -- ---- the batch
@@ -49,12 +50,12 @@ turned_over r batch h none current next =
       within = h.within;
       bounded = h.bounded;
       none_started = h.none_started;
-      timers = h.timers;
-      sleepers = h.sleepers;
+      doze = h.doze;
+      known = h.known;
       current = subst (All (λ (e : Entry). IsCalled r.roster r.world e.task e.call)) (sym current) (All-map (λ (e : Entry). IsCalled r.roster r.world e.task e.call) unplaced r.batch.next h.next);
       next = subst (All (λ (a : Added). IsCalled r.roster r.world a.0 a.1)) (sym next) (All-nil (λ (a : Added). IsCalled r.roster r.world a.0 a.1));
       once = λ id other.
-          let all : times_shelved r.batch r.sleepers.items id ≡ running_times r.world.book (running_at r.roster id) = h.once id other in
+          let all : times_shelved r.batch r.clock id ≡ running_times r.world.book (running_at r.roster id) = h.once id other in
           let was : times id (map (λ (e : Entry). e.task) r.batch.current) ≡ 0 = ap (λ (es : List Entry). times id (map (λ (e : Entry). e.task) es)) none in
           let a : times id (map (λ (e : Entry). e.task) batch.current) ≡ times id (map (λ (x : Added). x.0) r.batch.next) =
           ap (λ (es : List Entry). times id (map (λ (e : Entry). e.task) es)) current ∙ ap (times id) (same_tasks r.batch.next) in
@@ -65,15 +66,12 @@ turned_over r batch h none current next =
 
 -- ---- a run that is blocked
 
-module _ (r : Runner) (w : IsUnderway r) (blocked : phase_of r ≡ phases.Blocked) (cancel : Tick) (is_cancel : cancel ≡ next_cancel_of r.roster r.world r.sleepers.items) where
+module _ (r : Runner) (w : IsUnderway r) (blocked : phase_of r ≡ phases.Blocked) (cancel : Tick) (is_first : IsFirst r.sleepers cancel) where
   none : r.batch.current ≡ []
   none = (blocked_none r.batch.current (gone_of r.roster 0) blocked).0
 
   root : (task : Task) × (task_of r.roster 0 ≡ Some task)
   root = root_lives r w none (blocked_none r.batch.current (gone_of r.roster 0) blocked).1
-
-  next_is : (t : ℕ) → IsNext r.clock cancel t → IsNext r.clock (next_cancel_of r.roster r.world r.sleepers.items) t
-  next_is t next = subst (λ (c : Tick). IsNext r.clock c t) is_cancel next
 
   -- what the clock asks
   pub none_due : AllLater r.clock (now_of r.clock)
@@ -83,28 +81,28 @@ module _ (r : Runner) (w : IsUnderway r) (blocked : phase_of r ≡ phases.Blocke
   some_timer = has_timer r w none 0 root.0 root.1
 
   pub next_cancel_later : (c : ℕ) → cancel ≡ Some c → now_of r.clock < c
-  next_cancel_later c e = cancel_later r w none c (sym is_cancel ∙ e)
+  next_cancel_later c e = cancel_later r w none cancel is_first c e
 
   -- past the limit
   pub past_limit : (clock : Clock) → MeetsLimit r.clock cancel clock → (r.limit ≡ r.limit) × (r.limit < meaning_end r.job.now r.input.now)
   past_limit clock m =
-      let le = ends_later r w none m.next (next_is m.next m.is_next) 0 root.0 root.1 in
+      let le = ends_later r w none cancel is_first m.next m.is_next 0 root.0 root.1 in
       let late : limit_of r.clock < m.next = m.late in
       let limit : limit_of r.clock ≡ r.limit = w.going.shelved.limit in
       (refl, omega (arith, le, late, limit))
 
   module _ (clock : Clock) (t : ℕ) (jumps : JumpsTo r.clock cancel t clock) where
     pub no_earlier : r.world.tick ≤ t
-    no_earlier = let lt = next_later r w none t (next_is t jumps.next) in omega (arith, lt)
+    no_earlier = let lt = next_later r w none cancel is_first t jumps.next in omega (arith, lt)
 
     module _ (world : World) (is_world : world ≡ record r.world { tick = t }) where
-      pub jumped : HasJumped (record r { clock = clock; world = world })
+      pub jumped : IsWaking (record r { clock = clock; world = world })
       jumped =
-          subst (λ (v : World). HasJumped (record r { clock = clock; world = v })) (sym is_world)
-          (has_jumped r w none t (next_is t jumps.next) clock jumps.within jumps.now jumps.limit jumps.timers)
+          subst (λ (v : World). IsWaking (record r { clock = clock; world = v })) (sym is_world)
+          (has_jumped r w none cancel is_first t jumps.next clock jumps.within jumps.now jumps.limit jumps.timers)
 
       on_course : AreOnCourse (record r { clock = clock; world = world })
-      on_course = subst (λ (v : World). AreOnCourse (record r { clock = clock; world = v })) (sym is_world) (course_jumps r w none t (next_is t jumps.next))
+      on_course = subst (λ (v : World). AreOnCourse (record r { clock = clock; world = v })) (sym is_world) (course_jumps r w none cancel is_first t jumps.next)
 
       -- with those who are timely in the current batch
       pub landed : (woken : Runner) → woken ≡ record r { world = world; clock = woken.clock; sleepers = woken.sleepers; batch = woken.batch } → AreShelved None woken → woken.batch.current ≡ [] →
@@ -116,6 +114,12 @@ module _ (r : Runner) (w : IsUnderway r) (blocked : phase_of r ≡ phases.Blocke
               shelved = turned_over woken batch shelved over current next;
               course = subst AreOnCourse (sym rest) on_course;
             };
+            unchanged = subst (λ (x : Runner). NoneChanged x.world) (sym rest) (subst (λ (v : World). NoneChanged v) (sym is_world) w.unchanged);
             unplaced = fresh;
             nothing_added = next;
           }
+
+      -- first those that see a cancellation are woken, and then those that are due
+      pub both_woken : (seen woken : Runner) → WakesOnly (record r { clock = clock; world = world }) seen → WakesOnly seen woken →
+          woken ≡ record r { world = world; clock = woken.clock; sleepers = woken.sleepers; batch = woken.batch }
+      both_woken seen woken a b = b ∙ ap (λ (x : Runner). record x { clock = woken.clock; sleepers = woken.sleepers; batch = woken.batch }) a

@@ -1,6 +1,8 @@
 pub mod Shelving
 pub mod Stopped
 pub mod Places
+pub mod Counting
+pub mod Known
 pub mod Waking
 pub mod Lived
 pub mod Jumped
@@ -14,3 +16,4 @@ pub mod Turning
 pub mod Committing
 pub mod Finishing
 pub mod Opening
+pub mod Telling

@@ -1,5 +1,5 @@
 -- A run that begins: the root alone, which is called to begin.
-use Rattle.std.proofs.Common.{◌≡◌, ◌≢◌, inl, inr, ℕ, zero, suc, ◌+◌, ◌≤◌, true, false, Some, None, List, [], ◌∷◌, ◌++◌, map, length, ap, sym, ◌∙◌, subst, arith}
+use Rattle.std.proofs.Common.{◌≡◌, ◌≢◌, inl, inr, ℕ, zero, suc, ◌+◌, ◌≤◌, true, false, Option, Some, None, List, [], ◌∷◌, ◌++◌, map, length, ap, sym, ◌∙◌, subst, arith}
 use Rattle.std.specs.Prelude.{All, ◌==◌, ◌⊎◌}
 use Rattle.std.proofs.lemmas.Bool.Decides.{eqb_tells}
 use Rattle.std.proofs.lemmas.List.Elements.{All-cons, All-nil}
@@ -21,14 +21,15 @@ use Rattle.run_crew.specs.Begun.{IsNewWorld, IsRootTask}
 use Rattle.run_crew.specs.Crew.{IsCrew}
 use Rattle.run_crew.specs.Ready.{AreHomesOf, IsTimely, MayGo}
 use Rattle.run_crew.proofs.Begun.{crew_begun}
+use Rattle.sleeper_sights.specs.Sleeping.{scope_in}
 use Rattle.job_runner.specs.declared.limits.TheConstants.{GREATEST_LIMIT}
 use Rattle.task_roster.specs.declared.roster.Running.{Running}
 use Rattle.job_runner.specs.declared.runner.Runner.{Runner}
 use Rattle.task_roster.specs.Roster.{many, parent_of, running_at, task_of, HasRoot, IsRoster}
-use Rattle.job_runner.specs.Shelves.{crew_in, halt_times, running_times, times_shelved, AreOnCourse, GoesBy, IsCalled, IsSleeper, IsSound, IsUnderway}
+use Rattle.job_runner.specs.Shelves.{crew_in, halt_times, running_times, timer_times, times_shelved, AreOnCourse, berth_of, GoesBy, IsCalled, IsSound, IsUnderway, NoneChanged}
 use Rattle.task_roster.proofs.Apart.{one_if}
 use Rattle.job_runner.proofs.Places.{times_cons}
-use Rattle.job_runner.proofs.Shelving.{none_away, times_asleep, times_next, times_now}
+use Rattle.job_runner.proofs.Shelving.{none_away, times_next, times_now}
 use Rattle.job_runner.proofs.Stopped.{some_has}
 
 -- the root may begin
@@ -65,7 +66,7 @@ module _ (r : Runner) (root : Task) (id : ℕ) (sound : IsSound r.job.now) (smal
           none-some task (sym (has.none n) ∙ ap (task_of r.roster) more ∙ e)
 
   module _ (agree : IsRoster r.roster) (now : now_of r.clock ≡ 0) (limit : limit_of r.clock ≡ r.limit) (bounded : r.limit ≤ GREATEST_LIMIT) (timers : (task : ℕ) → due_of r.clock task ≡ None)
-      (asleep : r.sleepers.items ≡ []) (before added : List Added) (none_before : before ≡ []) (was_added : added ≡ before ++ (id, Begin) ∷ []) (current : r.batch.current ≡ map unplaced added)
+      (asleep : (task : ℕ) → scope_in r.sleepers task ≡ None) (unchanged : NoneChanged r.world) (before added : List Added) (none_before : before ≡ []) (was_added : added ≡ before ++ (id, Begin) ∷ []) (current : r.batch.current ≡ map unplaced added)
       (next : r.batch.next ≡ []) (fresh : NonePlaced r.batch.current) where
     abbrev its_entry : Entry
     its_entry = unplaced (id, Begin)
@@ -73,12 +74,12 @@ module _ (r : Runner) (root : Task) (id : ℕ) (sound : IsSound r.job.now) (smal
     one_entry : r.batch.current ≡ its_entry ∷ []
     one_entry = current ∙ ap (map unplaced) (was_added ∙ ap (λ (xs : List Added). xs ++ (id, Begin) ∷ []) none_before)
 
-    stands_once : (other : ℕ) → times_shelved r.batch r.sleepers.items other ≡ running_times r.world.book (running_at r.roster other)
+    stands_once : (other : ℕ) → times_shelved r.batch r.clock other ≡ running_times r.world.book (running_at r.roster other)
     stands_once other =
         let a : times_now other r.batch.current ≡ times_now other (its_entry ∷ []) = ap (times_now other) one_entry in
         let b : times_now other (its_entry ∷ []) ≡ one_if (id == other) + 0 = times_cons other id [] in
         let c : times_next other r.batch.next ≡ 0 = ap (times_next other) next in
-        let d : times_asleep other r.sleepers.items ≡ 0 = ap (times_asleep other) asleep in
+        let d : timer_times (due_of r.clock other) ≡ 0 = ap timer_times (timers other) in
         let e : one_if (id == other) ≡ running_times r.world.book (running_at r.roster other) = by_test (eqb_tells id other) in
         omega (arith, a, b, c, d, e)
       where
@@ -103,8 +104,12 @@ module _ (r : Runner) (root : Task) (id : ℕ) (sound : IsSound r.job.now) (smal
                       within = let none : r.world.tick ≡ 0 = world.tick in omega (arith, none);
                       bounded = bounded;
                       none_started = world.started;
-                      timers = λ task due e. absurd (none-some due (sym (timers task) ∙ e));
-                      sleepers = subst (All (IsSleeper r.roster r.world r.clock)) (sym asleep) (All-nil (IsSleeper r.roster r.world r.clock));
+                      doze = λ task due e. absurd (none-some due (sym (timers task) ∙ e));
+                      known =
+                          record {
+                            berths = λ task. asleep task ∙ sym (ap (λ (d : Option ℕ). berth_of d (running_at r.roster task)) (timers task));
+                            sights = λ task key e. absurd (none-some key (sym (asleep task) ∙ e));
+                          };
                       current =
                           subst (All (λ (e : Entry). IsCalled r.roster r.world e.task e.call)) (sym one_entry)
                           (All-cons (λ (e : Entry). IsCalled r.roster r.world e.task e.call) its_entry []
@@ -112,10 +117,11 @@ module _ (r : Runner) (root : Task) (id : ℕ) (sound : IsSound r.job.now) (smal
                           (All-nil (λ (e : Entry). IsCalled r.roster r.world e.task e.call)));
                       next = subst (All (λ (a : Added). IsCalled r.roster r.world a.0 a.1)) (sym next) (All-nil (λ (a : Added). IsCalled r.roster r.world a.0 a.1));
                       once = λ other h. stands_once other;
-                      away = none_away (λ (x : ℕ). times_shelved r.batch r.sleepers.items x ≡ 0);
+                      away = none_away (λ (x : ℕ). times_shelved r.batch r.clock x ≡ 0);
                     };
                 course = on_course;
               };
+          unchanged = unchanged;
           unplaced = fresh;
           nothing_added = next;
         }

@@ -11,7 +11,6 @@ use Rattle.batch_commit.specs.declared.entry.Entry.{Entry}
 use Rattle.batch_commit.specs.Batch.{Batches}
 use Rattle.batch_commit.specs.Entries.{Added}
 use Rattle.job_runner.specs.declared.runner.Runner.{Runner}
-use Rattle.job_runner.specs.declared.runner.Sleeper.{Sleeper}
 use Rattle.task_roster.specs.Rows.{times}
 use Rattle.task_roster.specs.Roster.{running_at}
 use Rattle.job_runner.specs.Shelves.{IsCalled, times_shelved, running_times, IsElse, AreShelved}
@@ -22,21 +21,15 @@ use Rattle.task_roster.proofs.Apart.{one_if}
 pub times_push : (id : ℕ) (xs : List ℕ) (y : ℕ) → times id (xs ++ y ∷ []) ≡ times id xs + one_if (y == id)
 times_push id xs y = sum_by_push (λ (k : ℕ). one_if (k == id)) xs y
 
--- of entries, of what was added, and of sleepers
+-- of entries, and of what was added
 abbrev pub times_now : ℕ → List Entry → ℕ
 times_now id es = times id (map (λ (e : Entry). e.task) es)
 
 abbrev pub times_next : ℕ → List Added → ℕ
 times_next id added = times id (map (λ (a : Added). a.0) added)
 
-abbrev pub times_asleep : ℕ → List Sleeper → ℕ
-times_asleep id ss = times id (map (λ (s : Sleeper). s.task) ss)
-
 pub next_more : (id : ℕ) (added : List Added) (key : ℕ) (call : Call) → times_next id (added ++ (key, call) ∷ []) ≡ times_next id added + one_if (key == id)
 next_more id added key call = ap (times id) (map-append (λ (a : Added). a.0) added ((key, call) ∷ [])) ∙ times_push id (map (λ (a : Added). a.0) added) key
-
-pub asleep_more : (id : ℕ) (ss : List Sleeper) (s : Sleeper) → times_asleep id (ss ++ s ∷ []) ≡ times_asleep id ss + one_if (s.task == id)
-asleep_more id ss s = ap (times id) (map-append (λ (x : Sleeper). x.task) ss (s ∷ [])) ∙ times_push id (map (λ (x : Sleeper). x.task) ss) s.task
 
 pub one_same : (key id : ℕ) → key ≡ id → one_if (key == id) ≡ 1
 one_same key id e = by_test (eqb_tells key id)
@@ -98,18 +91,18 @@ shelved_next r b id call s current next called one =
       within = s.within;
       bounded = s.bounded;
       none_started = s.none_started;
-      timers = s.timers;
-      sleepers = s.sleepers;
+      doze = s.doze;
+      known = s.known;
       current = subst (All (λ (e : Entry). IsCalled r.roster r.world e.task e.call)) (sym current) s.current;
       next =
           subst (All (λ (a : Added). IsCalled r.roster r.world a.0 a.1)) (sym next)
           (All-push (λ (a : Added). IsCalled r.roster r.world a.0 a.1) r.batch.next (id, call) s.next called);
       once =
-          once_again id (times_shelved r.batch r.sleepers.items) (times_shelved b r.sleepers.items) (λ (x : ℕ). running_times r.world.book (running_at r.roster x)) s.once (s.away id refl) more one;
-      away = none_away (λ (x : ℕ). times_shelved b r.sleepers.items x ≡ 0);
+          once_again id (times_shelved r.batch r.clock) (times_shelved b r.clock) (λ (x : ℕ). running_times r.world.book (running_at r.roster x)) s.once (s.away id refl) more one;
+      away = none_away (λ (x : ℕ). times_shelved b r.clock x ≡ 0);
     }
   where
-    more : (other : ℕ) → times_shelved b r.sleepers.items other ≡ times_shelved r.batch r.sleepers.items other + one_if (id == other)
+    more : (other : ℕ) → times_shelved b r.clock other ≡ times_shelved r.batch r.clock other + one_if (id == other)
     more other =
         let a : times_now other b.current ≡ times_now other r.batch.current = ap (times_now other) current in
         let c : times_next other b.next ≡ times_next other r.batch.next + one_if (id == other) = ap (times_next other) next ∙ next_more other r.batch.next id call in
@@ -126,10 +119,10 @@ shelved_waiting r id s none =
       within = s.within;
       bounded = s.bounded;
       none_started = s.none_started;
-      timers = s.timers;
-      sleepers = s.sleepers;
+      doze = s.doze;
+      known = s.known;
       current = s.current;
       next = s.next;
-      once = once_waiting id (times_shelved r.batch r.sleepers.items) (λ (x : ℕ). running_times r.world.book (running_at r.roster x)) s.once (s.away id refl) none;
-      away = none_away (λ (x : ℕ). times_shelved r.batch r.sleepers.items x ≡ 0);
+      once = once_waiting id (times_shelved r.batch r.clock) (λ (x : ℕ). running_times r.world.book (running_at r.roster x)) s.once (s.away id refl) none;
+      away = none_away (λ (x : ℕ). times_shelved r.batch r.clock x ≡ 0);
     }

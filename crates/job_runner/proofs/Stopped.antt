@@ -1,9 +1,9 @@
 -- A task that stopped is put where it belongs: in the next batch, among the sleepers, or nowhere while it waits.
-use Rattle.std.proofs.Common.{◌≡◌, ◌≢◌, ℕ, zero, suc, length, ◌+◌, ◌<◌, ◌≤◌, ◌^◌, Bool, true, false, inl, inr, Option, Some, None, List, [], ◌∷◌, ◌++◌, refl, ap, sym, ◌∙◌, subst, arith, if◌then◌else◌}
-use Rattle.std.specs.Prelude.{◌==◌, ◌⊎◌, All, IsSomeAnd, map, slice_get, IsSome}
+use Rattle.std.proofs.Common.{◌≡◌, ◌≢◌, ℕ, ◌+◌, ◌<◌, ◌≤◌, ◌^◌, Bool, true, false, inl, inr, Option, Some, None, [], ◌∷◌, ◌++◌, refl, ap, sym, ◌∙◌, subst, arith, if◌then◌else◌}
+use Rattle.std.specs.Prelude.{◌==◌, ◌⊎◌, IsSomeAnd, IsSome}
 use Rattle.std.proofs.lemmas.Bool.Decides.{eqb_tells}
-use Rattle.std.proofs.lemmas.List.Elements.{All-cons, All-head, All-nil, All-push, All-tail}
-use Rattle.std.proofs.lemmas.List.Sums.{sum_by-cons}
+use Rattle.std.specs.Option.{ForSome}
+use Rattle.std.proofs.lemmas.Option.{same_Some}
 use Rattle.autojump_clock.specs.Clock.{Clock, due_of, now_of, Updates, SameTime}
 use Rattle.batch_commit.specs.declared.entry.Call.TheVariants as calls
 use Rattle.batch_commit.specs.Batch.{Batches}
@@ -22,17 +22,26 @@ use Rattle.task_machine.specs.declared.task.Task.{Task}
 use Rattle.task_machine.specs.declared.world.World.{World}
 use Rattle.task_machine.specs.Tasks.{scope_of}
 use Rattle.task_machine.specs.Waking.{WakesFrom}
+use Rattle.cancel_scopes.specs.Sight.{Tick, sight}
+use Rattle.cancel_scopes.specs.Tree.{Stack, stack_of, IsOpen}
+use Rattle.job_meaning.specs.Meaning.{meaning_table}
+use Rattle.job_meaning.proofs.Settled.{table_is_settled}
+use Rattle.run_crew.specs.Crew.{IsCrew}
 use Rattle.run_crew.specs.Ready.{MayGo, IsTimely}
+use Rattle.run_crew.specs.Sights.{Shows}
+use Rattle.run_crew.proofs.ActsKeep.{same_or}
+use Rattle.run_crew.proofs.OtherScopes.{open_stack}
+use Rattle.sleeper_sights.specs.Sleeping.{Sleeping, scope_in, sight_of, Moves, Sees}
 use Rattle.run_crew.specs.Step.{Asks, FallsAsleep, AwaitsNow, StopSays}
 use Rattle.job_runner.specs.declared.limits.TheConstants.{GREATEST_LIMIT}
 use Rattle.task_roster.specs.declared.roster.Running.{Running}
 use Rattle.job_runner.specs.declared.runner.Runner.{Runner}
-use Rattle.job_runner.specs.declared.runner.Sleeper.{Sleeper}
-use Rattle.task_roster.specs.Roster.{running_at}
-use Rattle.job_runner.specs.Shelves.{IsRight, GoesBy, Dozes, IsSleeper, IsTimerOf, times_shelved, running_times, halt_times, settled_times, IsGoing}
+use Rattle.task_roster.specs.Roster.{running_at, many}
+use Rattle.job_runner.specs.Shelves.{IsRight, GoesBy, Dozes, berth_of, AreKnown, timer_times, times_shelved, running_times, halt_times, settled_times, crew_in, IsGoing}
 use Rattle.job_runner.specs.Steps.{IsStopping}
 use Rattle.task_roster.proofs.Apart.{one_if}
-use Rattle.job_runner.proofs.Shelving.{times_asleep, asleep_more, once_again, none_away, shelved_next, shelved_waiting, one_same}
+use Rattle.job_runner.proofs.Lived.{task_at}
+use Rattle.job_runner.proofs.Shelving.{once_again, none_away, shelved_next, shelved_waiting}
 
 -- ---- what is under a key
 
@@ -74,53 +83,9 @@ asks_going r b id row request h current next =
 
 -- ---- it sleeps
 
-got_last : (ss : List Sleeper) (s : Sleeper) → slice_get (ss ++ s ∷ []) (length ss) ≡ Some s
-got_last [] s = refl
-got_last (x ∷ ss) s = got_last ss s
-
-got_before : (ss : List Sleeper) (s : Sleeper) (i : ℕ) (x : Sleeper) → slice_get ss i ≡ Some x → slice_get (ss ++ s ∷ []) i ≡ Some x
-got_before [] s i x e = absurd (let f : None ≡ Some x = e in cc)
-got_before (y ∷ ss) s zero x e = e
-got_before (y ∷ ss) s (suc i) x e = got_before ss s i x e
-
--- what holds of the others holds of all where the one is not among them
-each_else : (id : ℕ) (ss : List Sleeper) → times_asleep id ss ≡ 0 → (P Q : Sleeper → Type 0) → All P ss → ((x : Sleeper) → x.task ≢ id → P x → Q x) → All Q ss
-each_else id [] none P Q all more = All-nil Q
-each_else id (x ∷ ss) none P Q all more =
-    let step : times_asleep id (x ∷ ss) ≡ one_if (x.task == id) + times_asleep id ss = sum_by-cons (λ (n : ℕ). one_if (n == id)) x.task (map (λ (y : Sleeper). y.task) ss) in
-    All-cons Q x ss (more x (λ e. let one : one_if (x.task == id) ≡ 1 = one_same x.task id e in absurd (omega (arith, step, one, none))) (All-head P x ss all))
-    (each_else id ss (omega (arith, step, none)) P Q (All-tail P x ss all) more)
-
--- one that stands there is counted
-pub stands_once : (id : ℕ) (ss : List Sleeper) (i : ℕ) (x : Sleeper) → slice_get ss i ≡ Some x → x.task ≡ id → 1 ≤ times_asleep id ss
-stands_once id [] i x e is = absurd (let f : None ≡ Some x = e in cc)
-stands_once id (y ∷ ss) zero x e is =
-    let step : times_asleep id (y ∷ ss) ≡ one_if (y.task == id) + times_asleep id ss = sum_by-cons (λ (n : ℕ). one_if (n == id)) y.task (map (λ (z : Sleeper). z.task) ss) in
-    let f : Some y ≡ Some x = e in
-    let same : y ≡ x = cc in
-    let one : one_if (y.task == id) ≡ 1 = one_same y.task id (ap (λ (z : Sleeper). z.task) same ∙ is) in
-    omega (arith, step, one)
-stands_once id (y ∷ ss) (suc i) x e is =
-    let step : times_asleep id (y ∷ ss) ≡ one_if (y.task == id) + times_asleep id ss = sum_by-cons (λ (n : ℕ). one_if (n == id)) y.task (map (λ (z : Sleeper). z.task) ss) in
-    let more : 1 ≤ times_asleep id ss = stands_once id ss i x e is in
-    omega (arith, step, more)
-
--- a timer for one more sleeper
-timers_more : (ss : List Sleeper) (old new : Clock) (s : Sleeper) → Updates old new s.task (Some s.due) → ((id due : ℕ) → due_of old id ≡ Some due → IsTimerOf ss id due) → (id due : ℕ) →
-    due_of new id ≡ Some due → IsTimerOf (ss ++ s ∷ []) id due
-timers_more ss old new s u timers id due e = by_test (eqb_tells id s.task)
-  where
-    by_test : (((id == s.task) ≡ true) × (id ≡ s.task)) ⊎ (((id == s.task) ≡ false) × (id ≢ s.task)) → IsTimerOf (ss ++ s ∷ []) id due
-    by_test (inl h) =
-        let f : Some s.due ≡ Some due = sym u.changed ∙ (ap (due_of new) (sym h.1) ∙ e) in
-        record { place = length ss; sleeper = s; stands = got_last ss s; task_is = sym h.1; due_is = (let g : s.due ≡ due = cc in g) }
-    by_test (inr h) =
-        let t = timers id due (sym (u.others id h.1) ∙ e) in
-        record { place = t.place; sleeper = t.sleeper; stands = got_before ss s t.place t.sleeper t.stands; task_is = t.task_is; due_is = t.due_is }
-
 -- a task that fell asleep now dozes
-falls_dozing : (world : World) (task : Task) (s : Sleeper) → FallsAsleep world task s.due → Dozes world s task
-falls_dozing world task s h =
+falls_dozing : (world : World) (due : ℕ) (task : Task) → FallsAsleep world task due → Dozes world due task
+falls_dozing world due task h =
     record {
       asleep = record { ticks = h.ticks; since = world.tick; halt = h.halt; due_is = h.due_is; began = omega arith; later = h.later };
       unseen = h.unseen;
@@ -136,18 +101,17 @@ due_bounded id row due r h =
     let bounded : r.limit ≤ GREATEST_LIMIT = h.shelved.bounded in
     omega (arith, due_is, short, within, bounded)
 
-pub not_timed : (id row due : ℕ) (r : Runner) → IsStopping id row (stops.Sleep due) r → due_of r.clock id ≡ None
-not_timed id row due r h = by_timer (due_of r.clock id) refl
-  where
-    none : times_asleep id r.sleepers.items ≡ 0
-    none = let a : times_shelved r.batch r.sleepers.items id ≡ 0 = h.shelved.away id refl in omega (arith, a)
+-- one that stands nowhere has no timer
+pub no_timer : (o : Option ℕ) → timer_times o ≡ 0 → o ≡ None
+no_timer None e = refl
+no_timer (Some due) e = absurd (let f : 1 ≡ 0 = e in omega (arith, f))
 
-    by_timer : (o : Option ℕ) → due_of r.clock id ≡ o → o ≡ None
-    by_timer None e = refl
-    by_timer (Some tick) e =
-        let t = h.shelved.timers id tick e in
-        let one = stands_once id r.sleepers.items t.place t.sleeper t.stands t.task_is in
-        absurd (omega (arith, one, none))
+pub not_timed : (id row due : ℕ) (r : Runner) → IsStopping id row (stops.Sleep due) r → due_of r.clock id ≡ None
+not_timed id row due r h = no_timer (due_of r.clock id) (let a : times_shelved r.batch r.clock id ≡ 0 = h.shelved.away id refl in omega (arith, a))
+
+-- so it is known by no scope
+pub not_sleeping : (id row due : ℕ) (r : Runner) → IsStopping id row (stops.Sleep due) r → scope_in r.sleepers id ≡ None
+not_sleeping id row due r h = h.shelved.known.berths id ∙ ap (λ (d : Option ℕ). berth_of d (running_at r.roster id)) (not_timed id row due r h)
 
 pub later_due : (id row due : ℕ) (r : Runner) → IsStopping id row (stops.Sleep due) r → now_of r.clock < due
 later_due id row due r h =
@@ -156,58 +120,130 @@ later_due id row due r h =
     let later : r.world.tick < due = x.2.1.later in
     omega (arith, now, later)
 
-pub sleeps_going : (id row due : ℕ) (r new : Runner) → new ≡ record r { clock = new.clock; sleepers = new.sleepers } → Updates r.clock new.clock id (Some due) → SameTime r.clock new.clock →
-    new.sleepers.items ≡ r.sleepers.items ++ record { task = id; due = due } ∷ [] → IsStopping id row (stops.Sleep due) r → IsGoing None new
-sleeps_going id row due r new is u time more h =
-    subst (IsGoing None) (sym is)
-    (record {
-      sound = h.sound;
-      shelved =
-          record {
-            agree = h.shelved.agree;
-            homes = h.shelved.homes;
-            now = time.now ∙ h.shelved.now;
-            limit = time.limit ∙ h.shelved.limit;
-            within = h.shelved.within;
-            bounded = h.shelved.bounded;
-            none_started = h.shelved.none_started;
-            timers = subst (λ (ss : List Sleeper). (key tick : ℕ) → due_of new.clock key ≡ Some tick → IsTimerOf ss key tick) (sym more) (timers_more r.sleepers.items r.clock new.clock s u h.shelved.timers);
-            sleepers = subst (All (IsSleeper r.roster r.world new.clock)) (sym more) (All-push (IsSleeper r.roster r.world new.clock) r.sleepers.items s kept last);
-            current = h.shelved.current;
-            next = h.shelved.next;
-            once =
-                once_again id (times_shelved r.batch r.sleepers.items) (times_shelved r.batch new.sleepers.items) (λ (key : ℕ). running_times r.world.book (running_at r.roster key)) h.shelved.once
-                (h.shelved.away id refl) counted (ap (running_times r.world.book) x.1 ∙ ap (halt_times r.world.book) x.2.1.halt);
-            away = none_away (λ (key : ℕ). times_shelved r.batch new.sleepers.items key ≡ 0);
-          };
-      course = λ k settled. (h.course k settled).is;
-    })
+-- a timer more
+timer_more : (id : ℕ) (old new : Clock) (due : ℕ) → due_of old id ≡ None → Updates old new id (Some due) → (other : ℕ) → timer_times (due_of new other) ≡ timer_times (due_of old other) + one_if (id == other)
+timer_more id old new due none u other = by_test (eqb_tells id other)
   where
-    s : Sleeper
-    s = record { task = id; due = due }
+    by_test : (((id == other) ≡ true) × (id ≡ other)) ⊎ (((id == other) ≡ false) × (id ≢ other)) → timer_times (due_of new other) ≡ timer_times (due_of old other) + one_if (id == other)
+    by_test (inl h) =
+        let a : timer_times (due_of new other) ≡ 1 = ap timer_times (ap (due_of new) (sym h.1) ∙ u.changed) in
+        let b : timer_times (due_of old other) ≡ 0 = ap timer_times (ap (due_of old) (sym h.1) ∙ none) in
+        let c : one_if (id == other) ≡ 1 = ap one_if h.0 in
+        omega (arith, a, b, c)
+    by_test (inr h) =
+        let a : timer_times (due_of new other) ≡ timer_times (due_of old other) = ap timer_times (u.others other (λ e. h.1 (sym e))) in
+        let c : one_if (id == other) ≡ 0 = ap one_if h.0 in
+        omega (arith, a, c)
 
-    x : (y : Running) × (running_at r.roster id ≡ Some y) × ((y.row ≡ row) × StopSays r.world y.task (stops.Sleep due))
-    x = some_is (running_at r.roster id) (λ (y : Running). (y.row ≡ row) × StopSays r.world y.task (stops.Sleep due)) h.lives
+-- the task of a stop has its scope open
+pub stopping_scope : (id row due : ℕ) (r : Runner) → IsStopping id row (stops.Sleep due) r → (scope : Option ℕ) → ForSome (running_at r.roster id) (λ (x : Running). scope ≡ scope_of x.task) →
+    (key : ℕ) → scope ≡ Some key → IsOpen r.world.scopes key
+stopping_scope id row due r h scope held key e =
+    let x = some_is (running_at r.roster id) (λ (y : Running). (y.row ≡ row) × StopSays r.world y.task (stops.Sleep due)) h.lives in
+    let k = meaning_table r.job.now r.input.now in
+    let c : IsCrew k r.job.now r.input.now r.world.tick (many r.roster) None (crew_in r) = (h.course k (table_is_settled r.job.now r.input.now h.sound.names)).is in
+    (c.follows x.0.row x.0.task (task_at r.roster h.shelved.agree id x.0 x.1)).goes.scope key (sym (held x.0 x.1) ∙ e)
 
-    none : times_asleep id r.sleepers.items ≡ 0
-    none = let a : times_shelved r.batch r.sleepers.items id ≡ 0 = h.shelved.away id refl in omega (arith, a)
+module _ (id row due : ℕ) (r : Runner) (clock : Clock) (u : Updates r.clock clock id (Some due)) (time : SameTime r.clock clock) (h : IsStopping id row (stops.Sleep due) r) where
+  x : (y : Running) × (running_at r.roster id ≡ Some y) × ((y.row ≡ row) × StopSays r.world y.task (stops.Sleep due))
+  x = some_is (running_at r.roster id) (λ (y : Running). (y.row ≡ row) × StopSays r.world y.task (stops.Sleep due)) h.lives
 
-    last : IsSleeper r.roster r.world new.clock s
-    last =
-        record {
-          timer = u.changed;
-          dozes = some_has (running_at r.roster id) (λ (y : Running). Dozes r.world s y.task) x.0 x.1 (falls_dozing r.world x.0.task s x.2.1);
-        }
+  none : due_of r.clock id ≡ None
+  none = not_timed id row due r h
 
-    kept : All (IsSleeper r.roster r.world new.clock) r.sleepers.items
-    kept =
-        each_else id r.sleepers.items none (IsSleeper r.roster r.world r.clock) (IsSleeper r.roster r.world new.clock) h.shelved.sleepers
-        (λ y differs z. record { timer = u.others y.task differs ∙ z.timer; dozes = z.dozes })
+  dozes : (other tick : ℕ) → due_of clock other ≡ Some tick → IsSomeAnd (running_at r.roster other) (λ (y : Running). Dozes r.world tick y.task)
+  dozes other tick e = by_test (same_or other id)
+    where
+      by_test : (other ≡ id) ⊎ (other ≢ id) → IsSomeAnd (running_at r.roster other) (λ (y : Running). Dozes r.world tick y.task)
+      by_test (inl same) =
+          let is : due ≡ tick = same_Some due tick (sym u.changed ∙ (ap (due_of clock) (sym same) ∙ e)) in
+          some_has (running_at r.roster other) (λ (y : Running). Dozes r.world tick y.task) x.0 (ap (running_at r.roster) same ∙ x.1)
+          (subst (λ (n : ℕ). Dozes r.world n x.0.task) is (falls_dozing r.world due x.0.task x.2.1))
+      by_test (inr differs) = h.shelved.doze other tick (sym (u.others other differs) ∙ e)
 
-    counted : (other : ℕ) → times_shelved r.batch new.sleepers.items other ≡ times_shelved r.batch r.sleepers.items other + one_if (id == other)
-    counted other =
-        let a : times_asleep other new.sleepers.items ≡ times_asleep other r.sleepers.items + one_if (id == other) = ap (times_asleep other) more ∙ asleep_more other r.sleepers.items s in
-        omega (arith, a)
+  -- it is one of the sleepers, where they know it by its scope
+  going_with : (sleepers : Sleeping) → AreKnown r.roster r.world clock sleepers → IsGoing None (record r { clock = clock; sleepers = sleepers })
+  going_with sleepers known =
+      record {
+        sound = h.sound;
+        shelved =
+            record {
+              agree = h.shelved.agree;
+              homes = h.shelved.homes;
+              now = time.now ∙ h.shelved.now;
+              limit = time.limit ∙ h.shelved.limit;
+              within = h.shelved.within;
+              bounded = h.shelved.bounded;
+              none_started = h.shelved.none_started;
+              doze = dozes;
+              known = known;
+              current = h.shelved.current;
+              next = h.shelved.next;
+              once =
+                  once_again id (times_shelved r.batch r.clock) (times_shelved r.batch clock) (λ (key : ℕ). running_times r.world.book (running_at r.roster key)) h.shelved.once
+                  (h.shelved.away id refl) counted (ap (running_times r.world.book) x.1 ∙ ap (halt_times r.world.book) x.2.1.halt);
+              away = none_away (λ (key : ℕ). times_shelved r.batch clock key ≡ 0);
+            };
+        course = λ k settled. (h.course k settled).is;
+      }
+    where
+      counted : (other : ℕ) → times_shelved r.batch clock other ≡ times_shelved r.batch r.clock other + one_if (id == other)
+      counted other = let a = timer_more id r.clock clock due none u other in omega (arith, a)
+
+  -- the timer's berth
+  berth_now : (o : Option Running) → running_at r.roster id ≡ o → berth_of (due_of clock id) (running_at r.roster id) ≡ scope_of x.0.task
+  berth_now o e = ap (λ (d : Option ℕ). berth_of d (running_at r.roster id)) u.changed ∙ ap (berth_of (Some due)) x.1
+
+  berth_else : (other : ℕ) → other ≢ id → scope_in r.sleepers other ≡ berth_of (due_of clock other) (running_at r.roster other)
+  berth_else other differs = h.shelved.known.berths other ∙ ap (λ (d : Option ℕ). berth_of d (running_at r.roster other)) (sym (u.others other differs))
+
+  -- outside any scope
+  pub sleeps_alone : (scope : Option ℕ) → ForSome (running_at r.roster id) (λ (y : Running). scope ≡ scope_of y.task) → scope ≡ None → IsGoing None (record r { clock = clock })
+  sleeps_alone scope held e = going_with r.sleepers (record { berths = λ other. berth other (same_or other id); sights = h.shelved.known.sights })
+    where
+      berth : (other : ℕ) → (other ≡ id) ⊎ (other ≢ id) → scope_in r.sleepers other ≡ berth_of (due_of clock other) (running_at r.roster other)
+      berth other (inl same) =
+          subst (λ (n : ℕ). scope_in r.sleepers n ≡ berth_of (due_of clock n) (running_at r.roster n)) (sym same)
+          (not_sleeping id row due r h ∙ sym (berth_now (running_at r.roster id) refl ∙ (sym (held x.0 x.1) ∙ e)))
+      berth other (inr differs) = berth_else other differs
+
+  -- or in one
+  pub sleeps_within : (scope : Option ℕ) → ForSome (running_at r.roster id) (λ (y : Running). scope ≡ scope_of y.task) → (key : ℕ) → scope ≡ Some key → (seen : Tick) →
+      ForSome (stack_of r.world.scopes key) (λ stack. seen ≡ sight stack) → (sleepers : Sleeping) → Moves r.sleepers sleepers id (Some key) → Sees r.sleepers sleepers key seen →
+      IsGoing None (record r { clock = clock; sleepers = sleepers })
+  sleeps_within scope held key e seen sees sleepers moves tells =
+      going_with sleepers (record { berths = λ other. berth other (same_or other id); sights = λ other k f. sight_at other k f (same_or k key) })
+    where
+      here : scope_of x.0.task ≡ Some key
+      here = sym (held x.0 x.1) ∙ e
+
+      berth : (other : ℕ) → (other ≡ id) ⊎ (other ≢ id) → scope_in sleepers other ≡ berth_of (due_of clock other) (running_at r.roster other)
+      berth other (inl same) =
+          subst (λ (n : ℕ). scope_in sleepers n ≡ berth_of (due_of clock n) (running_at r.roster n)) (sym same)
+          (moves.changed ∙ sym (berth_now (running_at r.roster id) refl ∙ here))
+      berth other (inr differs) = moves.others other differs ∙ berth_else other differs
+
+      stack : (st : Stack) × (stack_of r.world.scopes key ≡ Some st)
+      stack = open_stack r.world.scopes key (stopping_scope id row due r h scope held key e)
+
+      -- whoever sleeps in another scope did so before
+      before : (other k : ℕ) → scope_in sleepers other ≡ Some k → k ≢ key → scope_in r.sleepers other ≡ Some k
+      before other k f differs = by_id (same_or other id)
+        where
+          by_id : (other ≡ id) ⊎ (other ≢ id) → scope_in r.sleepers other ≡ Some k
+          by_id (inl same) = absurd (differs (sym (same_Some key k (sym moves.changed ∙ (ap (scope_in sleepers) (sym same) ∙ f)))))
+          by_id (inr else_) = sym (moves.others other else_) ∙ f
+
+      sight_at : (other k : ℕ) → scope_in sleepers other ≡ Some k → (k ≡ key) ⊎ (k ≢ key) → Shows r.world.scopes k (sight_of sleepers k)
+      sight_at other k f (inl same) =
+          subst (λ (n : ℕ). Shows r.world.scopes n (sight_of sleepers n)) (sym same)
+          (record {
+            stack = stack.0;
+            opened = stack.1;
+            known = inl (sym (sees stack.0 stack.1) ∙ sym (tells.here other (f ∙ ap (λ (n : ℕ). Some n) same)));
+          })
+      sight_at other k f (inr differs) =
+          subst (Shows r.world.scopes k) (sym (tells.others other k differs f)) (h.shelved.known.sights other k (before other k f differs))
 
 -- ---- it waits
 

@@ -46,19 +46,24 @@ use Rattle.run_crew.proofs.Going.{may_wake}
 use Rattle.run_crew.proofs.Jumped.{crew_takes}
 use Rattle.run_crew.proofs.Keeping.{still_goes, homes_kept, seen_still}
 use Rattle.run_crew.proofs.Parts.{begun_at}
+use Rattle.run_crew.proofs.SightsStay.{shows_still}
+use Rattle.run_crew.specs.Sights.{Shows}
+use Rattle.sleeper_sights.specs.Sleeping.{scope_in, sight_of}
+use Rattle.autojump_clock.specs.Clock.{due_of}
+use Rattle.std.proofs.lemmas.Option.{none-some}
 use Rattle.run_crew.proofs.Stepped.{other_follows, turning_of, stepped, stop_says}
 use Rattle.task_roster.specs.declared.roster.Roster.{Roster}
 use Rattle.task_roster.specs.declared.roster.Running.{Running}
 use Rattle.job_runner.specs.declared.runner.Runner.{Runner}
-use Rattle.job_runner.specs.declared.runner.Sleeper.{Sleeper}
 use Rattle.task_roster.specs.Rows.{times}
 use Rattle.task_roster.specs.Roster.{running_at, task_of, gone_of, start_of, children_of, parent_of, many, crew_of, HasRow, MayTurn, HasTurn}
-use Rattle.job_runner.specs.Shelves.{GoesBy, IsCalled, Dozes, IsSleeper, times_shelved, settled_times, halt_times, running_times, AreShelved, crew_in, IsGoing}
+use Rattle.job_runner.specs.Shelves.{GoesBy, IsCalled, Dozes, berth_of, AreKnown, times_shelved, settled_times, halt_times, running_times, AreShelved, crew_in, IsGoing}
 use Rattle.job_runner.specs.Steps.{StartsAll, to_begin, TakesStarted, IsStopping}
 use Rattle.task_roster.proofs.Apart.{one_if}
 use Rattle.job_runner.proofs.Shelving.{times_now, times_next, one_same}
 use Rattle.job_runner.proofs.Starting.{got_once}
-use Rattle.job_runner.proofs.Stopped.{some_is, some_has}
+use Rattle.job_runner.proofs.Known.{sleeps_in}
+use Rattle.job_runner.proofs.Stopped.{some_is, some_has, no_timer}
 use Rattle.job_runner.proofs.Lived.{task_at, row_below, rows_apart}
 
 -- ---- a world from which the started tasks were taken
@@ -300,8 +305,8 @@ module _ (id : ℕ) (wake : Wake) (stop : Stop) (r new : Runner) (ro : Roster) (
     goes_still v h =
         goes_on w new.world y.task v (still_goes settled going.sound.names going.sound.starts crew T y.row y_below y_else y.task y_task y_follows v h)
 
-    dozes_still : (x : Sleeper) → Dozes r.world x y.task → Dozes left.world x y.task
-    dozes_still x h =
+    dozes_still : (due : ℕ) → Dozes r.world due y.task → Dozes left.world due y.task
+    dozes_still due h =
         record {
           asleep =
               record {
@@ -334,7 +339,7 @@ module _ (id : ℕ) (wake : Wake) (stop : Stop) (r new : Runner) (ro : Roster) (
 
   -- ---- the shelves
 
-  none_here : times_shelved r.batch r.sleepers.items id ≡ 0
+  none_here : times_shelved r.batch r.clock id ≡ 0
   none_here = going.shelved.away id refl
 
   called_still : (key : ℕ) (call : Call) → key ≢ id → IsCalled r.roster r.world key call → IsCalled new.roster left.world key call
@@ -343,13 +348,37 @@ module _ (id : ℕ) (wake : Wake) (stop : Stop) (r new : Runner) (ro : Roster) (
       some_has (running_at new.roster key) (λ (x : Running). GoesBy left.world x.task call) y.0 (lived_still key y.0 differs y.1)
       (λ answer v right e. goes_still key y.0 differs y.1 v (y.2 answer v right e))
 
-  sleeps_still : (x : Sleeper) → x.task ≢ id → IsSleeper r.roster r.world r.clock x → IsSleeper new.roster left.world r.clock x
-  sleeps_still x differs h =
-      let y = some_is (running_at r.roster x.task) (λ (z : Running). Dozes r.world x z.task) h.dozes in
-      record {
-        timer = h.timer;
-        dozes = some_has (running_at new.roster x.task) (λ (z : Running). Dozes left.world x z.task) y.0 (lived_still x.task y.0 differs y.1) (dozes_still x.task y.0 differs y.1 x y.2);
-      }
+  -- who has a timer is another task
+  timer_else : (key due : ℕ) → due_of r.clock key ≡ Some due → key ≢ id
+  timer_else key due f same =
+      none-some due (sym (no_timer (due_of r.clock id) (let a = none_here in omega (arith, a))) ∙ (ap (due_of r.clock) (sym same) ∙ f))
+
+  sleeper_still : (key due : ℕ) → due_of r.clock key ≡ Some due → (y : Running) × (running_at r.roster key ≡ Some y) × Dozes r.world due y.task
+  sleeper_still key due f = some_is (running_at r.roster key) (λ (z : Running). Dozes r.world due z.task) (going.shelved.doze key due f)
+
+  sleeps_still : (key due : ℕ) → due_of r.clock key ≡ Some due → IsSomeAnd (running_at new.roster key) (λ (z : Running). Dozes left.world due z.task)
+  sleeps_still key due f =
+      let y = sleeper_still key due f in
+      some_has (running_at new.roster key) (λ (z : Running). Dozes left.world due z.task) y.0 (lived_still key y.0 (timer_else key due f) y.1)
+      (dozes_still key y.0 (timer_else key due f) y.1 due y.2)
+
+  -- each sleeper is known by its scope still, and the scope by its sight
+  known_still : AreKnown new.roster left.world r.clock r.sleepers
+  known_still = record { berths = λ key. going.shelved.known.berths key ∙ berth key (due_of r.clock key) refl; sights = sight_still }
+    where
+      berth : (key : ℕ) (d : Option ℕ) → due_of r.clock key ≡ d → berth_of (due_of r.clock key) (running_at r.roster key) ≡ berth_of (due_of r.clock key) (running_at new.roster key)
+      berth key None f = ap (λ (o : Option ℕ). berth_of o (running_at r.roster key)) f ∙ sym (ap (λ (o : Option ℕ). berth_of o (running_at new.roster key)) f)
+      berth key (Some due) f =
+          let y = sleeper_still key due f in
+          ap (berth_of (due_of r.clock key)) (y.1 ∙ sym (lived_still key y.0 (timer_else key due f) y.1))
+
+      sight_still : (key scope : ℕ) → scope_in r.sleepers key ≡ Some scope → Shows left.world.scopes scope (sight_of r.sleepers scope)
+      sight_still key scope f =
+          let z = sleeps_in r.roster r.world r.clock r.sleepers going.shelved.known key scope f in
+          let differs = timer_else key z.due z.timer in
+          let h = shows_still settled going.sound.names going.sound.starts crew T z.running.row (y_below key z.running differs z.lives) (y_else key z.running differs z.lives) z.running.task
+          (y_task key z.running differs z.lives) (y_follows key z.running differs z.lives) scope z.in_scope (sight_of r.sleepers scope) (going.shelved.known.sights key scope f) in
+          record { stack = h.stack; opened = h.opened; known = h.known }
 
   -- a task that was started has to begin
   begins : (i : ℕ) (task : Task) → slice_get w.started.items i ≡ Some task → task.halt ≡ ToBegin
@@ -380,29 +409,29 @@ module _ (id : ℕ) (wake : Wake) (stop : Stop) (r new : Runner) (ro : Roster) (
       some_has (running_at new.roster key) (λ (z : Running). GoesBy left.world z.task calls.Begin) (record { task = x.0; row = many ro + i }) x.1 (begin_goes x.0 x.2)
 
   -- how often each stands on the shelves
-  more_times : (other : ℕ) → times_shelved left.batch r.sleepers.items other ≡ times_shelved r.batch r.sleepers.items other + times other takes.ids
+  more_times : (other : ℕ) → times_shelved left.batch r.clock other ≡ times_shelved r.batch r.clock other + times other takes.ids
   more_times other =
       let a : times_now other new.batch.current ≡ times_now other r.batch.current = ap (times_now other) takes.current in
       let b : times_next other new.batch.next ≡ times_next other r.batch.next + times other takes.ids = ap (times_next other) takes.next ∙ times_both other r.batch.next takes.ids in
       omega (arith, a, b)
 
   once_of : (other : ℕ) → other ≢ id → (o : Option Running) → running_at r.roster other ≡ o →
-      times_shelved left.batch r.sleepers.items other ≡ running_times left.world.book (running_at new.roster other)
+      times_shelved left.batch r.clock other ≡ running_times left.world.book (running_at new.roster other)
   once_of other differs (Some y) e =
       let a = more_times other in
       let b : times other takes.ids ≡ 0 = none_new other y differs e in
-      let c : times_shelved r.batch r.sleepers.items other ≡ running_times r.world.book (running_at r.roster other) = going.shelved.once other differs in
+      let c : times_shelved r.batch r.clock other ≡ running_times r.world.book (running_at r.roster other) = going.shelved.once other differs in
       let d = same_times other y differs e in
       omega (arith, a, b, c, d)
   once_of other differs None e = by_order (cases_lt 0 (times other takes.ids))
     where
-      before : times_shelved r.batch r.sleepers.items other ≡ 0
+      before : times_shelved r.batch r.clock other ≡ 0
       before = going.shelved.once other differs ∙ ap (running_times r.world.book) e
 
       nothing : running_at ro other ≡ None
       nothing = turn.others other differs ∙ e
 
-      by_order : (0 < times other takes.ids) ⊎ (times other takes.ids ≤ 0) → times_shelved left.batch r.sleepers.items other ≡ running_times left.world.book (running_at new.roster other)
+      by_order : (0 < times other takes.ids) ⊎ (times other takes.ids ≤ 0) → times_shelved left.batch r.clock other ≡ running_times left.world.book (running_at new.roster other)
       by_order (inl h) =
           let g = got_once other takes.ids (omega (arith, h)) in
           let x = new_task g.0 other g.1 in
@@ -433,10 +462,8 @@ module _ (id : ℕ) (wake : Wake) (stop : Stop) (r new : Runner) (ro : Roster) (
         within = (let a = going.shelved.within in let b = tick in omega (arith, a, b));
         bounded = going.shelved.bounded;
         none_started = takes.none_left;
-        timers = going.shelved.timers;
-        sleepers =
-            each_not (λ (x : Sleeper). x.task) id r.sleepers.items (let a = none_here in omega (arith, a)) (IsSleeper r.roster r.world r.clock) (IsSleeper new.roster left.world r.clock)
-            going.shelved.sleepers sleeps_still;
+        doze = sleeps_still;
+        known = known_still;
         current =
             subst (All (λ (e : Entry). IsCalled new.roster left.world e.task e.call)) (sym takes.current)
             (each_not (λ (e : Entry). e.task) id r.batch.current (let a = none_here in omega (arith, a)) (λ (e : Entry). IsCalled r.roster r.world e.task e.call)
@@ -451,7 +478,7 @@ module _ (id : ℕ) (wake : Wake) (stop : Stop) (r new : Runner) (ro : Roster) (
         away = λ key e.
             let f : Some id ≡ Some key = e in
             let same : id ≡ key = cc in
-            subst (λ (n : ℕ). times_shelved left.batch r.sleepers.items n ≡ 0) same
+            subst (λ (n : ℕ). times_shelved left.batch r.clock n ≡ 0) same
             (let a = more_times id in let b = none_here in let c = not_new id (record { task = turn.after; row = s }) turn.lives in omega (arith, a, b, c));
       }
 

@@ -94,13 +94,13 @@ root_going r roster id row exc h e agree rootless = ended_going r roster r.world
     told : EndIsTold r.world.book r.world.book e.task.home (option_map exc_of exc)
     told = subst (λ (o : Option Home). EndIsTold r.world.book r.world.book o (option_map exc_of exc)) (sym rootless) refl
 
-    once : (other : ℕ) → times_shelved r.batch r.sleepers.items other ≡ running_times r.world.book (running_at roster other)
+    once : (other : ℕ) → times_shelved r.batch r.clock other ≡ running_times r.world.book (running_at roster other)
     once other = by_test (eqb_tells other id)
       where
         by_test : (((other == id) ≡ true) × (other ≡ id)) ⊎ (((other == id) ≡ false) × (other ≢ id)) →
-            times_shelved r.batch r.sleepers.items other ≡ running_times r.world.book (running_at roster other)
+            times_shelved r.batch r.clock other ≡ running_times r.world.book (running_at roster other)
         by_test (inl g) =
-            subst (λ (i : ℕ). times_shelved r.batch r.sleepers.items i ≡ running_times r.world.book (running_at roster i)) (sym g.1)
+            subst (λ (i : ℕ). times_shelved r.batch r.clock i ≡ running_times r.world.book (running_at roster i)) (sym g.1)
             (h.shelved.away id refl ∙ sym (ap (running_times r.world.book) e.gone))
         by_test (inr g) = h.shelved.once other g.1 ∙ sym (ap (running_times r.world.book) (e.others other g.1))
 
@@ -166,19 +166,19 @@ module _ (r : Runner) (roster : Roster) (book : NurseryBook) (b : Batches) (id r
       same : settled_times (nursery_at book home.nursery) ≡ settled_times (nursery_at r.world.book home.nursery)
       same = after ∙ (due_none (with_child home.place (option_map exc_of exc) n) over ∙ sym before)
 
-      shelved : (other : ℕ) → times_shelved b r.sleepers.items other ≡ times_shelved r.batch r.sleepers.items other
+      shelved : (other : ℕ) → times_shelved b r.clock other ≡ times_shelved r.batch r.clock other
       shelved other =
           let a : times_now other b.current ≡ times_now other r.batch.current = ap (times_now other) current in
           let c : times_next other b.next ≡ times_next other r.batch.next = ap (times_next other) next in
           omega (arith, a, c)
 
-      once : (other : ℕ) → times_shelved b r.sleepers.items other ≡ running_times book (running_at roster other)
+      once : (other : ℕ) → times_shelved b r.clock other ≡ running_times book (running_at roster other)
       once other = by_test (eqb_tells other id)
         where
           by_test : (((other == id) ≡ true) × (other ≡ id)) ⊎ (((other == id) ≡ false) × (other ≢ id)) →
-              times_shelved b r.sleepers.items other ≡ running_times book (running_at roster other)
+              times_shelved b r.clock other ≡ running_times book (running_at roster other)
           by_test (inl g) =
-              subst (λ (i : ℕ). times_shelved b r.sleepers.items i ≡ running_times book (running_at roster i)) (sym g.1)
+              subst (λ (i : ℕ). times_shelved b r.clock i ≡ running_times book (running_at roster i)) (sym g.1)
               (shelved id ∙ (h.shelved.away id refl ∙ sym (ap (running_times book) e.gone)))
           by_test (inr g) =
               shelved other
@@ -224,38 +224,38 @@ module _ (r : Runner) (roster : Roster) (book : NurseryBook) (b : Batches) (id r
       due_after : running_times book (running_at roster (id_of r.roster (parent_of r.roster row))) ≡ 1
       due_after = ap (running_times book) lives_on ∙ (ap (halt_times book) halt.1 ∙ (after ∙ due_one (with_child home.place (option_map exc_of exc) n) over))
 
-      shelved : (other : ℕ) → times_shelved b r.sleepers.items other ≡ times_shelved r.batch r.sleepers.items other + one_if (id_of r.roster (parent_of r.roster row) == other)
+      shelved : (other : ℕ) → times_shelved b r.clock other ≡ times_shelved r.batch r.clock other + one_if (id_of r.roster (parent_of r.roster row) == other)
       shelved other =
           let a : times_now other b.current ≡ times_now other r.batch.current = ap (times_now other) current in
           let c : times_next other b.next ≡ times_next other r.batch.next + one_if (id_of r.roster (parent_of r.roster row) == other) =
           ap (times_next other) next ∙ next_more other r.batch.next (id_of r.roster (parent_of r.roster row)) calls.Settled in
           omega (arith, a, c)
 
-      once : (other : ℕ) → times_shelved b r.sleepers.items other ≡ running_times book (running_at roster other)
+      once : (other : ℕ) → times_shelved b r.clock other ≡ running_times book (running_at roster other)
       once other = by_test (eqb_tells other id) (eqb_tells (id_of r.roster (parent_of r.roster row)) other)
         where
           by_test : (((other == id) ≡ true) × (other ≡ id)) ⊎ (((other == id) ≡ false) × (other ≢ id)) →
               (((id_of r.roster (parent_of r.roster row) == other) ≡ true) × (id_of r.roster (parent_of r.roster row) ≡ other))
               ⊎ (((id_of r.roster (parent_of r.roster row) == other) ≡ false) × (id_of r.roster (parent_of r.roster row) ≢ other)) →
-              times_shelved b r.sleepers.items other ≡ running_times book (running_at roster other)
+              times_shelved b r.clock other ≡ running_times book (running_at roster other)
           by_test (inl g) (inl k) = absurd (not_it (k.1 ∙ g.1))
           by_test (inl g) (inr k) =
-              let a : times_shelved b r.sleepers.items other ≡ times_shelved r.batch r.sleepers.items other + 0 =
-              shelved other ∙ ap (λ (c : Bool). times_shelved r.batch r.sleepers.items other + one_if c) k.0 in
-              let none : times_shelved r.batch r.sleepers.items other ≡ 0 = ap (times_shelved r.batch r.sleepers.items) g.1 ∙ h.shelved.away id refl in
+              let a : times_shelved b r.clock other ≡ times_shelved r.batch r.clock other + 0 =
+              shelved other ∙ ap (λ (c : Bool). times_shelved r.batch r.clock other + one_if c) k.0 in
+              let none : times_shelved r.batch r.clock other ≡ 0 = ap (times_shelved r.batch r.clock) g.1 ∙ h.shelved.away id refl in
               let due : running_times book (running_at roster other) ≡ 0 = ap (λ (i : ℕ). running_times book (running_at roster i)) g.1 ∙ ap (running_times book) e.gone in
               omega (arith, a, none, due)
           by_test (inr g) (inl k) =
-              let a : times_shelved b r.sleepers.items other ≡ times_shelved r.batch r.sleepers.items other + 1 =
-              shelved other ∙ ap (λ (c : Bool). times_shelved r.batch r.sleepers.items other + one_if c) k.0 in
-              let none : times_shelved r.batch r.sleepers.items other ≡ 0 =
+              let a : times_shelved b r.clock other ≡ times_shelved r.batch r.clock other + 1 =
+              shelved other ∙ ap (λ (c : Bool). times_shelved r.batch r.clock other + one_if c) k.0 in
+              let none : times_shelved r.batch r.clock other ≡ 0 =
               h.shelved.once other g.1 ∙ (ap (λ (i : ℕ). running_times r.world.book (running_at r.roster i)) (sym k.1) ∙ due_before) in
               let due : running_times book (running_at roster other) ≡ 1 = ap (λ (i : ℕ). running_times book (running_at roster i)) (sym k.1) ∙ due_after in
               omega (arith, a, none, due)
           by_test (inr g) (inr k) =
-              let a : times_shelved b r.sleepers.items other ≡ times_shelved r.batch r.sleepers.items other + 0 =
-              shelved other ∙ ap (λ (c : Bool). times_shelved r.batch r.sleepers.items other + one_if c) k.0 in
-              let due : times_shelved r.batch r.sleepers.items other ≡ running_times book (running_at roster other) =
+              let a : times_shelved b r.clock other ≡ times_shelved r.batch r.clock other + 0 =
+              shelved other ∙ ap (λ (c : Bool). times_shelved r.batch r.clock other + one_if c) k.0 in
+              let due : times_shelved r.batch r.clock other ≡ running_times book (running_at roster other) =
               h.shelved.once other g.1
               ∙ (sym (due_else (running_at r.roster other) (λ x is wait. absurd (k.1 (one_waits other x is wait)))) ∙ sym (ap (running_times book) (e.others other g.1))) in
               omega (arith, a, due)

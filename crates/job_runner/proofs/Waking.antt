@@ -1,100 +1,45 @@
--- Sleepers in a new tick: what they see, and who goes on.
-use Rattle.std.proofs.Common.{◌≡◌, ◌≢◌, inl, inr, ℕ, zero, suc, ◌+◌, ◌≤◌, Bool, true, false, Option, Some, None, List, [], ◌∷◌, ◌++◌, map, length, refl, ap, sym, ◌∙◌, subst, arith, if◌then◌else◌}
-use Rattle.std.specs.Prelude.{All, IsSome, IsSomeAnd, ◌==◌, ◌⊎◌, slice_get}
-use Rattle.std.specs.Option.{ForSome, unwrap_or}
-use Rattle.std.proofs.lemmas.Bool.{eq-eqb}
-use Rattle.std.proofs.lemmas.Bool.Decides.{eqb_tells}
-use Rattle.std.proofs.lemmas.List.{map-append, append_assoc, append-nil}
-use Rattle.std.proofs.lemmas.List.Elements.{All-nil, All-push, All-head, All-tail}
+-- Sleepers in a new tick: who goes on, and that the others sleep on.
+use Rattle.std.proofs.Common.{◌≡◌, ◌≢◌, inl, inr, ℕ, zero, suc, ◌+◌, ◌<◌, ◌≤◌, Bool, true, false, Option, Some, None, List, [], ◌∷◌, ◌++◌, map, length, refl, ap, sym, ◌∙◌, subst, arith, if◌then◌else◌}
+use Rattle.std.specs.Prelude.{All, IsSome, IsSomeAnd, is_some, ◌==◌, ◌⊎◌, nat_le}
+use Rattle.std.proofs.lemmas.Bool.{le-leb}
+use Rattle.std.proofs.lemmas.Bool.Decides.{eqb_tells, leb_tells}
+use Rattle.std.proofs.lemmas.List.{map-append}
+use Rattle.std.proofs.lemmas.List.Elements.{All-nil, All-push}
 use Rattle.std.proofs.lemmas.List.Sums.{sum_by_push}
 use Rattle.std.proofs.lemmas.Option.{same_Some, none-some}
-use Rattle.autojump_clock.specs.Clock.{now_of, limit_of, due_of}
+use Rattle.autojump_clock.specs.Clock.{Clock, now_of, due_of, SameTime, Updates, TakesDue, NoneDue}
+use Rattle.batch_commit.specs.declared.entry.Call.{Call}
+use Rattle.batch_commit.specs.declared.entry.Call.TheVariants as calls
 use Rattle.batch_commit.specs.declared.entry.Entry.{Entry}
 use Rattle.batch_commit.specs.Entries.{Added}
-use Rattle.cancel_scopes.specs.Sight.{Tick, reached, sight}
-use Rattle.cancel_scopes.specs.Tree.{outer_of, stack_of, IsOpen, Stack}
+use Rattle.cancel_scopes.specs.Sight.{Tick, reached, sight, seen}
+use Rattle.cancel_scopes.specs.Tree.{outer_of}
 use Rattle.task_machine.specs.declared.stop.Halt.{Halt}
 use Rattle.task_machine.specs.declared.stop.Halt.TheVariants.{ToBegin, Asked, Asleep, Awaits, Over}
+use Rattle.task_machine.specs.declared.stop.Wake.TheVariants as wakes
+use Rattle.task_machine.specs.declared.task.Task.{Task}
 use Rattle.task_machine.specs.declared.world.World.{World}
 use Rattle.task_machine.specs.Tasks.{scope_of}
-use Rattle.run_crew.specs.Ready.{AreHomesOf}
+use Rattle.task_machine.specs.Waking.{WakesFrom}
+use Rattle.run_crew.specs.Ready.{MayGo, IsTimely}
+use Rattle.run_crew.specs.Sights.{Shows}
 use Rattle.nursery_book.specs.Nursery.{Nursery, is_settled}
 use Rattle.nursery_book.specs.Book.{nursery_at}
 use Rattle.nursery_book.specs.declared.book.NurseryBook.{NurseryBook}
+use Rattle.sleeper_sights.specs.Sleeping.{Sleeping, Moves, KeepsSights, TakesSeen, NoneSees as NoneSleeps}
 use Rattle.task_roster.specs.declared.roster.Roster.{Roster}
 use Rattle.task_roster.specs.declared.roster.Running.{Running}
-use Rattle.job_runner.specs.declared.runner.Runner.{Runner}
-use Rattle.job_runner.specs.declared.runner.Sleeper.{Sleeper}
-use Rattle.job_runner.specs.Jumps.{sight_by, sight_in, Slept, HasOpenScope, IsAnyNow, HasJumped, WakesSleeper, KeepsSleeper, WakesOrKeeps}
-use Rattle.task_roster.specs.Roster.{running_at, parent_of, IsRoster}
+use Rattle.task_roster.specs.Roster.{running_at}
 use Rattle.task_roster.specs.Rows.{times}
-use Rattle.job_runner.specs.Shelves.{IsCalled, Dozes, IsTimerOf, times_shelved, running_times, halt_times, settled_times, crew_in, AreShelved}
-use Rattle.job_runner.specs.declared.limits.TheConstants.{GREATEST_LIMIT}
 use Rattle.task_roster.proofs.Apart.{one_if}
-use Rattle.job_runner.proofs.Places.{at_place, all_by_place, times_cons}
+use Rattle.job_runner.specs.declared.runner.Runner.{Runner}
+use Rattle.job_runner.specs.Jumps.{sight_by, sight_in, Slept, IsAnyNow, IsWaking, NoneSees, WakesOnly}
+use Rattle.job_runner.specs.Shelves.{GoesBy, IsCalled, Dozes, berth_of, timer_times, times_shelved, running_times, halt_times, settled_times, AreShelved}
+use Rattle.job_runner.proofs.Counting.{count_below, fewer_below, found_within}
+use Rattle.job_runner.proofs.Known.{SleepsIn, seen_by, known_without, sees_from}
+use Rattle.job_runner.proofs.Stopped.{some_is, some_has}
 
--- ---- what a task sees
-
-pub scope_open : (world : World) (o : Option Running) (scope : Option ℕ) (key : ℕ) → ForSome o (λ x. scope ≡ scope_of x.task) → IsSomeAnd o (HasOpenScope world) → scope ≡ Some key → IsOpen world.scopes key
-scope_open world None scope key is held e = absurd held
-scope_open world (Some x) scope key is held e = held key (sym (is x refl) ∙ e)
-
-pub sees_scope : (world : World) (o : Option Running) (scope : Option ℕ) (key : ℕ) (result : Tick) → ForSome o (λ x. scope ≡ scope_of x.task) → IsSomeAnd o (HasOpenScope world) → scope ≡ Some key →
-    ForSome (stack_of world.scopes key) (λ stack. result ≡ sight stack) → result ≡ sight_by world o
-sees_scope world None scope key result is held e saw = absurd held
-sees_scope world (Some x) scope key result is held e saw =
-    by_stack (stack_of world.scopes key) refl (held key (sym (is x refl) ∙ e)) ∙ ap (λ (s : Option ℕ). sight (outer_of world.scopes s)) (sym e ∙ is x refl)
-  where
-    by_stack : (o : Option Stack) → stack_of world.scopes key ≡ o → IsSome o → result ≡ sight (unwrap_or (stack_of world.scopes key) [])
-    by_stack None f h = absurd (let g : false ≡ true = h in cc)
-    by_stack (Some st) f h = saw st f ∙ ap (λ (s : Option Stack). sight (unwrap_or s [])) (sym f)
-
-pub sees_none : (world : World) (o : Option Running) (scope : Option ℕ) → ForSome o (λ x. scope ≡ scope_of x.task) → IsSomeAnd o (HasOpenScope world) → scope ≡ None → None ≡ sight_by world o
-sees_none world None scope is held e = absurd held
-sees_none world (Some x) scope is held e = ap (λ (s : Option ℕ). sight (outer_of world.scopes s)) (sym e ∙ is x refl)
-
--- ---- a list without one of its sleepers
-
-abbrev pub tasks_of : List Sleeper → List ℕ
-tasks_of ss = map (λ (s : Sleeper). s.task) ss
-
--- who stands there still stands with one more between
-place_with : (xs ys : List Sleeper) (s x : Sleeper) (i : ℕ) → slice_get (xs ++ ys) i ≡ Some x → (j : ℕ) × (slice_get (xs ++ s ∷ ys) j ≡ Some x)
-place_with [] ys s x i e = (suc i, e)
-place_with (z ∷ xs) ys s x zero e = (zero, e)
-place_with (z ∷ xs) ys s x (suc i) e = let h = place_with xs ys s x i e in (suc h.0, h.1)
-
--- and without that one
-place_without : (xs ys : List Sleeper) (s x : Sleeper) (i : ℕ) → slice_get (xs ++ s ∷ ys) i ≡ Some x → (x ≡ s) ⊎ ((j : ℕ) × (slice_get (xs ++ ys) j ≡ Some x))
-place_without [] ys s x zero e = inl (sym (same_Some s x e))
-place_without [] ys s x (suc i) e = inr (i, e)
-place_without (z ∷ xs) ys s x zero e = inr (zero, e)
-place_without (z ∷ xs) ys s x (suc i) e = by_rest (place_without xs ys s x i e)
-  where
-    by_rest : (x ≡ s) ⊎ ((j : ℕ) × (slice_get (xs ++ ys) j ≡ Some x)) → (x ≡ s) ⊎ ((j : ℕ) × (slice_get (z ∷ (xs ++ ys)) j ≡ Some x))
-    by_rest (inl h) = inl h
-    by_rest (inr h) = inr (suc h.0, h.1)
-
-times_without : (id : ℕ) (xs ys : List Sleeper) (s : Sleeper) → times id (tasks_of (xs ++ s ∷ ys)) ≡ one_if (s.task == id) + times id (tasks_of (xs ++ ys))
-times_without id [] ys s = times_cons id s.task (tasks_of ys)
-times_without id (z ∷ xs) ys s =
-    let a = times_cons id z.task (tasks_of (xs ++ s ∷ ys)) in
-    let b = times_cons id z.task (tasks_of (xs ++ ys)) in
-    let h = times_without id xs ys s in
-    omega (arith, a, b, h)
-
--- an id that stands nowhere is not that of one who stands there
-not_at : (id : ℕ) (ss : List Sleeper) → times id (tasks_of ss) ≡ 0 → (i : ℕ) (x : Sleeper) → slice_get ss i ≡ Some x → x.task ≢ id
-not_at id [] none i x e f = none-some x e
-not_at id (s ∷ ss) none zero x e f =
-    let more = times_cons id s.task (tasks_of ss) in
-    let one : one_if (s.task == id) ≡ 1 = ap (λ (n : ℕ). one_if (n == id)) (ap (λ (y : Sleeper). y.task) (same_Some s x e) ∙ f) ∙ ap one_if (eq-eqb id id refl) in
-    omega (arith, more, one, none)
-not_at id (s ∷ ss) none (suc i) x e f =
-    let more = times_cons id s.task (tasks_of ss) in
-    not_at id ss (omega (arith, more, none)) i x e f
-
--- ---- who is woken so far
+-- ---- how often a task stands somewhere
 
 once_most : (b : Bool) → (if b then 1 else 0) ≤ 1
 once_most true = omega arith
@@ -116,222 +61,328 @@ running_most book (Some x) = by_halt x.task.halt
     by_halt (Awaits id since) = by_settled (nursery_at book id)
     by_halt Over = omega arith
 
--- What holds of a runner in a new tick while its sleepers are woken, and these are left of them.
-pub record IsWaking (r : Runner) (left : List Sleeper) : Type 0 where
-  pub now : now_of r.clock ≡ r.world.tick
-  pub limit : limit_of r.clock ≡ r.limit
-  pub timers : (id due : ℕ) → due_of r.clock id ≡ Some due → IsTimerOf (r.sleepers.items ++ left) id due
-  pub timed : All (λ (s : Sleeper). due_of r.clock s.task ≡ Some s.due) (r.sleepers.items ++ left)
-  pub doze : All (λ (s : Sleeper). IsSomeAnd (running_at r.roster s.task) (λ (x : Running). Dozes r.world s x.task)) r.sleepers.items
-  pub slept : All (λ (s : Sleeper). IsSomeAnd (running_at r.roster s.task) (λ (x : Running). Slept r.world s x.task)) left
-  pub current : r.batch.current ≡ []
-  pub next : All (λ (a : Added). IsCalled r.roster r.world a.0 a.1) r.batch.next
-  pub once : (id : ℕ) → times_shelved r.batch (r.sleepers.items ++ left) id ≡ running_times r.world.book (running_at r.roster id)
-  pub someone : (r.batch.next ≢ []) ⊎ IsAnyNow r.roster r.world left
-
--- as the loop over them keeps it
-pub record WakesFor (was r : Runner) (left : List Sleeper) : Type 0 where
-  pub waking : IsWaking r left
-  pub rest : r ≡ record was { clock = r.clock; sleepers = r.sleepers; batch = r.batch }
-
 not_empty : {X : Type 0} (xs : List X) (x : X) → xs ++ x ∷ [] ≢ []
 not_empty [] x e = let f : x ∷ [] ≡ [] = e in absurd (let n : suc zero ≡ zero = ap length f in omega (arith, n))
 not_empty (y ∷ xs) x e = absurd (let n : suc (length (xs ++ x ∷ [])) ≡ zero = ap length e in omega (arith, n))
 
--- a sleeper that is woken
-wakes_one : (old new : Runner) (s : Sleeper) (left : List Sleeper) → IsWaking old (s ∷ left) → WakesSleeper s old new → IsWaking new left
-wakes_one old new s left h k =
-    subst (λ (r : Runner). IsWaking r left) (sym k.wakes.rest) (
-    record {
-      now = k.wakes.time.now ∙ h.now;
-      limit = k.wakes.time.limit ∙ h.limit;
-      timers = timers;
-      timed = all_by_place (λ (x : Sleeper). due_of new.clock x.task ≡ Some x.due) (xs ++ left) (λ i x e.
-          k.wakes.timers.others x.task (not_at s.task (xs ++ left) alone.0 i x e) ∙ still_timed i x e);
-      doze = h.doze;
-      slept = All-tail (λ (x : Sleeper). IsSomeAnd (running_at old.roster x.task) (λ (y : Running). Slept old.world x y.task)) s left h.slept;
-      current = k.wakes.current ∙ h.current;
-      next = subst (All (λ (a : Added). IsCalled old.roster old.world a.0 a.1)) (sym k.wakes.next)
-          (All-push (λ (a : Added). IsCalled old.roster old.world a.0 a.1) old.batch.next (s.task, k.call) h.next k.called);
-      once = once;
-      someone = inl (λ e. not_empty old.batch.next (s.task, k.call) (sym k.wakes.next ∙ e));
-    }
+-- ---- who may go on
+
+-- one that sees a cancellation
+seen_goes : (world : World) (due : ℕ) (task : Task) → Slept world due task → seen (outer_of world.scopes (scope_of task)) world.tick ≡ true → GoesBy world task calls.Seen
+seen_goes world due task h saw answer wake right e =
+    let f : Some wakes.Seen ≡ Some wake = e in
+    subst (MayGo world task) (same_Some wakes.Seen wake f)
+    (record {
+      fits = subst (λ (z : Halt). WakesFrom z task.part world.book wakes.Seen) (sym h.halt) tt;
+      timely = subst (λ (z : Halt). IsTimely world (scope_of task) z wakes.Seen) (sym h.halt) (h.began, saw);
+    })
+
+-- one that is due and sees none
+due_goes : (world : World) (due : ℕ) (task : Task) → Slept world due task → due ≤ world.tick → seen (outer_of world.scopes (scope_of task)) world.tick ≡ false → GoesBy world task calls.Due
+due_goes world due task h come unseen answer wake right e =
+    let f : Some wakes.Due ≡ Some wake = e in
+    subst (MayGo world task) (same_Some wakes.Due wake f)
+    (record {
+      fits = subst (λ (z : Halt). WakesFrom z task.part world.book wakes.Due) (sym h.halt) tt;
+      timely =
+          subst (λ (z : Halt). IsTimely world (scope_of task) z wakes.Due) (sym h.halt)
+          ((let a = h.not_over in let b : due ≡ h.since + h.ticks = h.due_is in omega (arith, a, b, come)), unseen);
+    })
+
+-- ---- one is woken
+
+module _ (old new : Runner) (id : ℕ) (call : Call) (h : IsWaking old) (due : ℕ) (timer : due_of old.clock id ≡ Some due) (called : IsCalled old.roster old.world id call)
+    (u : Updates old.clock new.clock id None) (time : SameTime old.clock new.clock) (moves : Moves old.sleepers new.sleepers id None) (keeps : KeepsSights old.sleepers new.sleepers)
+    (current : new.batch.current ≡ old.batch.current) (next : new.batch.next ≡ old.batch.next ++ (id, call) ∷ []) where
+  abbrev woken : Runner
+  woken = record old { clock = new.clock; sleepers = new.sleepers; batch = new.batch }
+
+  -- a timer that is left was there before
+  left : (other tick : ℕ) → due_of new.clock other ≡ Some tick → (other ≢ id) × (due_of old.clock other ≡ Some tick)
+  left other tick e = (differs, sym (u.others other differs) ∙ e)
+    where
+      differs : other ≢ id
+      differs f = none-some tick (sym (ap (due_of new.clock) f ∙ u.changed) ∙ e)
+
+  once : (other : ℕ) → times_shelved new.batch new.clock other ≡ running_times old.world.book (running_at old.roster other)
+  once other = by_test (eqb_tells id other)
+    where
+      all : times_shelved old.batch old.clock other ≡ running_times old.world.book (running_at old.roster other)
+      all = h.once other
+
+      now : times other (map (λ (e : Entry). e.task) new.batch.current) ≡ times other (map (λ (e : Entry). e.task) old.batch.current)
+      now = ap (λ (es : List Entry). times other (map (λ (e : Entry). e.task) es)) current
+
+      more : times other (map (λ (a : Added). a.0) new.batch.next) ≡ times other (map (λ (a : Added). a.0) old.batch.next) + one_if (id == other)
+      more =
+          ap (λ (es : List Added). times other (map (λ (a : Added). a.0) es)) next ∙ ap (times other) (map-append (λ (a : Added). a.0) old.batch.next ((id, call) ∷ []))
+          ∙ sum_by_push (λ (n : ℕ). one_if (n == other)) (map (λ (a : Added). a.0) old.batch.next) id
+
+      by_test : (((id == other) ≡ true) × (id ≡ other)) ⊎ (((id == other) ≡ false) × (id ≢ other)) → times_shelved new.batch new.clock other ≡ running_times old.world.book (running_at old.roster other)
+      by_test (inl f) =
+          let one : one_if (id == other) ≡ 1 = ap one_if f.0 in
+          let was : timer_times (due_of old.clock other) ≡ 1 = ap timer_times (ap (due_of old.clock) (sym f.1) ∙ timer) in
+          let is : timer_times (due_of new.clock other) ≡ 0 = ap timer_times (ap (due_of new.clock) (sym f.1) ∙ u.changed) in
+          omega (arith, all, now, more, one, was, is)
+      by_test (inr f) =
+          let none : one_if (id == other) ≡ 0 = ap one_if f.0 in
+          let same : timer_times (due_of new.clock other) ≡ timer_times (due_of old.clock other) = ap timer_times (u.others other (λ e. f.1 (sym e))) in
+          omega (arith, all, now, more, none, same)
+
+  waking_more : IsWaking woken
+  waking_more =
+      record {
+        agree = h.agree;
+        homes = λ s task home e f. (let k = h.homes s task home e f in record { task = k.task; lives = k.lives; owned = k.owned });
+        now = time.now ∙ h.now;
+        limit = time.limit ∙ h.limit;
+        within = h.within;
+        bounded = h.bounded;
+        none_started = h.none_started;
+        slept = λ other tick e. h.slept other tick (left other tick e).1;
+        known = known_without old.roster old.world old.clock new.clock old.sleepers new.sleepers id h.known u moves keeps;
+        unchanged = h.unchanged;
+        none_current = current ∙ h.none_current;
+        next = subst (All (λ (a : Added). IsCalled old.roster old.world a.0 a.1)) (sym next)
+            (All-push (λ (a : Added). IsCalled old.roster old.world a.0 a.1) old.batch.next (id, call) h.next called);
+        once = once;
+        someone = inl (λ e. not_empty old.batch.next (id, call) (sym next ∙ e));
+      }
+
+-- ---- those that see a cancellation
+
+-- what holds while they are woken
+pub record IsSeeing (was r : Runner) : Type 0 where
+  pub waking : IsWaking r
+  pub only : WakesOnly was r
+
+pub seeing_first : (r : Runner) → IsWaking r → IsSeeing r r
+seeing_first r h = record { waking = h; only = refl }
+
+only_again : (was old new : Runner) → WakesOnly was old → WakesOnly old new → WakesOnly was new
+only_again was old new a b =
+    b ∙ ap (λ (r : Runner). record r { clock = new.clock; sleepers = new.sleepers; batch = new.batch }) a
+
+-- a timer's task is one that lives, and so is below a bound
+timed_below : (r : Runner) → ((id due : ℕ) → due_of r.clock id ≡ Some due → IsSomeAnd (running_at r.roster id) (λ (x : Running). Slept r.world due x.task)) → (id due : ℕ) →
+    due_of r.clock id ≡ Some due → id < length r.roster.live.slots.slots
+timed_below r slept id due e =
+    let x = some_is (running_at r.roster id) (λ (y : Running). Slept r.world due y.task) (slept id due e) in
+    found_within r.roster.live.slots.slots id None (Some x.0) x.1 (λ f. none-some x.0 (sym f))
+
+-- how many timers there are
+abbrev pub timed : ℕ → Clock → ℕ
+timed n clock = count_below n (λ id. is_some (due_of clock id))
+
+module _ (was old : Runner) (id : ℕ) (s : IsSeeing was old) (sleepers : Sleeping) (takes : TakesSeen old.sleepers sleepers id old.world.tick) where
+  abbrev seer : SleepsIn old.roster old.clock id takes.sees.scope
+  seer = (seen_by old.roster old.world old.clock old.sleepers s.waking.known s.waking.unchanged id takes.from takes.sees).0
+
+  -- it has a timer
+  pub seer_timed : IsSome (due_of old.clock id)
+  seer_timed = subst IsSome (sym seer.timer) refl
+
+  seer_called : IsCalled old.roster old.world id calls.Seen
+  seer_called =
+      let x = some_is (running_at old.roster id) (λ (y : Running). Slept old.world seer.due y.task) (s.waking.slept id seer.due seer.timer) in
+      let same : seer.running ≡ x.0 = same_Some seer.running x.0 (sym seer.lives ∙ x.1) in
+      let sees : sight (outer_of old.world.scopes (scope_of seer.running.task)) ≡ Some takes.from =
+      (seen_by old.roster old.world old.clock old.sleepers s.waking.known s.waking.unchanged id takes.from takes.sees).1 in
+      let saw : seen (outer_of old.world.scopes (scope_of x.0.task)) old.world.tick ≡ true =
+      ap (λ (y : Running). seen (outer_of old.world.scopes (scope_of y.task)) old.world.tick) (sym same)
+      ∙ (ap (λ (t : Tick). reached t old.world.tick) sees ∙ le-leb takes.from old.world.tick takes.come) in
+      some_has (running_at old.roster id) (λ (y : Running). GoesBy old.world y.task calls.Seen) x.0 x.1 (seen_goes old.world seer.due x.0.task x.2 saw)
+
+  module _ (new : Runner) (is_new : new ≡ record old { clock = new.clock; sleepers = sleepers; batch = new.batch }) (u : Updates old.clock new.clock id None) (time : SameTime old.clock new.clock)
+      (current : new.batch.current ≡ old.batch.current) (next : new.batch.next ≡ old.batch.next ++ (id, calls.Seen) ∷ []) where
+    same_sleepers : new.sleepers ≡ sleepers
+    same_sleepers = ap (λ (r : Runner). r.sleepers) is_new
+
+    only_new : WakesOnly old new
+    only_new = is_new ∙ ap (λ (z : Sleeping). record old { clock = new.clock; sleepers = z; batch = new.batch }) (sym same_sleepers)
+
+    pub seeing_next : IsSeeing was new
+    seeing_next =
+        record {
+          waking =
+              subst IsWaking (sym only_new)
+              (waking_more old new id calls.Seen s.waking seer.due seer.timer seer_called u time (subst (λ (z : Sleeping). Moves old.sleepers z id None) (sym same_sleepers) takes.scopes)
+              (subst (KeepsSights old.sleepers) (sym same_sleepers) takes.sights) current next);
+          only = only_again was old new s.only only_new;
+        }
+
+    pub seeing_fewer : timed (length was.roster.live.slots.slots) new.clock < timed (length was.roster.live.slots.slots) old.clock
+    seeing_fewer =
+        fewer_below (length was.roster.live.slots.slots) (λ key. is_some (due_of old.clock key)) (λ key. is_some (due_of new.clock key)) id
+        (subst (λ (r : Roster). id < length r.live.slots.slots) (ap (λ (r : Runner). r.roster) s.only) (timed_below old s.waking.slept id seer.due seer.timer)) (ap is_some seer.timer)
+        (ap is_some u.changed) (λ other differs. ap is_some (u.others other differs))
+
+-- none is left
+pub seeing_last : (was r new : Runner) (sleepers : Sleeping) → IsSeeing was r → NoneSleeps r.sleepers sleepers r.world.tick → new ≡ record r { sleepers = sleepers } →
+    IsWaking new × NoneSees new × WakesOnly was new
+seeing_last was r new sleepers s none is =
+    subst (λ (x : Runner). IsWaking x × NoneSees x × WakesOnly was x) (sym is) (
+      record {
+        agree = s.waking.agree;
+        homes = λ p task home e f. (let k = s.waking.homes p task home e f in record { task = k.task; lives = k.lives; owned = k.owned });
+        now = s.waking.now;
+        limit = s.waking.limit;
+        within = s.waking.within;
+        bounded = s.waking.bounded;
+        none_started = s.waking.none_started;
+        slept = s.waking.slept;
+        known =
+            record {
+              berths = λ id. none.scopes id ∙ s.waking.known.berths id;
+              sights = λ id key e. subst (Shows r.world.scopes key) (sym (none.sights id key e)) (s.waking.known.sights id key (sym (none.scopes id) ∙ e));
+            };
+        unchanged = s.waking.unchanged;
+        none_current = s.waking.none_current;
+        next = s.waking.next;
+        once = s.waking.once;
+        someone = s.waking.someone;
+      },
+      unseen,
+      only_again was r (record r { sleepers = sleepers }) s.only refl,
     )
   where
-    xs : List Sleeper
-    xs = old.sleepers.items
-
-    -- its id stands once, and so nowhere else
-    alone : (times s.task (tasks_of (xs ++ left)) ≡ 0) × (one_if (s.task == s.task) ≡ 1)
-    alone =
-        let all : times_shelved old.batch (xs ++ s ∷ left) s.task ≡ running_times old.world.book (running_at old.roster s.task) = h.once s.task in
-        let most = running_most old.world.book (running_at old.roster s.task) in
-        let more = times_without s.task xs left s in
-        let one : one_if (s.task == s.task) ≡ 1 = ap one_if (eq-eqb s.task s.task refl) in
-        (omega (arith, all, most, more, one), one)
-
-    still_timed : (i : ℕ) (x : Sleeper) → slice_get (xs ++ left) i ≡ Some x → due_of old.clock x.task ≡ Some x.due
-    still_timed i x e =
-        let p = place_with xs left s x i e in
-        at_place (λ (y : Sleeper). due_of old.clock y.task ≡ Some y.due) (xs ++ s ∷ left) p.0 x p.1 h.timed
-
-    timers : (id due : ℕ) → due_of new.clock id ≡ Some due → IsTimerOf (xs ++ left) id due
-    timers id due e = by_test (eqb_tells id s.task)
+    unseen : NoneSees (record r { sleepers = sleepers })
+    unseen id due e = some_has (running_at r.roster id) (λ (x : Running). seen (outer_of r.world.scopes (scope_of x.task)) r.world.tick ≡ false) x.0 x.1 (by_sight (sight (outer_of r.world.scopes (scope_of x.0.task))) refl)
       where
-        by_test : (((id == s.task) ≡ true) × (id ≡ s.task)) ⊎ (((id == s.task) ≡ false) × (id ≢ s.task)) → IsTimerOf (xs ++ left) id due
-        by_test (inl f) = absurd (none-some due (sym k.wakes.timers.changed ∙ ap (due_of new.clock) (sym f.1) ∙ e))
-        by_test (inr f) = by_place (place_without xs left s t.sleeper t.place t.stands)
+        x : (y : Running) × (running_at r.roster id ≡ Some y) × Slept r.world due y.task
+        x = some_is (running_at r.roster id) (λ (y : Running). Slept r.world due y.task) (s.waking.slept id due e)
+
+        by_sight : (t : Tick) → sight (outer_of r.world.scopes (scope_of x.0.task)) ≡ t → reached t r.world.tick ≡ false
+        by_sight None f = refl
+        by_sight (Some from) f =
+            let later : r.world.tick < from =
+            none.all id from (sees_from r.roster r.world r.clock r.sleepers s.waking.known s.waking.unchanged id due x.0 from e x.1 f) in
+            by_test later (leb_tells from r.world.tick)
           where
-            t : IsTimerOf (xs ++ s ∷ left) id due
-            t = h.timers id due (sym (k.wakes.timers.others id f.1) ∙ e)
+            by_test : r.world.tick < from → ((nat_le from r.world.tick ≡ true) × (from ≤ r.world.tick)) ⊎ ((nat_le from r.world.tick ≡ false) × (r.world.tick < from)) → nat_le from r.world.tick ≡ false
+            by_test later (inl h) = absurd (let le = h.1 in omega (arith, le, later))
+            by_test later (inr h) = h.0
 
-            by_place : (t.sleeper ≡ s) ⊎ ((j : ℕ) × (slice_get (xs ++ left) j ≡ Some t.sleeper)) → IsTimerOf (xs ++ left) id due
-            by_place (inl g) = absurd (f.1 (sym t.task_is ∙ ap (λ (y : Sleeper). y.task) g))
-            by_place (inr g) = record { place = g.0; sleeper = t.sleeper; stands = g.1; task_is = t.task_is; due_is = t.due_is }
+-- ---- those that are due
 
-    once : (id : ℕ) → times_shelved new.batch (xs ++ left) id ≡ running_times old.world.book (running_at old.roster id)
-    once id =
-        let all : times_shelved old.batch (xs ++ s ∷ left) id ≡ running_times old.world.book (running_at old.roster id) = h.once id in
-        let more = times_without id xs left s in
-        let current : times id (map (λ (e : Entry). e.task) new.batch.current) ≡ times id (map (λ (e : Entry). e.task) old.batch.current) = ap (λ (es : List Entry). times id (map (λ (e : Entry). e.task) es)) k.wakes.current in
-        let next : times id (map (λ (a : Added). a.0) new.batch.next) ≡ times id (map (λ (a : Added). a.0) old.batch.next) + one_if (s.task == id) =
-        ap (λ (es : List Added). times id (map (λ (a : Added). a.0) es)) k.wakes.next ∙ ap (times id) (map-append (λ (a : Added). a.0) old.batch.next ((s.task, k.call) ∷ []))
-        ∙ sum_by_push (λ (n : ℕ). one_if (n == id)) (map (λ (a : Added). a.0) old.batch.next) s.task in
-        omega (arith, all, more, current, next)
+pub record IsDue (was r : Runner) : Type 0 where
+  pub waking : IsWaking r
+  pub unseen : NoneSees r
+  pub only : WakesOnly was r
 
--- who dozes is not due, and sees nothing
-not_now : (roster : Roster) (world : World) (s : Sleeper) → IsSomeAnd (running_at roster s.task) (λ (x : Running). Dozes world s x.task) →
-    (s.due ≤ world.tick) ⊎ (reached (sight_in roster world s.task) world.tick ≡ true) → ⊥
-not_now roster world s d timely = by_running (running_at roster s.task) d timely
-  where
-    by_running : (o : Option Running) → IsSomeAnd o (λ (x : Running). Dozes world s x.task) → (s.due ≤ world.tick) ⊎ (reached (sight_by world o) world.tick ≡ true) → ⊥
-    by_running None d t = d
-    by_running (Some x) d (inl le) = let a = d.asleep.later in omega (arith, le, a)
-    by_running (Some x) d (inr e) = let f : true ≡ false = sym e ∙ d.unseen in cc
+pub due_first : (r : Runner) → IsWaking r → NoneSees r → IsDue r r
+due_first r h unseen = record { waking = h; unseen = unseen; only = refl }
 
--- and one that sleeps on
-keeps_one : (old new : Runner) (s : Sleeper) (left : List Sleeper) → IsWaking old (s ∷ left) → KeepsSleeper s old new → IsWaking new left
-keeps_one old new s left h k =
-    subst (λ (r : Runner). IsWaking r left) (sym k.rest) (
-    record {
-      now = h.now;
-      limit = h.limit;
-      timers = λ id due e. subst (λ (ss : List Sleeper). IsTimerOf ss id due) same (h.timers id due e);
-      timed = subst (All (λ (x : Sleeper). due_of old.clock x.task ≡ Some x.due)) same h.timed;
-      doze = subst (All (λ (x : Sleeper). IsSomeAnd (running_at old.roster x.task) (λ (y : Running). Dozes old.world x y.task))) (sym k.kept)
-          (All-push (λ (x : Sleeper). IsSomeAnd (running_at old.roster x.task) (λ (y : Running). Dozes old.world x y.task)) old.sleepers.items s h.doze k.dozes);
-      slept = All-tail (λ (x : Sleeper). IsSomeAnd (running_at old.roster x.task) (λ (y : Running). Slept old.world x y.task)) s left h.slept;
-      current = h.current;
-      next = h.next;
-      once = λ id. subst (λ (ss : List Sleeper). times_shelved old.batch ss id ≡ running_times old.world.book (running_at old.roster id)) same (h.once id);
-      someone = by_someone h.someone;
-    }
+module _ (was old : Runner) (id : ℕ) (s : IsDue was old) (clock : Clock) (takes : TakesDue old.clock id clock) where
+  sleeper : (y : Running) × (running_at old.roster id ≡ Some y) × Slept old.world takes.due y.task
+  sleeper = some_is (running_at old.roster id) (λ (y : Running). Slept old.world takes.due y.task) (s.waking.slept id takes.due takes.had)
+
+  due_called : IsCalled old.roster old.world id calls.Due
+  due_called =
+      let z = some_is (running_at old.roster id) (λ (y : Running). seen (outer_of old.world.scopes (scope_of y.task)) old.world.tick ≡ false) (s.unseen id takes.due takes.had) in
+      let same : z.0 ≡ sleeper.0 = same_Some z.0 sleeper.0 (sym z.1 ∙ sleeper.1) in
+      let now : now_of old.clock ≡ old.world.tick = s.waking.now in
+      let come : takes.due ≤ now_of old.clock = takes.is_due in
+      some_has (running_at old.roster id) (λ (y : Running). GoesBy old.world y.task calls.Due) sleeper.0 sleeper.1
+      (due_goes old.world takes.due sleeper.0.task sleeper.2 (omega (arith, now, come))
+      (ap (λ (y : Running). seen (outer_of old.world.scopes (scope_of y.task)) old.world.tick) (sym same) ∙ z.2))
+
+  module _ (new : Runner) (is_new : new ≡ record old { clock = clock; sleepers = new.sleepers; batch = new.batch }) (moves : Moves old.sleepers new.sleepers id None)
+      (keeps : KeepsSights old.sleepers new.sleepers) (current : new.batch.current ≡ old.batch.current) (next : new.batch.next ≡ old.batch.next ++ (id, calls.Due) ∷ []) where
+    same_clock : new.clock ≡ clock
+    same_clock = ap (λ (r : Runner). r.clock) is_new
+
+    only_due : WakesOnly old new
+    only_due = is_new ∙ ap (λ (z : Clock). record old { clock = z; sleepers = new.sleepers; batch = new.batch }) (sym same_clock)
+
+    timers_after : Updates old.clock new.clock id None
+    timers_after = subst (λ (z : Clock). Updates old.clock z id None) (sym same_clock) takes.timers
+
+    unseen_after : NoneSees (record old { clock = new.clock; sleepers = new.sleepers; batch = new.batch })
+    unseen_after other tick e = s.unseen other tick (sym (timers_after.others other differs) ∙ e)
+      where
+        differs : other ≢ id
+        differs f = none-some tick (sym (ap (due_of new.clock) f ∙ timers_after.changed) ∙ e)
+
+    pub due_next : IsDue was new
+    due_next =
+        record {
+          waking =
+              subst IsWaking (sym only_due)
+              (waking_more old new id calls.Due s.waking takes.due takes.had due_called timers_after (subst (SameTime old.clock) (sym same_clock) takes.time) moves keeps current next);
+          unseen = subst NoneSees (sym only_due) unseen_after;
+          only = only_again was old new s.only only_due;
+        }
+
+    pub due_fewer : timed (length was.roster.live.slots.slots) new.clock < timed (length was.roster.live.slots.slots) old.clock
+    due_fewer =
+        fewer_below (length was.roster.live.slots.slots) (λ key. is_some (due_of old.clock key)) (λ key. is_some (due_of new.clock key)) id
+        (subst (λ (r : Roster). id < length r.live.slots.slots) (ap (λ (r : Runner). r.roster) s.only) (timed_below old s.waking.slept id takes.due takes.had)) (ap is_some takes.had)
+        (ap is_some timers_after.changed) (λ other differs. ap is_some (timers_after.others other differs))
+
+-- none is left: the others sleep on, and somebody was woken
+pub due_last : (was r new : Runner) (clock : Clock) → IsDue was r → NoneDue r.clock clock → new ≡ record r { clock = clock } → AreShelved None new × (new.batch.next ≢ []) × (new.batch.current ≡ []) × WakesOnly was new
+due_last was r new clock s none is =
+    subst (λ (x : Runner). AreShelved None x × (x.batch.next ≢ []) × (x.batch.current ≡ []) × WakesOnly was x) (sym is) (
+      record {
+        agree = s.waking.agree;
+        homes = λ p task home e f. (let k = s.waking.homes p task home e f in record { task = k.task; lives = k.lives; owned = k.owned });
+        now = none.unchanged.time.now ∙ s.waking.now;
+        limit = none.unchanged.time.limit ∙ s.waking.limit;
+        within = s.waking.within;
+        bounded = s.waking.bounded;
+        none_started = s.waking.none_started;
+        doze = λ id due e. dozes id due (sym (none.unchanged.timers id) ∙ e);
+        known =
+            record {
+              berths = λ id. s.waking.known.berths id ∙ ap (λ (d : Option ℕ). berth_of d (running_at r.roster id)) (sym (none.unchanged.timers id));
+              sights = s.waking.known.sights;
+            };
+        current = subst (All (λ (x : Entry). IsCalled r.roster r.world x.task x.call)) (sym s.waking.none_current) (All-nil (λ (x : Entry). IsCalled r.roster r.world x.task x.call));
+        next = s.waking.next;
+        once = λ id other.
+            let all : times_shelved r.batch r.clock id ≡ running_times r.world.book (running_at r.roster id) = s.waking.once id in
+            let same : timer_times (due_of clock id) ≡ timer_times (due_of r.clock id) = ap timer_times (none.unchanged.timers id) in
+            omega (arith, all, same);
+        away = λ x f. absurd (none-some x f);
+      },
+      some,
+      s.waking.none_current,
+      only_again was r (record r { clock = clock }) s.only refl,
     )
   where
-    same : old.sleepers.items ++ s ∷ left ≡ new.sleepers.items ++ left
-    same = sym (ap (λ (ss : List Sleeper). ss ++ left) k.kept ∙ append_assoc old.sleepers.items (s ∷ []) left)
+    later : (id due : ℕ) → due_of r.clock id ≡ Some due → r.world.tick < due
+    later id due e = let a : now_of r.clock < due = none.all_later id due e in let b : now_of r.clock ≡ r.world.tick = s.waking.now in omega (arith, a, b)
 
-    by_place : (place : ℕ) (x : Sleeper) → slice_get (s ∷ left) place ≡ Some x → (x.due ≤ old.world.tick) ⊎ (reached (sight_in old.roster old.world x.task) old.world.tick ≡ true) →
-        IsAnyNow old.roster old.world left
-    by_place zero x e timely =
-        absurd (not_now old.roster old.world s k.dozes (subst (λ (y : Sleeper). (y.due ≤ old.world.tick) ⊎ (reached (sight_in old.roster old.world y.task) old.world.tick ≡ true)) (sym (same_Some s x e)) timely))
-    by_place (suc i) x e timely = record { place = i; sleeper = x; stands = e; timely = timely }
-
-    by_someone : (old.batch.next ≢ []) ⊎ IsAnyNow old.roster old.world (s ∷ left) → (old.batch.next ≢ []) ⊎ IsAnyNow old.roster old.world left
-    by_someone (inl f) = inl f
-    by_someone (inr a) = inr (by_place a.place a.sleeper a.stands a.timely)
-
--- nothing else changed
-rest_woken : (was old new : Runner) → old ≡ record was { clock = old.clock; sleepers = old.sleepers; batch = old.batch } → new ≡ record old { clock = new.clock; batch = new.batch } →
-    new ≡ record was { clock = new.clock; sleepers = new.sleepers; batch = new.batch }
-rest_woken was old new a b =
-    b ∙ ap (λ (r : Runner). record r { clock = new.clock; batch = new.batch }) a ∙ ap (λ v. record was { clock = new.clock; sleepers = v; batch = new.batch }) (sym (ap (λ (r : Runner). r.sleepers) b))
-
-rest_kept : (was old new : Runner) → old ≡ record was { clock = old.clock; sleepers = old.sleepers; batch = old.batch } → new ≡ record old { sleepers = new.sleepers } →
-    new ≡ record was { clock = new.clock; sleepers = new.sleepers; batch = new.batch }
-rest_kept was old new a b =
-    b ∙ ap (λ (r : Runner). record r { sleepers = new.sleepers }) a
-    ∙ ap (λ v. record was { clock = v; sleepers = new.sleepers; batch = old.batch }) (sym (ap (λ (r : Runner). r.clock) b))
-    ∙ ap (λ v. record was { clock = new.clock; sleepers = new.sleepers; batch = v }) (sym (ap (λ (r : Runner). r.batch) b))
-
--- one step of the loop
-pub waking_step : (was old new : Runner) (s : Sleeper) (ss left : List Sleeper) → WakesFor was old ss → ss ≡ s ∷ left → WakesOrKeeps s old new → WakesFor was new left
-waking_step was old new s ss left h e (inl k) = record { waking = wakes_one old new s left (subst (IsWaking old) e h.waking) k; rest = rest_woken was old new h.rest k.wakes.rest }
-waking_step was old new s ss left h e (inr k) = record { waking = keeps_one old new s left (subst (IsWaking old) e h.waking) k; rest = rest_kept was old new h.rest k.rest }
-
--- what the next of the sleepers was
-pub next_slept : (was old : Runner) (s : Sleeper) (ss left : List Sleeper) → WakesFor was old ss → ss ≡ s ∷ left → IsSomeAnd (running_at old.roster s.task) (λ (x : Running). Slept old.world s x.task)
-next_slept was old s ss left h e =
-    All-head (λ (x : Sleeper). IsSomeAnd (running_at old.roster x.task) (λ (y : Running). Slept old.world x y.task)) s left
-    (subst (All (λ (x : Sleeper). IsSomeAnd (running_at old.roster x.task) (λ (y : Running). Slept old.world x y.task))) e h.waking.slept)
-
-next_place : (xs : List Sleeper) (s : Sleeper) (left : List Sleeper) → (i : ℕ) × (slice_get (xs ++ s ∷ left) i ≡ Some s)
-next_place [] s left = (zero, refl)
-next_place (z ∷ xs) s left = let h = next_place xs s left in (suc h.0, h.1)
-
-pub next_timed : (was old : Runner) (s : Sleeper) (ss left : List Sleeper) → WakesFor was old ss → ss ≡ s ∷ left → due_of old.clock s.task ≡ Some s.due
-next_timed was old s ss left h e =
-    let its : All (λ (x : Sleeper). due_of old.clock x.task ≡ Some x.due) (old.sleepers.items ++ s ∷ left) =
-    subst (λ (xs : List Sleeper). All (λ (x : Sleeper). due_of old.clock x.task ≡ Some x.due) (old.sleepers.items ++ xs)) e h.waking.timed in
-    let p = next_place old.sleepers.items s left in
-    at_place (λ (x : Sleeper). due_of old.clock x.task ≡ Some x.due) (old.sleepers.items ++ s ∷ left) p.0 s p.1 its
-
--- ---- before and behind the loop
-
--- all are left
-pub waking_first : (was r : Runner) → HasJumped was → r.sleepers.items ≡ [] → r ≡ record was { sleepers = r.sleepers } → (left : List Sleeper) → left ≡ was.sleepers.items → WakesFor was r left
-waking_first was r j none rest left e =
-    record {
-      waking = subst (λ (x : Runner). IsWaking x left) (sym rest) (
-          record {
-            now = j.now;
-            limit = j.limit;
-            timers = λ id due f. subst (λ (ss : List Sleeper). IsTimerOf ss id due) same (j.timers id due f);
-            timed = subst (All (λ (s : Sleeper). due_of was.clock s.task ≡ Some s.due)) same j.timed;
-            doze = subst (All (λ (s : Sleeper). IsSomeAnd (running_at was.roster s.task) (λ (x : Running). Dozes was.world s x.task))) (sym none) (All-nil (λ (s : Sleeper). IsSomeAnd (running_at was.roster s.task) (λ (x : Running). Dozes was.world s x.task)));
-            slept = subst (All (λ (s : Sleeper). IsSomeAnd (running_at was.roster s.task) (λ (x : Running). Slept was.world s x.task))) (sym e) j.slept;
-            current = j.none_current;
-            next = subst (All (λ (a : Added). IsCalled was.roster was.world a.0 a.1)) (sym j.none_next) (All-nil (λ (a : Added). IsCalled was.roster was.world a.0 a.1));
-            once = λ id. subst (λ (ss : List Sleeper). times_shelved was.batch ss id ≡ running_times was.world.book (running_at was.roster id)) same (j.once id);
-            someone = inr (subst (IsAnyNow was.roster was.world) (sym e) j.someone);
-          }
-          );
-      rest = rest_kept was was r refl rest;
-    }
-  where
-    same : was.sleepers.items ≡ r.sleepers.items ++ left
-    same = sym (ap (λ (ss : List Sleeper). ss ++ left) none ∙ e)
-
--- none is left: each sleeper has its timer and dozes, and somebody was woken
-pub waking_last : (was r : Runner) (left : List Sleeper) → HasJumped was → WakesFor was r left → left ≡ [] → AreShelved None r × (r.batch.next ≢ [])
-waking_last was r left j h e = (
-  record {
-    agree = subst (λ (x : Runner). IsRoster x.roster) (sym h.rest) j.agree;
-    homes = subst (λ (x : Runner). AreHomesOf (crew_in x) (parent_of x.roster)) (sym h.rest) j.homes;
-    now = h.waking.now;
-    limit = h.waking.limit;
-    within = subst (λ (x : Runner). x.world.tick ≤ x.limit) (sym h.rest) j.within;
-    bounded = subst (λ (x : Runner). x.limit ≤ GREATEST_LIMIT) (sym h.rest) j.bounded;
-    none_started = subst (λ (x : Runner). x.world.started.items ≡ []) (sym h.rest) j.none_started;
-    timers = λ id due f. subst (λ (ss : List Sleeper). IsTimerOf ss id due) all (h.waking.timers id due f);
-    sleepers = λ k d lt. record {
-      timer = subst (All (λ (s : Sleeper). due_of r.clock s.task ≡ Some s.due)) all h.waking.timed k d lt;
-      dozes = h.waking.doze k d lt;
-    };
-    current = subst (All (λ (x : Entry). IsCalled r.roster r.world x.task x.call)) (sym h.waking.current) (All-nil (λ (x : Entry). IsCalled r.roster r.world x.task x.call));
-    next = h.waking.next;
-    once = λ id other. subst (λ (ss : List Sleeper). times_shelved r.batch ss id ≡ running_times r.world.book (running_at r.roster id)) all (h.waking.once id);
-    away = λ x f. absurd (none-some x f);
-  },
-  some,
-)
-  where
-    all : r.sleepers.items ++ left ≡ r.sleepers.items
-    all = ap (λ (ss : List Sleeper). r.sleepers.items ++ ss) e ∙ append-nil r.sleepers.items
-
-    by_someone : (r.batch.next ≢ []) ⊎ IsAnyNow r.roster r.world left → r.batch.next ≢ []
-    by_someone (inl f) = f
-    by_someone (inr a) = absurd (none-some a.sleeper (sym (ap (λ (ss : List Sleeper). slice_get ss a.place) e) ∙ a.stands))
+    dozes : (id due : ℕ) → due_of r.clock id ≡ Some due → IsSomeAnd (running_at r.roster id) (λ (x : Running). Dozes r.world due x.task)
+    dozes id due e =
+        let x = some_is (running_at r.roster id) (λ (y : Running). Slept r.world due y.task) (s.waking.slept id due e) in
+        let z = some_is (running_at r.roster id) (λ (y : Running). seen (outer_of r.world.scopes (scope_of y.task)) r.world.tick ≡ false) (s.unseen id due e) in
+        let same : z.0 ≡ x.0 = same_Some z.0 x.0 (sym z.1 ∙ x.1) in
+        some_has (running_at r.roster id) (λ (y : Running). Dozes r.world due y.task) x.0 x.1
+        (record {
+          asleep =
+              record {
+                ticks = x.2.ticks;
+                since = x.2.since;
+                halt = x.2.halt;
+                due_is = x.2.due_is;
+                began = (let a = x.2.began in omega (arith, a));
+                later = later id due e;
+              };
+          unseen = ap (λ (y : Running). seen (outer_of r.world.scopes (scope_of y.task)) r.world.tick) (sym same) ∙ z.2;
+        })
 
     some : r.batch.next ≢ []
-    some = by_someone h.waking.someone
+    some = by_someone s.waking.someone
+      where
+        by_someone : (r.batch.next ≢ []) ⊎ IsAnyNow r.roster r.world r.clock → r.batch.next ≢ []
+        by_someone (inl f) = f
+        by_someone (inr a) = absurd (by_timely a.timely)
+          where
+            by_timely : (a.due ≤ r.world.tick) ⊎ (reached (sight_in r.roster r.world a.id) r.world.tick ≡ true) → ⊥
+            by_timely (inl le) = let lt = later a.id a.due a.timer in omega (arith, le, lt)
+            by_timely (inr saw) =
+                let z = some_is (running_at r.roster a.id) (λ (y : Running). seen (outer_of r.world.scopes (scope_of y.task)) r.world.tick ≡ false) (s.unseen a.id a.due a.timer) in
+                let f : true ≡ false = sym saw ∙ (ap (λ (o : Option Running). reached (sight_by r.world o) r.world.tick) z.1 ∙ z.2) in
+                cc

@@ -1,6 +1,6 @@
 -- Where the tasks of a run stand between their turns: in the current batch or the next one, among the sleepers, or waiting for a
 -- nursery of which a member runs.
-use Rattle.std.specs.Prelude.{◌≡◌, ◌≢◌, ℕ, ◌+◌, ◌<◌, ◌≤◌, if◌then◌else◌, false, Option, Some, None, List, [], map, All, IsSomeAnd, slice_get}
+use Rattle.std.specs.Prelude.{◌≡◌, ◌≢◌, ℕ, ◌+◌, ◌<◌, ◌≤◌, if◌then◌else◌, false, Option, Some, None, [], map, All, IsSomeAnd}
 use Rattle.std.specs.Option.{ForSome}
 use Rattle.autojump_clock.specs.Clock.{Clock, now_of, limit_of, due_of}
 use Rattle.batch_commit.specs.declared.entry.Call.{Call}
@@ -9,7 +9,7 @@ use Rattle.batch_commit.specs.declared.entry.Entry.{Entry}
 use Rattle.batch_commit.specs.Batch.{Batches}
 use Rattle.batch_commit.specs.Entries.{Added, NonePlaced, wake_of}
 use Rattle.cancel_scopes.specs.Sight.{seen}
-use Rattle.cancel_scopes.specs.Tree.{outer_of}
+use Rattle.cancel_scopes.specs.Tree.{outer_of, is_changed}
 use Rattle.job_tree.specs.Tree.{Tree}
 use Rattle.job_tree.specs.Names.{GivesNamesOnce}
 use Rattle.job_tree.specs.Starting.{StartsInNurseries}
@@ -29,11 +29,12 @@ use Rattle.task_machine.specs.declared.world.World.{World}
 use Rattle.task_machine.specs.Tasks.{scope_of}
 use Rattle.run_crew.specs.Crew.{Crew, IsCrew}
 use Rattle.run_crew.specs.Ready.{MayGo, AreHomesOf}
+use Rattle.run_crew.specs.Sights.{Shows}
+use Rattle.sleeper_sights.specs.Sleeping.{Sleeping, scope_in, sight_of}
 use Rattle.job_runner.specs.declared.limits.TheConstants.{GREATEST_LIMIT}
 use Rattle.task_roster.specs.declared.roster.Roster.{Roster}
 use Rattle.task_roster.specs.declared.roster.Running.{Running}
 use Rattle.job_runner.specs.declared.runner.Runner.{Runner}
-use Rattle.job_runner.specs.declared.runner.Sleeper.{Sleeper}
 use Rattle.task_roster.specs.Rows.{times}
 use Rattle.task_roster.specs.Roster.{running_at, parent_of, many, crew_of, IsRoster}
 
@@ -54,39 +55,51 @@ IsCalled roster world id call = IsSomeAnd (running_at roster id) (λ x. GoesBy w
 
 -- ---- sleepers
 
--- A task sleeps as a sleeper says. It fell asleep by now, and its sleep is over later.
-pub record IsAsleep (world : World) (sleeper : Sleeper) (task : Task) : Type 0 where
+-- A task sleeps until this tick. It fell asleep by now, and its sleep is over later.
+pub record IsAsleep (world : World) (due : ℕ) (task : Task) : Type 0 where
   pub ticks : ℕ
   pub since : ℕ
   pub halt : task.halt ≡ Asleep ticks since
-  pub due_is : sleeper.due ≡ since + ticks
+  pub due_is : due ≡ since + ticks
   pub began : since ≤ world.tick
-  pub later : world.tick < sleeper.due
+  pub later : world.tick < due
 
 -- and it sees nothing yet
-pub record Dozes (world : World) (sleeper : Sleeper) (task : Task) : Type 0 where
-  pub asleep : IsAsleep world sleeper task
+pub record Dozes (world : World) (due : ℕ) (task : Task) : Type 0 where
+  pub asleep : IsAsleep world due task
   pub unseen : seen (outer_of world.scopes (scope_of task)) world.tick ≡ false
 
--- a sleeper has its timer, and its task lives and dozes
-pub record IsSleeper (roster : Roster) (world : World) (clock : Clock) (sleeper : Sleeper) : Type 0 where
-  pub timer : due_of clock sleeper.task ≡ Some sleeper.due
-  pub dozes : IsSomeAnd (running_at roster sleeper.task) (λ (x : Running). Dozes world sleeper x.task)
+-- each task that has a timer lives and dozes until it is due
+abbrev pub AllDoze : Roster → World → Clock → Type 0
+AllDoze roster world clock = (id due : ℕ) → due_of clock id ≡ Some due → IsSomeAnd (running_at roster id) (λ (x : Running). Dozes world due x.task)
 
--- a timer is that of a sleeper
-pub record IsTimerOf (sleepers : List Sleeper) (id due : ℕ) : Type 0 where
-  pub place : ℕ
-  pub sleeper : Sleeper
-  pub stands : slice_get sleepers place ≡ Some sleeper
-  pub task_is : sleeper.task ≡ id
-  pub due_is : sleeper.due ≡ due
+-- the scope in which a task with such a timer sleeps
+abbrev pub berth_of : Option ℕ → Option Running → Option ℕ
+berth_of None o = None
+berth_of (Some due) None = None
+berth_of (Some due) (Some x) = scope_of x.task
+
+-- Each task that has a timer is known by the scope that it sleeps in, and each such scope by its sight, unless that was lowered
+-- and the scope is still to be handed out.
+pub record AreKnown (roster : Roster) (world : World) (clock : Clock) (sleepers : Sleeping) : Type 0 where
+  pub berths : (id : ℕ) → scope_in sleepers id ≡ berth_of (due_of clock id) (running_at roster id)
+  pub sights : (id key : ℕ) → scope_in sleepers id ≡ Some key → Shows world.scopes key (sight_of sleepers key)
+
+-- no scope is left to hand out
+abbrev pub NoneChanged : World → Type 0
+NoneChanged world = (key : ℕ) → is_changed world.scopes key ≡ false
 
 -- ---- each task stands in one place
 
+-- how often the task of a timer stands among the sleepers
+abbrev pub timer_times : Option ℕ → ℕ
+timer_times None = 0
+timer_times (Some due) = 1
+
 -- how often an id stands among entries, what was added, and sleepers
-abbrev pub times_shelved : Batches → List Sleeper → ℕ → ℕ
-times_shelved batch sleepers id =
-    times id (map (λ (e : Entry). e.task) batch.current) + times id (map (λ (a : Added). a.0) batch.next) + times id (map (λ (s : Sleeper). s.task) sleepers)
+abbrev pub times_shelved : Batches → Clock → ℕ → ℕ
+times_shelved batch clock id =
+    times id (map (λ (e : Entry). e.task) batch.current) + times id (map (λ (a : Added). a.0) batch.next) + timer_times (due_of clock id)
 
 -- how often the task of a nursery that is waited for has to stand there
 abbrev pub settled_times : Option Nursery → ℕ
@@ -121,12 +134,12 @@ pub record AreShelved (turning : Option ℕ) (r : Runner) : Type 0 where
   pub within : r.world.tick ≤ r.limit
   pub bounded : r.limit ≤ GREATEST_LIMIT
   pub none_started : r.world.started.items ≡ []
-  pub timers : (id due : ℕ) → due_of r.clock id ≡ Some due → IsTimerOf r.sleepers.items id due
-  pub sleepers : All (IsSleeper r.roster r.world r.clock) r.sleepers.items
+  pub doze : AllDoze r.roster r.world r.clock
+  pub known : AreKnown r.roster r.world r.clock r.sleepers
   pub current : All (λ (e : Entry). IsCalled r.roster r.world e.task e.call) r.batch.current
   pub next : All (λ (a : Added). IsCalled r.roster r.world a.0 a.1) r.batch.next
-  pub once : (id : ℕ) → IsElse turning id → times_shelved r.batch r.sleepers.items id ≡ running_times r.world.book (running_at r.roster id)
-  pub away : ForSome turning (λ (id : ℕ). times_shelved r.batch r.sleepers.items id ≡ 0)
+  pub once : (id : ℕ) → IsElse turning id → times_shelved r.batch r.clock id ≡ running_times r.world.book (running_at r.roster id)
+  pub away : ForSome turning (λ (id : ℕ). times_shelved r.batch r.clock id ≡ 0)
 
 -- the crew of a runner
 abbrev pub crew_in : Runner → Crew
@@ -157,5 +170,6 @@ pub record IsGoing (away : Option ℕ) (r : Runner) : Type 0 where
 -- A run whose next batch is asked for, or has no one in it.
 pub record IsUnderway (r : Runner) : Type 0 where
   pub going : IsGoing None r
+  pub unchanged : NoneChanged r.world
   pub unplaced : NonePlaced r.batch.current
   pub nothing_added : r.batch.next ≡ []

@@ -86,3 +86,10 @@ pub record TellsEnd (old new : Runner) (nursery place : ℕ) (exc : Option Exc) 
   pub next : HasNursery new.world.book nursery (λ (n : Nursery). new.batch.next ≡ old.batch.next ++ called_if (is_settled n) waiter)
   pub current : new.batch.current ≡ old.batch.current
   pub rest : new ≡ record old { world = record old.world { book = new.world.book }; batch = new.batch }
+
+-- ---- sights that were lowered
+
+-- nothing but what is known of sleepers changed, and which scopes are still to be handed out
+abbrev pub SeesOnly : Runner → Runner → Type 0
+SeesOnly old new =
+    new ≡ record old { world = record (old.world) { scopes = record (old.world.scopes) { changed = new.world.scopes.changed } }; sleepers = new.sleepers }

@@ -1,4 +1,4 @@
-ghost use Rattle.std.specs.Prelude.{◌≡◌, ◌≢◌, ◌+◌, ◌≤◌, ◌<◌, [], None, Some, IsSome, IsSomeAnd, IfOk, IfErr, OnOk, length};
+ghost use Rattle.std.specs.Prelude.{◌≡◌, ◌+◌, ◌≤◌, ◌<◌, None, Some, IsSomeAnd, IfOk, OnOk, length};
 ghost use Rattle.batch_commit.specs.Entries.{requests_of};
 ghost use Rattle.job_meaning.specs.declared.limits.TheConstants.{MOST_INPUT};
 ghost use Rattle.job_meaning.specs.Meaning.{meaning_end};
@@ -9,8 +9,8 @@ ghost use Rattle.job_runner.specs.declared.limits.TheConstants.{GREATEST_LIMIT};
 ghost use Rattle.job_runner.specs.declared.runner.Phase.TheVariants.{Ready, Over};
 ghost use Rattle.job_runner.specs.Phases.{phase_of};
 ghost use Rattle.job_runner.specs.Runs.{IsRun, turns_of};
-ghost use Rattle.job_runner.specs.Shelves.{IsGoing, IsSameJob, IsUnderway};
-ghost use Rattle.job_runner.specs.Steps.{TakesStarted, IsStopping, IsSameTurn};
+ghost use Rattle.job_runner.specs.Shelves.{IsGoing, IsSameJob, IsUnderway, NoneChanged};
+ghost use Rattle.job_runner.specs.Steps.{SeesOnly, TakesStarted, IsStopping};
 
 use crate::finished::Run;
 use autojump_clock::{MockClock, TaskId};
@@ -19,6 +19,7 @@ use buffer_parts::Part;
 use cancel_scopes::stacks_are_chains;
 use job_grammar::{Job, spelled_jobs_are_sound};
 use line_kernels::{Answer, Request};
+use sleeper_sights::Sleepers;
 use std::alloc::{AllocError, Global};
 use task_machine::{Stop, Task, Wake, World};
 use task_roster::{Roster, records_of};
@@ -34,15 +35,6 @@ pub enum Phase {
     Over,
 }
 
-// A task that sleeps.
-#[derive(Clone, Copy)]
-pub(crate) struct Sleeper {
-    // The task.
-    pub(crate) task: TaskId,
-    // The tick until which it sleeps.
-    pub(crate) due: u64,
-}
-
 /// A job that is run, one batch of ready tasks after the other, and one tick after the other.
 #[derive(Drop)]
 pub struct Runner<'a> {
@@ -53,8 +45,8 @@ pub struct Runner<'a> {
     pub(crate) world: World<'a>,
     pub(crate) clock: MockClock,
     pub(crate) roster: Roster<'a>,
-    // In the order in which they fell asleep.
-    pub(crate) sleepers: Vec<Sleeper>,
+    // Those that sleep in a cancel scope.
+    pub(crate) sleepers: Sleepers,
     pub(crate) batch: ReadyBatch<'a>,
     pub(crate) turns: u64,
 }
@@ -92,7 +84,7 @@ impl<'a> Runner<'a> {
             world: World::new(alloc),
             clock: MockClock::new(alloc, limit),
             roster,
-            sleepers: Vec::new(alloc),
+            sleepers: Sleepers::new(alloc),
             batch,
             turns: 0,
         })
@@ -145,8 +137,23 @@ impl<'a> Runner<'a> {
             let (id, wake) = turn;
             runner.take_turn(id, wake)?;
         }
+        runner.see_changed()?;
         runner.batch.turn_over();
         Ok(runner)
+    }
+
+    // The sleepers are told of each sight that a cancellation lowered.
+    fn see_changed(&mut self) -> Result<(), AllocError>
+        requires going { IsGoing None self.old }
+        ensures going { OnOk result (IsGoing None self.new) }
+        ensures unchanged { OnOk result (NoneChanged self.new.world) }
+        ensures rest { OnOk result (SeesOnly self.old self.new) }
+    {
+        'changed: while let Some(scope) = self.world.scopes_mut().take_changed() {
+            let sight = self.world.scopes().seen_from(scope);
+            self.sleepers.see(scope, sight)?;
+        }
+        Ok(())
     }
 
     // The task under an id has its turn.

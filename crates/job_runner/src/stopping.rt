@@ -7,7 +7,7 @@ ghost use Rattle.task_roster.specs.Roster.{parent_of, id_of, many};
 ghost use Rattle.job_runner.specs.Shelves.{IsGoing};
 ghost use Rattle.job_runner.specs.Steps.{IsStopping, IsSameTurn, TellsEnd};
 
-use crate::runner::{Runner, Sleeper};
+use crate::runner::Runner;
 use autojump_clock::TaskId;
 use batch_commit::Call;
 use exc_groups::Exc;
@@ -56,7 +56,10 @@ impl<'a> Runner<'a> {
     {
         let _row = row;
         self.clock.sleep_until(id, due)?;
-        self.sleepers.push(Sleeper { task: id, due })?;
+        if let Some(scope) = self.roster.scope(id) {
+            let sight = self.world.scopes().seen_from(scope);
+            self.sleepers.add(id, scope, sight)?;
+        }
         Ok(())
     }
 

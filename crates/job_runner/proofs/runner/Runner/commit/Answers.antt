@@ -26,11 +26,15 @@ turns-preserved g c =
 
 pub returns-clause-underway : goal.returns-clause-underway
 returns-clause-underway g c =
-    commits_last c.args.self c.turns.runner c.next.new.self c.turn_over.new.self c.turns.invariant c.in_default.ensures.idle.0 (c.in_default.ensures.none.0 refl) c.turn_over.ensures.current
-    c.turn_over.ensures.next c.turn_over.ensures.unplaced
+    commits_last c.args.self c.turns.runner c.see_changed.new.self c.next.new.self c.turn_over.new.self c.turns.invariant c.in_default.ensures.idle.0 (c.in_default.ensures.none.0 refl)
+    c.in_ok-see_changed.ensures.rest c.in_ok-see_changed.ensures.going c.in_ok-see_changed.ensures.unchanged c.turn_over.ensures.current c.turn_over.ensures.next c.turn_over.ensures.unplaced
 
 pub returns-clause-same : goal.returns-clause-same
-returns-clause-same g c = commits_same c.args.self c.turns.runner c.turn_over.new.self c.turns.invariant
+returns-clause-same g c =
+    commits_same c.args.self c.turns.runner c.see_changed.new.self c.next.new.self c.turn_over.new.self c.turns.invariant c.in_default.ensures.idle.0 (c.in_default.ensures.none.0 refl)
+    c.in_ok-see_changed.ensures.rest c.in_ok-see_changed.ensures.going c.in_ok-see_changed.ensures.unchanged c.turn_over.ensures.current c.turn_over.ensures.next c.turn_over.ensures.unplaced
 
 pub returns-clause-turns : goal.returns-clause-turns
-returns-clause-turns g c = commits_turns c.args.self c.turns.runner c.turns.invariant (c.in_default.ensures.none.0 refl)
+returns-clause-turns g c =
+    commits_turns c.args.self c.turns.runner c.see_changed.new.self c.next.new.self c.turn_over.new.self c.turns.invariant c.in_default.ensures.idle.0 (c.in_default.ensures.none.0 refl)
+    c.in_ok-see_changed.ensures.rest c.in_ok-see_changed.ensures.going c.in_ok-see_changed.ensures.unchanged c.turn_over.ensures.current c.turn_over.ensures.next c.turn_over.ensures.unplaced

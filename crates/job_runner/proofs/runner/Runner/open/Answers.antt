@@ -24,5 +24,5 @@ returns-clause-underway c =
       entries = c.in_ok-task.ensures.entries;
       froms = c.in_ok-task.ensures.froms;
     })
-    c.in_ok-roster.ensures.root refl c.in_ok-roster.ensures.agree c.new-2.ensures.now c.new-2.ensures.limit c.requires.bounded c.new-2.ensures.timers c.new-3.ensures.items c.new-batch.result.next
+    c.in_ok-roster.ensures.root refl c.in_ok-roster.ensures.agree c.new-2.ensures.now c.new-2.ensures.limit c.requires.bounded c.new-2.ensures.timers c.new-3.ensures c.new.ensures.unchanged c.new-batch.result.next
     c.add.new.self.next c.new-batch.ensures.next c.in_ok-add.ensures.added c.turn_over.ensures.current c.turn_over.ensures.next c.turn_over.ensures.unplaced

@@ -1,0 +1,9 @@
+use Rattle.std.specs.Prelude.{length}
+use Rattle.job_runner.proofs.Waking.{IsDue, timed}
+use Rattle.job_runner.proofs.runner.Runner.wake_due.Given as goal
+
+abbrev pub invariant-due : goal.invariant-due
+invariant-due l = IsDue l.fn.self l.self
+
+abbrev pub decreases-due : goal.decreases-due
+decreases-due l = timed (length l.fn.self.roster.live.slots.slots) l.self.clock
