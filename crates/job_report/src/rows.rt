@@ -115,3 +115,30 @@ pub fn push_rows(out: &mut Vec<u8>, rows: &[Record<'_>]) -> Result<(), AllocErro
     }
     Ok(())
 }
+
+// Room for the lines of all tasks, at least where no byte of a line of the input is escaped. Where it is less, the text grows.
+pub fn room_for(rows: &[Record<'_>]) -> usize {
+    let mut room: usize = 0;
+    'rows: for row in rows {
+        room = room.saturating_add(room_of(row));
+    }
+    room
+}
+
+// Room for the lines of a task.
+fn room_of(row: &Record<'_>) -> usize {
+    let mut room: usize = 128;
+    'entries: for entry in row.entries.as_slice() {
+        room = room.saturating_add(entry_room(entry));
+    }
+    room
+}
+
+// Room for the line for an entry: of one for a line of the input, that and two numbers of eight digits.
+fn entry_room(entry: &Entry<'_>) -> usize {
+    match entry {
+        Entry::Line(line) => line.text().len().saturating_add(26),
+        Entry::Scope { .. } => 128,
+        Entry::Nursery { .. } => 128,
+    }
+}
