@@ -6,9 +6,11 @@
 PROGRAM is the built executable. It wants Python 3.10 or later. Of each text: the bytes and the status are the same under
 every order and with 1, 3 and 64 workers, and as a feed; each line shown is the input's slice at its place; a job's canonical
 text is its own canonical text and has the same report; the status fits what was written. Three texts in four are jobs, the
-others jobs with a few bytes changed, or bytes.
+others jobs with a few bytes changed, or bytes. Before them come the jobs of examples/, cut behind each of their bytes: none
+of those is a job but the whole one, and none is refused at a place behind its end.
 """
 
+import glob
 import os
 import random
 import re
@@ -112,7 +114,7 @@ def check_status(status, out, err, text):
     refused = REFUSED.fullmatch(out)
     if status != 2 or not refused or not err:
         raise Wrong(f"status {status} beside {out!r}, {err!r}")
-    if KINDS[int(refused[1]) - 1].encode() != refused[2] or int(refused[3]) > max(len(text), 65_536):
+    if KINDS[int(refused[1]) - 1].encode() != refused[2] or int(refused[3]) > len(text):
         raise Wrong(f"no refusal: {out!r}")
     return False
 
@@ -168,6 +170,28 @@ class Program:
             raise Wrong("the canonical text has another report")
 
 
+def cut_texts():
+    """The job of each example, cut behind each of its bytes."""
+    for path in sorted(glob.glob(os.path.join(os.path.dirname(os.path.abspath(__file__)), "..", "examples", "*.feed"))):
+        with open(path, "rb") as file:
+            text = file.read().split(b"%input\n")[0].rstrip()
+        for end in range(len(text) + 1):
+            yield text[:end], end == len(text)
+
+
+def examined_cut(path, cut):
+    """The status of one cut text."""
+    text, is_whole = cut
+    with tempfile.TemporaryDirectory() as folder:
+        try:
+            status = Program(path, folder).examine(text, b"GET /a\nERROR\n")
+            if (status == 2) == is_whole:
+                raise Wrong(f"status {status}")
+            return status
+        except Wrong as wrong:
+            raise Wrong(f"{wrong}\n-- text\n{text!r}") from wrong
+
+
 def examined(path, seed):
     """The status of one text. What is wrong is told with the text and its input."""
     dice = random.Random(seed)
@@ -185,11 +209,13 @@ def main():
     print(f"random_jobs.py: {texts} texts, seed {seed}", flush=True)
     with ThreadPoolExecutor(os.cpu_count()) as pool:
         try:
+            cut = Counter(pool.map(lambda text: examined_cut(sys.argv[1], text), cut_texts()))
             seen = Counter(pool.map(lambda i: examined(sys.argv[1], seed * 1_000_000 + i), range(texts)))
         except Wrong as wrong:
             print(wrong)
             pool.shutdown(cancel_futures=True)
             return 1
+    print(f"random_jobs.py: {cut[2]} cut texts refused, {sum(cut.values()) - cut[2]} whole ones not")
     print("random_jobs.py: " + ", ".join(f"{n} of status {status}" for status, n in sorted(seen.items())) + ", none wrong")
     return 0
 

@@ -146,7 +146,9 @@ def refuse_in_tests(shim, crates):
     tests = list(tests_of(crates))
     with ThreadPoolExecutor(os.cpu_count()) as pool:
         counts = list(pool.map(lambda test: refuse_in_test(shim, *test), tests))
-    print(f"{len(tests)} tests: {sum(counts)} growths refused, in one of them at most {max(counts)}")
+    for (folder, _, name), count in zip(tests, counts):
+        print(f"{os.path.basename(folder)} {name}: {count} growths refused")
+    print(f"{len(tests)} tests: {sum(counts)} growths refused")
 
 
 def main():
