@@ -16,14 +16,7 @@ fn served<R: Abort + Threads + Sync + AllocGlobal>(
     let text = format!(in rt.alloc(); "trio-job 1\njob main {{ {steps} }}")?;
     let settings = Settings::new(1, 100).expect(rt, "settings");
     let mut out = MemOut::new(rt.alloc(), 1_000_000, 65_536, None)?;
-    let verdict = serve_again(
-        rt,
-        text.as_bytes(),
-        input,
-        settings,
-        &mut Forward,
-        &mut out,
-    );
+    let verdict = serve_again(rt, text.as_bytes(), input, settings, &mut Forward, &mut out);
     assert!(rt; verdict.is_ok(), "{steps}");
     Ok(out)
 }

@@ -133,14 +133,7 @@ fn refusals_are_told_by_a_line(rt: HostRuntime) -> Result<(), Fail> {
     ] {
         let settings = Settings::new(1, 100).expect(&rt, "settings");
         let mut out = MemOut::new(rt.alloc(), 100, 7, None)?;
-        let verdict = serve_again(
-            &rt,
-            text.as_bytes(),
-            b"",
-            settings,
-            &mut Forward,
-            &mut out,
-        );
+        let verdict = serve_again(&rt, text.as_bytes(), b"", settings, &mut Forward, &mut out);
         assert!(rt; matches!(verdict, Ok(Verdict::JobRefused(_))), "{text}");
         assert_eq!(rt; out.taken(), expected.as_bytes());
     }
