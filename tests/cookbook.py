@@ -1,0 +1,84 @@
+#!/usr/bin/env python3
+"""Compares the jobs and reports that docs/COOKBOOK.md and README.md show with examples/.
+
+    python3 tests/cookbook.py
+
+It wants Python 3.10 or later, and no program: tests/examples.sh compares the stored reports with it. Where a paragraph names an
+example, as (`examples/NAME.feed`), the next two indented blocks are its job, without the first line and the input, and its report.
+In the cookbook there is no other block, and a job has the feed's own layout; in README other blocks stand too, and a job may have
+its line ends elsewhere.
+"""
+
+import os
+import re
+import sys
+
+ROOT = os.path.join(os.path.dirname(os.path.abspath(__file__)), "..")
+FIRST_LINE = "trio-job 1\n"
+NAMED = re.compile(r"\(`examples/(\w+)\.feed`")
+
+
+class Wrong(Exception):
+    """What was found, in one sentence."""
+
+
+def content_of(*path):
+    with open(os.path.join(ROOT, *path), encoding="utf-8", newline="") as file:
+        return file.read()
+
+
+def pieces_of(page):
+    """The paragraphs and indented blocks of a page in order, each with whether it is a block. Blank lines end both."""
+    for piece in re.split(r"\n(?:[ \t]*\n)+", page):
+        lines = piece.strip("\n").split("\n")
+        if all(line.startswith("    ") for line in lines):
+            yield True, "".join(line[4:] + "\n" for line in lines)
+        else:
+            yield False, piece
+
+
+def job_of(name):
+    feed = content_of("examples", name + ".feed")
+    if not feed.startswith(FIRST_LINE):
+        raise Wrong(f"examples/{name}.feed does not begin with the line `trio-job 1`")
+    return feed.removeprefix(FIRST_LINE).partition("%input\n")[0]
+
+
+def compare_page(page, text, is_cookbook):
+    """Compares each block shown of an example. Gives the names of the examples shown."""
+    shown, wanted = [], []
+    for is_block, piece in pieces_of(text):
+        if not is_block:
+            for name in NAMED.findall(piece):
+                if wanted:
+                    raise Wrong(f"{page} does not show the {wanted[0][1]} of {wanted[0][0]}")
+                wanted = [(name, "job", job_of(name)), (name, "report", content_of("examples", name + ".report"))]
+                shown.append(name)
+        elif wanted:
+            name, what, right = wanted.pop(0)
+            same_words = what == "job" and not is_cookbook and piece.split() == right.split()
+            if piece != right and not same_words:
+                raise Wrong(f"{page} shows another {what} of {name} than examples/ has:\n{piece}")
+        elif is_cookbook:
+            raise Wrong(f"{page} shows a block of no example:\n{piece}")
+    if wanted:
+        raise Wrong(f"{page} does not show the {wanted[0][1]} of {wanted[0][0]}")
+    return shown
+
+
+def main():
+    try:
+        for path, is_cookbook in [(("docs", "COOKBOOK.md"), True), (("README.md",), False)]:
+            page = "/".join(path)
+            shown = compare_page(page, content_of(*path), is_cookbook)
+            if is_cookbook and not shown:
+                raise Wrong(f"{page} shows no example")
+            print(f"cookbook.py: {page} shows as examples/ has them: {', '.join(shown)}")
+    except (Wrong, OSError) as wrong:
+        print(f"cookbook.py: {wrong}", file=sys.stderr)
+        return 1
+    return 0
+
+
+if __name__ == "__main__":
+    sys.exit(main())
