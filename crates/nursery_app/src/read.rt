@@ -26,7 +26,7 @@ pub fn read_whole<R: Read>(alloc: Global, reader: &mut R, most: usize) -> Result
     ensures too_long { result ≡ Err ReadFault.TooLong → IsTooLong (R.remaining reader.old) most }
 {
     let mut bytes = Vec::new(alloc);
-    let mut chunk = [0u8; 4096];
+    let mut chunk = [0u8; 65_536];
     'reads: for _turn in 0..=most {
         let Ok(n) = reader.read(&mut chunk) else {
             return Err(ReadFault::Device);
