@@ -108,13 +108,17 @@ refuses 'trio-job 1\njob main {\n\tfind "\303\244";\n}\n' 'refused J2 NotAscii a
 refuses 'trio-job 2\n' 'refused J3 Version at 0' \
     '1:1: a job text begins with the line `trio-job 1`, ended by a newline alone\ntrio-job 2\n^'
 refuses 'trio-job 1\r\njob main { }\n' 'refused J3 Version at 0' \
-    '1:1: a job text begins with the line `trio-job 1`, ended by a newline alone\ntrio-job 1 \n^'
+    '1:1: a job text begins with the line `trio-job 1`, ended by a newline alone\ntrio-job 1 \n^\nits line ends are carriage returns and newlines: save it with newlines alone'
 refuses 'trio-job 1\njob main { sleep 1s; }\n' 'refused J4 Token at 28' \
     '2:18: a letter or `_` stands directly behind this number\njob main { sleep 1s; }\n                 ^'
 refuses 'trio-job 1\njob main { pace 0; }\n' 'refused J5 Number at 27' \
     '2:17: a number out of its range: `over` takes 1 to 64, `pace` 1 to 1000000, others 0 to 1000000000; no leading zero\njob main { pace 0; }\n                ^'
 refuses 'trio-job 1\njob main { scope s { } scope s { } }\n' 'refused J8 Twice at 40' \
-    '2:30: this name was given before: jobs, scopes, nurseries and starts need names of their own\njob main { scope s { } scope s { } }\n                             ^'
+    '2:30: this name was given before: jobs, scopes, nurseries and starts need names of their own\njob main { scope s { } scope s { } }\n                             ^\nit was first given at bad.job:2:18'
+refuses 'trio-job 1\njob main { slep 1; }\n' 'refused J6 Syntax at 22' \
+    '2:12: expected a step, as `sleep 1;`, or `}` (a `start` stands only right inside a nursery)\njob main { slep 1; }\n           ^\ndid you mean `sleep`?'
+refuses 'trio-job 1\njob main {\n  scope s {\n    sleep 1;\n}\n' 'refused J6 Syntax at 49' \
+    '6:1: expected a step, as `sleep 1;`, or `}` (a `start` stands only right inside a nursery)\n\n^\nthe innermost block that is not closed begins at bad.job:2:10'
 refuses 'trio-job 1\njob main { cancel x; }\n' 'refused J9 NotEnclosing at 29' \
     '2:19: no scope or nursery round this `cancel` has this name\njob main { cancel x; }\n                  ^'
 refuses 'trio-job 1\njob main { raise Cancelled; }\n' 'refused J10 Reserved at 28' \

@@ -1,15 +1,20 @@
 -- The text that tells a refusal.
 use Rattle.std.proofs.Common.{◌≡◌, ℕ, zero, suc, ◌-◌, List, [], ◌∷◌, ◌++◌, refl, length, take, drop, min, map, ap, subst, ◌∙◌, append_assoc}
-use Rattle.std.specs.Prelude.{IfOk, Option, Result, Ok, Err, slice_get}
+use Rattle.std.specs.Prelude.{IfOk, Option, None, Result, Ok, Err, slice_get}
 use Rattle.std.specs.List.{before_first}
 use Rattle.std.proofs.lemmas.List.{take_min, drop_min}
 use Rattle.std.specs.declared.alloc.AllocError.{AllocError}
 use Rattle.job_tokens.specs.declared.token.Token.{Token}
 use Rattle.job_tokens.specs.Lexing.{Lexes}
-use Rattle.job_syntax.specs.Syntax.{whole_job}
+use Rattle.job_tokens.specs.declared.token.Shape.{Shape}
+use Rattle.job_syntax.specs.declared.role.Role.{Role}
+use Rattle.job_syntax.specs.Syntax.{fault_at, roles_at, whole_job}
 use Rattle.job_syntax.specs.declared.symbol.Symbol.{Symbol}
 use Rattle.nursery_app.specs.Places.{column_of}
+use Rattle.nursery_app.specs.declared.hinting.Hint.{Hint}
 use Rattle.nursery_app.specs.Expecting.{expected_in, IsExpected}
+use Rattle.nursery_app.specs.Scanning.{shape_at}
+use Rattle.nursery_app.specs.Hinting.{syntax_hint, twice_hint, IsSyntaxHint, IsTwiceHint}
 use Rattle.nursery_app.specs.Explaining.{headed, shown_byte, is_newline, last_of, width_before, before, behind, most_before, most_behind}
 
 -- what the grammar asks for behind the tokens is what it asks for in the text
@@ -50,6 +55,12 @@ pub headed_same : (job sentence wanted : List ℕ) (line line' column column' : 
 headed_same job sentence wanted line line' column column' line_is column_is is =
     ap (λ (x : ℕ). headed job x column sentence) line_is ∙ ap (λ (x : ℕ). headed job line' x sentence) column_is ∙ ap (headed job line' column') is
 
+-- three pieces, one behind the other
+pub three_pieces : (old a b c h1 h2 h3 : List ℕ) → h1 ≡ old ++ a → h2 ≡ h1 ++ b → h3 ≡ h2 ++ c → h3 ≡ old ++ ((a ++ b) ++ c)
+three_pieces old a b c h1 h2 h3 is1 is2 is3 =
+    let two : h2 ≡ old ++ (a ++ b) = is2 ∙ ap (λ (x : List ℕ). x ++ b) is1 ∙ append_assoc old a b in
+    is3 ∙ ap (λ (x : List ℕ). x ++ c) two ∙ append_assoc old (a ++ b) c
+
 -- one piece behind the other
 pub pieces : (head front back newline spaces caret h0 h1 h2 h3 h4 h5 : List ℕ) → h0 ≡ head → h1 ≡ h0 ++ front → h2 ≡ h1 ++ back → h3 ≡ h2 ++ newline → h4 ≡ h3 ++ spaces → h5 ≡ h4 ++ caret
     → h5 ≡ head ++ ((((front ++ back) ++ newline) ++ spaces) ++ caret)
@@ -58,3 +69,25 @@ pieces head front back newline spaces caret h0 h1 h2 h3 h4 h5 is0 is1 is2 is3 is
     let three : h3 ≡ head ++ ((front ++ back) ++ newline) = is3 ∙ ap (λ (x : List ℕ). x ++ newline) two ∙ append_assoc head (front ++ back) newline in
     let four : h4 ≡ head ++ (((front ++ back) ++ newline) ++ spaces) = is4 ∙ ap (λ (x : List ℕ). x ++ spaces) three ∙ append_assoc head ((front ++ back) ++ newline) spaces in
     is5 ∙ ap (λ (x : List ℕ). x ++ caret) four ∙ append_assoc head (((front ++ back) ++ newline) ++ spaces) caret
+
+-- what helps where a text goes on wrongly, or gives a name twice
+pub helps : (text body : List ℕ) (tokens given : List Token) (fault : Option ℕ) (at : ℕ) (shape : Option Shape) (h : Option Hint) → body ≡ drop 11 text → Lexes (length text) body tokens fault
+    → given ≡ tokens → shape ≡ shape_at at given → h ≡ syntax_hint given shape → IsSyntaxHint text at h
+helps text body tokens given fault at shape h is lexes same shape_is h_is = (
+  tokens,
+  fault,
+  subst (λ (b : List ℕ). Lexes (length text) b tokens fault) is lexes,
+  h_is ∙ ap (syntax_hint given) shape_is ∙ ap (λ (ts : List Token). syntax_hint ts (shape_at at ts)) same,
+)
+
+pub helps_twice : (text body : List ℕ) (tokens given : List Token) (roles shown : List Role) (fault stop : Option ℕ) (at : ℕ) (shape : Option Shape) (h : Option Hint) → body ≡ drop 11 text → Lexes (length text) body tokens fault
+    → given ≡ tokens → shown ≡ roles → stop ≡ fault_at (length text) whole_job given → (stop ≡ None → roles ≡ roles_at whole_job given)
+    → shape ≡ shape_at at given → h ≡ twice_hint given shown shape → IsTwiceHint text at h
+helps_twice text body tokens given roles shown fault stop at shape h is lexes same shown_is stop_is roles_are shape_is h_is = (
+  tokens,
+  fault,
+  roles,
+  subst (λ (b : List ℕ). Lexes (length text) b tokens fault) is lexes,
+  (λ whole. roles_are (stop_is ∙ ap (fault_at (length text) whole_job) same ∙ whole) ∙ ap (roles_at whole_job) same),
+  h_is ∙ ap (twice_hint given shown) shape_is ∙ ap (λ (ts : List Token). twice_hint ts shown (shape_at at ts)) same ∙ ap (λ (rs : List Role). twice_hint tokens rs (shape_at at tokens)) shown_is,
+)

@@ -1,10 +1,14 @@
 -- How a refusal is told to the user: its place, a sentence, the line of the job text, and a caret under the place.
-use Rattle.std.specs.Prelude.{◌≡◌, ℕ, ◌-◌, ◌==◌, ◌&&◌, ◌||◌, Bool, min, nat_le, if◌then◌else◌, List, ◌++◌, length, take, drop, map, replicate, Option, codes, decimal, slice_get}
+use Rattle.std.specs.Prelude.{◌≡◌, ℕ, ◌-◌, ◌==◌, ◌&&◌, ◌||◌, Bool, min, nat_le, if◌then◌else◌, List, [], ◌++◌, length, take, drop, map, replicate, Option, Some, None, codes, decimal, slice_get}
 use Rattle.std.specs.List.{before_first}
 use Rattle.job_syntax.specs.declared.symbol.Symbol.{Symbol}
 use Rattle.job_grammar.specs.declared.fault.JobFault.{JobFault}
 use Rattle.nursery_app.specs.Places.{line_of, column_of}
+use Rattle.job_syntax.specs.Keywords.{spelling}
+use Rattle.nursery_app.specs.declared.hinting.Hint.{Hint}
+use Rattle.nursery_app.specs.declared.hinting.Hint.TheVariants as hint
 use Rattle.nursery_app.specs.Expecting.{IsAsked}
+use Rattle.nursery_app.specs.Hinting.{IsHint}
 use Rattle.nursery_app.specs.Sentences.{sentence_of}
 
 -- the most bytes of a line that are shown in front of a place, and from it on
@@ -44,9 +48,29 @@ headed job line column sentence = job ++ codes ":" ++ decimal line ++ codes ":" 
 abbrev pub pointed : List ℕ → ℕ → List ℕ
 pointed text at = before text at ++ behind text at ++ codes "\n" ++ replicate (width_before text at) 32 ++ codes "^\n"
 
+abbrev pub meant_line : List ℕ → List ℕ
+meant_line bytes = codes "did you mean `" ++ map shown_byte bytes ++ codes "`?\n"
+
+-- something, and a place as `JOB:LINE:COLUMN`
+abbrev pub place_line : List ℕ → List ℕ → List ℕ → ℕ → List ℕ
+place_line what job text at = what ++ job ++ codes ":" ++ decimal (line_of text at) ++ codes ":" ++ decimal (column_of text at) ++ codes "\n"
+
+-- the line that tells a hint
+abbrev pub hint_line : List ℕ → List ℕ → Hint → List ℕ
+hint_line job text hint.CarriageReturn = codes "its line ends are carriage returns and newlines: save it with newlines alone\n"
+hint_line job text hint.NoComments = codes "a job text has no comments\n"
+hint_line job text (hint.Meant keyword) = meant_line (spelling keyword)
+hint_line job text (hint.OpenSince at) = place_line (codes "the innermost block that is not closed begins at ") job text at
+hint_line job text (hint.GivenAt at) = place_line (codes "it was first given at ") job text at
+
+-- the line of what helps, where something does
+abbrev pub hint_of : List ℕ → List ℕ → Option Hint → List ℕ
+hint_of job text None = []
+hint_of job text (Some h) = hint_line job text h
+
 -- The text that tells a refusal of a job text: its sentence is that of its kind, of the byte at the place, and of what the
--- grammar asks for.
+-- grammar asks for. What may help follows it.
 abbrev pub Tells : List ℕ → List ℕ → JobFault → List ℕ → Type 0
 Tells job text fault message =
-    (symbol : Option Symbol) × IsAsked fault.kind text symbol
-    × (message ≡ headed job (line_of text fault.at) (column_of text fault.at) (sentence_of fault.kind (slice_get text fault.at) symbol) ++ pointed text fault.at)
+    (symbol : Option Symbol) × (help : Option Hint) × IsAsked fault.kind text symbol × IsHint fault.kind text fault.at help
+    × (message ≡ headed job (line_of text fault.at) (column_of text fault.at) (sentence_of fault.kind (slice_get text fault.at) symbol) ++ pointed text fault.at ++ hint_of job text help)

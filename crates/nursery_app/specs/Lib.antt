@@ -8,3 +8,6 @@ pub mod Sentences
 pub mod Expecting
 pub mod Explaining
 pub mod Statuses
+pub mod Nearness
+pub mod Scanning
+pub mod Hinting

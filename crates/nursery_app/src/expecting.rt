@@ -37,7 +37,7 @@ fn expected(alloc: Global, text: &[u8]) -> Result<Option<Symbol>, AllocError>
 }
 
 // The same of tokens.
-fn expected_at(alloc: Global, tokens: &[Token]) -> Result<Option<Symbol>, AllocError>
+pub(crate) fn expected_at(alloc: Global, tokens: &[Token]) -> Result<Option<Symbol>, AllocError>
     ensures { IfOk result (λ symbol. symbol ≡ expected_in whole_job tokens.now) }
 {
     let mut stack = Vec::new(alloc);

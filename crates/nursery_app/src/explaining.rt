@@ -1,13 +1,17 @@
 ghost use Rattle.std.specs.Prelude.{◌≡◌, ◌++◌, ◌<◌, ◌≤◌, length, take, map, replicate, codes, decimal, IfOk, OnOk};
 ghost use Rattle.std.specs.List.{before_first};
 ghost use Rattle.std.specs.String.{string_bytes};
-ghost use Rattle.nursery_app.specs.Explaining.{Tells, headed, shown_byte, is_newline, last_of, most_behind};
+ghost use Rattle.nursery_app.specs.Explaining.{Tells, headed, shown_byte, is_newline, last_of, most_behind, hint_of, hint_line, meant_line, place_line};
+ghost use Rattle.job_syntax.specs.Keywords.{spelling};
+ghost use Rattle.nursery_app.specs.Places.{line_of, column_of};
 
 use crate::expecting::asked;
+use crate::hinting::{Hint, hint_for};
 use crate::places::{column_of, line_of};
 use crate::sentences::sentence_of;
 use itoa::Buffer;
 use job_grammar::JobFault;
+use job_syntax::Keyword;
 use std::alloc::{AllocError, Global};
 
 // The most bytes of a line that are shown in front of a place, and from it on.
@@ -17,7 +21,9 @@ const MOST_BEHIND: usize = 40;
 
 /// Tells a refusal to the user: `JOB:LINE:COLUMN: ` and a sentence, the line of the job text, and a caret under the
 /// place. Of a long line the 60 bytes in front of the place and the 40 from it on are shown. A byte that is no printable
-/// ASCII is shown as `?`, and a tab or a carriage return as a space. `job` is the name that the user gave the text.
+/// ASCII is shown as `?`, and a tab or a carriage return as a space. Where something may help, a line tells it: a keyword that
+/// was nearly spelled, the block that is not closed, where a name was first given. `job` is the name that the user gave the
+/// text.
 pub fn explain(alloc: Global, job: &str, text: &[u8], fault: JobFault) -> Result<String, AllocError>
     ensures { IfOk result (λ message. Tells job.now text.now fault (string_bytes message)) }
 {
@@ -33,6 +39,7 @@ pub fn explain(alloc: Global, job: &str, text: &[u8], fault: JobFault) -> Result
     message.push_str("\n")?;
     push_spaces(&mut message, shown)?;
     message.push_str("^\n")?;
+    push_help(&mut message, job, text, hint_for(alloc, text, fault)?)?;
     Ok(message)
 }
 
@@ -123,4 +130,65 @@ fn shown_byte(byte: u8) -> char
         b'\t' | b'\r' => ' ',
         _ => '?',
     }
+}
+
+// Appends what may help.
+fn push_help(
+    message: &mut String,
+    job: &str,
+    text: &[u8],
+    help: Option<Hint>,
+) -> Result<(), AllocError>
+    ensures { OnOk result (string_bytes message.new ≡ string_bytes message.old ++ hint_of job.now text.now help) }
+{
+    match help {
+        Some(hint) => push_hint(message, job, text, hint),
+        None => Ok(()),
+    }
+}
+
+// Appends the line that tells a hint.
+fn push_hint(message: &mut String, job: &str, text: &[u8], hint: Hint) -> Result<(), AllocError>
+    ensures { OnOk result (string_bytes message.new ≡ string_bytes message.old ++ hint_line job.now text.now hint) }
+{
+    match hint {
+        Hint::CarriageReturn => message.push_str(
+            "its line ends are carriage returns and newlines: save it with newlines alone\n",
+        ),
+        Hint::NoComments => message.push_str("a job text has no comments\n"),
+        Hint::Meant(keyword) => push_meant(message, keyword),
+        Hint::OpenSince(at) => push_at(
+            message,
+            "the innermost block that is not closed begins at ",
+            job,
+            text,
+            at,
+        ),
+        Hint::GivenAt(at) => push_at(message, "it was first given at ", job, text, at),
+    }
+}
+
+fn push_meant(message: &mut String, keyword: Keyword) -> Result<(), AllocError>
+    ensures { OnOk result (string_bytes message.new ≡ string_bytes message.old ++ meant_line (spelling keyword)) }
+{
+    message.push_str("did you mean `")?;
+    push_shown(message, keyword.bytes())?;
+    message.push_str("`?\n")?;
+    Ok(())
+}
+
+fn push_at(
+    message: &mut String,
+    what: &str,
+    job: &str,
+    text: &[u8],
+    at: usize,
+) -> Result<(), AllocError>
+    ensures { OnOk result (string_bytes message.new ≡ string_bytes message.old ++ place_line what.now job.now text.now at) }
+{
+    message.push_str(what)?;
+    message.push_str(job)?;
+    push_place(message, line_of(text, at))?;
+    push_place(message, column_of(text, at))?;
+    message.push_str("\n")
 }

@@ -12,11 +12,14 @@ mod command_line;
 mod expecting;
 mod explaining;
 mod feed;
+mod hinting;
 mod lines;
+mod nearness;
 mod places;
 mod read;
 #[cfg(test)]
 mod refusal_tests;
+mod scanning;
 mod sentences;
 mod serving;
 #[cfg(test)]

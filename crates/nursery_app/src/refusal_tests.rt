@@ -38,7 +38,7 @@ const EXPECTED: [Row; 12] = [
     ),
     (
         b"trio-job 1\njob main {\n  sleep 1;\n",
-        "f:4:1: expected a step, as `sleep 1;`, or `}` (a `start` stands only right inside a nursery)\n\n^\n",
+        "f:4:1: expected a step, as `sleep 1;`, or `}` (a `start` stands only right inside a nursery)\n\n^\nthe innermost block that is not closed begins at f:2:10\n",
     ),
     (
         b"trio-job 1\njob main { } }",
@@ -105,7 +105,7 @@ const WRONG: [Row; 13] = [
     ),
     (
         b"trio-job 1\njob a { # }",
-        "f:2:9: a word, a number, a string or one of `{`, `}` and `;` was expected\njob a { # }\n        ^\n",
+        "f:2:9: a word, a number, a string or one of `{`, `}` and `;` was expected\njob a { # }\n        ^\na job text has no comments\n",
     ),
     (
         b"trio-job 1\njob a123456789012345678901234567890123 { }",
@@ -117,7 +117,7 @@ const WRONG: [Row; 13] = [
     ),
     (
         b"trio-job 1\njob a { scope a { } }",
-        "f:2:15: this name was given before: jobs, scopes, nurseries and starts need names of their own\njob a { scope a { } }\n              ^\n",
+        "f:2:15: this name was given before: jobs, scopes, nurseries and starts need names of their own\njob a { scope a { } }\n              ^\nit was first given at f:2:5\n",
     ),
     (
         b"trio-job 1\njob a { cancel b; }",
@@ -132,6 +132,55 @@ const WRONG: [Row; 13] = [
         "f:1:1: the job has more than 100000 steps, the copies that `over` makes counted\ntrio-job 1\n^\n",
     ),
 ];
+
+// A job text, and the last line of what its refusal shows.
+const HELPED: [Row; 13] = [
+    (b"trio-job 1\njob a { slep 1; }", "did you mean `sleep`?"),
+    (b"trio-job 1\njob a { sleeep 1; }", "did you mean `sleep`?"),
+    (b"trio-job 1\njob a { Sleep 1; }", "did you mean `sleep`?"),
+    (b"trio-job 1\njob a { tyr { } }", "did you mean `try`?"),
+    (b"trio-job 1\nob a { }", "did you mean `job`?"),
+    (
+        b"trio-job 1\njob a { scope s sheild { } }",
+        "did you mean `shield`?",
+    ),
+    (
+        b"trio-job 1\njob a { nursery n { strat b { } } }",
+        "did you mean `start`?",
+    ),
+    (
+        b"trio-job 1\njob a { try { } finaly { } }",
+        "did you mean `finally`?",
+    ),
+    // `start` stands only in a nursery, and two bytes are wrong.
+    (b"trio-job 1\njob a { strat b { } }", "        ^"),
+    (b"trio-job 1\njob a { slop 1; }", "        ^"),
+    (
+        b"trio-job 1\njob a { scope b { sleep 1; }\n scope c {\n { }",
+        " ^",
+    ),
+    (
+        b"trio-job 1\r\njob a { }\r\n",
+        "its line ends are carriage returns and newlines: save it with newlines alone",
+    ),
+    (
+        b"trio-job 1\njob a { // no\n}",
+        "a job text has no comments",
+    ),
+];
+
+#[test]
+fn a_refusal_ends_with_what_may_help(rt: HostRuntime) -> Result<(), Fail> {
+    for (text, told) in HELPED {
+        let fault = refusal_of(rt.alloc(), text)?;
+        let shown = explain(rt.alloc(), "f", text, fault)?;
+        let mut last = String::from_str(rt.alloc(), "\n")?;
+        last.push_str(told)?;
+        last.push_str("\n")?;
+        assert!(rt; shown.as_str().ends_with(last.as_str()));
+    }
+    Ok(())
+}
 
 // Why a text is refused. Want of memory is an error.
 fn refusal_of(alloc: Global, text: &[u8]) -> Result<JobFault, Fail> {

@@ -1,0 +1,63 @@
+-- What may help beside the sentence of a refusal.
+use Rattle.std.specs.Prelude.{◌≡◌, ℕ, ◌==◌, ◌||◌, if◌then◌else◌, List, [], ◌∷◌, length, take, Option, Some, None, codes, slice_get}
+use Rattle.std.specs.Str.{bytes_eq}
+use Rattle.job_tokens.specs.declared.token.Shape.{Shape}
+use Rattle.job_tokens.specs.declared.token.Token.{Token}
+use Rattle.job_tokens.specs.Shapes.{word_in}
+use Rattle.job_syntax.specs.declared.symbol.Symbol.{Symbol}
+use Rattle.job_syntax.specs.declared.role.Role.{Role}
+use Rattle.job_syntax.specs.Symbols.{◌>>=◌}
+use Rattle.job_syntax.specs.Syntax.{fault_at, roles_at, whole_job}
+use Rattle.job_grammar.specs.declared.fault.JobKind.{JobKind}
+use Rattle.job_grammar.specs.declared.fault.JobKind.TheVariants as kind
+use Rattle.job_grammar.specs.Refusals.{HasTokens}
+use Rattle.nursery_app.specs.declared.hinting.Hint.{Hint}
+use Rattle.nursery_app.specs.declared.hinting.Hint.TheVariants as hint
+use Rattle.nursery_app.specs.Expecting.{expected_in}
+use Rattle.nursery_app.specs.Nearness.{words_for, first_near}
+use Rattle.nursery_app.specs.Scanning.{shape_at, open_in, first_given}
+
+-- the first line, but with the line ends of another system
+abbrev pub version_hint : List ℕ → Option Hint
+version_hint text = if bytes_eq (take 12 text) (codes "trio-job 1\r\n") then Some hint.CarriageReturn else None
+
+-- `#` or `/`
+abbrev pub token_hint : Option ℕ → Option Hint
+token_hint None = None
+token_hint (Some b) = if b == 35 || b == 47 then Some hint.NoComments else None
+
+-- the keyword that a token nearly is, of those that may stand for the symbol
+abbrev pub meant_by : Option Symbol → Shape → Option Hint
+meant_by symbol shape = symbol >>= λ s. word_in shape >>= λ bytes. first_near (words_for s) bytes >>= λ k. Some (hint.Meant k)
+
+-- where tokens leave the grammar: with a token at that place the keyword meant, and with none the block that is open
+abbrev pub syntax_hint : List Token → Option Shape → Option Hint
+syntax_hint tokens None = slice_get (open_in [] tokens) 0 >>= λ at. Some (hint.OpenSince at)
+syntax_hint tokens (Some shape) = meant_by (expected_in whole_job tokens) shape
+
+abbrev pub IsSyntaxHint : List ℕ → ℕ → Option Hint → Type 0
+IsSyntaxHint text at h = (tokens : List Token) × (fault : Option ℕ) × HasTokens text tokens fault × (h ≡ syntax_hint tokens (shape_at at tokens))
+
+-- the place at which the name at a place was first given
+abbrev pub twice_hint : List Token → List Role → Option Shape → Option Hint
+twice_hint tokens roles shape = shape >>= λ s. word_in s >>= λ name. first_given name tokens roles >>= λ at. Some (hint.GivenAt at)
+
+abbrev pub IsTwiceHint : List ℕ → ℕ → Option Hint → Type 0
+IsTwiceHint text at h =
+    (tokens : List Token) × (fault : Option ℕ) × (roles : List Role) × HasTokens text tokens fault
+    × (fault_at (length text) whole_job tokens ≡ None → roles ≡ roles_at whole_job tokens) × (h ≡ twice_hint tokens roles (shape_at at tokens))
+
+-- what helps with a refusal of that kind at a place, where something does
+abbrev pub IsHint : JobKind → List ℕ → ℕ → Option Hint → Type 0
+IsHint kind.Version text at h = h ≡ version_hint text
+IsHint kind.Token text at h = h ≡ token_hint (slice_get text at)
+IsHint kind.Syntax text at h = IsSyntaxHint text at h
+IsHint kind.Twice text at h = IsTwiceHint text at h
+IsHint kind.TooLong text at h = h ≡ None
+IsHint kind.NotAscii text at h = h ≡ None
+IsHint kind.Number text at h = h ≡ None
+IsHint kind.Depth text at h = h ≡ None
+IsHint kind.NotEnclosing text at h = h ≡ None
+IsHint kind.Reserved text at h = h ≡ None
+IsHint kind.TooLarge text at h = h ≡ None
+IsHint kind.NoMemory text at h = h ≡ None

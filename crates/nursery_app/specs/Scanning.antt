@@ -1,0 +1,39 @@
+-- What tokens have at a place, which blocks they leave open, and where they give a name.
+use Rattle.std.specs.Prelude.{ℕ, ◌==◌, Bool, false, if◌then◌else◌, List, [], ◌∷◌, drop, Option, Some, None}
+use Rattle.std.specs.Str.{bytes_eq}
+use Rattle.job_tokens.specs.declared.token.Mark.{Mark}
+use Rattle.job_tokens.specs.declared.token.Mark.TheVariants as mark
+use Rattle.job_tokens.specs.declared.token.Shape.{Shape}
+use Rattle.job_tokens.specs.declared.token.Token.{Token}
+use Rattle.job_tokens.specs.Shapes.{word_in, mark_in}
+use Rattle.job_syntax.specs.declared.role.Role.{Role}
+use Rattle.job_syntax.specs.declared.role.Role.TheVariants as role
+
+-- the token at a place
+abbrev pub shape_at : ℕ → List Token → Option Shape
+shape_at at [] = None
+shape_at at (t ∷ ts) = if t.at == at then Some t.shape else shape_at at ts
+
+-- the places of the open blocks, innermost first, behind a token at a place
+abbrev pub open_behind : List ℕ → ℕ → Option Mark → List ℕ
+open_behind places at None = places
+open_behind places at (Some mark.Open) = at ∷ places
+open_behind places at (Some mark.Close) = drop 1 places
+open_behind places at (Some mark.Semicolon) = places
+
+-- the same behind tokens
+abbrev pub open_in : List ℕ → List Token → List ℕ
+open_in places [] = places
+open_in places (t ∷ ts) = open_in (open_behind places t.at (mark_in t.shape)) ts
+
+-- a token gives this name
+abbrev pub gives : Role → Option (List ℕ) → List ℕ → Bool
+gives role.Given None name = false
+gives role.Given (Some word) name = bytes_eq word name
+gives _ word name = false
+
+-- the place of the first token that gives this name
+abbrev pub first_given : List ℕ → List Token → List Role → Option ℕ
+first_given name [] roles = None
+first_given name (t ∷ ts) [] = None
+first_given name (t ∷ ts) (r ∷ rs) = if gives r (word_in t.shape) name then Some t.at else first_given name ts rs
