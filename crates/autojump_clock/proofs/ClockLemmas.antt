@@ -10,7 +10,8 @@ pub same_clock : (c : Clock) → IsUnchanged c c
 same_clock c = record { time = record { now = refl; limit = refl }; timers = λ task. refl }
 
 -- the earlier of the first timer's tick and of the next cancellation is the next tick
-pub first_is_next : (c : Clock) (next_cancel : Option ℕ) (due task : ℕ) → IsFirst c.timers due task → IsNext c next_cancel (earlier_of next_cancel due)
+pub first_is_next : (c : Clock) (next_cancel : Option ℕ) (due task : ℕ) → IsFirst c.timers due task →
+    IsNext c next_cancel (earlier_of next_cancel due)
 first_is_next c None due task first =
     record {
       is_one = inr (task, first.has);

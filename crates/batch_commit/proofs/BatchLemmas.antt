@@ -17,7 +17,8 @@ use Rattle.batch_commit.proofs.SlotLemmas.{Taken, taken, length-places_from, hel
 use Rattle.batch_commit.proofs.EntryLemmas.{held-placed, places_from-placed, added_of-unplaced}
 
 -- as many places are left as entries
-pub left_count : (current next : List (Option Entry)) (places : PlacesLeft) → IsReady current next places → length places.left ≡ length (held current)
+pub left_count : (current next : List (Option Entry)) (places : PlacesLeft) → IsReady current next places →
+    length places.left ≡ length (held current)
 left_count current next places is = ap length is.left ∙ length-places_from 0 current
 
 pub nothing_left : {X : Type 0} (xs : List X) (n : ℕ) → n ≡ length xs → IsTrue (nat_eq n 0) ↔ (xs ≡ [])
@@ -38,27 +39,34 @@ slots-push : (added : List Added) (a : Added) → unplaced_slots (added ++ a ∷
 slots-push [] a = refl
 slots-push (b ∷ added) a = ap (λ rest. Some (unplaced b) ∷ rest) (slots-push added a)
 
-pub ready_push : (current next next' : List (Option Entry)) (places places' : PlacesLeft) (a : Added) → IsReady current next places → next' ≡ next ++ Some (unplaced a) ∷ [] → places'.left ≡ places.left → length next + 1 + (length next + 1) ≤ places'.room → IsReady current next' places'
+pub ready_push : (current next next' : List (Option Entry)) (places places' : PlacesLeft) (a : Added) → IsReady current next places →
+    next' ≡ next ++ Some (unplaced a) ∷ [] → places'.left ≡ places.left → length next + 1 + (length next + 1) ≤ places'.room →
+    IsReady current next' places'
 ready_push current next next' places places' a is e left room =
     rw e
     (record {
       left = left ∙ is.left;
-      fresh = ap (λ slots. slots ++ Some (unplaced a) ∷ []) is.fresh ∙ sym (slots-push (added_in next) a) ∙ ap unplaced_slots (sym (added_in-push next a));
+      fresh = ap (λ slots. slots ++ Some (unplaced a) ∷ []) is.fresh ∙ sym (slots-push (added_in next) a)
+          ∙ ap unplaced_slots (sym (added_in-push next a));
       room = omega (arith, room, length-append next (Some (unplaced a) ∷ []));
     })
 
 -- the next batch becomes current
-pub ready_turn : (current next : List (Option Entry)) (places places' : PlacesLeft) → IsReady current next places → places'.left ≡ numbers 0 (length next) → IsReady next [] places'
+pub ready_turn : (current next : List (Option Entry)) (places places' : PlacesLeft) → IsReady current next places →
+    places'.left ≡ numbers 0 (length next) → IsReady next [] places'
 ready_turn current next places places' is left =
     let full : places_from 0 next ≡ numbers 0 (length next) =
-    ap (places_from 0) is.fresh ∙ places_from-full unplaced 0 (added_in next) ∙ ap (numbers 0) (sym (ap length is.fresh ∙ length-map (added_in next) (λ a. Some (unplaced a)))) in
+    ap (places_from 0) is.fresh ∙ places_from-full unplaced 0 (added_in next)
+        ∙ ap (numbers 0) (sym (ap length is.fresh ∙ length-map (added_in next) (λ a. Some (unplaced a)))) in
     record { left = left ∙ sym full; fresh = refl; room = omega arith }
 
-pub held_turn : (current next : List (Option Entry)) (places : PlacesLeft) → IsReady current next places → held next ≡ map unplaced (added_in next)
+pub held_turn : (current next : List (Option Entry)) (places : PlacesLeft) → IsReady current next places →
+    held next ≡ map unplaced (added_in next)
 held_turn current next places is = ap held is.fresh ∙ held-full unplaced (added_in next)
 
 -- answers are placed
-pub ready_placed : (current current' next : List (Option Entry)) (places : PlacesLeft) (answers : List Answer) → IsReady current next places → current' ≡ slots_placed current answers → IsReady current' next places
+pub ready_placed : (current current' next : List (Option Entry)) (places : PlacesLeft) (answers : List Answer) →
+    IsReady current next places → current' ≡ slots_placed current answers → IsReady current' next places
 ready_placed current current' next places answers is e =
     rw e (record { left = is.left ∙ sym (places_from-placed 0 current answers); fresh = is.fresh; room = is.room })
 
@@ -73,7 +81,8 @@ pub record TakenAt (current : List (Option Entry)) (places : PlacesLeft) (k plac
 some_of : {X : Type 0} (o : Option X) (x : X) → o ≡ Some x → IsSome o
 some_of o x e = rw e refl
 
-at_index : (current : List (Option Entry)) (places : PlacesLeft) (k : ℕ) → places.left ≡ places_from 0 current → (t : Taken 0 k current) → TakenAt current places k t.index
+at_index : (current : List (Option Entry)) (places : PlacesLeft) (k : ℕ) → places.left ≡ places_from 0 current → (t : Taken 0 k current) →
+    TakenAt current places k t.index
 at_index current places k left t =
     record {
       within = t.within;
@@ -84,10 +93,12 @@ at_index current places k left t =
     }
 
 -- the k-th entry has a place
-pub k_left : (current next : List (Option Entry)) (places : PlacesLeft) (seen : List Entry) (k : ℕ) → IsReady current next places → held current ≡ seen → k < length seen → k < length places.left
+pub k_left : (current next : List (Option Entry)) (places : PlacesLeft) (seen : List Entry) (k : ℕ) → IsReady current next places →
+    held current ≡ seen → k < length seen → k < length places.left
 k_left current next places seen k is view lt = rw (left_count current next places is ∙ ap length view) lt
 
-pub taken_at : (current next : List (Option Entry)) (places : PlacesLeft) (seen : List Entry) (k place : ℕ) → IsReady current next places → held current ≡ seen → k < length seen → place ≡ slice_index_or places.left k 0 → TakenAt current places k place
+pub taken_at : (current next : List (Option Entry)) (places : PlacesLeft) (seen : List Entry) (k place : ℕ) → IsReady current next places →
+    held current ≡ seen → k < length seen → place ≡ slice_index_or places.left k 0 → TakenAt current places k place
 taken_at current next places seen k place is view lt e =
     let lt' : k < length (places_from 0 current) = rw (length-places_from 0 current ∙ ap length view) lt in
     let t = taken 0 k current lt' in
@@ -97,7 +108,9 @@ taken_at current next places seen k place is view lt e =
     zero_add : (m : ℕ) → 0 + m ≡ m
     zero_add m = omega arith
 
-pub ready_taken : (current current' next : List (Option Entry)) (places places' : PlacesLeft) (k place : ℕ) → IsReady current next places → TakenAt current places k place → current' ≡ slice_set current place None → places'.left ≡ remove places.left k → places'.room ≡ places.room → IsReady current' next places'
+pub ready_taken : (current current' next : List (Option Entry)) (places places' : PlacesLeft) (k place : ℕ) → IsReady current next places →
+    TakenAt current places k place → current' ≡ slice_set current place None → places'.left ≡ remove places.left k →
+    places'.room ≡ places.room → IsReady current' next places'
 ready_taken current current' next places places' k place is t e left room =
     record {
       left = left ∙ t.places_rest ∙ ap (places_from 0) (sym e);

@@ -15,17 +15,21 @@ held-placed [] answers = refl
 held-placed (None ∷ slots) answers = held-placed slots answers
 held-placed (Some e ∷ slots) answers = ap (λ es. with_placed answers e ∷ es) (held-placed slots (answers_after (request_in e.call) answers))
 
-pub places_from-placed : (place : ℕ) (slots : List (Option Entry)) (answers : List Answer) → places_from place (slots_placed slots answers) ≡ places_from place slots
+pub places_from-placed : (place : ℕ) (slots : List (Option Entry)) (answers : List Answer) →
+    places_from place (slots_placed slots answers) ≡ places_from place slots
 places_from-placed place [] answers = refl
 places_from-placed place (None ∷ slots) answers = places_from-placed (place + 1) slots answers
-places_from-placed place (Some e ∷ slots) answers = ap (λ ps. place ∷ ps) (places_from-placed (place + 1) slots (answers_after (request_in e.call) answers))
+places_from-placed place (Some e ∷ slots) answers =
+    ap (λ ps. place ∷ ps) (places_from-placed (place + 1) slots (answers_after (request_in e.call) answers))
 
 pub added_of-unplaced : (added : List Added) → map added_of (map unplaced added) ≡ added
 added_of-unplaced [] = refl
 added_of-unplaced (a ∷ added) = ap (λ rest. a ∷ rest) (added_of-unplaced added)
 
 -- once as many answers are placed as requests are made, each Ask has one
-in_front : (request : Option Request) (answers : List Answer) (old : Option Answer) (rs : List Request) → length answers ≡ length (cons_option request rs) → HasAnswer request (answer_placed request answers old) × (length (answers_after request answers) ≡ length rs)
+in_front : (request : Option Request) (answers : List Answer) (old : Option Answer) (rs : List Request) →
+    length answers ≡ length (cons_option request rs) → HasAnswer request (answer_placed request answers old)
+    × (length (answers_after request answers) ≡ length rs)
 in_front None answers old rs n = (tt, n)
 in_front (Some r) [] old rs n = absurd (omega (arith, n))
 in_front (Some r) (a ∷ answers) old rs n = (refl, omega (arith, n))
@@ -34,7 +38,8 @@ pub all_placed : (es : List Entry) (answers : List Answer) → length answers �
 all_placed [] answers n = All-nil (λ (e : Entry). HasAnswer (request_in e.call) e.answer)
 all_placed (e ∷ es) answers n =
     let first = in_front (request_in e.call) answers e.answer (requests_of es) n in
-    All-cons (λ (e : Entry). HasAnswer (request_in e.call) e.answer) (with_placed answers e) (placed es (answers_after (request_in e.call) answers)) first.0 (all_placed es (answers_after (request_in e.call) answers) first.1)
+    All-cons (λ (e : Entry). HasAnswer (request_in e.call) e.answer) (with_placed answers e)
+        (placed es (answers_after (request_in e.call) answers)) first.0 (all_placed es (answers_after (request_in e.call) answers) first.1)
 
 pub none_placed : (added : List Added) → NonePlaced (map unplaced added)
 none_placed added = All-map (λ (e : Entry). e.answer ≡ None) unplaced added (λ k d lt. refl)

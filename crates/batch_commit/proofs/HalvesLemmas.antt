@@ -20,13 +20,16 @@ cut_at d l m r e =
       last = rw (← e) (drop-append-add l (m ∷ r) 1);
     }
 
-left_cut : (d base c : ℕ) (ls l : List ℕ) (m : ℕ) (r : List ℕ) → Cut d ls l m r → left_in (suc d) base ls c ≡ left_in d base l m ++ left_in d (base + inner d + 1) r (c - m)
+left_cut : (d base c : ℕ) (ls l : List ℕ) (m : ℕ) (r : List ℕ) → Cut d ls l m r →
+    left_in (suc d) base ls c ≡ left_in d base l m ++ left_in d (base + inner d + 1) r (c - m)
 left_cut d base c ls l m r cut = rw (cut.first, cut.middle, cut.last) refl
 
-tree_cut : (d c : ℕ) (ls l : List ℕ) (m : ℕ) (r : List ℕ) → Cut d ls l m r → IsTree (suc d) ls c → (m ≤ c) × IsTree d l m × IsTree d r (c - m)
+tree_cut : (d c : ℕ) (ls l : List ℕ) (m : ℕ) (r : List ℕ) → Cut d ls l m r → IsTree (suc d) ls c → (m ≤ c) × IsTree d l m
+    × IsTree d r (c - m)
 tree_cut d c ls l m r cut t = rw (cut.first, cut.middle, cut.last) at t
 
-tree_join : (d c : ℕ) (ls l : List ℕ) (m : ℕ) (r : List ℕ) → Cut d ls l m r → m ≤ c → IsTree d l m → IsTree d r (c - m) → IsTree (suc d) ls c
+tree_join : (d c : ℕ) (ls l : List ℕ) (m : ℕ) (r : List ℕ) → Cut d ls l m r → m ≤ c → IsTree d l m → IsTree d r (c - m) →
+    IsTree (suc d) ls c
 tree_join d c ls l m r cut le first last = rw (cut.first, cut.middle, cut.last) (le, first, last)
 
 -- so many are left
@@ -43,7 +46,9 @@ cut_of : (d : ℕ) (ls l : List ℕ) (m : ℕ) (r : List ℕ) → ls ≡ l ++ m 
 cut_of d ls l m r is n = rw is (cut_at d l m r n)
 
 -- from the first half
-pub drawn_first : (depth d base c k : ℕ) (ls l : List ℕ) (m : ℕ) (r l' : List ℕ) (place : ℕ) → depth ≡ suc d → ls ≡ l ++ m ∷ r → length l ≡ inner d → length l' ≡ inner d → IsTree depth ls c → k < m → Drawn d base l m k l' place → Drawn depth base ls c k (l' ++ (m - 1) ∷ r) place
+pub drawn_first : (depth d base c k : ℕ) (ls l : List ℕ) (m : ℕ) (r l' : List ℕ) (place : ℕ) → depth ≡ suc d → ls ≡ l ++ m ∷ r →
+    length l ≡ inner d → length l' ≡ inner d → IsTree depth ls c → k < m → Drawn d base l m k l' place →
+    Drawn depth base ls c k (l' ++ (m - 1) ∷ r) place
 drawn_first depth d base c k ls l m r l' place e is n n' t lt drawn =
     let cut = cut_of d ls l m r is n in
     let cut' = cut_at d l' (m - 1) r n' in
@@ -56,16 +61,20 @@ drawn_first depth d base c k ls l m r l' place e is n n' t lt drawn =
     let right : IsTree d r (c - 1 - (m - 1)) = rw same parts.2 in
     let lt' : k < length (left_in d base l m) = rw count lt in
     let new : left_in depth base (l' ++ (m - 1) ∷ r) (c - 1) ≡ left_in d base l' (m - 1) ++ rest =
-    rw e (left_cut d base (c - 1) (l' ++ (m - 1) ∷ r) l' (m - 1) r cut' ∙ ap (λ n. left_in d base l' (m - 1) ++ left_in d (base + inner d + 1) r n) same)
+    rw e (left_cut d base (c - 1) (l' ++ (m - 1) ∷ r) l' (m - 1) r cut'
+        ∙ ap (λ n. left_in d base l' (m - 1) ++ left_in d (base + inner d + 1) r n) same)
     in
     record {
       tree = rw e (tree_join d (c - 1) (l' ++ (m - 1) ∷ r) l' (m - 1) r cut' (omega (arith, lt, parts.0)) drawn.tree right);
-      left = new ∙ ap (λ xs. xs ++ rest) drawn.left ∙ sym (remove-append_left (left_in d base l m) rest k lt') ∙ sym (ap (λ xs. remove xs k) old);
+      left = new ∙ ap (λ xs. xs ++ rest) drawn.left ∙ sym (remove-append_left (left_in d base l m) rest k lt')
+          ∙ sym (ap (λ xs. remove xs k) old);
       at_k = drawn.at_k ∙ sym (get_or_append_left (left_in d base l m) rest 0 k lt') ∙ sym (ap (λ xs. slice_index_or xs k 0) old);
     }
 
 -- from the second half
-pub drawn_last : (depth d base c k : ℕ) (ls l : List ℕ) (m : ℕ) (r r' : List ℕ) (place : ℕ) → depth ≡ suc d → ls ≡ l ++ m ∷ r → length l ≡ inner d → IsTree depth ls c → k < c → m ≤ k → Drawn d (base + inner d + 1) r (c - m) (k - m) r' place → Drawn depth base ls c k (l ++ m ∷ r') place
+pub drawn_last : (depth d base c k : ℕ) (ls l : List ℕ) (m : ℕ) (r r' : List ℕ) (place : ℕ) → depth ≡ suc d → ls ≡ l ++ m ∷ r →
+    length l ≡ inner d → IsTree depth ls c → k < c → m ≤ k → Drawn d (base + inner d + 1) r (c - m) (k - m) r' place →
+    Drawn depth base ls c k (l ++ m ∷ r') place
 drawn_last depth d base c k ls l m r r' place e is n t lt le drawn =
     let cut = cut_of d ls l m r is n in
     let cut' = cut_at d l m r' n in
@@ -87,7 +96,8 @@ drawn_last depth d base c k ls l m r r' place e is n t lt le drawn =
       at_k = drawn.at_k ∙ sym (get_or-append_right first rest m k 0 count le) ∙ sym (ap (λ xs. slice_index_or xs k 0) old);
     }
 
-pub tree_parts : (depth d c : ℕ) (ls l : List ℕ) (m : ℕ) (r : List ℕ) → depth ≡ suc d → ls ≡ l ++ m ∷ r → length l ≡ inner d → IsTree depth ls c → (m ≤ c) × IsTree d l m × IsTree d r (c - m)
+pub tree_parts : (depth d c : ℕ) (ls l : List ℕ) (m : ℕ) (r : List ℕ) → depth ≡ suc d → ls ≡ l ++ m ∷ r → length l ≡ inner d →
+    IsTree depth ls c → (m ≤ c) × IsTree d l m × IsTree d r (c - m)
 tree_parts depth d c ls l m r e is n t =
     let t' : IsTree (suc d) ls c = rw e at t in
     tree_cut d c ls l m r (cut_of d ls l m r is n) t'
@@ -136,10 +146,13 @@ pub record InFirst (d c m : ℕ) : Type 0 where
   pub fits : m ≤ inner d + 1
   pub all : (m ≡ inner d + 1) ⊎ (c ≡ m)
 
-pub filled_tree : (depth d c m : ℕ) (l r : List ℕ) → depth ≡ suc d → length l ≡ inner d → InFirst d c m → IsTree d l m → IsTree d r (c - m) → IsTree depth (l ++ m ∷ r) c
+pub filled_tree : (depth d c m : ℕ) (l r : List ℕ) → depth ≡ suc d → length l ≡ inner d → InFirst d c m → IsTree d l m →
+    IsTree d r (c - m) → IsTree depth (l ++ m ∷ r) c
 filled_tree depth d c m l r e n some first last = rw e (tree_join d c (l ++ m ∷ r) l m r (cut_at d l m r n) some.most first last)
 
-pub filled_all : (depth d c m : ℕ) (l r : List ℕ) → depth ≡ suc d → length l ≡ inner d → InFirst d c m → ((base : ℕ) → left_in d base l m ≡ numbers base m) → ((base : ℕ) → left_in d base r (c - m) ≡ numbers base (c - m)) → (base : ℕ) → left_in depth base (l ++ m ∷ r) c ≡ numbers base c
+pub filled_all : (depth d c m : ℕ) (l r : List ℕ) → depth ≡ suc d → length l ≡ inner d → InFirst d c m →
+    ((base : ℕ) → left_in d base l m ≡ numbers base m) → ((base : ℕ) → left_in d base r (c - m) ≡ numbers base (c - m)) → (base : ℕ) →
+    left_in depth base (l ++ m ∷ r) c ≡ numbers base c
 filled_all depth d c m l r e n some first last base =
     let off = base + inner d + 1 in
     let whole : c ≡ m + (c - m) = omega (arith, some.most) in
@@ -148,7 +161,8 @@ filled_all depth d c m l r e n some first last base =
       | inr none ↦ let gone : c - m ≡ 0 = omega (arith, none) in rw gone refl
     ] in
     let cut = left_cut d base c (l ++ m ∷ r) l m r (cut_at d l m r n) in
-    rw e (cut ∙ ap (λ xs. xs ++ left_in d off r (c - m)) (first base) ∙ ap (λ xs. numbers base m ++ xs) (last off) ∙ seam ∙ sym (numbers_append base m (c - m)) ∙ ap (numbers base) (sym whole))
+    rw e (cut ∙ ap (λ xs. xs ++ left_in d off r (c - m)) (first base) ∙ ap (λ xs. numbers base m ++ xs) (last off) ∙ seam
+        ∙ sym (numbers_append base m (c - m)) ∙ ap (numbers base) (sym whole))
 
 pub in_first : (d c m half : ℕ) → half ≡ inner d → m ≤ c → m ≤ half + 1 → (m ≡ half + 1) ⊎ (c ≡ m) → InFirst d c m
 in_first d c m half e most fits all = record { most = most; fits = rw e at fits; all = rw e at all }

@@ -12,12 +12,14 @@ pub length-numbers : (base n : ℕ) → length (numbers base n) ≡ n
 length-numbers base zero = refl
 length-numbers base (suc n) = ap suc (length-numbers (base + 1) n)
 
-pub length-places : (counted : Bool) (depth span first : ℕ) (counts : List ℕ) (left : ℕ) → IsCounted counted depth span first counts left → length (places_left counted depth span first counts left) ≡ left
+pub length-places : (counted : Bool) (depth span first : ℕ) (counts : List ℕ) (left : ℕ) → IsCounted counted depth span first counts left →
+    length (places_left counted depth span first counts left) ≡ left
 length-places false depth span first counts left is = length-numbers first left
 length-places true depth span first counts left is = left_count depth first _ left is.2
 
 -- so many are left as the view tells
-pub left_is : (v : PlacesLeft) (counted : Bool) (depth span first : ℕ) (counts : List ℕ) (left : ℕ) → IsCounted counted depth span first counts left → places_left counted depth span first counts left ≡ v.left → left ≡ length v.left
+pub left_is : (v : PlacesLeft) (counted : Bool) (depth span first : ℕ) (counts : List ℕ) (left : ℕ) →
+    IsCounted counted depth span first counts left → places_left counted depth span first counts left ≡ v.left → left ≡ length v.left
 left_is v counted depth span first counts left is view = sym (length-places counted depth span first counts left is) ∙ ap length view
 
 -- the last one stands at the place before their number
@@ -30,7 +32,8 @@ last_of_push xs x =
     let n : length (xs ++ x ∷ []) - 1 ≡ length xs = omega (arith, length-append xs (x ∷ [])) in
     record {
       place = rw n (sym (get_or-append_seam xs x [] 0));
-      rest_is = rw n (sym (remove-append_right xs (x ∷ []) (length xs) (length xs) refl (omega arith) ∙ ap (λ k. xs ++ remove (x ∷ []) k) (sub_self (length xs)) ∙ append-nil xs));
+      rest_is = rw n (sym (remove-append_right xs (x ∷ []) (length xs) (length xs) refl (omega arith)
+          ∙ ap (λ k. xs ++ remove (x ∷ []) k) (sub_self (length xs)) ∙ append-nil xs));
     }
   where
     sub_self : (n : ℕ) → n - n ≡ 0
@@ -43,7 +46,9 @@ last_of_numbers first left some =
     let is : numbers first left ≡ numbers first (left - 1) ++ (first + (left - 1)) ∷ [] = ap (numbers first) (sym n) ∙ whole in
     rw is (last_of_push (numbers first (left - 1)) (first + (left - 1)))
 
-pub last_left : (v : PlacesLeft) (counted : Bool) (depth span first : ℕ) (counts : List ℕ) (left : ℕ) → counted ≡ false → places_left counted depth span first counts left ≡ v.left → 0 < length v.left → LastOf v.left (places_left counted depth span first counts (left - 1)) (first + (left - 1))
+pub last_left : (v : PlacesLeft) (counted : Bool) (depth span first : ℕ) (counts : List ℕ) (left : ℕ) → counted ≡ false →
+    places_left counted depth span first counts left ≡ v.left → 0 < length v.left →
+    LastOf v.left (places_left counted depth span first counts (left - 1)) (first + (left - 1))
 last_left v counted depth span first counts left uncounted view some =
     let is : numbers first left ≡ v.left = rw uncounted at view in
     let count : left ≡ length v.left = sym (length-numbers first left) ∙ ap length is in

@@ -71,6 +71,7 @@ module _ {T : Type 0} where
   held-full f [] = refl
   held-full f (x ∷ xs) = ap (λ vs. f x ∷ vs) (held-full f xs)
 
-  pub places_from-full : {A : Type 0} (f : A → T) (place : ℕ) (xs : List A) → places_from place (map (λ a. Some (f a)) xs) ≡ numbers place (length xs)
+  pub places_from-full : {A : Type 0} (f : A → T) (place : ℕ) (xs : List A) →
+      places_from place (map (λ a. Some (f a)) xs) ≡ numbers place (length xs)
   places_from-full f place [] = refl
   places_from-full f place (x ∷ xs) = ap (λ ps. place ∷ ps) (places_from-full f (place + 1) xs)

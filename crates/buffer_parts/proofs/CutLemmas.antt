@@ -21,11 +21,13 @@ pub next_start-stopped : (buffer : List ℕ) (place left : ℕ) → starts_line 
 next_start-stopped buffer place zero here = refl
 next_start-stopped buffer place (suc left) here = rw here refl
 
-pub next_start-passed : (buffer : List ℕ) (place left : ℕ) → starts_line buffer place ≡ false → next_start buffer place (suc left) ≡ next_start buffer (place + 1) left
+pub next_start-passed : (buffer : List ℕ) (place left : ℕ) → starts_line buffer place ≡ false →
+    next_start buffer place (suc left) ≡ next_start buffer (place + 1) left
 next_start-passed buffer place left none = rw none refl
 
 -- whatever is the next start is what the definition computes
-pub next_start-is : (buffer : List ℕ) (place left found : ℕ) → IsNextStart buffer place (place + left) found → next_start buffer place left ≡ found
+pub next_start-is : (buffer : List ℕ) (place left found : ℕ) → IsNextStart buffer place (place + left) found →
+    next_start buffer place left ≡ found
 next_start-is buffer place zero found is = let low = is.low in let high = is.high in omega arith
 next_start-is buffer place (suc left) found is =
     let low = is.low in
@@ -46,12 +48,14 @@ next_start-is buffer place (suc left) found is =
 
 -- what the definition computes is the next start
 pub next_start-finds : (buffer : List ℕ) (place left : ℕ) → IsNextStart buffer place (place + left) (next_start buffer place left)
-next_start-finds buffer place zero = record { low = omega arith; high = omega arith; before = λ p from to. absurd (omega arith); stops = inl (omega arith) }
+next_start-finds buffer place zero =
+    record { low = omega arith; high = omega arith; before = λ p from to. absurd (omega arith); stops = inl (omega arith) }
 next_start-finds buffer place (suc left) =
     ⊎_elim
     (λ (starts : starts_line buffer place ≡ true).
     let same = next_start-stopped buffer place (suc left) starts in
-    let here : IsNextStart buffer place (place + suc left) place = record { low = omega arith; high = omega arith; before = λ p from to. absurd (omega arith); stops = inr starts } in
+    let here : IsNextStart buffer place (place + suc left) place =
+        record { low = omega arith; high = omega arith; before = λ p from to. absurd (omega arith); stops = inr starts } in
     subst (IsNextStart buffer place (place + suc left)) (sym same) here)
     (λ (none : starts_line buffer place ≡ false).
     let same = next_start-passed buffer place left none in
@@ -60,7 +64,8 @@ next_start-finds buffer place (suc left) =
     let high = rest.high in
     let found = next_start buffer (place + 1) left in
     let sum : place + 1 + left ≡ place + suc left = omega arith in
-    let before : NoStart buffer place found = λ p from to. ⊎_elim (λ (is : p ≡ place). ap (starts_line buffer) is ∙ none) (λ (other : p ≢ place). rest.before p (omega arith) to) (cases_eq p place) in
+    let before : NoStart buffer place found = λ p from to. ⊎_elim (λ (is : p ≡ place). ap (starts_line buffer) is ∙ none)
+        (λ (other : p ≢ place). rest.before p (omega arith) to) (cases_eq p place) in
     let here : IsNextStart buffer place (place + suc left) found = record {
       low = omega arith;
       high = omega arith;
@@ -107,7 +112,8 @@ cut_point-last buffer r k some =
 abbrev pub target_of : Range → ℕ → ℕ → ℕ
 target_of r k i = r.from + i * (r.to - r.from) / k
 
-pub cut_point-between : (buffer : List ℕ) (r : Range) (k i : ℕ) → i ≢ 0 → i ≢ k → cut_point buffer r k i ≡ next_start buffer (target_of r k i) (r.to - target_of r k i)
+pub cut_point-between : (buffer : List ℕ) (r : Range) (k i : ℕ) → i ≢ 0 → i ≢ k →
+    cut_point buffer r k i ≡ next_start buffer (target_of r k i) (r.to - target_of r k i)
 cut_point-between buffer r k i some less =
     let no : eqb i 0 ≡ false = ne_eqb i 0 some in
     let not_last : eqb i k ≡ false = ne_eqb i k less in
@@ -124,7 +130,8 @@ pub record IsCutPoint (buffer : List ℕ) (r : Range) (i place : ℕ) : Type 0 w
   pub high : place ≤ r.to
   pub stops : 0 < i → (place ≡ r.to) ⊎ (starts_line buffer place ≡ true)
 
-pub cut_point-lies : (buffer : List ℕ) (r : Range) (k i : ℕ) → r.from ≤ r.to → 0 < k → i ≤ k → IsCutPoint buffer r i (cut_point buffer r k i)
+pub cut_point-lies : (buffer : List ℕ) (r : Range) (k i : ℕ) → r.from ≤ r.to → 0 < k → i ≤ k →
+    IsCutPoint buffer r i (cut_point buffer r k i)
 cut_point-lies buffer r k i ordered some le =
     ⊎_elim
     (λ (zero_is : i ≡ 0).
@@ -145,14 +152,16 @@ cut_point-lies buffer r k i ordered some le =
     let is : IsCutPoint buffer r i (next_start buffer target (r.to - target)) = record {
       low = omega arith;
       high = omega arith;
-      stops = λ more. subst (λ (e : ℕ). (next_start buffer target (r.to - target) ≡ e) ⊎ (starts_line buffer (next_start buffer target (r.to - target)) ≡ true)) end found.stops;
+      stops = λ more. subst (λ (e : ℕ). (next_start buffer target (r.to - target) ≡ e)
+          ⊎ (starts_line buffer (next_start buffer target (r.to - target)) ≡ true)) end found.stops;
     } in
     subst (IsCutPoint buffer r i) (sym (cut_point-between buffer r k i not_zero not_last)) is)
     (cases_eq i k))
     (cases_eq i 0)
 
 -- each cut point is no later than the next
-pub cut_point-ordered : (buffer : List ℕ) (r : Range) (k i : ℕ) → r.from ≤ r.to → i < k → cut_point buffer r k i ≤ cut_point buffer r k (i + 1)
+pub cut_point-ordered : (buffer : List ℕ) (r : Range) (k i : ℕ) → r.from ≤ r.to → i < k →
+    cut_point buffer r k i ≤ cut_point buffer r k (i + 1)
 cut_point-ordered buffer r k i ordered less =
     let here = cut_point-lies buffer r k i ordered (omega arith) (omega arith) in
     let next = cut_point-lies buffer r k (i + 1) ordered (omega arith) (omega arith) in
@@ -170,7 +179,8 @@ cut_point-ordered buffer r k i ordered less =
     (λ (not_last : i + 1 ≢ k).
     let first = target_of r k i in
     let second = target_of r k (i + 1) in
-    let steps : i * (r.to - r.from) / k ≤ (i + 1) * (r.to - r.from) / k = step-ordered (r.to - r.from) k i (i + 1) (omega arith) (omega arith) in
+    let steps : i * (r.to - r.from) / k ≤ (i + 1) * (r.to - r.from) / k =
+        step-ordered (r.to - r.from) k i (i + 1) (omega arith) (omega arith) in
     let within = target-le r k i ordered (omega arith) (omega arith) in
     let within_next = target-le r k (i + 1) ordered (omega arith) (omega arith) in
     let le = next_start-ordered buffer first second (r.to - first) (r.to - second) (omega arith) (omega arith) in
@@ -188,13 +198,15 @@ or_right true b is = refl
 or_right false b is = is
 
 -- a cut starts where a line starts, or is empty
-pub cut-aligned : (buffer : List ℕ) (r : Range) (k i : ℕ) → r.from ≤ r.to → i < k → IsTrue (starts_line buffer r.from || eqb r.from r.to) → IsTrue (starts_line buffer (cut_point buffer r k i) || eqb (cut_point buffer r k i) (cut_point buffer r k (i + 1)))
+pub cut-aligned : (buffer : List ℕ) (r : Range) (k i : ℕ) → r.from ≤ r.to → i < k → IsTrue (starts_line buffer r.from || eqb r.from r.to) →
+    IsTrue (starts_line buffer (cut_point buffer r k i) || eqb (cut_point buffer r k i) (cut_point buffer r k (i + 1)))
 cut-aligned buffer r k i ordered less aligned =
     let here = cut_point-lies buffer r k i ordered (omega arith) (omega arith) in
     let next = cut_point-lies buffer r k (i + 1) ordered (omega arith) (omega arith) in
     let step = cut_point-ordered buffer r k i ordered less in
     let high = next.high in
-    let at_end = λ (ends : cut_point buffer r k i ≡ r.to). or_right (starts_line buffer (cut_point buffer r k i)) _ (eq-eqb (cut_point buffer r k i) (cut_point buffer r k (i + 1)) (omega arith)) in
+    let at_end = λ (ends : cut_point buffer r k i ≡ r.to). or_right (starts_line buffer (cut_point buffer r k i)) _
+        (eq-eqb (cut_point buffer r k i) (cut_point buffer r k (i + 1)) (omega arith)) in
     ⊎_elim
     (λ (zero_is : i ≡ 0).
     let at : cut_point buffer r k i ≡ r.from = ap (cut_point buffer r k) zero_is in
@@ -208,7 +220,8 @@ cut-aligned buffer r k i ordered less aligned =
     (cases_eq i 0)
 
 -- what begins at a cut point and goes on to the range's end starts where a line starts, or is empty
-pub rest-aligned : (buffer : List ℕ) (r : Range) (k i : ℕ) → r.from ≤ r.to → 0 < i → i ≤ k → IsTrue (starts_line buffer (cut_point buffer r k i) || eqb (cut_point buffer r k i) r.to)
+pub rest-aligned : (buffer : List ℕ) (r : Range) (k i : ℕ) → r.from ≤ r.to → 0 < i → i ≤ k →
+    IsTrue (starts_line buffer (cut_point buffer r k i) || eqb (cut_point buffer r k i) r.to)
 rest-aligned buffer r k i ordered some le =
     let here = cut_point-lies buffer r k i ordered (omega arith) le in
     ⊎_elim

@@ -28,7 +28,8 @@ begun_at-append at [] ms some = absurd (omega arith)
 begun_at-append at (l ∷ ls) ms some = refl
 
 -- bytes that end in a newline, and bytes behind them
-pub lines_from-append : (at : ℕ) (xs ys : List ℕ) → (0 < length xs → get_or xs (length xs - 1) 0 ≡ 10) → lines_from at (xs ++ ys) ≡ lines_from at xs ++ lines_from (at + length xs) ys
+pub lines_from-append : (at : ℕ) (xs ys : List ℕ) → (0 < length xs → get_or xs (length xs - 1) 0 ≡ 10) →
+    lines_from at (xs ++ ys) ≡ lines_from at xs ++ lines_from (at + length xs) ys
 lines_from-append at [] ys ends = let same : at ≡ at + 0 = omega arith in ap (λ n. lines_from n ys) same
 lines_from-append at (b ∷ []) ys ends =
     let test : eqb b 10 ≡ true = eq-eqb b 10 (ends (omega arith)) in
@@ -36,17 +37,21 @@ lines_from-append at (b ∷ []) ys ends =
 lines_from-append at (b ∷ c ∷ bs) ys ends =
     let low : length (c ∷ bs) - 1 ≡ length bs = omega arith in
     let high : length (b ∷ c ∷ bs) - 1 ≡ suc (length bs) = omega arith in
-    let last : get_or (c ∷ bs) (length (c ∷ bs) - 1) 0 ≡ 10 = ap (λ n. get_or (c ∷ bs) n 0) low ∙ sym (ap (λ n. get_or (b ∷ c ∷ bs) n 0) high) ∙ ends (omega arith) in
+    let last : get_or (c ∷ bs) (length (c ∷ bs) - 1) 0 ≡ 10 = ap (λ n. get_or (c ∷ bs) n 0) low
+        ∙ sym (ap (λ n. get_or (b ∷ c ∷ bs) n 0) high) ∙ ends (omega arith) in
     let rest = lines_from-append (at + 1) (c ∷ bs) ys (λ some. last) in
     let place : at + 1 + length (c ∷ bs) ≡ at + length (b ∷ c ∷ bs) = omega arith in
-    let rest_at : lines_from (at + 1) (c ∷ (bs ++ ys)) ≡ lines_from (at + 1) (c ∷ bs) ++ lines_from (at + length (b ∷ c ∷ bs)) ys = rest ∙ ap (λ n. lines_from (at + 1) (c ∷ bs) ++ lines_from n ys) place in
+    let rest_at : lines_from (at + 1) (c ∷ (bs ++ ys)) ≡ lines_from (at + 1) (c ∷ bs) ++ lines_from (at + length (b ∷ c ∷ bs)) ys =
+        rest ∙ ap (λ n. lines_from (at + 1) (c ∷ bs) ++ lines_from n ys) place in
     ⊎_elim
     (λ (yes_is : eqb b 10 ≡ true). rw yes_is (ap (λ ls. span at 0 ∷ ls) rest_at))
-    (λ (no_is : eqb b 10 ≡ false). rw no_is (ap (begun_at at) rest_at ∙ begun_at-append at (lines_from (at + 1) (c ∷ bs)) _ (lines_from-some (at + 1) c bs)))
+    (λ (no_is : eqb b 10 ≡ false). rw no_is (ap (begun_at at) rest_at
+        ∙ begun_at-append at (lines_from (at + 1) (c ∷ bs)) _ (lines_from-some (at + 1) c bs)))
     (cases_Bool (eqb b 10))
 
 -- a range cut where a line starts, or at its end, has the lines of both
-pub lines_of-split : (buffer : List ℕ) (a b c : ℕ) → a ≤ b → b ≤ c → c ≤ length buffer → (b ≡ c) ⊎ (starts_line buffer b ≡ true) → lines_of buffer (range a c) ≡ lines_of buffer (range a b) ++ lines_of buffer (range b c)
+pub lines_of-split : (buffer : List ℕ) (a b c : ℕ) → a ≤ b → b ≤ c → c ≤ length buffer → (b ≡ c) ⊎ (starts_line buffer b ≡ true) →
+    lines_of buffer (range a c) ≡ lines_of buffer (range a b) ++ lines_of buffer (range b c)
 lines_of-split buffer a b c ab bc within stops =
     ⊎_elim
     (λ (at_end : b ≡ c).
@@ -57,14 +62,16 @@ lines_of-split buffer a b c ab bc within stops =
     let ends : 0 < length (slice_range buffer a b) → get_or (slice_range buffer a b) (length (slice_range buffer a b) - 1) 0 ≡ 10 = λ some.
     let place : a + (length (slice_range buffer a b) - 1) ≡ b - 1 = omega arith in
     get_or-slice_range buffer a b (length (slice_range buffer a b) - 1) (omega arith) ∙ ap (λ n. get_or buffer n 0) place
-    ∙ ⊎_elim (λ is. is) (λ other. absurd (both_ways _ (starts_line-other buffer b (omega arith) other) starts)) (cases_eq (get_or buffer (b - 1) 0) 10) in
+    ∙ ⊎_elim (λ is. is) (λ other. absurd (both_ways _ (starts_line-other buffer b (omega arith) other) starts))
+        (cases_eq (get_or buffer (b - 1) 0) 10) in
     let place : a + length (slice_range buffer a b) ≡ b = omega arith in
     ap (lines_from a) (slice_range-split buffer a b c ab bc) ∙ lines_from-append a (slice_range buffer a b) (slice_range buffer b c) ends
     ∙ ap (λ n. lines_from a (slice_range buffer a b) ++ lines_from n (slice_range buffer b c)) place)
     stops
 
 -- the lines of the first n cuts are those up to the n-th cut point
-lines_of_cuts-front : (buffer : List ℕ) (r : Range) (k n : ℕ) → r.from ≤ r.to → r.to ≤ length buffer → 0 < k → n ≤ k → lines_of_cuts buffer r k n ≡ lines_of buffer (range r.from (cut_point buffer r k n))
+lines_of_cuts-front : (buffer : List ℕ) (r : Range) (k n : ℕ) → r.from ≤ r.to → r.to ≤ length buffer → 0 < k → n ≤ k →
+    lines_of_cuts buffer r k n ≡ lines_of buffer (range r.from (cut_point buffer r k n))
 lines_of_cuts-front buffer r k zero ordered within some le = sym (lines_of-none buffer r.from)
 lines_of_cuts-front buffer r k (suc n) ordered within some le =
     let before = lines_of_cuts-front buffer r k n ordered within some (omega arith) in
@@ -74,7 +81,8 @@ lines_of_cuts-front buffer r k (suc n) ordered within some le =
     let low = here.low in
     let high = next.high in
     let same : n + 1 ≡ suc n = omega arith in
-    let meets : lines_of buffer (range r.from (cut_point buffer r k (n + 1))) ≡ lines_of buffer (range r.from (cut_point buffer r k n)) ++ lines_of buffer (range (cut_point buffer r k n) (cut_point buffer r k (n + 1))) =
+    let meets : lines_of buffer (range r.from (cut_point buffer r k (n + 1))) ≡ lines_of buffer (range r.from (cut_point buffer r k n))
+        ++ lines_of buffer (range (cut_point buffer r k n) (cut_point buffer r k (n + 1))) =
     ⊎_elim
     (λ (first : n ≡ 0).
     let at : cut_point buffer r k n ≡ r.from = ap (cut_point buffer r k) first in
@@ -84,13 +92,17 @@ lines_of_cuts-front buffer r k (suc n) ordered within some le =
     lines_of-split buffer r.from (cut_point buffer r k n) (cut_point buffer r k (n + 1)) low step (omega arith)
     (⊎_elim (λ (ends : cut_point buffer r k n ≡ r.to). inl (omega arith)) (λ starts. inr starts) (here.stops (omega arith))))
     (cases_eq n 0) in
-    ap (λ ls. ls ++ lines_of buffer (cut_of buffer r k n)) before ∙ sym meets ∙ ap (λ m. lines_of buffer (range r.from (cut_point buffer r k m))) same
+    ap (λ ls. ls ++ lines_of buffer (cut_of buffer r k n)) before ∙ sym meets
+        ∙ ap (λ m. lines_of buffer (range r.from (cut_point buffer r k m))) same
 
-pub lines_of_cuts-all : (buffer : List ℕ) (r : Range) (k : ℕ) → r.from ≤ r.to → r.to ≤ length buffer → 0 < k → lines_of_cuts buffer r k k ≡ lines_of buffer r
+pub lines_of_cuts-all : (buffer : List ℕ) (r : Range) (k : ℕ) → r.from ≤ r.to → r.to ≤ length buffer → 0 < k →
+    lines_of_cuts buffer r k k ≡ lines_of buffer r
 lines_of_cuts-all buffer r k ordered within some =
-    lines_of_cuts-front buffer r k k ordered within some (omega arith) ∙ ap (λ n. lines_of buffer (range r.from n)) (cut_point-last buffer r k some)
+    lines_of_cuts-front buffer r k k ordered within some (omega arith)
+        ∙ ap (λ n. lines_of buffer (range r.from n)) (cut_point-last buffer r k some)
 
-bytes_of_cuts-front : (buffer : List ℕ) (r : Range) (k n : ℕ) → r.from ≤ r.to → 0 < k → n ≤ k → bytes_of_cuts buffer r k n ≡ bytes_of buffer (range r.from (cut_point buffer r k n))
+bytes_of_cuts-front : (buffer : List ℕ) (r : Range) (k n : ℕ) → r.from ≤ r.to → 0 < k → n ≤ k →
+    bytes_of_cuts buffer r k n ≡ bytes_of buffer (range r.from (cut_point buffer r k n))
 bytes_of_cuts-front buffer r k zero ordered some le =
     let none : r.from - r.from ≡ 0 = omega arith in
     rw none refl
@@ -106,7 +118,8 @@ bytes_of_cuts-front buffer r k (suc n) ordered some le =
 
 pub bytes_of_cuts-all : (buffer : List ℕ) (r : Range) (k : ℕ) → r.from ≤ r.to → 0 < k → bytes_of_cuts buffer r k k ≡ bytes_of buffer r
 bytes_of_cuts-all buffer r k ordered some =
-    bytes_of_cuts-front buffer r k k ordered some (omega arith) ∙ ap (λ n. bytes_of buffer (range r.from n)) (cut_point-last buffer r k some)
+    bytes_of_cuts-front buffer r k k ordered some (omega arith) ∙ ap (λ n. bytes_of buffer (range r.from n))
+        (cut_point-last buffer r k some)
 
 -- there are at most as many lines as bytes
 pub length-lines_from : (at : ℕ) (xs : List ℕ) → length (lines_from at xs) ≤ length xs
@@ -118,7 +131,8 @@ length-lines_from at (b ∷ bs) =
     (λ (no_is : eqb b 10 ≡ false). rw no_is (length-begun_at bs (lines_from (at + 1) bs) (lines_of_nothing bs) rest))
     (cases_Bool (eqb b 10))
   where
-    length-begun_at : (bs : List ℕ) (ls : List Span) → (length bs ≡ 0 → length ls ≡ 0) → length ls ≤ length bs → length (begun_at at ls) ≤ suc (length bs)
+    length-begun_at : (bs : List ℕ) (ls : List Span) → (length bs ≡ 0 → length ls ≡ 0) → length ls ≤ length bs →
+        length (begun_at at ls) ≤ suc (length bs)
     length-begun_at bs [] none le = omega arith
     length-begun_at bs (l ∷ ls) none le = omega arith
 
@@ -126,5 +140,7 @@ length-lines_from at (b ∷ bs) =
     lines_of_nothing [] is = refl
     lines_of_nothing (b ∷ bs) is = absurd (omega arith)
 
-pub length-lines_of : (buffer : List ℕ) (from to : ℕ) → from ≤ to → to ≤ length buffer → length (lines_of buffer (range from to)) + from ≤ to
-length-lines_of buffer from to ordered within = omega (arith, length-slice_range buffer from to within, length-lines_from from (slice_range buffer from to))
+pub length-lines_of : (buffer : List ℕ) (from to : ℕ) → from ≤ to → to ≤ length buffer →
+    length (lines_of buffer (range from to)) + from ≤ to
+length-lines_of buffer from to ordered within =
+    omega (arith, length-slice_range buffer from to within, length-lines_from from (slice_range buffer from to))

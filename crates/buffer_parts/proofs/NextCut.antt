@@ -6,7 +6,8 @@ use Rattle.buffer_parts.specs.Cuts.{starts_line, next_start, cut_point}
 use Rattle.buffer_parts.proofs.CutLemmas.{IsNextStart, next_start-is, next_start-finds, cut_point-between, cut_point-lies, step-ordered, target_of}
 
 -- where a cut ends behind the next step already, the next one ends there too
-pub same_end : (buffer : List ℕ) (r : Range) (k i : ℕ) → r.from ≤ r.to → IsTrue (starts_line buffer r.from || eqb r.from r.to) → i + 1 < k → target_of r k (i + 1) ≤ cut_point buffer r k i
+pub same_end : (buffer : List ℕ) (r : Range) (k i : ℕ) → r.from ≤ r.to → IsTrue (starts_line buffer r.from || eqb r.from r.to) → i + 1 < k →
+    target_of r k (i + 1) ≤ cut_point buffer r k i
     → cut_point buffer r k (i + 1) ≡ cut_point buffer r k i
 same_end buffer r k i ordered aligned less reached =
     let target = target_of r k (i + 1) in
@@ -29,7 +30,8 @@ same_end buffer r k i ordered aligned less reached =
     let first = target_of r k i in
     let between = cut_point-between buffer r k i some (λ is. omega arith) in
     let found = next_start-finds buffer first (r.to - first) in
-    let steps : i * (r.to - r.from) / k ≤ (i + 1) * (r.to - r.from) / k = step-ordered (r.to - r.from) k i (i + 1) (omega arith) (omega arith) in
+    let steps : i * (r.to - r.from) / k ≤ (i + 1) * (r.to - r.from) / k =
+        step-ordered (r.to - r.from) k i (i + 1) (omega arith) (omega arith) in
     record {
       low = reached;
       high = high;

@@ -51,40 +51,50 @@ lines_of-some buffer from to some within =
     some_lines from (slice_range buffer from to) (omega (arith, length-slice_range buffer from to within))
 
 -- where lines are left a call gives one
-pub GivesLine-some : (before after : Lines) (given : Option Line) → 0 < length (lines_left before) → GivesLine before given after → IsSome given
+pub GivesLine-some : (before after : Lines) (given : Option Line) → 0 < length (lines_left before) → GivesLine before given after →
+    IsSome given
 GivesLine-some before after None some gives = absurd (omega (arith, ap length gives.first.0))
 GivesLine-some before after (Some line) some gives = refl
 
 -- the last newline before a place ends the lines that are passed over
-pub skipped-newline : (buffer : List ℕ) (next end place k start : ℕ) → start ≡ next + (k + 1) → next + place < end → end ≤ length buffer → IsLastByte (is_byte 10) (slice_range buffer next (next + place)) (Some k)
-    → (start ≤ next + place) × (lines_of buffer (range next end) ≡ lines_of buffer (range next start) ++ lines_of buffer (range start end)) × ((p : ℕ) → start ≤ p → p < next + place → get_or buffer p 0 ≢ 10)
+pub skipped-newline : (buffer : List ℕ) (next end place k start : ℕ) → start ≡ next + (k + 1) → next + place < end → end ≤ length buffer →
+    IsLastByte (is_byte 10) (slice_range buffer next (next + place)) (Some k)
+    → (start ≤ next + place) × (lines_of buffer (range next end) ≡ lines_of buffer (range next start) ++ lines_of buffer (range start end))
+        × ((p : ℕ) → start ≤ p → p < next + place → get_or buffer p 0 ≢ 10)
 skipped-newline buffer next end place k start is below within found =
     let bytes = slice_range buffer next (next + place) in
     let high : k < length bytes = found.0.high in
     let long : length bytes ≡ next + place - next = length-slice_range buffer next (next + place) (omega arith) in
     let here : get_or bytes k 0 ≡ 10 = eqb-true _ _ found.1 in
     let at : next + k ≡ start - 1 = omega arith in
-    let newline : get_or buffer (start - 1) 0 ≡ 10 = sym (ap (λ n. get_or buffer n 0) at) ∙ sym (get_or-slice_range buffer next (next + place) k (omega arith)) ∙ here in (
+    let newline : get_or buffer (start - 1) 0 ≡ 10 = sym (ap (λ n. get_or buffer n 0) at)
+        ∙ sym (get_or-slice_range buffer next (next + place) k (omega arith)) ∙ here in (
       omega arith,
       lines_of-split buffer next start end (omega arith) (omega arith) within (inr (starts_line-newline buffer start newline)),
       λ p from to other.
           let back : next + (p - next) ≡ p = omega arith in
-          found.0.after (p - next) (omega arith) (omega arith) (eq-eqb _ _ (get_or-slice_range buffer next (next + place) (p - next) (omega arith) ∙ ap (λ n. get_or buffer n 0) back ∙ other)),
+          found.0.after (p - next) (omega arith) (omega arith) (eq-eqb _ _
+              (get_or-slice_range buffer next (next + place) (p - next) (omega arith) ∙ ap (λ n. get_or buffer n 0) back ∙ other)),
     )
 
 -- with no newline before the place nothing is passed over
-pub skipped-none : (buffer : List ℕ) (next end place : ℕ) → next + place < end → end ≤ length buffer → IsLastByte (is_byte 10) (slice_range buffer next (next + place)) None
-    → (lines_of buffer (range next end) ≡ lines_of buffer (range next next) ++ lines_of buffer (range next end)) × ((p : ℕ) → next ≤ p → p < next + place → get_or buffer p 0 ≢ 10)
+pub skipped-none : (buffer : List ℕ) (next end place : ℕ) → next + place < end → end ≤ length buffer →
+    IsLastByte (is_byte 10) (slice_range buffer next (next + place)) None
+    → (lines_of buffer (range next end) ≡ lines_of buffer (range next next) ++ lines_of buffer (range next end))
+        × ((p : ℕ) → next ≤ p → p < next + place → get_or buffer p 0 ≢ 10)
 skipped-none buffer next end place below within missed =
-    let long : length (slice_range buffer next (next + place)) ≡ next + place - next = length-slice_range buffer next (next + place) (omega arith) in (
+    let long : length (slice_range buffer next (next + place)) ≡ next + place - next =
+        length-slice_range buffer next (next + place) (omega arith) in (
       sym (ap (λ ls. ls ++ lines_of buffer (range next end)) (lines_of-none buffer next)),
       λ p from to other.
           let back : next + (p - next) ≡ p = omega arith in
-          missed (p - next) (omega arith) (omega arith) (eq-eqb _ _ (get_or-slice_range buffer next (next + place) (p - next) (omega arith) ∙ ap (λ n. get_or buffer n 0) back ∙ other)),
+          missed (p - next) (omega arith) (omega arith) (eq-eqb _ _ (get_or-slice_range buffer next (next + place) (p - next) (omega arith)
+              ∙ ap (λ n. get_or buffer n 0) back ∙ other)),
     )
 
 -- the line that a call gives behind what was passed over
-pub goes_to_line : (s t u : Lines) (place : ℕ) (line : Line) → (range_left s).from + place < (range_left s).to → SkipsTo s place t → GivesLine t (Some line) u → GoesToLine s place line u
+pub goes_to_line : (s t u : Lines) (place : ℕ) (line : Line) → (range_left s).from + place < (range_left s).to → SkipsTo s place t →
+    GivesLine t (Some line) u → GoesToLine s place line u
 goes_to_line s t u place line below skips gives =
     let b = source_of s in
     let from = (range_left t).from in
@@ -104,12 +114,14 @@ goes_to_line s t u place line below skips gives =
     ⊎_elim
     (λ (less : l.len < length bytes).
     let sum : from + l.len ≡ l.at + l.len = omega arith in
-    inr (sym (get_or-slice_range (source_of t) from to l.len (omega arith) ∙ ap (λ n. get_or (source_of t) n 0) sum ∙ ap (λ bs. get_or bs (l.at + l.len) 0) skips.same_source) ∙ here))
+    inr (sym (get_or-slice_range (source_of t) from to l.len (omega arith) ∙ ap (λ n. get_or (source_of t) n 0) sum
+        ∙ ap (λ bs. get_or bs (l.at + l.len) 0) skips.same_source) ∙ here))
     (λ (over : length bytes ≤ l.len). inl (omega arith))
     (cases_lt l.len (length bytes)))
     first.ends in
     record {
-      passed = skips.passed ∙ ap (λ ls. lines_of b (range (range_left s).from from) ++ ls) gives.first ∙ ap (λ n. lines_of b (range (range_left s).from n) ++ (l ∷ lines_left u)) (sym at);
+      passed = skips.passed ∙ ap (λ ls. lines_of b (range (range_left s).from from) ++ ls) gives.first
+          ∙ ap (λ n. lines_of b (range (range_left s).from n) ++ (l ∷ lines_left u)) (sym at);
       behind = let behind = skips.behind in omega arith;
       starts = omega arith;
       holds = ⊎_elim (λ (at_end : l.at + l.len ≡ (range_left s).to). omega arith)

@@ -40,7 +40,8 @@ lines_left lines = lines_of (source_of lines) (range_left lines)
 
 -- one call gave the first of the lines that were left, as it stands in the buffer, or none where none was left
 pub record GivesLine (before : Lines) (given : Option Line) (after : Lines) : Type 0 where
-  pub first : MatchOption given ((lines_left before ≡ []) × (lines_left after ≡ [])) (λ line. lines_left before ≡ span_of line ∷ lines_left after)
+  pub first : MatchOption given ((lines_left before ≡ []) × (lines_left after ≡ []))
+      (λ line. lines_left before ≡ span_of line ∷ lines_left after)
   pub placed : IfSome given (IsLineOf (source_of before))
   pub same_source : source_of after ≡ source_of before
   pub same_end : (range_left after).to ≡ (range_left before).to
@@ -48,14 +49,16 @@ pub record GivesLine (before : Lines) (given : Option Line) (after : Lines) : Ty
 -- one call gave the first of the lines left that has more than so many bytes, and passed over those before it, or gave none
 -- where none has
 pub record GivesLonger (before : Lines) (len : ℕ) (given : Option Line) (after : Lines) : Type 0 where
-  pub first : MatchOption given ((from_longer len (lines_left before) ≡ []) × (lines_left after ≡ [])) (λ line. from_longer len (lines_left before) ≡ span_of line ∷ lines_left after)
+  pub first : MatchOption given ((from_longer len (lines_left before) ≡ []) × (lines_left after ≡ []))
+      (λ line. from_longer len (lines_left before) ≡ span_of line ∷ lines_left after)
   pub placed : IfSome given (IsLineOf (source_of before))
   pub same_source : source_of after ≡ source_of before
   pub same_end : (range_left after).to ≡ (range_left before).to
 
 -- the lines before the one that holds a place of what was left, counted from its start, were passed over
 pub record SkipsTo (before : Lines) (place : ℕ) (after : Lines) : Type 0 where
-  pub passed : lines_left before ≡ lines_of (source_of before) (record { from = (range_left before).from; to = (range_left after).from }) ++ lines_left after
+  pub passed : lines_left before ≡ lines_of (source_of before) (record { from = (range_left before).from; to = (range_left after).from })
+      ++ lines_left after
   pub behind : (range_left before).from ≤ (range_left after).from
   pub starts : (range_left after).from ≤ (range_left before).from + place
   pub one_line : (p : ℕ) → (range_left after).from ≤ p → p < (range_left before).from + place → slice_index (source_of before) p ≢ 10
@@ -65,12 +68,14 @@ pub record SkipsTo (before : Lines) (place : ℕ) (after : Lines) : Type 0 where
 -- A call gave the line that holds a place of what was left, counted from its start, or that ends there. The lines
 -- before it were passed over.
 pub record GoesToLine (before : Lines) (place : ℕ) (line : Line) (after : Lines) : Type 0 where
-  pub passed : lines_left before ≡ lines_of (source_of before) (record { from = (range_left before).from; to = (span_of line).at }) ++ span_of line ∷ lines_left after
+  pub passed : lines_left before ≡ lines_of (source_of before) (record { from = (range_left before).from; to = (span_of line).at })
+      ++ span_of line ∷ lines_left after
   pub behind : (range_left before).from ≤ (span_of line).at
   pub starts : (span_of line).at ≤ (range_left before).from + place
   pub holds : (range_left before).from + place ≤ (span_of line).at + (span_of line).len
   pub within : (span_of line).at + (span_of line).len ≤ (range_left before).to
-  pub ends : ((span_of line).at + (span_of line).len ≡ (range_left before).to) ⊎ (slice_index (source_of before) ((span_of line).at + (span_of line).len) ≡ 10)
+  pub ends : ((span_of line).at + (span_of line).len ≡ (range_left before).to)
+      ⊎ (slice_index (source_of before) ((span_of line).at + (span_of line).len) ≡ 10)
   pub placed : IsLineOf (source_of before) line
   pub same_source : source_of after ≡ source_of before
   pub same_end : (range_left after).to ≡ (range_left before).to

@@ -17,10 +17,12 @@ from_cancelled false tick from = from
 abbrev pub scope_cancelled : ℕ → ℕ → ℕ → Outline → Outline
 scope_cancelled id tick key s = record s { from = from_cancelled (key == id) tick s.from }
 
-level_of-cancelled : (id tick key : ℕ) (s : Outline) → level_of key (scope_cancelled id tick key s) ≡ level_after_cancel id tick (level_of key s)
+level_of-cancelled : (id tick key : ℕ) (s : Outline) → level_of key (scope_cancelled id tick key s)
+    ≡ level_after_cancel id tick (level_of key s)
 level_of-cancelled id tick key s = by_test (key == id)
   where
-    by_test : (b : Bool) → record { label = key; shield = s.shield; from = from_cancelled b tick s.from } ≡ (if b then record { label = key; shield = s.shield; from = earlier s.from (Some (tick + 1)) } else level_of key s)
+    by_test : (b : Bool) → record { label = key; shield = s.shield; from = from_cancelled b tick s.from }
+        ≡ (if b then record { label = key; shield = s.shield; from = earlier s.from (Some (tick + 1)) } else level_of key s)
     by_test true = refl
     by_test false = refl
 
@@ -28,24 +30,30 @@ level_of-cancelled id tick key s = by_test (key == id)
 abbrev pub Cancels : Find → Find → ℕ → ℕ → Type 0
 Cancels old new id tick = (key : ℕ) → new key ≡ option_map (scope_cancelled id tick key) (old key)
 
-onto-cancelled : (id tick key : ℕ) (o : Option Outline) (above later : Outline → Stack) → ((s : Outline) → later (scope_cancelled id tick key s) ≡ after_cancel id tick (above s)) → onto key (option_map (scope_cancelled id tick key) o) later ≡ after_cancel id tick (onto key o above)
+onto-cancelled : (id tick key : ℕ) (o : Option Outline) (above later : Outline → Stack) →
+    ((s : Outline) → later (scope_cancelled id tick key s) ≡ after_cancel id tick (above s)) →
+    onto key (option_map (scope_cancelled id tick key) o) later ≡ after_cancel id tick (onto key o above)
 onto-cancelled id tick key None above later h = refl
 onto-cancelled id tick key (Some s) above later h =
     let e = level_of-cancelled id tick key s in
     let f = h s in
     cc
 
-upward-cancelled : (old new : Find) (id tick : ℕ) → Cancels old new id tick → (n : ℕ) (o : Option ℕ) → upward new n o ≡ after_cancel id tick (upward old n o)
+upward-cancelled : (old new : Find) (id tick : ℕ) → Cancels old new id tick → (n : ℕ) (o : Option ℕ) →
+    upward new n o ≡ after_cancel id tick (upward old n o)
 upward-cancelled old new id tick h zero o = refl
 upward-cancelled old new id tick h (suc n) None = refl
 upward-cancelled old new id tick h (suc n) (Some key) =
-    rw (h key) (onto-cancelled id tick key (old key) (λ s. upward old n s.parent) (λ s. upward new n s.parent) (λ s. upward-cancelled old new id tick h n s.parent))
+    rw (h key) (onto-cancelled id tick key (old key) (λ s. upward old n s.parent) (λ s. upward new n s.parent)
+        (λ s. upward-cancelled old new id tick h n s.parent))
 
 -- each stack changes at that level alone
-pub stack_at-cancelled : (old new : Find) (id tick : ℕ) → Cancels old new id tick → (key : ℕ) → stack_at new key ≡ option_map (after_cancel id tick) (stack_at old key)
+pub stack_at-cancelled : (old new : Find) (id tick : ℕ) → Cancels old new id tick → (key : ℕ) →
+    stack_at new key ≡ option_map (after_cancel id tick) (stack_at old key)
 stack_at-cancelled old new id tick h key = ap (option_map (full new key)) (h key) ∙ by_kept (old key)
   where
-    by_kept : (o : Option Outline) → option_map (full new key) (option_map (scope_cancelled id tick key) o) ≡ option_map (after_cancel id tick) (option_map (full old key) o)
+    by_kept : (o : Option Outline) → option_map (full new key) (option_map (scope_cancelled id tick key) o)
+        ≡ option_map (after_cancel id tick) (option_map (full old key) o)
     by_kept None = refl
     by_kept (Some s) =
         let e = level_of-cancelled id tick key s in
@@ -58,16 +66,20 @@ IsTree-cancelled old new id tick h tree = record { placed = λ key s kept. by_ke
   where
     by_parent : (depth : ℕ) (o : Option ℕ) → IsUnder old depth o → IsUnder new depth o
     by_parent depth None under = under
-    by_parent depth (Some parent) under = (scope_cancelled id tick parent under.0, h parent ∙ ap (option_map (scope_cancelled id tick parent)) under.1, under.2)
+    by_parent depth (Some parent) under =
+        (scope_cancelled id tick parent under.0, h parent ∙ ap (option_map (scope_cancelled id tick parent)) under.1, under.2)
 
-    by_kept : (key : ℕ) (s : Outline) (o : Option Outline) → old key ≡ o → option_map (scope_cancelled id tick key) o ≡ Some s → IsUnder new s.depth s.parent
+    by_kept : (key : ℕ) (s : Outline) (o : Option Outline) → old key ≡ o → option_map (scope_cancelled id tick key) o ≡ Some s →
+        IsUnder new s.depth s.parent
     by_kept key s None is same = absurd (let e : None ≡ Some s = same in cc)
     by_kept key s (Some before) is same =
         let e : scope_cancelled id tick key before ≡ s = cc in
         subst (λ (s : Outline). IsUnder new s.depth s.parent) e (by_parent before.depth before.parent (tree.placed key before is))
 
 -- the cancelled scope, written back
-pub cancels : (old new : Find) (id tick : ℕ) (s : Outline) → old id ≡ Some s → new id ≡ Some (record s { from = earlier s.from (Some (tick + 1)) }) → ((other : ℕ) → other ≢ id → new other ≡ old other) → Cancels old new id tick
+pub cancels : (old new : Find) (id tick : ℕ) (s : Outline) → old id ≡ Some s →
+    new id ≡ Some (record s { from = earlier s.from (Some (tick + 1)) }) → ((other : ℕ) → other ≢ id → new other ≡ old other) →
+    Cancels old new id tick
 cancels old new id tick s kept written others key =
     elim (cases_eq key id) [
       | inl same ↦
@@ -86,7 +98,10 @@ cancels old new id tick s kept written others key =
     by_kept (Some before) misses = rw misses refl
 
 -- the same of what contracts see
-pub tree_cancelled : (tree : Tree) (slots new : Slots) (key id tick : ℕ) → tree_of slots ≡ tree → key ≡ id → Cancels (find_in slots) (find_in new) key tick → (at : ℕ) → stack_of (tree_of new) at ≡ option_map (after_cancel id tick) (stack_of tree at)
+pub tree_cancelled : (tree : Tree) (slots new : Slots) (key id tick : ℕ) → tree_of slots ≡ tree → key ≡ id →
+    Cancels (find_in slots) (find_in new) key tick → (at : ℕ) → stack_of (tree_of new) at
+    ≡ option_map (after_cancel id tick) (stack_of tree at)
 tree_cancelled tree slots new key id tick is same h at =
     rw (← is, ← same)
-    (stack_of-tree_of new at ∙ stack_at-cancelled (find_in slots) (find_in new) key tick h at ∙ sym (ap (option_map (after_cancel key tick)) (stack_of-tree_of slots at)))
+    (stack_of-tree_of new at ∙ stack_at-cancelled (find_in slots) (find_in new) key tick h at
+        ∙ sym (ap (option_map (after_cancel key tick)) (stack_of-tree_of slots at)))

@@ -7,12 +7,14 @@ use Rattle.cancel_scopes.specs.Kept.{Outline, Slots, Find, full, round, upward, 
 use Rattle.cancel_scopes.proofs.StackLemmas.{stack_seen, stack_at-kept, kept_stack, upward-under}
 
 -- an open scope's stack, as it is kept
-pub stack_is : (tree : Tree) (slots : Slots) (key id : ℕ) (s : Outline) (stack : Stack) → tree_of slots ≡ tree → key ≡ id → find_in slots key ≡ Some s → stack_of tree id ≡ Some stack → stack ≡ full (find_in slots) key s
+pub stack_is : (tree : Tree) (slots : Slots) (key id : ℕ) (s : Outline) (stack : Stack) → tree_of slots ≡ tree → key ≡ id →
+    find_in slots key ≡ Some s → stack_of tree id ≡ Some stack → stack ≡ full (find_in slots) key s
 stack_is tree slots key id s stack is same kept seen =
     kept_stack (find_in slots) key s stack kept (sym (stack_seen tree slots key id is same) ∙ seen)
 
 -- the parent's stack is what stands round a scope
-pub stack_round : (tree : Tree) (slots : Slots) (key parent : ℕ) (s : Outline) → tree_of slots ≡ tree → IsTree (find_in slots) → find_in slots key ≡ Some s → s.parent ≡ Some parent → stack_of tree parent ≡ Some (round (find_in slots) s)
+pub stack_round : (tree : Tree) (slots : Slots) (key parent : ℕ) (s : Outline) → tree_of slots ≡ tree → IsTree (find_in slots) →
+    find_in slots key ≡ Some s → s.parent ≡ Some parent → stack_of tree parent ≡ Some (round (find_in slots) s)
 stack_round tree slots key parent s is root kept up =
     let under : IsUnder (find_in slots) s.depth (Some parent) = subst (IsUnder (find_in slots) s.depth) up (root.placed key s kept) in
     let e : round (find_in slots) s ≡ full (find_in slots) parent under.0 =
@@ -20,19 +22,23 @@ stack_round tree slots key parent s is root kept up =
     stack_seen tree slots parent parent is refl ∙ stack_at-kept (find_in slots) parent under.0 under.1 ∙ ap Some (sym e)
 
 -- a scope that is not cancelled yet does not catch
-pub catches-not : (find : Find) (key : ℕ) (s : Outline) (tick : ℕ) (stack : Stack) → stack ≡ full find key s → reached s.from tick ≡ false → false ≡ catches stack tick
+pub catches-not : (find : Find) (key : ℕ) (s : Outline) (tick : ℕ) (stack : Stack) → stack ≡ full find key s → reached s.from tick ≡ false →
+    false ≡ catches stack tick
 catches-not find key s tick stack is early = rw (is, early) refl
 
 -- one that is cancelled by then and has a shield catches
-pub catches-shielded : (find : Find) (key : ℕ) (s : Outline) (tick : ℕ) (stack : Stack) → stack ≡ full find key s → reached s.from tick ≡ true → s.shield ≡ true → true ≡ catches stack tick
+pub catches-shielded : (find : Find) (key : ℕ) (s : Outline) (tick : ℕ) (stack : Stack) → stack ≡ full find key s →
+    reached s.from tick ≡ true → s.shield ≡ true → true ≡ catches stack tick
 catches-shielded find key s tick stack is late shielded = rw (is, late, shielded) refl
 
 -- an unshielded one catches where its parent sees nothing
-pub catches-inner : (find : Find) (key : ℕ) (s : Outline) (tick : ℕ) (stack : Stack) (outside : Bool) → stack ≡ full find key s → reached s.from tick ≡ true → s.shield ≡ false → outside ≡ seen (round find s) tick → not outside ≡ catches stack tick
+pub catches-inner : (find : Find) (key : ℕ) (s : Outline) (tick : ℕ) (stack : Stack) (outside : Bool) → stack ≡ full find key s →
+    reached s.from tick ≡ true → s.shield ≡ false → outside ≡ seen (round find s) tick → not outside ≡ catches stack tick
 catches-inner find key s tick stack outside is late bare sees = rw (is, late, bare, sees) refl
 
 -- an outermost one that is cancelled by then catches
-pub catches-outermost : (find : Find) (key : ℕ) (s : Outline) (tick : ℕ) (stack : Stack) → stack ≡ full find key s → reached s.from tick ≡ true → IsUnder find s.depth s.parent → s.parent ≡ None → true ≡ catches stack tick
+pub catches-outermost : (find : Find) (key : ℕ) (s : Outline) (tick : ℕ) (stack : Stack) → stack ≡ full find key s →
+    reached s.from tick ≡ true → IsUnder find s.depth s.parent → s.parent ≡ None → true ≡ catches stack tick
 catches-outermost find key s tick stack is late under up =
     let deep : s.depth ≡ 0 = subst (IsUnder find s.depth) up under in
     let e : round find s ≡ [] = rw (up, deep) refl in

@@ -16,9 +16,11 @@ pub but_here : (slots : Slots) (key : ℕ) (place : Option ℕ) (p : ℕ) → pl
 but_here slots key place p = ap (λ (b : Bool). if b then place else place_under p (scope_in slots key)) (eq-eqb key key refl)
 
 -- at other keys nothing is put in
-pub but_other : (slots : Slots) (key : ℕ) (place : Option ℕ) (p k : ℕ) → k ≢ key → places_but slots key place p k ≡ place_under p (scope_in slots k)
+pub but_other : (slots : Slots) (key : ℕ) (place : Option ℕ) (p k : ℕ) → k ≢ key →
+    places_but slots key place p k ≡ place_under p (scope_in slots k)
 but_other slots key place p k differs =
-    let test : (k == key) ≡ false = elim (cases_Bool (k == key)) [ inl equal ↦ absurd (differs (eqb-true k key equal)) | inr no_it_is ↦ no_it_is ] in
+    let test : (k == key) ≡ false =
+        elim (cases_Bool (k == key)) [ inl equal ↦ absurd (differs (eqb-true k key equal)) | inr no_it_is ↦ no_it_is ] in
     ap (λ (b : Bool). if b then place else place_under p (scope_in slots k)) test
 
 -- the same places and the same list
@@ -37,17 +39,20 @@ outlines-none slots = record { long = refl; finds = λ k. refl; sights = λ k. r
 
 -- two changes that keep outlines
 pub outlines-then : (a b c : Slots) → SameOutlines a b → SameOutlines b c → SameOutlines a c
-outlines-then a b c h g = record { long = g.long ∙ h.long; finds = λ k. g.finds k ∙ h.finds k; sights = λ k. g.sights k ∙ h.sights k; marks = λ k. g.marks k ∙ h.marks k }
+outlines-then a b c h g = record { long = g.long ∙ h.long; finds = λ k. g.finds k ∙ h.finds k; sights = λ k. g.sights k
+    ∙ h.sights k; marks = λ k. g.marks k ∙ h.marks k }
 
 -- an outermost scope is nobody's child
 pub added-none : (slots : Slots) (key : ℕ) → Orphaned slots key None → Family slots
 added-none slots key h = record {
-  children = λ p. placed-same (places_but slots key None p) (λ k. place_under p (scope_in slots k)) (children_at (scope_in slots p)) (children_at (scope_in slots p))
+  children = λ p. placed-same (places_but slots key None p) (λ k. place_under p (scope_in slots k)) (children_at (scope_in slots p))
+      (children_at (scope_in slots p))
       (λ k. by_key p k (cases_eq k key)) refl (h.others p);
 }
   where
     by_key : (p k : ℕ) → (k ≡ key) ⊎ (k ≢ key) → place_under p (scope_in slots k) ≡ places_but slots key None p k
-    by_key p k (inl same) = ap (λ (n : ℕ). place_under p (scope_in slots n)) same ∙ h.under p ∙ sym (but_here slots key None p) ∙ ap (places_but slots key None p) (sym same)
+    by_key p k (inl same) = ap (λ (n : ℕ). place_under p (scope_in slots n)) same ∙ h.under p ∙ sym (but_here slots key None p)
+        ∙ ap (places_but slots key None p) (sym same)
     by_key p k (inr differs) = sym (but_other slots key None p k differs)
 
 -- a scope comes last among the children of its parent
@@ -57,7 +62,8 @@ module _ (slots : Slots) (key parent : ℕ) (s t : Scope) where
   adopted = slice_set slots parent (Some t)
 
   -- a write that changes one scope's children alone
-  pub added-outlines : scope_in slots parent ≡ Some s → outline_of t ≡ outline_of s → t.sight ≡ s.sight → t.listed ≡ s.listed → SameOutlines slots adopted
+  pub added-outlines : scope_in slots parent ≡ Some s → outline_of t ≡ outline_of s → t.sight ≡ s.sight → t.listed ≡ s.listed →
+      SameOutlines slots adopted
   added-outlines kept outline sight listed = record {
     long = length-set slots parent (Some t);
     finds = same_by (option_map outline_of) slots parent s (Some t) kept (ap Some outline);
@@ -66,40 +72,51 @@ module _ (slots : Slots) (key parent : ℕ) (s t : Scope) where
   }
 
   -- then each scope has its children
-  pub added : scope_in slots parent ≡ Some s → t.parent ≡ s.parent → t.place ≡ s.place → t.children.items ≡ s.children.items ++ key ∷ [] → Orphaned slots key (Some parent) → Family adopted
+  pub added : scope_in slots parent ≡ Some s → t.parent ≡ s.parent → t.place ≡ s.place → t.children.items ≡ s.children.items ++ key ∷ [] →
+      Orphaned slots key (Some parent) → Family adopted
   added kept up place children h = record { children = λ p. by_parent p (cases_eq p parent) }
     where
       places : (p k : ℕ) → place_under p (scope_in adopted k) ≡ place_under p (scope_in slots k)
-      places p = same_by (place_under p) slots parent s (Some t) kept (ap (λ (o : Option ℕ). if parent_is p o then Some t.place else None) up ∙ ap (λ (n : ℕ). if parent_is p s.parent then Some n else None) place)
+      places p = same_by (place_under p) slots parent s (Some t) kept
+          (ap (λ (o : Option ℕ). if parent_is p o then Some t.place else None) up
+          ∙ ap (λ (n : ℕ). if parent_is p s.parent then Some n else None) place)
 
       under_here : place_under parent (scope_in slots key) ≡ Some (length (children_at (scope_in slots parent)))
-      under_here = h.under parent ∙ ap (λ (b : Bool). if b then Some (length (children_at (scope_in slots parent))) else None) (eq-eqb parent parent refl)
+      under_here = h.under parent ∙ ap (λ (b : Bool). if b then Some (length (children_at (scope_in slots parent))) else None)
+          (eq-eqb parent parent refl)
 
       at_parent : IsPlaced (λ k. place_under parent (scope_in adopted k)) (children_at (scope_in slots parent) ++ key ∷ [])
       at_parent =
-          placed-push (places_but slots key None parent) (λ k. place_under parent (scope_in adopted k)) (children_at (scope_in slots parent)) key
+          placed-push (places_but slots key None parent) (λ k. place_under parent (scope_in adopted k))
+              (children_at (scope_in slots parent)) key
           (h.others parent) (but_here slots key None parent) (places parent key ∙ under_here)
           (λ k differs. places parent k ∙ sym (but_other slots key None parent k differs))
 
       list_is : children_at (scope_in adopted parent) ≡ children_at (scope_in slots parent) ++ key ∷ []
-      list_is = ap children_at (written slots parent s (Some t) kept) ∙ children ∙ ap (λ (l : List ℕ). l ++ key ∷ []) (sym (ap children_at kept))
+      list_is = ap children_at (written slots parent s (Some t) kept) ∙ children
+          ∙ ap (λ (l : List ℕ). l ++ key ∷ []) (sym (ap children_at kept))
 
       at_key : (p k : ℕ) → p ≢ parent → (k ≡ key) ⊎ (k ≢ key) → place_under p (scope_in adopted k) ≡ places_but slots key None p k
       at_key p k away (inl same) =
-          let none : place_under p (scope_in slots key) ≡ None = h.under p ∙ ap (λ (b : Bool). if b then Some (length (children_at (scope_in slots p))) else None) (other_parent p parent away) in
-          places p k ∙ ap (λ (n : ℕ). place_under p (scope_in slots n)) same ∙ none ∙ sym (but_here slots key None p) ∙ ap (places_but slots key None p) (sym same)
+          let none : place_under p (scope_in slots key) ≡ None = h.under p
+              ∙ ap (λ (b : Bool). if b then Some (length (children_at (scope_in slots p))) else None) (other_parent p parent away) in
+          places p k ∙ ap (λ (n : ℕ). place_under p (scope_in slots n)) same ∙ none ∙ sym (but_here slots key None p)
+              ∙ ap (places_but slots key None p) (sym same)
       at_key p k away (inr differs) = places p k ∙ sym (but_other slots key None p k differs)
 
-      by_parent : (p : ℕ) → (p ≡ parent) ⊎ (p ≢ parent) → IsPlaced (λ k. place_under p (scope_in adopted k)) (children_at (scope_in adopted p))
+      by_parent : (p : ℕ) → (p ≡ parent) ⊎ (p ≢ parent) → IsPlaced (λ k. place_under p (scope_in adopted k))
+          (children_at (scope_in adopted p))
       by_parent p (inl same) =
           subst (λ (n : ℕ). IsPlaced (λ k. place_under n (scope_in adopted k)) (children_at (scope_in adopted n))) (sym same)
           (subst (λ (l : List ℕ). IsPlaced (λ k. place_under parent (scope_in adopted k)) l) (sym list_is) at_parent)
       by_parent p (inr away) =
-          placed-same (places_but slots key None p) (λ k. place_under p (scope_in adopted k)) (children_at (scope_in slots p)) (children_at (scope_in adopted p))
+          placed-same (places_but slots key None p) (λ k. place_under p (scope_in adopted k)) (children_at (scope_in slots p))
+              (children_at (scope_in adopted p))
           (λ k. at_key p k away (cases_eq k key)) (ap children_at (unwritten slots parent p (Some t) away)) (h.others p)
 
 -- the parent that is found has room
-pub place_same : (slots : Slots) (parent key : ℕ) (s : Scope) → key ≡ parent → HasPlace slots (Some parent) → scope_in slots key ≡ Some s → vec_len s.children < vec_capacity s.children
+pub place_same : (slots : Slots) (parent key : ℕ) (s : Scope) → key ≡ parent → HasPlace slots (Some parent) → scope_in slots key ≡ Some s →
+    vec_len s.children < vec_capacity s.children
 place_same slots parent key s same room kept =
     let at = room parent refl in
     let e : Some at.0 ≡ Some s = sym at.1 ∙ ap (scope_in slots) (sym same) ∙ kept in
@@ -113,7 +130,8 @@ place_kept slots parent key same room =
     ap (λ (k : ℕ). is_some (scope_in slots k)) same ∙ ap is_some at.1
 
 -- the parent has room once it is made
-pub has_place : (slots : Slots) (key : ℕ) (s t : Scope) (parent : Option ℕ) → scope_in slots key ≡ Some s → vec_len t.children + 1 ≤ vec_capacity t.children → parent ≡ Some key → HasPlace (slice_set slots key (Some t)) parent
+pub has_place : (slots : Slots) (key : ℕ) (s t : Scope) (parent : Option ℕ) → scope_in slots key ≡ Some s →
+    vec_len t.children + 1 ≤ vec_capacity t.children → parent ≡ Some key → HasPlace (slice_set slots key (Some t)) parent
 has_place slots key s t parent kept room up x is =
     let e : Some key ≡ Some x = sym up ∙ is in
     let same : key ≡ x = cc in
@@ -122,37 +140,45 @@ has_place slots key s t parent kept room up x is =
 -- a scope that is put at a free key is not among its parent's children yet
 module _ (slots new : Slots) (key : ℕ) (s : Scope) (parent : Option ℕ) where
   -- its place is the next one
-  pub orphaned : Family slots → scope_in slots key ≡ None → scope_in new key ≡ Some s → ((other : ℕ) → other ≢ key → scope_in new other ≡ scope_in slots other) → s.parent ≡ parent → s.children.items ≡ [] → ForSome parent (λ p. s.place ≡ length (children_at (scope_in slots p))) → Orphaned new key parent
+  pub orphaned : Family slots → scope_in slots key ≡ None → scope_in new key ≡ Some s →
+      ((other : ℕ) → other ≢ key → scope_in new other ≡ scope_in slots other) → s.parent ≡ parent → s.children.items ≡ [] →
+      ForSome parent (λ p. s.place ≡ length (children_at (scope_in slots p))) → Orphaned new key parent
   orphaned family free kept others up childless next = record {
-    others = λ p. placed-same (λ k. place_under p (scope_in slots k)) (places_but new key None p) (children_at (scope_in slots p)) (children_at (scope_in new p))
+    others = λ p. placed-same (λ k. place_under p (scope_in slots k)) (places_but new key None p) (children_at (scope_in slots p))
+        (children_at (scope_in new p))
         (λ k. by_key p k (cases_eq k key)) (lists p) (family.children p);
     under = λ p. ap (place_under p) kept ∙ ap (λ (o : Option ℕ). if parent_is p o then Some s.place else None) up ∙ by_parent p parent next;
   }
     where
       by_key : (p k : ℕ) → (k ≡ key) ⊎ (k ≢ key) → places_but new key None p k ≡ place_under p (scope_in slots k)
       by_key p k (inl same) =
-          ap (places_but new key None p) same ∙ but_here new key None p ∙ sym (ap (λ (n : ℕ). place_under p (scope_in slots n)) same ∙ ap (place_under p) free)
+          ap (places_but new key None p) same ∙ but_here new key None p
+              ∙ sym (ap (λ (n : ℕ). place_under p (scope_in slots n)) same ∙ ap (place_under p) free)
       by_key p k (inr differs) = but_other new key None p k differs ∙ ap (place_under p) (others k differs)
 
       list_at : (p : ℕ) → (p ≡ key) ⊎ (p ≢ key) → children_at (scope_in new p) ≡ children_at (scope_in slots p)
       list_at p (inl same) =
-          ap (λ (n : ℕ). children_at (scope_in new n)) same ∙ ap children_at kept ∙ childless ∙ sym (ap (λ (n : ℕ). children_at (scope_in slots n)) same ∙ ap children_at free)
+          ap (λ (n : ℕ). children_at (scope_in new n)) same ∙ ap children_at kept ∙ childless
+              ∙ sym (ap (λ (n : ℕ). children_at (scope_in slots n)) same ∙ ap children_at free)
       list_at p (inr differs) = ap children_at (others p differs)
 
       lists : (p : ℕ) → children_at (scope_in new p) ≡ children_at (scope_in slots p)
       lists p = list_at p (cases_eq p key)
 
-      by_parent : (p : ℕ) (o : Option ℕ) → ForSome o (λ q. s.place ≡ length (children_at (scope_in slots q))) → (if parent_is p o then Some s.place else None) ≡ (if parent_is p o then Some (length (children_at (scope_in new p))) else None)
+      by_parent : (p : ℕ) (o : Option ℕ) → ForSome o (λ q. s.place ≡ length (children_at (scope_in slots q))) →
+          (if parent_is p o then Some s.place else None) ≡ (if parent_is p o then Some (length (children_at (scope_in new p))) else None)
       by_parent p None h = refl
       by_parent p (Some q) h = by_test (q == p) refl
         where
-          by_test : (b : Bool) → (q == p) ≡ b → (if b then Some s.place else None) ≡ (if b then Some (length (children_at (scope_in new p))) else None)
+          by_test : (b : Bool) → (q == p) ≡ b → (if b then Some s.place else None)
+              ≡ (if b then Some (length (children_at (scope_in new p))) else None)
           by_test true same =
               ap Some (h q refl ∙ ap (λ (n : ℕ). length (children_at (scope_in slots n))) (eqb-true q p same) ∙ ap length (sym (lists p)))
           by_test false differs = refl
 
   -- the parent still has room
-  pub place_stays : scope_in slots key ≡ None → ((other : ℕ) → other ≢ key → scope_in new other ≡ scope_in slots other) → HasPlace slots parent → HasPlace new parent
+  pub place_stays : scope_in slots key ≡ None → ((other : ℕ) → other ≢ key → scope_in new other ≡ scope_in slots other) →
+      HasPlace slots parent → HasPlace new parent
   place_stays free others h p is =
       let at = h p is in
       (at.0, others p (λ same. (let e : None ≡ Some at.0 = sym free ∙ ap (scope_in slots) (sym same) ∙ at.1 in absurd (cc))) ∙ at.1, at.2)

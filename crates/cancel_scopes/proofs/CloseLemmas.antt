@@ -27,28 +27,34 @@ pub record Closes (old new : Find) (id : ℕ) (s : Outline) : Type 0 where
   pub others : (other : ℕ) → other ≢ id → new other ≡ old other
   pub innermost : (other : ℕ) (stack : Stack) → other ≢ id → stack_at old other ≡ Some stack → Lacks id stack
 
-upward-closes : (old new : Find) (id : ℕ) (s : Outline) → Closes old new id s → (n : ℕ) (o : Option ℕ) → Lacks id (upward old n o) → upward new n o ≡ upward old n o
+upward-closes : (old new : Find) (id : ℕ) (s : Outline) → Closes old new id s → (n : ℕ) (o : Option ℕ) → Lacks id (upward old n o) →
+    upward new n o ≡ upward old n o
 upward-closes old new id s h zero o lacks = refl
 upward-closes old new id s h (suc n) None lacks = refl
 upward-closes old new id s h (suc n) (Some key) lacks = by_kept (old key) refl lacks (upward-closes old new id s h n)
   where
-    by_kept : (o : Option Outline) → old key ≡ o → Lacks id (onto key o (λ s. upward old n s.parent)) → ((p : Option ℕ) → Lacks id (upward old n p) → upward new n p ≡ upward old n p) → onto key (new key) (λ s. upward new n s.parent) ≡ onto key (old key) (λ s. upward old n s.parent)
+    by_kept : (o : Option Outline) → old key ≡ o → Lacks id (onto key o (λ s. upward old n s.parent)) →
+        ((p : Option ℕ) → Lacks id (upward old n p) → upward new n p ≡ upward old n p) →
+        onto key (new key) (λ s. upward new n s.parent) ≡ onto key (old key) (λ s. upward old n s.parent)
     by_kept None is lacks before =
         let same : new key ≡ None = h.others key (λ same. (let e = h.was in let f = ap old same in cc)) ∙ is in
         rw (same, is) refl
     by_kept (Some above) is lacks before =
         let same : new key ≡ Some above = h.others key (first_lacks id (level_of key above) (upward old n above.parent) lacks) ∙ is in
-        rw (same, is) (ap (λ (outer : Stack). level_of key above ∷ outer) (before above.parent (rest_lacks id (level_of key above) (upward old n above.parent) lacks)))
+        rw (same, is) (ap (λ (outer : Stack). level_of key above ∷ outer)
+            (before above.parent (rest_lacks id (level_of key above) (upward old n above.parent) lacks)))
 
 -- every other scope keeps its stack
-pub stack_at-closes : (old new : Find) (id : ℕ) (s : Outline) → Closes old new id s → (key : ℕ) → key ≢ id → stack_at new key ≡ stack_at old key
+pub stack_at-closes : (old new : Find) (id : ℕ) (s : Outline) → Closes old new id s → (key : ℕ) → key ≢ id →
+    stack_at new key ≡ stack_at old key
 stack_at-closes old new id s h key differs = ap (option_map (full new key)) (h.others key differs) ∙ by_kept (old key) refl
   where
     by_kept : (o : Option Outline) → old key ≡ o → option_map (full new key) o ≡ option_map (full old key) o
     by_kept None is = refl
     by_kept (Some before) is =
         let lacks = h.innermost key (full old key before) differs (stack_at-kept old key before is) in
-        ap (λ (outer : Stack). Some (level_of key before ∷ outer)) (upward-closes old new id s h before.depth before.parent (rest_lacks id (level_of key before) (round old before) lacks))
+        ap (λ (outer : Stack). Some (level_of key before ∷ outer)) (upward-closes old new id s h before.depth before.parent
+            (rest_lacks id (level_of key before) (round old before) lacks))
 
 -- parents and depths of the others stay
 pub IsTree-closes : {old new : Find} {id : ℕ} {s : Outline} → Closes old new id s → IsTree old → IsTree new
@@ -69,13 +75,18 @@ IsTree-closes {old} {new} {id} {s} h tree = record { placed = λ key other kept.
         by_parent other.depth other.parent (tree.placed key other was) (rest_lacks id (level_of key other) (round old other) lacks)
 
 -- the same as it is kept, once other marks stand there
-pub innermost_kept : (tree : Tree) (slots unmarked : Slots) (key id : ℕ) → tree_of slots ≡ tree → key ≡ id → find_in unmarked ≡ find_in slots → IsInnermost tree id → (other : ℕ) (stack : Stack) → other ≢ key → stack_at (find_in unmarked) other ≡ Some stack → Lacks key stack
+pub innermost_kept : (tree : Tree) (slots unmarked : Slots) (key id : ℕ) → tree_of slots ≡ tree → key ≡ id →
+    find_in unmarked ≡ find_in slots → IsInnermost tree id → (other : ℕ) (stack : Stack) → other ≢ key →
+    stack_at (find_in unmarked) other ≡ Some stack → Lacks key stack
 innermost_kept tree slots unmarked key id is same finds innermost other stack differs seen =
     rw same
-    (innermost other stack (λ e. differs (e ∙ sym same)) (stack_seen tree slots other other is refl ∙ ap (λ (find : Find). stack_at find other) (sym finds) ∙ seen))
+    (innermost other stack (λ e. differs (e ∙ sym same)) (stack_seen tree slots other other is refl
+        ∙ ap (λ (find : Find). stack_at find other) (sym finds) ∙ seen))
 
 -- what the store says of a scope that is taken out
-pub closes : (tree : Tree) (slots new : Slots) (key id : ℕ) (s : Outline) → tree_of slots ≡ tree → key ≡ id → find_in slots key ≡ Some s → find_in new key ≡ None → ((other : ℕ) → other ≢ key → find_in new other ≡ find_in slots other) → IsInnermost tree id → Closes (find_in slots) (find_in new) key s
+pub closes : (tree : Tree) (slots new : Slots) (key id : ℕ) (s : Outline) → tree_of slots ≡ tree → key ≡ id → find_in slots key ≡ Some s →
+    find_in new key ≡ None → ((other : ℕ) → other ≢ key → find_in new other ≡ find_in slots other) → IsInnermost tree id →
+    Closes (find_in slots) (find_in new) key s
 closes tree slots new key id s is same was free others innermost = record {
   was = was;
   free = free;
@@ -84,7 +95,8 @@ closes tree slots new key id s is same was free others innermost = record {
 }
 
 -- no scope is inside one that no other has round it
-pub no_child : (find : Find) (key : ℕ) → IsTree find → ((other : ℕ) (stack : Stack) → other ≢ key → stack_at find other ≡ Some stack → Lacks key stack) → (k : ℕ) (s : Outline) → find k ≡ Some s → s.parent ≡ Some key → ⊥
+pub no_child : (find : Find) (key : ℕ) → IsTree find → ((other : ℕ) (stack : Stack) → other ≢ key → stack_at find other ≡ Some stack →
+    Lacks key stack) → (k : ℕ) (s : Outline) → find k ≡ Some s → s.parent ≡ Some key → ⊥
 no_child find key tree innermost k s kept up =
     let under : IsUnder find s.depth (Some key) = subst (IsUnder find s.depth) up (tree.placed k s kept) in
     let above : Outline = under.0 in
@@ -92,7 +104,8 @@ no_child find key tree innermost k s kept up =
     let e : Some above ≡ Some s = sym under.1 ∙ ap find (sym same) ∙ kept in
     let d : above.depth ≡ s.depth = ap depth_of e in
     absurd (omega (arith, d, under.2)) in
-    let outer : Lacks key (round find s) = rest_lacks key (level_of k s) (round find s) (innermost k (full find k s) differs (stack_at-kept find k s kept)) in
+    let outer : Lacks key (round find s) =
+        rest_lacks key (level_of k s) (round find s) (innermost k (full find k s) differs (stack_at-kept find k s kept)) in
     let is : round find s ≡ full find key above = ap (upward find s.depth) up ∙ upward-under find s.depth key above under under.1 in
     first_lacks key (level_of key above) (round find above) (subst (Lacks key) is outer) refl
   where
@@ -101,7 +114,9 @@ no_child find key tree innermost k s kept up =
     depth_of (Some o) = o.depth
 
 -- so it has no children
-pub childless : (slots : Slots) (key : ℕ) (s : Scope) → IsTree (find_in slots) → Family slots → ((other : ℕ) (stack : Stack) → other ≢ key → stack_at (find_in slots) other ≡ Some stack → Lacks key stack) → scope_in slots key ≡ Some s → s.children.items ≡ []
+pub childless : (slots : Slots) (key : ℕ) (s : Scope) → IsTree (find_in slots) → Family slots →
+    ((other : ℕ) (stack : Stack) → other ≢ key → stack_at (find_in slots) other ≡ Some stack → Lacks key stack) →
+    scope_in slots key ≡ Some s → s.children.items ≡ []
 childless slots key s tree family innermost kept = by_list s.children.items refl
   where
     by_list : (list : List ℕ) → s.children.items ≡ list → s.children.items ≡ []
@@ -109,15 +124,18 @@ childless slots key s tree family innermost kept = by_list s.children.items refl
     by_list (k ∷ ks) is =
         let list : children_at (scope_in slots key) ≡ k ∷ ks = ap children_at kept ∙ is in
         let within : 0 < length (children_at (scope_in slots key)) = subst (λ (l : List ℕ). 0 < length l) (sym list) (omega arith) in
-        let child = under_at key 0 (scope_in slots (get_or (children_at (scope_in slots key)) 0 0)) ((family.children key).placed 0 within) in
-        absurd (no_child (find_in slots) key tree innermost (get_or (children_at (scope_in slots key)) 0 0) (outline_of child.0) (found_at slots (get_or (children_at (scope_in slots key)) 0 0) child.0 child.1) child.2)
+        let child = under_at key 0 (scope_in slots (get_or (children_at (scope_in slots key)) 0 0))
+            ((family.children key).placed 0 within) in
+        absurd (no_child (find_in slots) key tree innermost (get_or (children_at (scope_in slots key)) 0 0) (outline_of child.0)
+            (found_at slots (get_or (children_at (scope_in slots key)) 0 0) child.0 child.1) child.2)
 
 -- contracts see no stack there any more
 pub tree_closed : (new : Slots) (key id : ℕ) → key ≡ id → find_in new key ≡ None → stack_of (tree_of new) id ≡ None
 tree_closed new key id same free = rw (← same) (stack_of-tree_of new key ∙ ap (option_map (full (find_in new) key)) free)
 
 -- contracts see every other stack as it was
-pub closed-others : (tree : Tree) (slots new : Slots) (key id : ℕ) (s : Outline) → tree_of slots ≡ tree → key ≡ id → Closes (find_in slots) (find_in new) key s → OthersKeep tree (tree_of new) id
+pub closed-others : (tree : Tree) (slots new : Slots) (key id : ℕ) (s : Outline) → tree_of slots ≡ tree → key ≡ id →
+    Closes (find_in slots) (find_in new) key s → OthersKeep tree (tree_of new) id
 closed-others tree slots new key id s is same h other differs =
     stack_of-tree_of new other
     ∙ stack_at-closes (find_in slots) (find_in new) key s h other (λ e. differs (e ∙ same))

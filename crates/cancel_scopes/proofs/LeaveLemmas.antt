@@ -11,23 +11,28 @@ use Rattle.cancel_scopes.proofs.ChildLemmas.{but_here, but_other, placed-same, o
 use Rattle.cancel_scopes.proofs.WorkLemmas.{under_at, scope_same}
 use Rattle.cancel_scopes.specs.declared.store.Scope.{Scope}
 
-no_place : (slots : Slots) (key : ℕ) → scope_in slots key ≡ None → (p k : ℕ) → (k ≡ key) ⊎ (k ≢ key) → place_under p (scope_in slots k) ≡ places_but slots key None p k
+no_place : (slots : Slots) (key : ℕ) → scope_in slots key ≡ None → (p k : ℕ) → (k ≡ key) ⊎ (k ≢ key) →
+    place_under p (scope_in slots k) ≡ places_but slots key None p k
 no_place slots key free p k (inl same) =
-    ap (λ (n : ℕ). place_under p (scope_in slots n)) same ∙ ap (place_under p) free ∙ sym (but_here slots key None p) ∙ ap (places_but slots key None p) (sym same)
+    ap (λ (n : ℕ). place_under p (scope_in slots n)) same ∙ ap (place_under p) free ∙ sym (but_here slots key None p)
+        ∙ ap (places_but slots key None p) (sym same)
 no_place slots key free p k (inr differs) = sym (but_other slots key None p k differs)
 
 -- an outermost scope was nobody's child
 pub left-none : (slots : Slots) (place : ℕ) → Lost slots None place → Family slots
 left-none slots place h = record {
-  children = λ p. placed-same (places_but slots h.key None p) (λ k. place_under p (scope_in slots k)) (children_at (scope_in slots p)) (children_at (scope_in slots p))
+  children = λ p. placed-same (places_but slots h.key None p) (λ k. place_under p (scope_in slots k)) (children_at (scope_in slots p))
+      (children_at (scope_in slots p))
       (λ k. no_place slots h.key h.free p k (cases_eq k h.key)) refl (h.others p);
 }
 
 -- the last of its parent's children comes into its place
 module _ (slots : Slots) (parent place : ℕ) (s : Scope) (rest : List ℕ) where
-  among : (h : Lost slots (Some parent) place) → scope_in slots parent ≡ Some s → IsPlaced (places_but slots h.key (Some place) parent) s.children.items
+  among : (h : Lost slots (Some parent) place) → scope_in slots parent ≡ Some s →
+      IsPlaced (places_but slots h.key (Some place) parent) s.children.items
   among h kept =
-      let P : Bool → Type 0 = λ b. IsPlaced (places_but slots h.key (if b then Some place else None) parent) (children_at (scope_in slots parent)) in
+      let P : Bool → Type 0 = λ b. IsPlaced (places_but slots h.key (if b then Some place else None) parent)
+          (children_at (scope_in slots parent)) in
       subst (λ (l : List ℕ). IsPlaced (places_but slots h.key (Some place) parent) l) (ap children_at kept)
       (subst P (eq-eqb parent parent refl) (h.others parent))
 
@@ -35,27 +40,37 @@ module _ (slots : Slots) (parent place : ℕ) (s : Scope) (rest : List ℕ) wher
   pub place_within : Lost slots (Some parent) place → scope_in slots parent ≡ Some s → place < length s.children.items
   place_within h kept = ((among h kept).stands h.key place (but_here slots h.key (Some place) parent)).0
 
-  last_place : (h : Lost slots (Some parent) place) → scope_in slots parent ≡ Some s → Removed s.children.items rest place → place < length rest → places_but slots h.key (Some place) parent (get_or rest place 0) ≡ Some (length s.children.items - 1)
+  last_place : (h : Lost slots (Some parent) place) → scope_in slots parent ≡ Some s → Removed s.children.items rest place →
+      place < length rest → places_but slots h.key (Some place) parent (get_or rest place 0) ≡ Some (length s.children.items - 1)
   last_place h kept r inside =
       ap (places_but slots h.key (Some place) parent) (r.seam (omega (arith, inside, r.long)))
       ∙ (among h kept).placed (length s.children.items - 1) (omega (arith, inside, r.long))
 
-  last_differs : (h : Lost slots (Some parent) place) → scope_in slots parent ≡ Some s → Removed s.children.items rest place → place < length rest → get_or rest place 0 ≢ h.key
+  last_differs : (h : Lost slots (Some parent) place) → scope_in slots parent ≡ Some s → Removed s.children.items rest place →
+      place < length rest → get_or rest place 0 ≢ h.key
   last_differs h kept r inside same =
       let last : place ≡ length s.children.items - 1 =
-      some_same place (length s.children.items - 1) (sym (but_here slots h.key (Some place) parent) ∙ ap (places_but slots h.key (Some place) parent) (sym same) ∙ last_place h kept r inside) in
+      some_same place (length s.children.items - 1) (sym (but_here slots h.key (Some place) parent)
+          ∙ ap (places_but slots h.key (Some place) parent) (sym same) ∙ last_place h kept r inside) in
       absurd (omega (arith, last, inside, r.long))
 
-  last_under : Lost slots (Some parent) place → scope_in slots parent ≡ Some s → Removed s.children.items rest place → place < length rest → place_under parent (scope_in slots (get_or rest place 0)) ≡ Some (length s.children.items - 1)
+  last_under : Lost slots (Some parent) place → scope_in slots parent ≡ Some s → Removed s.children.items rest place → place < length rest →
+      place_under parent (scope_in slots (get_or rest place 0)) ≡ Some (length s.children.items - 1)
   last_under h kept r inside =
       sym (but_other slots h.key (Some place) parent (get_or rest place 0) (last_differs h kept r inside)) ∙ last_place h kept r inside
 
-  left : (new : Slots) → Lost slots (Some parent) place → scope_in slots parent ≡ Some s → Removed s.children.items rest place → children_at (scope_in new parent) ≡ rest → ((p : ℕ) → p ≢ parent → children_at (scope_in new p) ≡ children_at (scope_in slots p)) → ((p k : ℕ) → p ≢ parent → place_under p (scope_in new k) ≡ place_under p (scope_in slots k)) → ((k : ℕ) → (place < length rest → k ≢ get_or rest place 0) → place_under parent (scope_in new k) ≡ place_under parent (scope_in slots k)) → (place < length rest → place_under parent (scope_in new (get_or rest place 0)) ≡ Some place) → Family new
+  left : (new : Slots) → Lost slots (Some parent) place → scope_in slots parent ≡ Some s → Removed s.children.items rest place →
+      children_at (scope_in new parent) ≡ rest → ((p : ℕ) → p ≢ parent → children_at (scope_in new p) ≡ children_at (scope_in slots p)) →
+      ((p k : ℕ) → p ≢ parent → place_under p (scope_in new k) ≡ place_under p (scope_in slots k)) →
+      ((k : ℕ) → (place < length rest → k ≢ get_or rest place 0) →
+      place_under parent (scope_in new k) ≡ place_under parent (scope_in slots k)) →
+      (place < length rest → place_under parent (scope_in new (get_or rest place 0)) ≡ Some place) → Family new
   left new h kept r list_is lists_same others_same mine_same moved = record { children = λ p. by_parent p (cases_eq p parent) }
     where
       mine : IsPlaced (λ k. place_under parent (scope_in new k)) rest
       mine =
-          placed-removed (places_but slots h.key (Some place) parent) (λ k. place_under parent (scope_in new k)) s.children.items rest h.key place
+          placed-removed (places_but slots h.key (Some place) parent) (λ k. place_under parent (scope_in new k)) s.children.items rest h.key
+              place
           (among h kept) (but_here slots h.key (Some place) parent) r.long r.seam r.keeps
           (mine_same h.key (λ inside e. last_differs h kept r inside (sym e)) ∙ ap (place_under parent) h.free)
           moved
@@ -63,7 +78,8 @@ module _ (slots : Slots) (parent place : ℕ) (s : Scope) (rest : List ℕ) wher
 
       theirs : (p : ℕ) → p ≢ parent → IsPlaced (places_but slots h.key None p) (children_at (scope_in slots p))
       theirs p away =
-          let P : Bool → Type 0 = λ b. IsPlaced (places_but slots h.key (if b then Some place else None) p) (children_at (scope_in slots p)) in
+          let P : Bool → Type 0 = λ b. IsPlaced (places_but slots h.key (if b then Some place else None) p)
+              (children_at (scope_in slots p)) in
           subst P (other_parent p parent away) (h.others p)
 
       by_parent : (p : ℕ) → (p ≡ parent) ⊎ (p ≢ parent) → IsPlaced (λ k. place_under p (scope_in new k)) (children_at (scope_in new p))
@@ -71,7 +87,8 @@ module _ (slots : Slots) (parent place : ℕ) (s : Scope) (rest : List ℕ) wher
           subst (λ (n : ℕ). IsPlaced (λ k. place_under n (scope_in new k)) (children_at (scope_in new n))) (sym same)
           (subst (λ (l : List ℕ). IsPlaced (λ k. place_under parent (scope_in new k)) l) (sym list_is) mine)
       by_parent p (inr away) =
-          placed-same (places_but slots h.key None p) (λ k. place_under p (scope_in new k)) (children_at (scope_in slots p)) (children_at (scope_in new p))
+          placed-same (places_but slots h.key None p) (λ k. place_under p (scope_in new k)) (children_at (scope_in slots p))
+              (children_at (scope_in new p))
           (λ k. others_same p k away ∙ no_place slots h.key h.free p k (cases_eq k h.key)) (lists_same p away) (theirs p away)
 
   module _ (t : Scope) where
@@ -79,13 +96,16 @@ module _ (slots : Slots) (parent place : ℕ) (s : Scope) (rest : List ℕ) wher
     abbrev pub parted : Slots
     parted = slice_set slots parent (Some t)
 
-    under_parted : scope_in slots parent ≡ Some s → t.parent ≡ s.parent → t.place ≡ s.place → (p k : ℕ) → place_under p (scope_in parted k) ≡ place_under p (scope_in slots k)
+    under_parted : scope_in slots parent ≡ Some s → t.parent ≡ s.parent → t.place ≡ s.place → (p k : ℕ) →
+        place_under p (scope_in parted k) ≡ place_under p (scope_in slots k)
     under_parted kept up at p =
         same_by (place_under p) slots parent s (Some t) kept
-        (ap (λ (o : Option ℕ). if parent_is p o then Some t.place else None) up ∙ ap (λ (n : ℕ). if parent_is p s.parent then Some n else None) at)
+        (ap (λ (o : Option ℕ). if parent_is p o then Some t.place else None) up
+            ∙ ap (λ (n : ℕ). if parent_is p s.parent then Some n else None) at)
 
     -- the one that is gone stood last
-    pub left-last : Lost slots (Some parent) place → scope_in slots parent ≡ Some s → Removed s.children.items rest place → t.parent ≡ s.parent → t.place ≡ s.place → t.children.items ≡ rest → length rest ≤ place → Family parted
+    pub left-last : Lost slots (Some parent) place → scope_in slots parent ≡ Some s → Removed s.children.items rest place →
+        t.parent ≡ s.parent → t.place ≡ s.place → t.children.items ≡ rest → length rest ≤ place → Family parted
     left-last h kept r up at children out =
         left parted h kept r (ap children_at (written slots parent s (Some t) kept) ∙ children)
         (λ p away. ap children_at (unwritten slots parent p (Some t) away))
@@ -93,13 +113,16 @@ module _ (slots : Slots) (parent place : ℕ) (s : Scope) (rest : List ℕ) wher
         (λ k apart. under_parted kept up at parent k)
         (λ inside. absurd (omega (arith, inside, out)))
 
-    moved_under : (moved : ℕ) → Lost slots (Some parent) place → scope_in slots parent ≡ Some s → Removed s.children.items rest place → t.parent ≡ s.parent → t.place ≡ s.place → place < length rest → moved ≡ get_or rest place 0 → (m : Scope) × (scope_in parted moved ≡ Some m) × (m.parent ≡ Some parent) × (m.place ≡ length s.children.items - 1)
+    moved_under : (moved : ℕ) → Lost slots (Some parent) place → scope_in slots parent ≡ Some s → Removed s.children.items rest place →
+        t.parent ≡ s.parent → t.place ≡ s.place → place < length rest → moved ≡ get_or rest place 0 → (m : Scope)
+        × (scope_in parted moved ≡ Some m) × (m.parent ≡ Some parent) × (m.place ≡ length s.children.items - 1)
     moved_under moved h kept r up at inside is =
         under_at parent (length s.children.items - 1) (scope_in parted moved)
         (under_parted kept up at parent moved ∙ ap (λ (n : ℕ). place_under parent (scope_in slots n)) is ∙ last_under h kept r inside)
 
     -- the one that comes into the place is kept
-    pub moved_kept : (moved : ℕ) → Lost slots (Some parent) place → scope_in slots parent ≡ Some s → Removed s.children.items rest place → t.parent ≡ s.parent → t.place ≡ s.place → place < length rest → moved ≡ get_or rest place 0 → IsSome (scope_in parted moved)
+    pub moved_kept : (moved : ℕ) → Lost slots (Some parent) place → scope_in slots parent ≡ Some s → Removed s.children.items rest place →
+        t.parent ≡ s.parent → t.place ≡ s.place → place < length rest → moved ≡ get_or rest place 0 → IsSome (scope_in parted moved)
     moved_kept moved h kept r up at inside is = ap is_some (moved_under moved h kept r up at inside is).1
 
     module _ (moved : ℕ) (m : Scope) where
@@ -108,21 +131,25 @@ module _ (slots : Slots) (parent place : ℕ) (s : Scope) (rest : List ℕ) wher
       settled_in = slice_set parted moved (Some (record m { place = place }))
 
       -- neither write changes an outline
-      pub left-outlines : scope_in slots parent ≡ Some s → outline_of t ≡ outline_of s → t.sight ≡ s.sight → t.listed ≡ s.listed → scope_in parted moved ≡ Some m → SameOutlines slots settled_in
+      pub left-outlines : scope_in slots parent ≡ Some s → outline_of t ≡ outline_of s → t.sight ≡ s.sight → t.listed ≡ s.listed →
+          scope_in parted moved ≡ Some m → SameOutlines slots settled_in
       left-outlines kept outline sight listed stays =
           outlines-then slots parted settled_in
           (added-outlines slots 0 parent s t kept outline sight listed)
           (added-outlines parted 0 moved m (record m { place = place }) stays refl refl refl)
 
       -- the last one comes into the place
-      pub left-moved : Lost slots (Some parent) place → scope_in slots parent ≡ Some s → Removed s.children.items rest place → t.parent ≡ s.parent → t.place ≡ s.place → t.children.items ≡ rest → place < length rest → moved ≡ get_or rest place 0 → scope_in parted moved ≡ Some m → Family settled_in
+      pub left-moved : Lost slots (Some parent) place → scope_in slots parent ≡ Some s → Removed s.children.items rest place →
+          t.parent ≡ s.parent → t.place ≡ s.place → t.children.items ≡ rest → place < length rest → moved ≡ get_or rest place 0 →
+          scope_in parted moved ≡ Some m → Family settled_in
       left-moved h kept r up at children inside is stays =
           left settled_in h kept r
           (lists parent ∙ ap children_at (written slots parent s (Some t) kept) ∙ children)
           (λ p away. lists p ∙ ap children_at (unwritten slots parent p (Some t) away))
           (λ p k away. same_by (place_under p) parted moved m n stays (elsewhere p away) k ∙ under_parted kept up at p k)
           (λ k apart. ap (place_under parent) (unwritten parted moved k n (λ e. apart inside (e ∙ is))) ∙ under_parted kept up at parent k)
-          (λ _. ap (λ (k : ℕ). place_under parent (scope_in settled_in k)) (sym is) ∙ ap (place_under parent) (written parted moved m n stays) ∙ here)
+          (λ _. ap (λ (k : ℕ). place_under parent (scope_in settled_in k)) (sym is)
+              ∙ ap (place_under parent) (written parted moved m n stays) ∙ here)
         where
           n : Option Scope
           n = Some (record m { place = place })
@@ -146,26 +173,32 @@ module _ (slots : Slots) (parent place : ℕ) (s : Scope) (rest : List ℕ) wher
               ap (λ (b : Bool). if b then Some place else None) test
 
 -- a scope without children is gone, and stands among its parent's still
-pub lost : (slots gone : Slots) (key : ℕ) (s : Scope) → IsTree (find_in slots) → Family slots → scope_in slots key ≡ Some s → scope_in gone key ≡ None → ((other : ℕ) → other ≢ key → scope_in gone other ≡ scope_in slots other) → s.children.items ≡ [] → Lost gone s.parent s.place
+pub lost : (slots gone : Slots) (key : ℕ) (s : Scope) → IsTree (find_in slots) → Family slots → scope_in slots key ≡ Some s →
+    scope_in gone key ≡ None → ((other : ℕ) → other ≢ key → scope_in gone other ≡ scope_in slots other) → s.children.items ≡ [] →
+    Lost gone s.parent s.place
 lost slots gone key s tree family kept free others childless = record {
   key = key;
   free = free;
-  others = λ p. placed-same (λ k. place_under p (scope_in slots k)) (places_but gone key (place_under p (Some s)) p) (children_at (scope_in slots p)) (children_at (scope_in gone p))
+  others = λ p. placed-same (λ k. place_under p (scope_in slots k)) (places_but gone key (place_under p (Some s)) p)
+      (children_at (scope_in slots p)) (children_at (scope_in gone p))
       (λ k. by_key p k (cases_eq k key)) (list_at p (cases_eq p key)) (family.children p);
   kept = λ p up. parent_kept p up (parent_at slots key p s tree kept up);
 }
   where
     by_key : (p k : ℕ) → (k ≡ key) ⊎ (k ≢ key) → places_but gone key (place_under p (Some s)) p k ≡ place_under p (scope_in slots k)
     by_key p k (inl same) =
-        ap (places_but gone key (place_under p (Some s)) p) same ∙ but_here gone key (place_under p (Some s)) p ∙ sym (ap (λ (n : ℕ). place_under p (scope_in slots n)) same ∙ ap (place_under p) kept)
+        ap (places_but gone key (place_under p (Some s)) p) same ∙ but_here gone key (place_under p (Some s)) p
+            ∙ sym (ap (λ (n : ℕ). place_under p (scope_in slots n)) same ∙ ap (place_under p) kept)
     by_key p k (inr differs) = but_other gone key (place_under p (Some s)) p k differs ∙ ap (place_under p) (others k differs)
 
     list_at : (p : ℕ) → (p ≡ key) ⊎ (p ≢ key) → children_at (scope_in gone p) ≡ children_at (scope_in slots p)
     list_at p (inl same) =
-        ap (λ (n : ℕ). children_at (scope_in gone n)) same ∙ ap children_at free ∙ sym (ap (λ (n : ℕ). children_at (scope_in slots n)) same ∙ ap children_at kept ∙ childless)
+        ap (λ (n : ℕ). children_at (scope_in gone n)) same ∙ ap children_at free
+            ∙ sym (ap (λ (n : ℕ). children_at (scope_in slots n)) same ∙ ap children_at kept ∙ childless)
     list_at p (inr differs) = ap children_at (others p differs)
 
-    parent_kept : (p : ℕ) → s.parent ≡ Some p → (above : Scope) × (scope_in slots p ≡ Some above) × (s.depth ≡ suc above.depth) → (t : Scope) × (scope_in gone p ≡ Some t)
+    parent_kept : (p : ℕ) → s.parent ≡ Some p → (above : Scope) × (scope_in slots p ≡ Some above) × (s.depth ≡ suc above.depth) →
+        (t : Scope) × (scope_in gone p ≡ Some t)
     parent_kept p up (above, found, deeper) =
         let differs : p ≢ key = λ same.
         let e : above ≡ s = scope_same slots key above s (ap (scope_in slots) (sym same) ∙ found) kept in

@@ -20,12 +20,14 @@ pub same-tree : (old new : Slots) → ((key : ℕ) → find_in new key ≡ find_
 same-tree old new h tree = subst IsTree (sym (same_find old new h)) tree
 
 -- sights stay right where outlines and sights stay
-pub same-sights : (old new : Slots) → ((key : ℕ) → find_in new key ≡ find_in old key) → ((key : ℕ) → own_sight (scope_in new key) ≡ own_sight (scope_in old key)) → HasSights old → HasSights new
+pub same-sights : (old new : Slots) → ((key : ℕ) → find_in new key ≡ find_in old key) →
+    ((key : ℕ) → own_sight (scope_in new key) ≡ own_sight (scope_in old key)) → HasSights old → HasSights new
 same-sights old new finds same sights key =
     same key ∙ sights key ∙ ap (λ (find : Find). seen_at find key) (sym (same_find old new finds))
 
 -- the children of each scope stay where parents, places and lists do
-pub family-same : (old new : Slots) → ((parent key : ℕ) → place_under parent (scope_in new key) ≡ place_under parent (scope_in old key)) → ((key : ℕ) → children_at (scope_in new key) ≡ children_at (scope_in old key)) → Family old → Family new
+pub family-same : (old new : Slots) → ((parent key : ℕ) → place_under parent (scope_in new key) ≡ place_under parent (scope_in old key)) →
+    ((key : ℕ) → children_at (scope_in new key) ≡ children_at (scope_in old key)) → Family old → Family new
 family-same old new places children family = record {
   children = λ parent.
       let P : (ℕ → Option ℕ) → Type 0 = λ f. IsPlaced f (children_at (scope_in new parent)) in
@@ -34,14 +36,16 @@ family-same old new places children family = record {
 }
 
 -- a list of places serves where all places stay
-pub listed-same : (old new : Slots) (changed : List ℕ) → ((key : ℕ) → places_in new key ≡ places_in old key) → IsListed old changed → IsListed new changed
+pub listed-same : (old new : Slots) (changed : List ℕ) → ((key : ℕ) → places_in new key ≡ places_in old key) → IsListed old changed →
+    IsListed new changed
 listed-same old new changed h listed = record {
   places = subst (λ (places : ℕ → Option ℕ). IsPlaced places changed) (sym (fun_ext h)) listed.places;
   counted = listed.counted ∙ sym (count_same is_listed refl new old (λ key. ap is_some (h key)));
 }
 
 -- a write of a place alone
-pub same-placed : (slots : Slots) (key : ℕ) (s : Scope) (listed : Option ℕ) → scope_in slots key ≡ Some s → SameScopes slots (slice_set slots key (Some (record s { listed = listed })))
+pub same-placed : (slots : Slots) (key : ℕ) (s : Scope) (listed : Option ℕ) → scope_in slots key ≡ Some s →
+    SameScopes slots (slice_set slots key (Some (record s { listed = listed })))
 same-placed slots key s listed kept = record {
   long = length-set slots key (Some (record s { listed = listed }));
   finds = same_by (option_map outline_of) slots key s (Some (record s { listed = listed })) kept refl;
@@ -54,7 +58,8 @@ abbrev weight : Option ℕ → ℕ
 weight o = cond (is_some o) 1 0
 
 -- there is room for one that is not listed
-pub unlisted_fits : (slots : Slots) (changed : List ℕ) (key : ℕ) (s : Scope) → scope_in slots key ≡ Some s → s.listed ≡ None → IsListed slots changed → length changed + 1 ≤ length slots
+pub unlisted_fits : (slots : Slots) (changed : List ℕ) (key : ℕ) (s : Scope) → scope_in slots key ≡ Some s → s.listed ≡ None →
+    IsListed slots changed → length changed + 1 ≤ length slots
 unlisted_fits slots changed key s kept none listed =
     let more = count_more is_listed is_some slots key s (λ o. implied o) kept (ap is_some none) refl in
     omega (arith, more, listed.counted, count_by-le-length is_some slots)
@@ -64,7 +69,8 @@ unlisted_fits slots changed key s kept none listed =
     implied (Some s) h = refl
 
 -- a scope that was not listed comes last
-pub marked : (slots : Slots) (changed : List ℕ) (key place : ℕ) (s t : Scope) → scope_in slots key ≡ Some s → places_in slots key ≡ None → place ≡ length changed → t.listed ≡ Some place → IsListed slots changed → IsListed (slice_set slots key (Some t)) (changed ++ key ∷ [])
+pub marked : (slots : Slots) (changed : List ℕ) (key place : ℕ) (s t : Scope) → scope_in slots key ≡ Some s → places_in slots key ≡ None →
+    place ≡ length changed → t.listed ≡ Some place → IsListed slots changed → IsListed (slice_set slots key (Some t)) (changed ++ key ∷ [])
 marked slots changed key place s t kept none long now listed =
     let new : Slots = slice_set slots key (Some t) in
     let free : s.listed ≡ None = sym (ap place_of kept) ∙ none in
@@ -72,17 +78,22 @@ marked slots changed key place s t kept none long now listed =
     let one : weight t.listed ≡ weight (Some place) = ap weight now in
     let count = count_set is_listed slots key s (Some t) kept in
     record {
-      places = placed-push (places_in slots) (places_in new) changed key listed.places none (ap place_of (written slots key s (Some t) kept) ∙ now ∙ ap Some long) (λ other differs. ap place_of (unwritten slots key other (Some t) differs));
+      places = placed-push (places_in slots) (places_in new) changed key listed.places none
+          (ap place_of (written slots key s (Some t) kept) ∙ now ∙ ap Some long)
+          (λ other differs. ap place_of (unwritten slots key other (Some t) differs));
       counted = omega (arith, count, unmarked, one, listed.counted, length-append changed (key ∷ []));
     }
 
 -- a scope that gets this place among the changed ones
-pub lists-listed : (slots : Slots) (changed now : List ℕ) (key place : ℕ) (s t : Scope) → scope_in slots key ≡ Some s → lists key (scope_in slots key) changed now place → t.listed ≡ Some place → IsListed slots changed → IsListed (slice_set slots key (Some t)) now
+pub lists-listed : (slots : Slots) (changed now : List ℕ) (key place : ℕ) (s t : Scope) → scope_in slots key ≡ Some s →
+    lists key (scope_in slots key) changed now place → t.listed ≡ Some place → IsListed slots changed →
+    IsListed (slice_set slots key (Some t)) now
 lists-listed slots changed now key place s t kept h is listed = by_place (places_in slots key) refl h
   where
     by_place : (o : Option ℕ) → places_in slots key ≡ o → lists_at o key changed now place → IsListed (slice_set slots key (Some t)) now
     by_place None none h =
-        subst (λ (l : List ℕ). IsListed (slice_set slots key (Some t)) l) (sym h.1) (marked slots changed key place s t kept none h.0 is listed)
+        subst (λ (l : List ℕ). IsListed (slice_set slots key (Some t)) l) (sym h.1)
+            (marked slots changed key place s t kept none h.0 is listed)
     by_place (Some at) was h =
         let same : place_of (Some t) ≡ place_of (Some s) = is ∙ ap Some h.0 ∙ sym was ∙ ap place_of kept in
         subst (λ (l : List ℕ). IsListed (slice_set slots key (Some t)) l) (sym h.1)
@@ -95,14 +106,16 @@ module _ (slots : Slots) (changed rest : List ℕ) (key place : ℕ) (s : Scope)
   was_listed : scope_in slots key ≡ Some s → places_in slots key ≡ Some place → s.listed ≡ Some place
   was_listed kept at = sym (ap place_of kept) ∙ at
 
-  counted_one : scope_in slots key ≡ Some s → places_in slots key ≡ Some place → Removed changed rest place → IsListed slots changed → length rest ≡ count_by is_listed after_one
+  counted_one : scope_in slots key ≡ Some s → places_in slots key ≡ Some place → Removed changed rest place → IsListed slots changed →
+      length rest ≡ count_by is_listed after_one
   counted_one kept at h listed =
       let count = count_set is_listed slots key s (Some (record s { listed = None })) kept in
       let one : weight s.listed ≡ weight (Some place) = ap weight (was_listed kept at) in
       omega (arith, count, one, h.long, listed.counted)
 
   -- a scope that stands last is taken out
-  pub unmarked-last : scope_in slots key ≡ Some s → places_in slots key ≡ Some place → Removed changed rest place → length rest ≤ place → IsListed slots changed → IsListed after_one rest
+  pub unmarked-last : scope_in slots key ≡ Some s → places_in slots key ≡ Some place → Removed changed rest place → length rest ≤ place →
+      IsListed slots changed → IsListed after_one rest
   unmarked-last kept at h out listed = record {
     places = placed-removed (places_in slots) (places_in after_one) changed rest key place listed.places at h.long h.seam h.keeps
         (ap place_of (written slots key s (Some (record s { listed = None })) kept))
@@ -112,14 +125,18 @@ module _ (slots : Slots) (changed rest : List ℕ) (key place : ℕ) (s : Scope)
   }
 
   -- the last one had the last place
-  moved_from : Removed changed rest place → IsListed slots changed → place < length rest → places_in slots (get_or rest place 0) ≡ Some (length changed - 1)
+  moved_from : Removed changed rest place → IsListed slots changed → place < length rest →
+      places_in slots (get_or rest place 0) ≡ Some (length changed - 1)
   moved_from h listed inside =
-      ap (places_in slots) (h.seam (omega (arith, inside, h.long))) ∙ listed.places.placed (length changed - 1) (omega (arith, inside, h.long))
+      ap (places_in slots) (h.seam (omega (arith, inside, h.long)))
+          ∙ listed.places.placed (length changed - 1) (omega (arith, inside, h.long))
 
   -- the last one is another
-  pub moved_differs : places_in slots key ≡ Some place → Removed changed rest place → IsListed slots changed → place < length rest → get_or rest place 0 ≢ key
+  pub moved_differs : places_in slots key ≡ Some place → Removed changed rest place → IsListed slots changed → place < length rest →
+      get_or rest place 0 ≢ key
   moved_differs at h listed inside same =
-      let last : place ≡ length changed - 1 = some_same place (length changed - 1) (sym at ∙ ap (places_in slots) (sym same) ∙ moved_from h listed inside) in
+      let last : place ≡ length changed - 1 =
+          some_same place (length changed - 1) (sym at ∙ ap (places_in slots) (sym same) ∙ moved_from h listed inside) in
       absurd (omega (arith, last, inside, h.long))
 
   module _ (moved : ℕ) (m : Scope) where
@@ -130,27 +147,33 @@ module _ (slots : Slots) (changed rest : List ℕ) (key place : ℕ) (s : Scope)
     kept_before differs stays = sym (unwritten slots key moved (Some (record s { listed = None })) differs) ∙ stays
 
     -- a scope is taken out, and the last one comes into its place
-    pub unmarked-moved : scope_in slots key ≡ Some s → places_in slots key ≡ Some place → Removed changed rest place → place < length rest → moved ≡ get_or rest place 0 → scope_in after_one moved ≡ Some m → IsListed slots changed → IsListed after_two rest
+    pub unmarked-moved : scope_in slots key ≡ Some s → places_in slots key ≡ Some place → Removed changed rest place → place < length rest →
+        moved ≡ get_or rest place 0 → scope_in after_one moved ≡ Some m → IsListed slots changed → IsListed after_two rest
     unmarked-moved kept at h inside is stays listed =
         let t : Option Scope = Some (record m { listed = Some place }) in
         let differs : moved ≢ key = λ same. moved_differs at h listed inside (sym is ∙ same) in
-        let had : m.listed ≡ Some (length changed - 1) = sym (ap place_of (kept_before differs stays)) ∙ ap (places_in slots) is ∙ moved_from h listed inside in
+        let had : m.listed ≡ Some (length changed - 1) = sym (ap place_of (kept_before differs stays)) ∙ ap (places_in slots) is
+            ∙ moved_from h listed inside in
         let one : weight m.listed ≡ weight (Some (length changed - 1)) = ap weight had in
         let count = count_set is_listed after_one moved m t stays in
         record {
           places = placed-removed (places_in slots) (places_in after_two) changed rest key place listed.places at h.long h.seam h.keeps
-              (ap place_of (unwritten after_one moved key t (λ e. differs (sym e)) ∙ written slots key s (Some (record s { listed = None })) kept))
+              (ap place_of (unwritten after_one moved key t (λ e. differs (sym e))
+                  ∙ written slots key s (Some (record s { listed = None })) kept))
               (λ _. ap (places_in after_two) (sym is) ∙ ap place_of (written after_one moved m t stays))
-              (λ other away apart. ap place_of (unwritten after_one moved other t (λ e. apart inside (e ∙ is)) ∙ unwritten slots key other (Some (record s { listed = None })) away));
+              (λ other away apart. ap place_of (unwritten after_one moved other t (λ e. apart inside (e ∙ is))
+                  ∙ unwritten slots key other (Some (record s { listed = None })) away));
           counted = omega (arith, count, one, counted_one kept at h listed);
         }
 
     -- that scope alone loses its mark
-    pub unmarks-moved : scope_in slots key ≡ Some s → places_in slots key ≡ Some place → Removed changed rest place → place < length rest → moved ≡ get_or rest place 0 → scope_in after_one moved ≡ Some m → IsListed slots changed → Marks slots after_two key false
+    pub unmarks-moved : scope_in slots key ≡ Some s → places_in slots key ≡ Some place → Removed changed rest place → place < length rest →
+        moved ≡ get_or rest place 0 → scope_in after_one moved ≡ Some m → IsListed slots changed → Marks slots after_two key false
     unmarks-moved kept at h inside is stays listed =
         let t : Option Scope = Some (record m { listed = Some place }) in
         let differs : moved ≢ key = λ same. moved_differs at h listed inside (sym is ∙ same) in
-        let had : m.listed ≡ Some (length changed - 1) = sym (ap place_of (kept_before differs stays)) ∙ ap (places_in slots) is ∙ moved_from h listed inside in
+        let had : m.listed ≡ Some (length changed - 1) = sym (ap place_of (kept_before differs stays)) ∙ ap (places_in slots) is
+            ∙ moved_from h listed inside in
         let one = same-placed slots key s None kept in
         let two = same-placed after_one moved m (Some place) stays in
         record {
@@ -161,7 +184,8 @@ module _ (slots : Slots) (changed rest : List ℕ) (key place : ℕ) (s : Scope)
             places = λ p k. two.places p k ∙ one.places p k;
             children = λ k. two.children k ∙ one.children k;
           };
-          here = ap is_listed (unwritten after_one moved key t (λ e. differs (sym e)) ∙ written slots key s (Some (record s { listed = None })) kept);
+          here = ap is_listed (unwritten after_one moved key t (λ e. differs (sym e))
+              ∙ written slots key s (Some (record s { listed = None })) kept);
           others = λ other away.
               same_by is_listed after_one moved m t stays (sym (ap is_some had)) other
               ∙ ap is_listed (unwritten slots key other (Some (record s { listed = None })) away);

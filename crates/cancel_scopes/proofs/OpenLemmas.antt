@@ -31,7 +31,8 @@ stack_at-keeps old new h tree key same = ap (option_map (full new key)) same ∙
   where
     by_kept : (o : Option Outline) → old key ≡ o → option_map (full new key) o ≡ option_map (full old key) o
     by_kept None is = refl
-    by_kept (Some s) is = ap (λ (outer : Stack). Some (level_of key s ∷ outer)) (upward-keeps old new h tree s.depth s.parent (tree.placed key s is))
+    by_kept (Some s) is = ap (λ (outer : Stack). Some (level_of key s ∷ outer))
+        (upward-keeps old new h tree s.depth s.parent (tree.placed key s is))
 
 -- the new scope stands at a key that was free
 pub record Opens (old new : Find) (key : ℕ) (s : Outline) : Type 0 where
@@ -46,7 +47,8 @@ opens-keeps {old} h at before was =
     h.others at (λ same. (let e = h.free in let f = ap old same in cc)) ∙ was
 
 -- the parent's stack, as it is kept
-outer_of-kept : (slots : Slots) (depth : ℕ) (parent : Option ℕ) → IsUnder (find_in slots) depth parent → upward (find_in slots) depth parent ≡ outer_of (tree_of slots) parent
+outer_of-kept : (slots : Slots) (depth : ℕ) (parent : Option ℕ) → IsUnder (find_in slots) depth parent →
+    upward (find_in slots) depth parent ≡ outer_of (tree_of slots) parent
 outer_of-kept slots depth None under = rw under refl
 outer_of-kept slots depth (Some parent) under =
     upward-under (find_in slots) depth parent under.0 under under.1
@@ -74,15 +76,19 @@ fresh tree slots key is free =
     stack_seen tree slots key key is refl ∙ ap (λ (o : Option Scope). option_map (full (find_in slots) key) (option_map outline_of o)) free
 
 -- the new stack is the new level on that of the parent
-pub opened : (tree : Tree) (slots new : Slots) (key : ℕ) (s : Outline) (parent : Option ℕ) (l : Level ℕ) → tree_of slots ≡ tree → Opens (find_in slots) (find_in new) key s → IsTree (find_in slots) → s.parent ≡ parent → level_of key s ≡ l → stack_of (tree_of new) key ≡ Some (l ∷ outer_of tree parent)
+pub opened : (tree : Tree) (slots new : Slots) (key : ℕ) (s : Outline) (parent : Option ℕ) (l : Level ℕ) → tree_of slots ≡ tree →
+    Opens (find_in slots) (find_in new) key s → IsTree (find_in slots) → s.parent ≡ parent → level_of key s ≡ l →
+    stack_of (tree_of new) key ≡ Some (l ∷ outer_of tree parent)
 opened tree slots new key s parent l is h root same level =
     rw (← is, ← same, ← level)
     (stack_of-tree_of new key
     ∙ stack_at-kept (find_in new) key s h.kept
-    ∙ ap (λ (outer : Stack). Some (level_of key s ∷ outer)) (upward-keeps (find_in slots) (find_in new) (opens-keeps h) root s.depth s.parent h.under ∙ outer_of-kept slots s.depth s.parent h.under))
+    ∙ ap (λ (outer : Stack). Some (level_of key s ∷ outer)) (upward-keeps (find_in slots) (find_in new) (opens-keeps h) root s.depth
+        s.parent h.under ∙ outer_of-kept slots s.depth s.parent h.under))
 
 -- every other stack stays
-pub opened-others : (tree : Tree) (slots new : Slots) (key : ℕ) (s : Outline) → tree_of slots ≡ tree → Opens (find_in slots) (find_in new) key s → IsTree (find_in slots) → OthersKeep tree (tree_of new) key
+pub opened-others : (tree : Tree) (slots new : Slots) (key : ℕ) (s : Outline) → tree_of slots ≡ tree →
+    Opens (find_in slots) (find_in new) key s → IsTree (find_in slots) → OthersKeep tree (tree_of new) key
 opened-others tree slots new key s is h root other differs =
     stack_of-tree_of new other
     ∙ stack_at-keeps (find_in slots) (find_in new) (opens-keeps h) root other (h.others other differs)
@@ -108,8 +114,13 @@ IsTree-opens old new key s h tree = record { placed = λ k o found. by_key k o f
 -- a scope is opened that sees what its stack says, and comes among its parent's children
 module _ (slots inserted : Slots) (key : ℕ) (s : Scope) where
   -- so the tree is ready again
-  pub opened-ready : (new : Slots) (was changed : List ℕ) (had lowered_was lowered_had room lowered lowered_room : ℕ) (parent : Option ℕ) (shield : Bool) (from : Tick) → IsReady slots was had lowered_was lowered_had → Inserts slots inserted key s → s.parent ≡ parent → s.shield ≡ shield → s.from ≡ from → s.sight ≡ sight (record { label = 0; shield = shield; from = from } ∷ upward (find_in slots) s.depth parent) → s.listed ≡ None → SameOutlines inserted new → Family new → changed ≡ was → length new ≤ room → lowered ≡ 0 → length new ≤ lowered_room → IsReady new changed room lowered lowered_room
-  opened-ready new was changed had lowered_was lowered_had room lowered lowered_room parent shield from h ins parent_is shield_is from_is sees unmarked same family list_is fits none lowered_fits = record {
+  pub opened-ready : (new : Slots) (was changed : List ℕ) (had lowered_was lowered_had room lowered lowered_room : ℕ) (parent : Option ℕ)
+      (shield : Bool) (from : Tick) → IsReady slots was had lowered_was lowered_had → Inserts slots inserted key s → s.parent ≡ parent →
+      s.shield ≡ shield → s.from ≡ from → s.sight ≡ sight (record { label = 0; shield = shield; from = from }
+      ∷ upward (find_in slots) s.depth parent) → s.listed ≡ None → SameOutlines inserted new → Family new → changed ≡ was →
+      length new ≤ room → lowered ≡ 0 → length new ≤ lowered_room → IsReady new changed room lowered lowered_room
+  opened-ready new was changed had lowered_was lowered_had room lowered lowered_room parent shield from h ins parent_is shield_is from_is
+      sees unmarked same family list_is fits none lowered_fits = record {
     tree = same-tree inserted new same.finds (IsTree-opens (find_in slots) (find_in inserted) key (outline_of s) at_key h.tree);
     family = family;
     sights = same-sights inserted new same.finds same.sights (λ k. sight_at k (cases_eq k key));
@@ -126,9 +137,11 @@ module _ (slots inserted : Slots) (key : ℕ) (s : Scope) where
       sight_at k (inl same) =
           let up : upward (find_in inserted) s.depth s.parent ≡ upward (find_in slots) s.depth s.parent =
           upward-keeps (find_in slots) (find_in inserted) (opens-keeps at_key) h.tree s.depth s.parent at_key.under in
-          let at : stack_at (find_in inserted) key ≡ Some (full (find_in inserted) key (outline_of s)) = stack_at-kept (find_in inserted) key (outline_of s) at_key.kept in
+          let at : stack_at (find_in inserted) key ≡ Some (full (find_in inserted) key (outline_of s)) =
+              stack_at-kept (find_in inserted) key (outline_of s) at_key.kept in
           let own : own_sight (scope_in inserted key) ≡ s.sight = ap own_sight ins.kept in
-          let e : sight (full (find_in inserted) key (outline_of s)) ≡ sight (record { label = 0; shield = shield; from = from } ∷ upward (find_in slots) s.depth parent) =
+          let e : sight (full (find_in inserted) key (outline_of s)) ≡ sight
+              (record { label = 0; shield = shield; from = from } ∷ upward (find_in slots) s.depth parent) =
           rw (up, parent_is, shield_is, from_is) refl in
           let here : own_sight (scope_in inserted key) ≡ seen_at (find_in inserted) key = own ∙ sees ∙ sym e ∙ sym (ap sight_of at) in
           subst (λ (n : ℕ). own_sight (scope_in inserted n) ≡ seen_at (find_in inserted) n) (sym same) here
@@ -137,14 +150,17 @@ module _ (slots inserted : Slots) (key : ℕ) (s : Scope) where
           ∙ sym (ap sight_of (stack_at-keeps (find_in slots) (find_in inserted) (opens-keeps at_key) h.tree k (at_key.others k differs)))
 
       place_at : (k : ℕ) → (k ≡ key) ⊎ (k ≢ key) → places_in inserted k ≡ places_in slots k
-      place_at k (inl same) = ap (places_in inserted) same ∙ ap place_of ins.kept ∙ unmarked ∙ sym (ap place_of ins.free) ∙ ap (places_in slots) (sym same)
+      place_at k (inl same) = ap (places_in inserted) same ∙ ap place_of ins.kept ∙ unmarked ∙ sym (ap place_of ins.free)
+          ∙ ap (places_in slots) (sym same)
       place_at k (inr differs) = ap place_of (ins.others k differs)
 
   -- and no mark changes
-  pub opened-marks : (tree : Tree) → tree_of slots ≡ tree → Inserts slots inserted key s → s.listed ≡ None → SameMarks tree (tree_of inserted)
+  pub opened-marks : (tree : Tree) → tree_of slots ≡ tree → Inserts slots inserted key s → s.listed ≡ None →
+      SameMarks tree (tree_of inserted)
   opened-marks tree is ins unmarked k = is_changed-tree_of inserted k ∙ by_key (cases_eq k key) ∙ sym (mark_seen tree slots k is)
     where
       by_key : (k ≡ key) ⊎ (k ≢ key) → is_listed (scope_in inserted k) ≡ is_listed (scope_in slots k)
       by_key (inl same) =
-          ap (λ (n : ℕ). is_listed (scope_in inserted n)) same ∙ ap is_listed ins.kept ∙ ap is_some unmarked ∙ sym (ap is_listed ins.free) ∙ ap (λ (n : ℕ). is_listed (scope_in slots n)) (sym same)
+          ap (λ (n : ℕ). is_listed (scope_in inserted n)) same ∙ ap is_listed ins.kept ∙ ap is_some unmarked ∙ sym (ap is_listed ins.free)
+              ∙ ap (λ (n : ℕ). is_listed (scope_in slots n)) (sym same)
       by_key (inr differs) = ap is_listed (ins.others k differs)

@@ -14,7 +14,8 @@ pub none_some : {X : Type 0} (o : Option ℕ) (a : ℕ) → o ≡ None → o ≡
 none_some o a none some = absurd (let e : None ≡ Some a = sym none ∙ some in cc)
 
 -- a key that had no place comes last
-pub placed-push : (old new : ℕ → Option ℕ) (list : List ℕ) (key : ℕ) → IsPlaced old list → old key ≡ None → new key ≡ Some (length list) → ((other : ℕ) → other ≢ key → new other ≡ old other) → IsPlaced new (list ++ key ∷ [])
+pub placed-push : (old new : ℕ → Option ℕ) (list : List ℕ) (key : ℕ) → IsPlaced old list → old key ≡ None → new key ≡ Some (length list) →
+    ((other : ℕ) → other ≢ key → new other ≡ old other) → IsPlaced new (list ++ key ∷ [])
 placed-push old new list key h free here others =
     let long : length (list ++ key ∷ []) ≡ length list + 1 = length-append list (key ∷ []) in
     record {
@@ -45,7 +46,9 @@ pub record Removed (list rest : List ℕ) (place : ℕ) : Type 0 where
   pub keeps : (k : ℕ) → k ≢ place → k + 1 < length list → get_or rest k 0 ≡ get_or list k 0
 
 -- the same from what `swap_remove` says
-pub removed : (list rest : List ℕ) (place n m : ℕ) → n ≡ length list → m ≡ length rest → m + 1 ≡ n → ((d : ℕ) → place + 1 < n → get_or rest place d ≡ get_or list (n - 1) d) → ((k d : ℕ) → k ≢ place → k + 1 < n → get_or rest k d ≡ get_or list k d) → Removed list rest place
+pub removed : (list rest : List ℕ) (place n m : ℕ) → n ≡ length list → m ≡ length rest → m + 1 ≡ n →
+    ((d : ℕ) → place + 1 < n → get_or rest place d ≡ get_or list (n - 1) d) →
+    ((k d : ℕ) → k ≢ place → k + 1 < n → get_or rest k d ≡ get_or list k d) → Removed list rest place
 removed list rest place n m long short less seam keeps = record {
   long = omega (arith, long, short, less);
   seam = λ inside. seam 0 (omega (arith, inside, long)) ∙ ap (λ (k : ℕ). get_or list (k - 1) 0) long;
@@ -53,13 +56,18 @@ removed list rest place n m long short less seam keeps = record {
 }
 
 -- a key is taken out, and the last one comes into its place
-pub placed-removed : (old new : ℕ → Option ℕ) (list rest : List ℕ) (key place : ℕ) → IsPlaced old list → old key ≡ Some place → length rest + 1 ≡ length list → (place + 1 < length list → get_or rest place 0 ≡ get_or list (length list - 1) 0) → ((k : ℕ) → k ≢ place → k + 1 < length list → get_or rest k 0 ≡ get_or list k 0) → new key ≡ None → (place < length rest → new (get_or rest place 0) ≡ Some place) → ((other : ℕ) → other ≢ key → (place < length rest → other ≢ get_or rest place 0) → new other ≡ old other) → IsPlaced new rest
+pub placed-removed : (old new : ℕ → Option ℕ) (list rest : List ℕ) (key place : ℕ) → IsPlaced old list → old key ≡ Some place →
+    length rest + 1 ≡ length list → (place + 1 < length list → get_or rest place 0 ≡ get_or list (length list - 1) 0) →
+    ((k : ℕ) → k ≢ place → k + 1 < length list → get_or rest k 0 ≡ get_or list k 0) → new key ≡ None →
+    (place < length rest → new (get_or rest place 0) ≡ Some place) →
+    ((other : ℕ) → other ≢ key → (place < length rest → other ≢ get_or rest place 0) → new other ≡ old other) → IsPlaced new rest
 placed-removed old new list rest key place h at long seam keeps gone moved others = record {
   stands = λ k p stood. stands_again k p stood;
   placed = λ p within. placed_again p within;
 }
   where
-    other_place : (k p : ℕ) → k ≢ key → old k ≡ Some p → (place < length rest → k ≢ get_or rest place 0) → (p < length rest) × (get_or rest p 0 ≡ k)
+    other_place : (k p : ℕ) → k ≢ key → old k ≡ Some p → (place < length rest → k ≢ get_or rest place 0) → (p < length rest)
+        × (get_or rest p 0 ≡ k)
     other_place k p differs was apart =
         let s = h.stands k p was in
         let t = h.stands key place at in
@@ -67,7 +75,8 @@ placed-removed old new list rest key place h at long seam keeps gone moved other
         let inner : p + 1 < length list = by_last s.0 s.1 t.0 elsewhere (cases_lt (p + 1) (length list)) in
         (omega (arith, inner, long), keeps p elsewhere inner ∙ s.1)
       where
-        by_last : p < length list → get_or list p 0 ≡ k → place < length list → p ≢ place → (p + 1 < length list) ⊎ (length list ≤ p + 1) → p + 1 < length list
+        by_last : p < length list → get_or list p 0 ≡ k → place < length list → p ≢ place → (p + 1 < length list) ⊎ (length list ≤ p + 1) →
+            p + 1 < length list
         by_last in_list found placed elsewhere (inl h) = h
         by_last in_list found placed elsewhere (inr past) =
             let last : p ≡ length list - 1 = omega (arith, in_list, past) in
@@ -101,14 +110,17 @@ placed-removed old new list rest key place h at long seam keeps gone moved other
     placed_again : (p : ℕ) → p < length rest → new (get_or rest p 0) ≡ Some p
     placed_again p within =
         elim (cases_eq p place) [
-          | inl same ↦ ap (λ (n : ℕ). new (get_or rest n 0)) same ∙ moved (subst (λ (n : ℕ). n < length rest) same within) ∙ ap Some (sym same)
+          | inl same ↦ ap (λ (n : ℕ). new (get_or rest n 0)) same ∙ moved (subst (λ (n : ℕ). n < length rest) same within)
+              ∙ ap Some (sym same)
           | inr elsewhere ↦
               let e : get_or rest p 0 ≡ get_or list p 0 = keeps p elsewhere (omega (arith, within, long)) in
               let was : old (get_or list p 0) ≡ Some p = h.placed p (omega (arith, within, long)) in
               let differs : get_or rest p 0 ≢ key = λ same. elsewhere (some_same p place (sym was ∙ ap old (sym e ∙ same) ∙ at)) in
               let apart : place < length rest → get_or rest p 0 ≢ get_or rest place 0 = λ inside same.
-              let last : old (get_or list (length list - 1) 0) ≡ Some (length list - 1) = h.placed (length list - 1) (omega (arith, inside, long)) in
-              let q : p ≡ length list - 1 = some_same p (length list - 1) (sym was ∙ ap old (sym e ∙ same ∙ seam (omega (arith, inside, long))) ∙ last) in
+              let last : old (get_or list (length list - 1) 0) ≡ Some (length list - 1) =
+                  h.placed (length list - 1) (omega (arith, inside, long)) in
+              let q : p ≡ length list - 1 = some_same p (length list - 1) (sym was
+                  ∙ ap old (sym e ∙ same ∙ seam (omega (arith, inside, long))) ∙ last) in
               absurd (omega (arith, q, within, long)) in
               others (get_or rest p 0) differs apart ∙ ap old e ∙ was
         ]

@@ -24,15 +24,18 @@ module _ (slots : Slots) (key tick : ℕ) (s : Scope) (from : Tick) where
   set_from = slice_set slots key (Some (record s { from = from }))
 
   -- the scope alone is cancelled
-  pub cancels-slots : scope_in slots key ≡ Some s → from ≡ earlier s.from (Some (tick + 1)) → Cancels (find_in slots) (find_in set_from) key tick
+  pub cancels-slots : scope_in slots key ≡ Some s → from ≡ earlier s.from (Some (tick + 1)) →
+      Cancels (find_in slots) (find_in set_from) key tick
   cancels-slots kept is =
       cancels (find_in slots) (find_in set_from) key tick (outline_of s) (found_at slots key s kept)
       (ap (option_map outline_of) (written slots key s (Some (record s { from = from })) kept)
-      ∙ ap (λ (f : Tick). let o : Option Outline = Some (record { parent = s.parent; shield = s.shield; from = f; depth = s.depth }) in o) is)
+      ∙ ap (λ (f : Tick). let o : Option Outline = Some (record { parent = s.parent; shield = s.shield; from = f; depth = s.depth }) in o)
+          is)
       (λ other differs. ap (option_map outline_of) (unwritten slots key other (Some (record s { from = from })) differs))
 
   -- the tree stays one
-  pub cancelled-tree : scope_in slots key ≡ Some s → from ≡ earlier s.from (Some (tick + 1)) → IsTree (find_in slots) → IsTree (find_in set_from)
+  pub cancelled-tree : scope_in slots key ≡ Some s → from ≡ earlier s.from (Some (tick + 1)) → IsTree (find_in slots) →
+      IsTree (find_in set_from)
   cancelled-tree kept is tree = IsTree-cancelled (find_in slots) (find_in set_from) key tick (cancels-slots kept is) tree
 
   -- the list of changed scopes stays good
@@ -41,19 +44,23 @@ module _ (slots : Slots) (key tick : ℕ) (s : Scope) (from : Tick) where
       listed-same slots set_from changed (same_by place_of slots key s (Some (record s { from = from })) kept refl) listed
 
   -- only its own sight may be wrong then
-  pub cancelled-starts : (changed : List ℕ) → scope_in slots key ≡ Some s → from ≡ earlier s.from (Some (tick + 1)) → IsTree (find_in slots) → Family slots → HasSights slots → IsListed slots changed → Starts (tick + 1) key set_from changed
+  pub cancelled-starts : (changed : List ℕ) → scope_in slots key ≡ Some s → from ≡ earlier s.from (Some (tick + 1)) →
+      IsTree (find_in slots) → Family slots → HasSights slots → IsListed slots changed → Starts (tick + 1) key set_from changed
   cancelled-starts changed kept is tree family sights listed =
       let after : Option Scope = Some (record s { from = from }) in
       let all : AllRight slots = rights_of slots tree sights in
       record {
         tree = cancelled-tree kept is tree;
-        family = family-same slots set_from (λ p. same_by (place_under p) slots key s after kept refl) (same_by children_at slots key s after kept refl) family;
+        family = family-same slots set_from (λ p. same_by (place_under p) slots key s after kept refl)
+            (same_by children_at slots key s after kept refl) family;
         listed = cancelled-listed changed kept listed;
-        others = λ other t differs found. all.right other t (sym (unwritten slots key other after differs) ∙ found) ∙ ap (sight_by t.shield t.from) (outer_same kept t.parent);
+        others = λ other t differs found. all.right other t (sym (unwritten slots key other after differs) ∙ found)
+            ∙ ap (sight_by t.shield t.from) (outer_same kept t.parent);
         own = λ t found.
             let e : after ≡ Some t = sym (written slots key s after kept) ∙ found in
             let same : record s { from = from } ≡ t = cc in
-            subst (λ (u : Scope). (f : Tick) × (u.from ≡ earlier f (Some (tick + 1))) × (u.sight ≡ sight_by u.shield f (outer_sight set_from u.parent))) same
+            subst (λ (u : Scope). (f : Tick) × (u.from ≡ earlier f (Some (tick + 1)))
+                × (u.sight ≡ sight_by u.shield f (outer_sight set_from u.parent))) same
             (s.from, is, all.right key s kept ∙ ap (sight_by s.shield s.from) (outer_same kept s.parent));
       }
     where
@@ -62,10 +69,15 @@ module _ (slots : Slots) (key tick : ℕ) (s : Scope) (from : Tick) where
       outer_same kept (Some p) = sym (same_by own_sight slots key s (Some (record s { from = from })) kept refl p)
 
   -- once sights are lowered the tree is ready again
-  pub cancelled-ready : (new : Slots) (changed : List ℕ) (changed_room lowered lowered_room : ℕ) → scope_in slots key ≡ Some s → from ≡ earlier s.from (Some (tick + 1)) → IsTree (find_in slots) → Family slots → Along (tick + 1) set_from new → AllRight new → IsListed new changed → length slots ≤ changed_room → lowered ≡ 0 → length slots ≤ lowered_room → IsReady new changed changed_room lowered lowered_room
+  pub cancelled-ready : (new : Slots) (changed : List ℕ) (changed_room lowered lowered_room : ℕ) → scope_in slots key ≡ Some s →
+      from ≡ earlier s.from (Some (tick + 1)) → IsTree (find_in slots) → Family slots → Along (tick + 1) set_from new → AllRight new →
+      IsListed new changed → length slots ≤ changed_room → lowered ≡ 0 → length slots ≤ lowered_room →
+      IsReady new changed changed_room lowered lowered_room
   cancelled-ready new changed changed_room lowered lowered_room kept is tree family h all listed changed_fits none lowered_fits = record {
     tree = same-tree set_from new h.finds (cancelled-tree kept is tree);
-    family = family-same set_from new h.places h.children (family-same slots set_from (λ p. same_by (place_under p) slots key s (Some (record s { from = from })) kept refl) (same_by children_at slots key s (Some (record s { from = from })) kept refl) family);
+    family = family-same set_from new h.places h.children (family-same slots set_from
+        (λ p. same_by (place_under p) slots key s (Some (record s { from = from })) kept refl)
+        (same_by children_at slots key s (Some (record s { from = from })) kept refl) family);
     sights = sights_of new (same-tree set_from new h.finds (cancelled-tree kept is tree)) all;
     listed = listed;
     changed_fits = (let e = h.long in omega (arith, e, length-set slots key (Some (record s { from = from })), changed_fits));
@@ -74,16 +86,21 @@ module _ (slots : Slots) (key tick : ℕ) (s : Scope) (from : Tick) where
   }
 
   -- contracts see each stack with that level cancelled
-  pub cancelled-stacks : (tree : Tree) (new : Slots) (id : ℕ) → scope_in slots key ≡ Some s → from ≡ earlier s.from (Some (tick + 1)) → tree_of slots ≡ tree → key ≡ id → AllFresh set_from new → (at : ℕ) → stack_of (tree_of new) at ≡ option_map (after_cancel id tick) (stack_of tree at)
+  pub cancelled-stacks : (tree : Tree) (new : Slots) (id : ℕ) → scope_in slots key ≡ Some s → from ≡ earlier s.from (Some (tick + 1)) →
+      tree_of slots ≡ tree → key ≡ id → AllFresh set_from new → (at : ℕ) →
+      stack_of (tree_of new) at ≡ option_map (after_cancel id tick) (stack_of tree at)
   cancelled-stacks tree new id kept is seen same h =
       tree_cancelled tree slots new key id tick seen same (λ k. h.finds k ∙ cancels-slots kept is k)
 
   -- and a mark where a sight came earlier
-  pub cancelled-marks : (tree : Tree) (new : Slots) → scope_in slots key ≡ Some s → from ≡ earlier s.from (Some (tick + 1)) → tree_of slots ≡ tree → HasSights slots → AllFresh set_from new → (at : ℕ) (stack : Stack) → stack_of tree at ≡ Some stack → is_changed (tree_of new) at ≡ (is_changed tree at || before (sight (after_cancel key tick stack)) (sight stack))
+  pub cancelled-marks : (tree : Tree) (new : Slots) → scope_in slots key ≡ Some s → from ≡ earlier s.from (Some (tick + 1)) →
+      tree_of slots ≡ tree → HasSights slots → AllFresh set_from new → (at : ℕ) (stack : Stack) → stack_of tree at ≡ Some stack →
+      is_changed (tree_of new) at ≡ (is_changed tree at || before (sight (after_cancel key tick stack)) (sight stack))
   cancelled-marks tree new kept is seen sights h at stack has =
       let old : stack_at (find_in slots) at ≡ Some stack = sym (stack_seen tree slots at at seen refl) ∙ has in
       let later : stack_at (find_in set_from) at ≡ Some (after_cancel key tick stack) =
-      stack_at-cancelled (find_in slots) (find_in set_from) key tick (cancels-slots kept is) at ∙ ap (option_map (after_cancel key tick)) old in
+      stack_at-cancelled (find_in slots) (find_in set_from) key tick (cancels-slots kept is) at
+          ∙ ap (option_map (after_cancel key tick)) old in
       let mark : is_listed (scope_in set_from at) ≡ is_changed tree at =
       same_by is_listed slots key s (Some (record s { from = from })) kept refl at ∙ sym (mark_seen tree slots at seen) in
       let was : own_sight (scope_in set_from at) ≡ sight stack =
@@ -96,7 +113,9 @@ module _ (slots : Slots) (key tick : ℕ) (s : Scope) (from : Tick) where
       ∙ ap (λ (t : Tick). is_changed tree at || before (sight (after_cancel key tick stack)) t) was
 
 -- only which scopes are marked changes
-pub marked-ready : (old new : Slots) (was changed : List ℕ) (changed_room lowered lowered_room : ℕ) → IsReady old was changed_room lowered lowered_room → SameScopes old new → IsListed new changed → IsReady new changed changed_room lowered lowered_room
+pub marked-ready : (old new : Slots) (was changed : List ℕ) (changed_room lowered lowered_room : ℕ) →
+    IsReady old was changed_room lowered lowered_room → SameScopes old new → IsListed new changed →
+    IsReady new changed changed_room lowered lowered_room
 marked-ready old new was changed changed_room lowered lowered_room h same listed = record {
   tree = same-tree old new same.finds h.tree;
   family = family-same old new same.places same.children h.family;
@@ -108,8 +127,11 @@ marked-ready old new was changed changed_room lowered lowered_room h same listed
 }
 
 -- room is made, and nothing else changes
-pub roomier-ready : (old new : Slots) (was changed : List ℕ) (had lowered_was lowered_had room lowered lowered_room : ℕ) → IsReady old was had lowered_was lowered_had → SameScopes old new → ((key : ℕ) → places_in new key ≡ places_in old key) → changed ≡ was → had ≤ room → lowered ≡ lowered_was → lowered_had ≤ lowered_room → IsReady new changed room lowered lowered_room
-roomier-ready old new was changed had lowered_was lowered_had room lowered lowered_room h same marks list_is fits as_was lowered_fits = record {
+pub roomier-ready : (old new : Slots) (was changed : List ℕ) (had lowered_was lowered_had room lowered lowered_room : ℕ) →
+    IsReady old was had lowered_was lowered_had → SameScopes old new → ((key : ℕ) → places_in new key ≡ places_in old key) → changed ≡ was →
+    had ≤ room → lowered ≡ lowered_was → lowered_had ≤ lowered_room → IsReady new changed room lowered lowered_room
+roomier-ready old new was changed had lowered_was lowered_had room lowered lowered_room h same marks list_is fits as_was lowered_fits =
+    record {
   tree = same-tree old new same.finds h.tree;
   family = family-same old new same.places same.children h.family;
   sights = same-sights old new same.finds same.sights h.sights;
@@ -120,7 +142,8 @@ roomier-ready old new was changed had lowered_was lowered_had room lowered lower
 }
 
 -- contracts see the same stacks
-pub marked-stacks : (tree : Tree) (old new : Slots) → tree_of old ≡ tree → SameScopes old new → tree_of new ≡ record tree { changed = (tree_of new).changed }
+pub marked-stacks : (tree : Tree) (old new : Slots) → tree_of old ≡ tree → SameScopes old new →
+    tree_of new ≡ record tree { changed = (tree_of new).changed }
 marked-stacks tree old new is same =
     ap (λ (stacks : List (Option Stack)). let t : Tree = record { stacks = stacks; changed = (tree_of new).changed } in t)
     (stacks_of-same old new same.long same.finds ∙ ap (λ (t : Tree). t.stacks) is)
@@ -131,10 +154,12 @@ marked-open tree slots key is marked = by_kept (scope_in slots key) refl (sym (m
   where
     by_kept : (o : Option Scope) → scope_in slots key ≡ o → is_listed (scope_in slots key) ≡ true → IsOpen tree key
     by_kept None e h = absurd (let f : false ≡ true = sym (ap is_listed e) ∙ h in cc)
-    by_kept (Some s) e h = ap is_some (stack_seen tree slots key key is refl ∙ ap (λ (o : Option Scope). option_map (full (find_in slots) key) (option_map outline_of o)) e)
+    by_kept (Some s) e h = ap is_some (stack_seen tree slots key key is refl
+        ∙ ap (λ (o : Option Scope). option_map (full (find_in slots) key) (option_map outline_of o)) e)
 
 -- and the same marks elsewhere
-pub marked-others : (tree : Tree) (old new : Slots) (key : ℕ) (mark : Bool) → tree_of old ≡ tree → Marks old new key mark → OtherMarksKeep tree (tree_of new) key
+pub marked-others : (tree : Tree) (old new : Slots) (key : ℕ) (mark : Bool) → tree_of old ≡ tree → Marks old new key mark →
+    OtherMarksKeep tree (tree_of new) key
 marked-others tree old new key mark is h other differs =
     is_changed-tree_of new other ∙ h.others other differs ∙ sym (mark_seen tree old other is)
 
@@ -143,7 +168,8 @@ pub marked-here : (old new : Slots) (key : ℕ) (mark : Bool) → Marks old new 
 marked-here old new key mark h = is_changed-tree_of new key ∙ h.here
 
 -- nothing is marked where the list is empty
-pub none_marked : (tree : Tree) (slots : Slots) (changed : List ℕ) → tree_of slots ≡ tree → IsListed slots changed → length changed ≤ 0 → (key : ℕ) → is_changed tree key ≡ false
+pub none_marked : (tree : Tree) (slots : Slots) (changed : List ℕ) → tree_of slots ≡ tree → IsListed slots changed → length changed ≤ 0 →
+    (key : ℕ) → is_changed tree key ≡ false
 none_marked tree slots changed is listed empty key = mark_seen tree slots key is ∙ by_place (places_in slots key) refl
   where
     by_place : (o : Option ℕ) → places_in slots key ≡ o → is_some (places_in slots key) ≡ false
@@ -151,7 +177,8 @@ none_marked tree slots changed is listed empty key = mark_seen tree slots key is
     by_place (Some place) e = absurd (omega (arith, (listed.places.stands key place e).0, empty))
 
 -- what stands last is marked
-pub last_marked : (tree : Tree) (slots : Slots) (changed : List ℕ) (key : ℕ) → tree_of slots ≡ tree → IsListed slots changed → 0 < length changed → key ≡ get_or changed (length changed - 1) 0 → is_changed tree key ≡ true
+pub last_marked : (tree : Tree) (slots : Slots) (changed : List ℕ) (key : ℕ) → tree_of slots ≡ tree → IsListed slots changed →
+    0 < length changed → key ≡ get_or changed (length changed - 1) 0 → is_changed tree key ≡ true
 last_marked tree slots changed key is listed some last =
     mark_seen tree slots key is
     ∙ ap (λ (k : ℕ). is_listed (scope_in slots k)) last
@@ -160,12 +187,17 @@ last_marked tree slots changed key is listed some last =
 -- a scope that was unmarked is closed, and leaves its parent's children
 module _ (slots unmarked gone new : Slots) (key : ℕ) (s : Scope) where
   -- what is kept of the others stays
-  pub closed-finds : Marks slots unmarked key false → ((other : ℕ) → other ≢ key → scope_in gone other ≡ scope_in unmarked other) → SameOutlines gone new → (other : ℕ) → other ≢ key → find_in new other ≡ find_in slots other
+  pub closed-finds : Marks slots unmarked key false → ((other : ℕ) → other ≢ key → scope_in gone other ≡ scope_in unmarked other) →
+      SameOutlines gone new → (other : ℕ) → other ≢ key → find_in new other ≡ find_in slots other
   closed-finds marks others same other differs =
       same.finds other ∙ ap (option_map outline_of) (others other differs) ∙ marks.same.finds other
 
   -- so the tree is ready again
-  pub closed-ready : (was changed : List ℕ) (changed_room lowered lowered_room : ℕ) → IsReady slots was changed_room lowered lowered_room → Marks slots unmarked key false → IsListed unmarked changed → Closes (find_in slots) (find_in new) key (outline_of s) → length gone ≡ length unmarked → scope_in gone key ≡ None → ((other : ℕ) → other ≢ key → scope_in gone other ≡ scope_in unmarked other) → SameOutlines gone new → Family new → IsReady new changed changed_room lowered lowered_room
+  pub closed-ready : (was changed : List ℕ) (changed_room lowered lowered_room : ℕ) → IsReady slots was changed_room lowered lowered_room →
+      Marks slots unmarked key false → IsListed unmarked changed → Closes (find_in slots) (find_in new) key (outline_of s) →
+      length gone ≡ length unmarked → scope_in gone key ≡ None → ((other : ℕ) → other ≢ key →
+      scope_in gone other ≡ scope_in unmarked other) → SameOutlines gone new → Family new →
+      IsReady new changed changed_room lowered lowered_room
   closed-ready was changed changed_room lowered lowered_room h marks listed closes long free others same family = record {
     tree = IsTree-closes closes h.tree;
     family = family;
@@ -197,7 +229,9 @@ module _ (slots unmarked gone new : Slots) (key : ℕ) (s : Scope) where
       place_at k (inr differs) = ap place_of (others k differs)
 
   -- and no other mark changes
-  pub closed-marks : (tree : Tree) (id : ℕ) → tree_of slots ≡ tree → key ≡ id → Marks slots unmarked key false → ((other : ℕ) → other ≢ key → scope_in gone other ≡ scope_in unmarked other) → SameOutlines gone new → OtherMarksKeep tree (tree_of new) id
+  pub closed-marks : (tree : Tree) (id : ℕ) → tree_of slots ≡ tree → key ≡ id → Marks slots unmarked key false →
+      ((other : ℕ) → other ≢ key → scope_in gone other ≡ scope_in unmarked other) → SameOutlines gone new →
+      OtherMarksKeep tree (tree_of new) id
   closed-marks tree id is at marks others same other differs =
       let away : other ≢ key = λ e. differs (e ∙ at) in
       is_changed-tree_of new other

@@ -16,23 +16,28 @@ key_within slots key s kept = inside (cases_lt key (length slots))
     inside (inr past) = absurd (let e = get_or_past slots key None past in cc)
 
 -- what was written is found
-pub written : (slots : Slots) (key : ℕ) (s : Scope) (o : Option Scope) → scope_in slots key ≡ Some s → scope_in (slice_set slots key o) key ≡ o
+pub written : (slots : Slots) (key : ℕ) (s : Scope) (o : Option Scope) → scope_in slots key ≡ Some s →
+    scope_in (slice_set slots key o) key ≡ o
 written slots key s o kept = get_or-set_same slots key o None (key_within slots key s kept)
 
 -- what was not written stays
-pub unwritten : (slots : Slots) (key other : ℕ) (o : Option Scope) → other ≢ key → scope_in (slice_set slots key o) other ≡ scope_in slots other
+pub unwritten : (slots : Slots) (key other : ℕ) (o : Option Scope) → other ≢ key →
+    scope_in (slice_set slots key o) other ≡ scope_in slots other
 unwritten slots key other o differs = get_or-set_other slots key other o None differs
 
 -- what a write leaves as it was
-pub same_by : {X : Type 0} (f : Option Scope → X) → (slots : Slots) (key : ℕ) (s : Scope) (o : Option Scope) → scope_in slots key ≡ Some s → f o ≡ f (Some s) → (k : ℕ) → f (scope_in (slice_set slots key o) k) ≡ f (scope_in slots k)
+pub same_by : {X : Type 0} (f : Option Scope → X) → (slots : Slots) (key : ℕ) (s : Scope) (o : Option Scope) → scope_in slots key ≡ Some s →
+    f o ≡ f (Some s) → (k : ℕ) → f (scope_in (slice_set slots key o) k) ≡ f (scope_in slots k)
 same_by f slots key s o kept e k =
     elim (cases_eq k key) [
-      | inl same ↦ ap f (ap (scope_in (slice_set slots key o)) same ∙ written slots key s o kept) ∙ e ∙ sym (ap f (ap (scope_in slots) same ∙ kept))
+      | inl same ↦ ap f (ap (scope_in (slice_set slots key o)) same ∙ written slots key s o kept) ∙ e
+          ∙ sym (ap f (ap (scope_in slots) same ∙ kept))
       | inr differs ↦ ap f (unwritten slots key k o differs)
     ]
 
 -- how many pass a test after a write
-pub count_set : (p : Option Scope → Bool) (slots : Slots) (key : ℕ) (s : Scope) (o : Option Scope) → scope_in slots key ≡ Some s → count_by p (slice_set slots key o) + cond (p (Some s)) 1 0 ≡ count_by p slots + cond (p o) 1 0
+pub count_set : (p : Option Scope → Bool) (slots : Slots) (key : ℕ) (s : Scope) (o : Option Scope) → scope_in slots key ≡ Some s →
+    count_by p (slice_set slots key o) + cond (p (Some s)) 1 0 ≡ count_by p slots + cond (p o) 1 0
 count_set p slots key s o kept =
     let f : Option Scope → ℕ = λ x. cond (p x) 1 0 in
     let e = sum_by-set f slots key o None (key_within slots key s kept) in
@@ -40,7 +45,8 @@ count_set p slots key s o kept =
     omega (arith, e, here)
 
 -- as many pass a test where each key gives the same
-pub count_same : (p : Option Scope → Bool) → p None ≡ false → (xs ys : Slots) → ((k : ℕ) → p (scope_in xs k) ≡ p (scope_in ys k)) → count_by p xs ≡ count_by p ys
+pub count_same : (p : Option Scope → Bool) → p None ≡ false → (xs ys : Slots) → ((k : ℕ) → p (scope_in xs k) ≡ p (scope_in ys k)) →
+    count_by p xs ≡ count_by p ys
 count_same p none [] [] h = refl
 count_same p none [] (y ∷ ys) h =
     let first : p y ≡ false = sym (h zero) ∙ none in

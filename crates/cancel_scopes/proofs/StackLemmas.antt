@@ -19,7 +19,8 @@ stack_of-tree_of slots key =
       | inr past ↦
           let none : scope_in slots key ≡ None = get_or_past slots key None past in
           let long : length ((tree_of slots).stacks) ≡ length slots = length-map-range_with_len seen 0 (length slots) in
-          get_or_past ((tree_of slots).stacks) key None (omega arith) ∙ sym (ap (λ (o : Option Scope). option_map (full (find_in slots) key) (option_map outline_of o)) none)
+          get_or_past ((tree_of slots).stacks) key None (omega arith) ∙ sym
+              (ap (λ (o : Option Scope). option_map (full (find_in slots) key) (option_map outline_of o)) none)
     ]
 
 -- a key is marked where its scope stands among the changed ones
@@ -39,24 +40,31 @@ pub mark_seen : (tree : Tree) (slots : Slots) (key : ℕ) → tree_of slots ≡ 
 mark_seen tree slots key is = rw (← is) (is_changed-tree_of slots key)
 
 -- contracts see the same stacks where outlines stay
-pub stacks_of-same : (old new : Slots) → length new ≡ length old → ((key : ℕ) → find_in new key ≡ find_in old key) → (tree_of new).stacks ≡ (tree_of old).stacks
+pub stacks_of-same : (old new : Slots) → length new ≡ length old → ((key : ℕ) → find_in new key ≡ find_in old key) →
+    (tree_of new).stacks ≡ (tree_of old).stacks
 stacks_of-same old new long finds =
-    ap (λ (n : ℕ). map (stack_at (find_in new)) (range_with_len 0 n)) long ∙ ap (λ (find : Find). map (stack_at find) (range_with_len 0 (length old))) (fun_ext finds)
+    ap (λ (n : ℕ). map (stack_at (find_in new)) (range_with_len 0 n)) long
+        ∙ ap (λ (find : Find). map (stack_at find) (range_with_len 0 (length old))) (fun_ext finds)
 
 -- and the same in all where marks stay too
-pub tree_of-same : (old new : Slots) → length new ≡ length old → ((key : ℕ) → find_in new key ≡ find_in old key) → ((key : ℕ) → place_of (scope_in new key) ≡ place_of (scope_in old key)) → tree_of new ≡ tree_of old
+pub tree_of-same : (old new : Slots) → length new ≡ length old → ((key : ℕ) → find_in new key ≡ find_in old key) →
+    ((key : ℕ) → place_of (scope_in new key) ≡ place_of (scope_in old key)) → tree_of new ≡ tree_of old
 tree_of-same old new long finds marks =
     let marked : Slots → ℕ → Bool = λ slots key. is_listed (scope_in slots key) in
     let changed : (tree_of new).changed ≡ (tree_of old).changed =
-    ap (λ (n : ℕ). map (marked new) (range_with_len 0 n)) long ∙ ap (λ (f : ℕ → Bool). map f (range_with_len 0 (length old))) (fun_ext (λ key. ap is_some (marks key))) in
-    ap (λ (stacks : List (Option Stack)). let t : Tree = record { stacks = stacks; changed = (tree_of new).changed } in t) (stacks_of-same old new long finds)
+    ap (λ (n : ℕ). map (marked new) (range_with_len 0 n)) long ∙ ap (λ (f : ℕ → Bool). map f (range_with_len 0 (length old)))
+        (fun_ext (λ key. ap is_some (marks key))) in
+    ap (λ (stacks : List (Option Stack)). let t : Tree = record { stacks = stacks; changed = (tree_of new).changed } in t)
+        (stacks_of-same old new long finds)
     ∙ ap (λ (marks : List Bool). let t : Tree = record { stacks = (tree_of old).stacks; changed = marks } in t) changed
 
 -- what is found is the outline of a scope that is kept
-pub scope_at : (slots : Slots) (key : ℕ) (o : Outline) → find_in slots key ≡ Some o → (s : Scope) × (scope_in slots key ≡ Some s) × (outline_of s ≡ o)
+pub scope_at : (slots : Slots) (key : ℕ) (o : Outline) → find_in slots key ≡ Some o → (s : Scope) × (scope_in slots key ≡ Some s)
+    × (outline_of s ≡ o)
 scope_at slots key o found = by_kept (scope_in slots key) refl found
   where
-    by_kept : (kept : Option Scope) → scope_in slots key ≡ kept → option_map outline_of kept ≡ Some o → (s : Scope) × (scope_in slots key ≡ Some s) × (outline_of s ≡ o)
+    by_kept : (kept : Option Scope) → scope_in slots key ≡ kept → option_map outline_of kept ≡ Some o → (s : Scope)
+        × (scope_in slots key ≡ Some s) × (outline_of s ≡ o)
     by_kept None is found = absurd (let e : None ≡ Some o = found in cc)
     by_kept (Some s) is found = (s, is, cc)
 
@@ -65,9 +73,11 @@ pub found_at : (slots : Slots) (key : ℕ) (s : Scope) → scope_in slots key �
 found_at slots key s kept = ap (option_map outline_of) kept
 
 -- the scope right round one that is kept
-pub parent_at : (slots : Slots) (key parent : ℕ) (s : Scope) → IsTree (find_in slots) → scope_in slots key ≡ Some s → s.parent ≡ Some parent → (above : Scope) × (scope_in slots parent ≡ Some above) × (s.depth ≡ suc above.depth)
+pub parent_at : (slots : Slots) (key parent : ℕ) (s : Scope) → IsTree (find_in slots) → scope_in slots key ≡ Some s →
+    s.parent ≡ Some parent → (above : Scope) × (scope_in slots parent ≡ Some above) × (s.depth ≡ suc above.depth)
 parent_at slots key parent s tree kept up =
-    let under : IsUnder (find_in slots) s.depth (Some parent) = subst (IsUnder (find_in slots) s.depth) up (tree.placed key (outline_of s) (found_at slots key s kept)) in
+    let under : IsUnder (find_in slots) s.depth (Some parent) =
+        subst (IsUnder (find_in slots) s.depth) up (tree.placed key (outline_of s) (found_at slots key s kept)) in
     let above = scope_at slots parent under.0 under.1 in
     (above.0, above.1, under.2 ∙ sym (ap (λ (o : Outline). suc o.depth) above.2))
 
@@ -80,7 +90,8 @@ is_some-find_in slots key = by_kept (scope_in slots key)
     by_kept (Some s) = refl
 
 -- the same of a tree that is seen as these scopes, at a key under another name
-pub stack_seen : (tree : Tree) (slots : Slots) (key id : ℕ) → tree_of slots ≡ tree → key ≡ id → stack_of tree id ≡ stack_at (find_in slots) key
+pub stack_seen : (tree : Tree) (slots : Slots) (key id : ℕ) → tree_of slots ≡ tree → key ≡ id →
+    stack_of tree id ≡ stack_at (find_in slots) key
 stack_seen tree slots key id is same = rw (← is, ← same) (stack_of-tree_of slots key)
 
 -- a stack is found where an outline is
@@ -92,22 +103,26 @@ is_some-stack_at find key = by_kept (find key)
     by_kept (Some s) = refl
 
 -- what is open is kept
-pub kept_where_open : (tree : Tree) (slots : Slots) (key id : ℕ) → tree_of slots ≡ tree → key ≡ id → IsSome (stack_of tree id) → IsSome (scope_in slots key)
+pub kept_where_open : (tree : Tree) (slots : Slots) (key id : ℕ) → tree_of slots ≡ tree → key ≡ id → IsSome (stack_of tree id) →
+    IsSome (scope_in slots key)
 kept_where_open tree slots key id is same whole =
-    sym (is_some-find_in slots key) ∙ sym (is_some-stack_at (find_in slots) key) ∙ sym (ap is_some (stack_seen tree slots key id is same)) ∙ whole
+    sym (is_some-find_in slots key) ∙ sym (is_some-stack_at (find_in slots) key) ∙ sym (ap is_some (stack_seen tree slots key id is same))
+        ∙ whole
 
 -- the stack of what is kept
 pub stack_at-kept : (find : Find) (key : ℕ) (s : Outline) → find key ≡ Some s → stack_at find key ≡ Some (full find key s)
 stack_at-kept find key s kept = ap (option_map (full find key)) kept
 
 -- a stack that is found is that of what is kept
-pub kept_stack : (find : Find) (key : ℕ) (s : Outline) (stack : Stack) → find key ≡ Some s → stack_at find key ≡ Some stack → stack ≡ full find key s
+pub kept_stack : (find : Find) (key : ℕ) (s : Outline) (stack : Stack) → find key ≡ Some s → stack_at find key ≡ Some stack →
+    stack ≡ full find key s
 kept_stack find key s stack kept seen =
     let e : stack_at find key ≡ Some (full find key s) = stack_at-kept find key s kept in
     cc
 
 -- round a scope under a parent stands the parent's stack
-pub upward-under : (find : Find) (depth parent : ℕ) (above : Outline) → IsUnder find depth (Some parent) → find parent ≡ Some above → upward find depth (Some parent) ≡ full find parent above
+pub upward-under : (find : Find) (depth parent : ℕ) (above : Outline) → IsUnder find depth (Some parent) → find parent ≡ Some above →
+    upward find depth (Some parent) ≡ full find parent above
 upward-under find depth parent above under kept =
     let same : under.0 ≡ above = (let e = under.1 in cc) in
     let deep : depth ≡ suc above.depth = under.2 ∙ ap (λ (s : Outline). suc s.depth) same in

@@ -20,7 +20,8 @@ own_late_ticks t f o h = grind (arith, nat_tests)
 outer_late_ticks : (t f o : ℕ) → nat_lt t (if nat_lt o f then o else f) ≡ true → nat_lt t o ≡ true
 outer_late_ticks t f o h = grind (arith, nat_tests)
 
-own_late : (t : ℕ) (shield : Bool) (from outer : Tick) → before (Some t) (sight_by shield from outer) ≡ true → earlier from (Some t) ≡ Some t
+own_late : (t : ℕ) (shield : Bool) (from outer : Tick) → before (Some t) (sight_by shield from outer) ≡ true →
+    earlier from (Some t) ≡ Some t
 own_late t shield None outer h = refl
 own_late t true (Some f) outer h = rw h refl
 own_late t false (Some f) None h = rw h refl
@@ -44,10 +45,12 @@ tick_same_ticks t = grind (arith, nat_tests)
 stay_none_ticks : (t o : ℕ) → nat_lt t o ≡ false → o ≡ (if nat_lt o t then o else t)
 stay_none_ticks t o h = grind (arith, nat_tests)
 
-stay_ticks : (t f o : ℕ) → nat_lt t (if nat_lt o f then o else f) ≡ false → (if nat_lt o f then o else f) ≡ (if nat_lt o (if nat_lt t f then t else f) then o else (if nat_lt t f then t else f))
+stay_ticks : (t f o : ℕ) → nat_lt t (if nat_lt o f then o else f) ≡ false →
+    (if nat_lt o f then o else f) ≡ (if nat_lt o (if nat_lt t f then t else f) then o else (if nat_lt t f then t else f))
 stay_ticks t f o h = grind (arith, nat_tests)
 
-stays_right : (t : ℕ) (shield : Bool) (from outer : Tick) → before (Some t) (sight_by shield from outer) ≡ false → sight_by shield from outer ≡ sight_by shield (earlier from (Some t)) outer
+stays_right : (t : ℕ) (shield : Bool) (from outer : Tick) → before (Some t) (sight_by shield from outer) ≡ false →
+    sight_by shield from outer ≡ sight_by shield (earlier from (Some t)) outer
 stays_right t true None outer h = absurd (let e : true ≡ false = h in cc)
 stays_right t true (Some f) outer h = rw h refl
 stays_right t false None None h = absurd (let e : true ≡ false = h in cc)
@@ -60,7 +63,8 @@ none_in k c = absurd (omega (arith, c.1))
 
 module _ (tick key : ℕ) (slots : Slots) (changed : List ℕ) where
   -- the scope saw later, and is lowered: those inside it wait
-  pub starts-lowered : (new : Slots) (now : List ℕ) → Starts tick key slots changed → (h : Lowers tick slots new key) → before (Some tick) h.scope.sight ≡ true → IsListed new now → Lowering tick (below ([] ++ key ∷ [])) new now ([] ++ key ∷ [])
+  pub starts-lowered : (new : Slots) (now : List ℕ) → Starts tick key slots changed → (h : Lowers tick slots new key) →
+      before (Some tick) h.scope.sight ≡ true → IsListed new now → Lowering tick (below ([] ++ key ∷ [])) new now ([] ++ key ∷ [])
   starts-lowered new now state h late listed =
       let along : Along tick slots new = lowers-along tick slots new key h late in
       let count = lowers-count tick slots new key h late in
@@ -92,7 +96,8 @@ module _ (tick key : ℕ) (slots : Slots) (changed : List ℕ) where
           ∙ ap (λ (l : Slots). own_sight (scope_in l key)) h.written
           ∙ ap own_sight (written slots key h.scope (Some (record h.scope { sight = Some tick; listed = Some h.place })) h.kept)
 
-      here : Some tick ≡ sight_by s.shield s.from (outer_sight (slice_set slots key (Some (record s { sight = Some tick; listed = Some h.place }))) s.parent)
+      here : Some tick ≡ sight_by s.shield s.from
+          (outer_sight (slice_set slots key (Some (record s { sight = Some tick; listed = Some h.place }))) s.parent)
       here = by_shield s.shield refl ∙ ap (λ (f : Tick). sight_by s.shield f (outer_sight lower s.parent)) (sym from_is)
         where
           own : (from : Tick) × (s.from ≡ earlier from (Some tick)) × (s.sight ≡ sight_by s.shield from (outer_sight slots s.parent))
@@ -104,16 +109,19 @@ module _ (tick key : ℕ) (slots : Slots) (changed : List ℕ) where
           from_is : s.from ≡ Some tick
           from_is = own.1 ∙ own_late tick s.shield own.0 (outer_sight slots s.parent) late_by
 
-          outer_case : (o : Option ℕ) → before (Some tick) (outer_sight slots o) ≡ true → earlier (Some tick) (outer_sight lower o) ≡ Some tick
+          outer_case : (o : Option ℕ) → before (Some tick) (outer_sight slots o) ≡ true →
+              earlier (Some tick) (outer_sight lower o) ≡ Some tick
           outer_case None later = refl
           outer_case (Some p) later =
               elim (cases_eq p key) [
                 | inl same ↦
                     let low : own_sight (scope_in lower p) ≡ Some tick =
-                    ap (λ (n : ℕ). own_sight (scope_in lower n)) same ∙ ap own_sight (written slots key s (Some (record s { sight = Some tick; listed = Some h.place })) h.kept) in
+                    ap (λ (n : ℕ). own_sight (scope_in lower n)) same ∙ ap own_sight
+                        (written slots key s (Some (record s { sight = Some tick; listed = Some h.place })) h.kept) in
                     ap (earlier (Some tick)) low ∙ ap Some (tick_same_ticks tick)
                 | inr differs ↦
-                    let same : own_sight (scope_in lower p) ≡ own_sight (scope_in slots p) = ap own_sight (unwritten slots key p (Some (record s { sight = Some tick; listed = Some h.place })) differs) in
+                    let same : own_sight (scope_in lower p) ≡ own_sight (scope_in slots p) =
+                        ap own_sight (unwritten slots key p (Some (record s { sight = Some tick; listed = Some h.place })) differs) in
                     ap (earlier (Some tick)) same ∙ tick_first tick (own_sight (scope_in slots p)) later
               ]
 
@@ -121,10 +129,12 @@ module _ (tick key : ℕ) (slots : Slots) (changed : List ℕ) where
           by_shield true is = sym (ap (λ (b : Bool). sight_by b (Some tick) (outer_sight lower s.parent)) is)
           by_shield false is =
               sym (ap (λ (b : Bool). sight_by b (Some tick) (outer_sight lower s.parent)) is
-              ∙ outer_case s.parent (outer_late tick own.0 (outer_sight slots s.parent) (ap (λ (b : Bool). before (Some tick) (sight_by b own.0 (outer_sight slots s.parent))) (sym is) ∙ late_by)))
+              ∙ outer_case s.parent (outer_late tick own.0 (outer_sight slots s.parent)
+                  (ap (λ (b : Bool). before (Some tick) (sight_by b own.0 (outer_sight slots s.parent))) (sym is) ∙ late_by)))
 
   -- the scope saw no later, and nothing waits
-  pub starts-stays : (s : Scope) → Starts tick key slots changed → scope_in slots key ≡ Some s → before (Some tick) s.sight ≡ false → Lowering tick (below []) slots changed []
+  pub starts-stays : (s : Scope) → Starts tick key slots changed → scope_in slots key ≡ Some s → before (Some tick) s.sight ≡ false →
+      Lowering tick (below []) slots changed []
   starts-stays s state kept early = record {
     tree = state.tree;
     family = state.family;

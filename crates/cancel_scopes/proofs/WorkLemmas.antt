@@ -28,11 +28,13 @@ pub clash : {X : Type 0} (b : Bool) → b ≡ true → b ≡ false → X
 clash b yes_it_is no_it_is = absurd (let e : true ≡ false = sym yes_it_is ∙ no_it_is in cc)
 
 -- what a place under a parent says
-pub under_at : (parent place : ℕ) (o : Option Scope) → place_under parent o ≡ Some place → (s : Scope) × (o ≡ Some s) × (s.parent ≡ Some parent) × (s.place ≡ place)
+pub under_at : (parent place : ℕ) (o : Option Scope) → place_under parent o ≡ Some place → (s : Scope) × (o ≡ Some s)
+    × (s.parent ≡ Some parent) × (s.place ≡ place)
 under_at parent place None at = absurd (let e : None ≡ Some place = at in cc)
 under_at parent place (Some s) at = by_parent s.parent refl
   where
-    by_test : (other : ℕ) (b : Bool) → (other == parent) ≡ b → s.parent ≡ Some other → (t : Scope) × (Some s ≡ Some t) × (t.parent ≡ Some parent) × (t.place ≡ place)
+    by_test : (other : ℕ) (b : Bool) → (other == parent) ≡ b → s.parent ≡ Some other → (t : Scope) × (Some s ≡ Some t)
+        × (t.parent ≡ Some parent) × (t.place ≡ place)
     by_test other true same up =
         let e : other ≡ parent = eqb-true other parent same in
         let test : parent_is parent s.parent ≡ true = ap (parent_is parent) up ∙ same in
@@ -51,7 +53,8 @@ under_at parent place (Some s) at = by_parent s.parent refl
     by_parent (Some other) up = by_test other (other == parent) refl up
 
 -- a scope has its place under its parent
-pub under_is : (slots : Slots) (parent key : ℕ) (s : Scope) → scope_in slots key ≡ Some s → s.parent ≡ Some parent → place_under parent (scope_in slots key) ≡ Some s.place
+pub under_is : (slots : Slots) (parent key : ℕ) (s : Scope) → scope_in slots key ≡ Some s → s.parent ≡ Some parent →
+    place_under parent (scope_in slots key) ≡ Some s.place
 under_is slots parent key s kept up =
     let test : parent_is parent s.parent ≡ true = ap (parent_is parent) up ∙ eq-eqb parent parent refl in
     ap (place_under parent) kept ∙ ap (λ (b : Bool). if b then Some s.place else None) test
@@ -86,7 +89,8 @@ family-along tick old new h family = record {
 }
 
 -- what is low stays so
-pub low_stays : (tick : ℕ) (old new : Slots) (key : ℕ) → Along tick old new → own_sight (scope_in old key) ≡ Some tick → own_sight (scope_in new key) ≡ Some tick
+pub low_stays : (tick : ℕ) (old new : Slots) (key : ℕ) → Along tick old new → own_sight (scope_in old key) ≡ Some tick →
+    own_sight (scope_in new key) ≡ Some tick
 low_stays tick old new key h low = by_move (h.moves key)
   where
     by_move : Moves tick (scope_in old key) (scope_in new key) → own_sight (scope_in new key) ≡ Some tick
@@ -123,7 +127,8 @@ module _ (tick : ℕ) (slots : Slots) (key : ℕ) (s : Scope) (place : ℕ) wher
   weigh b = cond b 1 0
 
   -- and leaves one less to lower
-  pub count-fallen : scope_in slots key ≡ Some s → before (Some tick) s.sight ≡ true → count_by (is_later tick) after + 1 ≡ count_by (is_later tick) slots
+  pub count-fallen : scope_in slots key ≡ Some s → before (Some tick) s.sight ≡ true →
+      count_by (is_later tick) after + 1 ≡ count_by (is_later tick) slots
   count-fallen kept late =
       let count = count_set (is_later tick) slots key s (Some fallen) kept in
       let one : weigh (before (Some tick) s.sight) ≡ weigh true = ap weigh late in
@@ -131,27 +136,33 @@ module _ (tick : ℕ) (slots : Slots) (key : ℕ) (s : Scope) (place : ℕ) wher
       omega (arith, count, one, none)
 
 -- the same of a scope that was lowered and marked
-pub lowers-along : (tick : ℕ) (old new : Slots) (key : ℕ) (h : Lowers tick old new key) → before (Some tick) h.scope.sight ≡ true → Along tick old new
+pub lowers-along : (tick : ℕ) (old new : Slots) (key : ℕ) (h : Lowers tick old new key) → before (Some tick) h.scope.sight ≡ true →
+    Along tick old new
 lowers-along tick old new key h late = subst (Along tick old) (sym h.written) (along-set tick old key h.scope h.place h.kept late)
 
 -- and of the count
-pub lowers-count : (tick : ℕ) (old new : Slots) (key : ℕ) (h : Lowers tick old new key) → before (Some tick) h.scope.sight ≡ true → count_by (is_later tick) new + 1 ≡ count_by (is_later tick) old
+pub lowers-count : (tick : ℕ) (old new : Slots) (key : ℕ) (h : Lowers tick old new key) → before (Some tick) h.scope.sight ≡ true →
+    count_by (is_later tick) new + 1 ≡ count_by (is_later tick) old
 lowers-count tick old new key h late =
     ap (λ (l : Slots). count_by (is_later tick) l + 1) h.written ∙ count-fallen tick old key h.scope h.place h.kept late
 
 -- a child is lowered
 module _ (tick parent place : ℕ) (slots : Slots) (changed lowered : List ℕ) (key : ℕ) where
   -- a scope that waits at this place is that child
-  only_child : Family slots → place_under parent (scope_in slots key) ≡ Some place → (k : ℕ) (t : Scope) → scope_in slots k ≡ Some t → t.parent ≡ Some parent → t.place ≡ place → k ≡ key
+  only_child : Family slots → place_under parent (scope_in slots key) ≡ Some place → (k : ℕ) (t : Scope) → scope_in slots k ≡ Some t →
+      t.parent ≡ Some parent → t.place ≡ place → k ≡ key
   only_child family at k t kept up here =
       let mine = (family.children parent).stands key place at in
       let other = (family.children parent).stands k t.place (under_is slots parent k t kept up) in
       sym other.1 ∙ ap (λ (n : ℕ). get_or (children_at (scope_in slots parent)) n 0) here ∙ mine.1
 
-  own_near : (s : Scope) → (waits : ℕ → Scope → Type 0) → s.parent ≡ Some parent → own_sight (scope_in slots parent) ≡ Some tick → s.shield ≡ false → before (Some tick) s.sight ≡ true → IsNear slots tick waits key s → Some tick ≡ sight_by s.shield s.from (Some tick)
+  own_near : (s : Scope) → (waits : ℕ → Scope → Type 0) → s.parent ≡ Some parent → own_sight (scope_in slots parent) ≡ Some tick →
+      s.shield ≡ false → before (Some tick) s.sight ≡ true → IsNear slots tick waits key s →
+      Some tick ≡ sight_by s.shield s.from (Some tick)
   own_near s waits up sees bare late (inl right) =
       let own : s.sight ≡ earlier s.from (Some tick) =
-      right ∙ ap (λ (b : Bool). sight_by b s.from (outer_sight slots s.parent)) bare ∙ ap (earlier s.from) (ap (outer_sight slots) up ∙ sees) in
+      right ∙ ap (λ (b : Bool). sight_by b s.from (outer_sight slots s.parent)) bare
+          ∙ ap (earlier s.from) (ap (outer_sight slots) up ∙ sees) in
       clash (before (Some tick) s.sight) late (ap (before (Some tick)) own ∙ not_later tick s.from)
   own_near s waits up sees bare late (inr w) =
       let own : s.sight ≡ earlier s.from w.1 = w.3 ∙ ap (λ (b : Bool). sight_by b s.from w.1) bare in
@@ -159,7 +170,10 @@ module _ (tick parent place : ℕ) (slots : Slots) (changed lowered : List ℕ) 
       ∙ sym (ap (λ (b : Bool). sight_by b s.from (Some tick)) bare)
 
   -- a child that saw later is lowered, and those inside it wait
-  pub child-lowered : (new : Slots) (now : List ℕ) → Lowering tick (or_child parent place lowered) slots changed lowered → own_sight (scope_in slots parent) ≡ Some tick → place_under parent (scope_in slots key) ≡ Some place → (h : Lowers tick slots new key) → h.scope.shield ≡ false → before (Some tick) h.scope.sight ≡ true → IsListed new now → Lowering tick (or_child parent (place + 1) (lowered ++ key ∷ [])) new now (lowered ++ key ∷ [])
+  pub child-lowered : (new : Slots) (now : List ℕ) → Lowering tick (or_child parent place lowered) slots changed lowered →
+      own_sight (scope_in slots parent) ≡ Some tick → place_under parent (scope_in slots key) ≡ Some place →
+      (h : Lowers tick slots new key) → h.scope.shield ≡ false → before (Some tick) h.scope.sight ≡ true → IsListed new now →
+      Lowering tick (or_child parent (place + 1) (lowered ++ key ∷ [])) new now (lowered ++ key ∷ [])
   child-lowered new now state sees at h bare late listed =
       let s : Scope = h.scope in
       let child = under_at parent place (scope_in slots key) at in
@@ -169,7 +183,8 @@ module _ (tick parent place : ℕ) (slots : Slots) (changed lowered : List ℕ) 
       let along : Along tick slots new = lowers-along tick slots new key h late in
       let parent_low : own_sight (scope_in new parent) ≡ Some tick = low_stays tick slots new parent along sees in
       let lower : Slots = slice_set slots key (Some (record s { sight = Some tick; listed = Some h.place })) in
-      let parent_lower : outer_sight lower s.parent ≡ Some tick = ap (outer_sight lower) up ∙ ap (λ (l : Slots). own_sight (scope_in l parent)) (sym h.written) ∙ parent_low in
+      let parent_lower : outer_sight lower s.parent ≡ Some tick = ap (outer_sight lower) up
+          ∙ ap (λ (l : Slots). own_sight (scope_in l parent)) (sym h.written) ∙ parent_low in
       let own = own_near s (or_child parent place lowered) up sees bare late (state.near.near key s h.kept) in
       let N : Slots → Type 0 = λ l. AllNear l tick (or_child parent (place + 1) (lowered ++ key ∷ [])) in
       record {
@@ -177,16 +192,19 @@ module _ (tick parent place : ℕ) (slots : Slots) (changed lowered : List ℕ) 
         family = family-along tick slots new along state.family;
         listed = listed;
         near = subst N (sym h.written)
-            (near-lowered slots tick key s (Some h.place) (or_child parent place lowered) (or_child parent (place + 1) (lowered ++ key ∷ [])) h.kept late
+            (near-lowered slots tick key s (Some h.place) (or_child parent place lowered)
+                (or_child parent (place + 1) (lowered ++ key ∷ [])) h.kept late
             (λ k t differs kept. state.near.near k t kept)
             (λ k t differs kept w. on k t differs kept w)
             (λ k t inside. inl (key, inside, Contains-push lowered key))
             (own ∙ sym (ap (sight_by s.shield s.from) parent_lower)));
         low = λ k in_list. by_place k (Contains-push_cases lowered key k in_list) along;
-        room = (let count = lowers-count tick slots new key h late in omega (arith, count, state.room, along.long, length-append lowered (key ∷ [])));
+        room = (let count = lowers-count tick slots new key h late in
+            omega (arith, count, state.room, along.long, length-append lowered (key ∷ [])));
       }
     where
-      on : (k : ℕ) (t : Scope) → k ≢ key → scope_in slots k ≡ Some t → or_child parent place lowered k t → or_child parent (place + 1) (lowered ++ key ∷ []) k t
+      on : (k : ℕ) (t : Scope) → k ≢ key → scope_in slots k ≡ Some t → or_child parent place lowered k t →
+          or_child parent (place + 1) (lowered ++ key ∷ []) k t
       on k t differs kept (inl w) = inl (w.0, w.1, Contains-append_left lowered (key ∷ []) w.0 w.2)
       on k t differs kept (inr w) =
           inr (w.0, by_place_of (cases_eq t.place place))
@@ -203,7 +221,9 @@ module _ (tick parent place : ℕ) (slots : Slots) (changed lowered : List ℕ) 
           ∙ ap own_sight (written slots key h.scope (Some (record h.scope { sight = Some tick; listed = Some h.place })) h.kept)
 
   -- a child stays as it is
-  pub child-stays : (s : Scope) → Lowering tick (or_child parent place lowered) slots changed lowered → own_sight (scope_in slots parent) ≡ Some tick → place_under parent (scope_in slots key) ≡ Some place → scope_in slots key ≡ Some s → (s.shield ≡ true) ⊎ (before (Some tick) s.sight ≡ false) → Lowering tick (or_child parent (place + 1) lowered) slots changed lowered
+  pub child-stays : (s : Scope) → Lowering tick (or_child parent place lowered) slots changed lowered →
+      own_sight (scope_in slots parent) ≡ Some tick → place_under parent (scope_in slots key) ≡ Some place → scope_in slots key ≡ Some s →
+      (s.shield ≡ true) ⊎ (before (Some tick) s.sight ≡ false) → Lowering tick (or_child parent (place + 1) lowered) slots changed lowered
   child-stays s state sees at kept stays = record {
     tree = state.tree;
     family = state.family;
@@ -220,7 +240,8 @@ module _ (tick parent place : ℕ) (slots : Slots) (changed lowered : List ℕ) 
           let is : child.0 ≡ s = cc in
           ap (λ (t : Scope). t.parent) (sym is) ∙ child.2
 
-      by_near : (k : ℕ) (t : Scope) → scope_in slots k ≡ Some t → IsNear slots tick (or_child parent place lowered) k t → IsNear slots tick (or_child parent (place + 1) lowered) k t
+      by_near : (k : ℕ) (t : Scope) → scope_in slots k ≡ Some t → IsNear slots tick (or_child parent place lowered) k t →
+          IsNear slots tick (or_child parent (place + 1) lowered) k t
       by_near k t found (inl right) = inl right
       by_near k t found (inr (w, outer, late, sight)) = by_wait w
         where
@@ -232,12 +253,15 @@ module _ (tick parent place : ℕ) (slots : Slots) (changed lowered : List ℕ) 
                     let same : k ≡ key = only_child state.family at k t found b.0 here in
                     let e : Some s ≡ Some t = sym kept ∙ ap (scope_in slots) (sym same) ∙ found in
                     let is : s ≡ t = cc in
-                    inl (subst (IsRight slots) is (settled slots tick parent (or_child parent place lowered) key s up sees (state.near.near key s kept) stays))
+                    inl (subst (IsRight slots) is (settled slots tick parent (or_child parent place lowered) key s up sees
+                        (state.near.near key s kept) stays))
                 | inr away ↦ inr (inr (b.0, omega (arith, away, b.1)), outer, late, sight)
               ]
 
 -- other scopes wait
-pub waits-as : (tick : ℕ) (slots : Slots) (changed lowered less : List ℕ) (waits after : ℕ → Scope → Type 0) → Lowering tick waits slots changed lowered → ((k : ℕ) (t : Scope) → scope_in slots k ≡ Some t → waits k t → after k t) → ((k : ℕ) → Contains less k → Contains lowered k) → length less ≤ length lowered → Lowering tick after slots changed less
+pub waits-as : (tick : ℕ) (slots : Slots) (changed lowered less : List ℕ) (waits after : ℕ → Scope → Type 0) →
+    Lowering tick waits slots changed lowered → ((k : ℕ) (t : Scope) → scope_in slots k ≡ Some t → waits k t → after k t) →
+    ((k : ℕ) → Contains less k → Contains lowered k) → length less ≤ length lowered → Lowering tick after slots changed less
 waits-as tick slots changed lowered less waits after state on fewer shorter = record {
   tree = state.tree;
   family = state.family;
@@ -252,7 +276,9 @@ waits-as tick slots changed lowered less waits after state on fewer shorter = re
     by_near k t found (inr w) = inr (on k t found w.0, w.1, w.2, w.3)
 
 -- the children of the scope that was taken from the list wait
-pub popped : (tick parent : ℕ) (slots : Slots) (changed rest : List ℕ) → Lowering tick (below (rest ++ parent ∷ [])) slots changed (rest ++ parent ∷ []) → Lowering tick (or_child parent 0 rest) slots changed rest
+pub popped : (tick parent : ℕ) (slots : Slots) (changed rest : List ℕ) →
+    Lowering tick (below (rest ++ parent ∷ [])) slots changed (rest ++ parent ∷ []) →
+    Lowering tick (or_child parent 0 rest) slots changed rest
 popped tick parent slots changed rest state =
     waits-as tick slots changed (rest ++ parent ∷ []) rest (below (rest ++ parent ∷ [])) (or_child parent 0 rest) state
     (λ k t found w. by_place k t w (Contains-push_cases rest parent w.0 w.2))
@@ -264,13 +290,17 @@ popped tick parent slots changed rest state =
     by_place k t w (inr same) = inr (w.1 ∙ ap Some (sym same), omega arith)
 
 -- and it has the sight of the tick
-pub popped_low : (tick parent : ℕ) (slots : Slots) (changed rest : List ℕ) → Lowering tick (below (rest ++ parent ∷ [])) slots changed (rest ++ parent ∷ []) → own_sight (scope_in slots parent) ≡ Some tick
+pub popped_low : (tick parent : ℕ) (slots : Slots) (changed rest : List ℕ) →
+    Lowering tick (below (rest ++ parent ∷ [])) slots changed (rest ++ parent ∷ []) → own_sight (scope_in slots parent) ≡ Some tick
 popped_low tick parent slots changed rest state = state.low parent (Contains-push rest parent)
 
 -- no child stands behind the last
-pub all_children : (tick parent count : ℕ) (slots : Slots) (changed lowered : List ℕ) → length (children_at (scope_in slots parent)) ≤ count → Lowering tick (or_child parent count lowered) slots changed lowered → Lowering tick (below lowered) slots changed lowered
+pub all_children : (tick parent count : ℕ) (slots : Slots) (changed lowered : List ℕ) →
+    length (children_at (scope_in slots parent)) ≤ count → Lowering tick (or_child parent count lowered) slots changed lowered →
+    Lowering tick (below lowered) slots changed lowered
 all_children tick parent count slots changed lowered long state =
-    waits-as tick slots changed lowered lowered (or_child parent count lowered) (below lowered) state (λ k t found w. by_wait k t found w) (λ k in_list. in_list) (omega arith)
+    waits-as tick slots changed lowered lowered (or_child parent count lowered) (below lowered) state (λ k t found w. by_wait k t found w)
+        (λ k in_list. in_list) (omega arith)
   where
     by_wait : (k : ℕ) (t : Scope) → scope_in slots k ≡ Some t → or_child parent count lowered k t → below lowered k t
     by_wait k t found (inl w) = w
@@ -287,15 +317,19 @@ all_done tick slots changed state = record { right = λ k t found. by_near k t (
     by_near k t (inr w) = absurd (omega (arith, w.0.2.1))
 
 -- the child at a place
-pub child_key : (slots : Slots) (parent place key : ℕ) (s : Scope) → scope_in slots parent ≡ Some s → Family slots → place < length (children_at (scope_in slots parent)) → key ≡ get_or s.children.items place key → place_under parent (scope_in slots key) ≡ Some place
+pub child_key : (slots : Slots) (parent place key : ℕ) (s : Scope) → scope_in slots parent ≡ Some s → Family slots →
+    place < length (children_at (scope_in slots parent)) → key ≡ get_or s.children.items place key →
+    place_under parent (scope_in slots key) ≡ Some place
 child_key slots parent place key s kept family within is =
     let same : children_at (scope_in slots parent) ≡ s.children.items = ap children_at kept in
     let inside : place < length s.children.items = subst (λ (l : List ℕ). place < length l) same within in
-    let at : key ≡ get_or (children_at (scope_in slots parent)) place 0 = get_or_read s.children.items place key inside is 0 ∙ ap (λ (l : List ℕ). get_or l place 0) (sym same) in
+    let at : key ≡ get_or (children_at (scope_in slots parent)) place 0 =
+        get_or_read s.children.items place key inside is 0 ∙ ap (λ (l : List ℕ). get_or l place 0) (sym same) in
     ap (λ (k : ℕ). place_under parent (scope_in slots k)) at ∙ (family.children parent).placed place within
 
 -- a scope that is lowered leaves no more to do
-pub lowers-work : (tick : ℕ) (old new : Slots) (key : ℕ) (lowered : List ℕ) (h : Lowers tick old new key) → before (Some tick) h.scope.sight ≡ true → work tick new (lowered ++ key ∷ []) ≤ work tick old lowered
+pub lowers-work : (tick : ℕ) (old new : Slots) (key : ℕ) (lowered : List ℕ) (h : Lowers tick old new key) →
+    before (Some tick) h.scope.sight ≡ true → work tick new (lowered ++ key ∷ []) ≤ work tick old lowered
 lowers-work tick old new key lowered h late =
     omega (arith, lowers-count tick old new key h late, length-append lowered (key ∷ []))
 
@@ -306,5 +340,6 @@ scope_same slots key a b h g =
     cc
 
 -- one that sees later is counted
-pub later_count : (tick : ℕ) (slots : Slots) (key : ℕ) (s : Scope) → scope_in slots key ≡ Some s → before (Some tick) s.sight ≡ true → 1 ≤ count_by (is_later tick) slots
+pub later_count : (tick : ℕ) (slots : Slots) (key : ℕ) (s : Scope) → scope_in slots key ≡ Some s → before (Some tick) s.sight ≡ true →
+    1 ≤ count_by (is_later tick) slots
 later_count tick slots key s kept late = (let e = count-fallen tick slots key s 0 kept late in omega (arith, e))

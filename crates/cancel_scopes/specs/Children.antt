@@ -23,11 +23,13 @@ places_but slots key place parent k = if k == key then place else place_under pa
 -- this scope alone does not stand among its parent's children yet, where its place is the next
 pub record Orphaned (slots : Slots) (key : ℕ) (parent : Option ℕ) : Type 0 where
   pub others : (p : ℕ) → IsPlaced (places_but slots key None p) (children_at (scope_in slots p))
-  pub under : (p : ℕ) → place_under p (scope_in slots key) ≡ (if parent_is p parent then Some (length (children_at (scope_in slots p))) else None)
+  pub under : (p : ℕ) → place_under p (scope_in slots key) ≡ (if parent_is p parent then Some (length (children_at (scope_in slots p))) else
+      None)
 
 -- a scope that is gone stands among its parent's children still
 pub record Lost (slots : Slots) (parent : Option ℕ) (place : ℕ) : Type 0 where
   pub key : ℕ
   pub free : scope_in slots key ≡ None
-  pub others : (p : ℕ) → IsPlaced (places_but slots key (if parent_is p parent then Some place else None) p) (children_at (scope_in slots p))
+  pub others : (p : ℕ) → IsPlaced (places_but slots key (if parent_is p parent then Some place else None) p)
+      (children_at (scope_in slots p))
   pub kept : ForSome parent (λ p. (s : Scope) × (scope_in slots p ≡ Some s))

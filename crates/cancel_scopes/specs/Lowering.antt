@@ -79,7 +79,8 @@ pub record Starts (tick key : ℕ) (slots : Slots) (changed : List ℕ) : Type 0
   pub family : Family slots
   pub listed : IsListed slots changed
   pub others : (other : ℕ) (s : Scope) → other ≢ key → scope_in slots other ≡ Some s → IsRight slots s
-  pub own : (s : Scope) → scope_in slots key ≡ Some s → (from : Tick) × (s.from ≡ earlier from (Some tick)) × (s.sight ≡ sight_by s.shield from (outer_sight slots s.parent))
+  pub own : (s : Scope) → scope_in slots key ≡ Some s → (from : Tick) × (s.from ≡ earlier from (Some tick))
+      × (s.sight ≡ sight_by s.shield from (outer_sight slots s.parent))
 
 -- the place of a key among the changed ones, which it gets where it has none
 abbrev pub lists_at : Option ℕ → ℕ → List ℕ → List ℕ → ℕ → Type 0

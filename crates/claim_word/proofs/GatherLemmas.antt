@@ -36,7 +36,8 @@ gather_first left pass one =
       nones = let push = sum_by_push (λ (p : Pass). p.seat.me.0.nones) left pass in omega arith;
     }
 
-pub gather_next : (v : Hand) (left all : List Pass) (pass : Pass) → pass.seat.me.0.parts ≡ 1 → Gathered v (left ++ pass ∷ []) all → Gathered (both_hands v pass.seat.me.0) left all
+pub gather_next : (v : Hand) (left all : List Pass) (pass : Pass) → pass.seat.me.0.parts ≡ 1 → Gathered v (left ++ pass ∷ []) all →
+    Gathered (both_hands v pass.seat.me.0) left all
 gather_next v left all pass one before =
     record {
       some = (let was = before.some in omega arith);
@@ -54,7 +55,8 @@ gather_next v left all pass one before =
     }
 
 -- where one of the passes was told, they were told something together
-told_at : (passes : List Pass) (k : ℕ) (pass : Pass) → k < length passes → slice_index_or passes k pass ≡ pass → was_told pass ≡ true → 0 < told_in passes
+told_at : (passes : List Pass) (k : ℕ) (pass : Pass) → k < length passes → slice_index_or passes k pass ≡ pass → was_told pass ≡ true →
+    0 < told_in passes
 told_at [] k pass within is told = absurd (omega arith)
 told_at (p ∷ ps) zero pass within is told =
     let some : 0 < p.seat.me.0.nones = subst (λ (q : Pass). 0 < q.seat.me.0.nones) (sym is) (ltb-true 0 pass.seat.me.0.nones told) in
@@ -90,24 +92,29 @@ pub record Settled (requests word : ℕ) (all : List Pass) : Type 0 where
   pub each_once : (i : ℕ) → i < requests → drawn_in i all ≡ 1
   pub no_other : (i : ℕ) → requests ≤ i → drawn_in i all ≡ 0
 
-all_drawn : (requests word : ℕ) (v : Hand) (all : List Pass) → Gathered v [] all → 0 < told_in all → Knows requests word v → Settled requests word all
+all_drawn : (requests word : ℕ) (v : Hand) (all : List Pass) → Gathered v [] all → 0 < told_in all → Knows requests word v →
+    Settled requests word all
 all_drawn requests word v all gathered told knows =
     let nones = knows.nones in
     let was_told = gathered.nones in
     let over : requests < word = omega arith in
     record {
       count = omega arith;
-      each_once = λ i below. let drawn = gathered.drawn i in let once = knows.once i (omega arith) in let same = times_count i v.drawn in omega arith;
-      no_other = λ i above. let drawn = gathered.drawn i in let none = knows.no_other i (omega arith) in let same = times_count i v.drawn in omega arith;
+      each_once = λ i below. let drawn = gathered.drawn i in let once = knows.once i (omega arith) in let same =
+          times_count i v.drawn in omega arith;
+      no_other = λ i above. let drawn = gathered.drawn i in let none = knows.no_other i (omega arith) in let same =
+          times_count i v.drawn in omega arith;
     }
 
 none_left : (v : Hand) (left all : List Pass) → length left ≡ 0 → Gathered v left all → Gathered v [] all
 none_left v [] all none gathered = gathered
 none_left v (p ∷ ps) all none gathered = absurd (omega arith)
 
-pub settled : (counts : Counts) (id : ℕ) (v : Hand) (words : List ℕ) (slots : List (Unit {0})) (word : ℕ) (left all : List Pass) → Final (Seen (Kept counts) id v) words slots → get_elem? words 0 ≡ some word → length left ≡ 0
+pub settled : (counts : Counts) (id : ℕ) (v : Hand) (words : List ℕ) (slots : List (Unit {0})) (word : ℕ) (left all : List Pass) →
+    Final (Seen (Kept counts) id v) words slots → get_elem? words 0 ≡ some word → length left ≡ 0
     → Gathered v left all → length all ≡ counts.passes → Any (λ pass. was_told pass ≡ true) all → Settled counts.requests word all
 settled counts id v words slots word left all final at none gathered long told =
     let parts = gathered.parts in
     let knows = closed_knows counts id v words slots final (omega arith) in
-    all_drawn counts.requests word v all (none_left v left all none gathered) (told_once all told) (subst (λ n. Knows counts.requests n v) (first_word words word at) knows)
+    all_drawn counts.requests word v all (none_left v left all none gathered) (told_once all told)
+        (subst (λ n. Knows counts.requests n v) (first_word words word at) knows)

@@ -9,12 +9,14 @@ use Rattle.claim_word.specs.Rule.{hand, times, total, Fair, Claimed, one_less, n
 use Rattle.claim_word.proofs.TotalLemmas.{times-here, times-else, times-append, below_all, total-set, total-push, at_most_total, total-le, total-alone}
 
 -- all hands are fair after one of them changed
-fair_set : (requests : ℕ) (hands : List Hand) (i : ℕ) (w : Hand) → ((j : ℕ) (u : Hand) → get_elem? hands j ≡ some u → Fair requests u) → Fair requests w → (j : ℕ) (u : Hand) → get_elem? (set hands i w) j ≡ some u → Fair requests u
+fair_set : (requests : ℕ) (hands : List Hand) (i : ℕ) (w : Hand) → ((j : ℕ) (u : Hand) → get_elem? hands j ≡ some u → Fair requests u) →
+    Fair requests w → (j : ℕ) (u : Hand) → get_elem? (set hands i w) j ≡ some u → Fair requests u
 fair_set requests hands i w each mine j u at =
     ⊎_elim (λ here. subst (Fair requests) here.1 mine) (λ there. each j u there.1) (at_set hands i j w u at)
 
 -- all hands are fair after one came
-fair_push : (requests : ℕ) (hands : List Hand) (w : Hand) → ((j : ℕ) (u : Hand) → get_elem? hands j ≡ some u → Fair requests u) → Fair requests w → (j : ℕ) (u : Hand) → get_elem? (hands ++ w ∷ []) j ≡ some u → Fair requests u
+fair_push : (requests : ℕ) (hands : List Hand) (w : Hand) → ((j : ℕ) (u : Hand) → get_elem? hands j ≡ some u → Fair requests u) →
+    Fair requests w → (j : ℕ) (u : Hand) → get_elem? (hands ++ w ∷ []) j ≡ some u → Fair requests u
 fair_push requests hands w each mine j u at =
     ⊎_elim (λ there. each j u there) (λ here. subst (Fair requests) here mine) (at_snoc hands w u j at)
 
@@ -30,7 +32,8 @@ starts requests passes =
     }
   where
     one : (i : ℕ) (v : Hand) → get_elem? (hand requests passes [] 0 ∷ []) i ≡ some v → Fair requests v
-    one zero v at = subst (Fair requests) (some-injective _ v at) (record { nones = omega arith; most = λ some. refl; empty = λ none. refl })
+    one zero v at = subst (Fair requests) (some-injective _ v at)
+        (record { nones = omega arith; most = λ some. refl; empty = λ none. refl })
     one (suc i) v at = absurd (some-ne-none v (sym at))
 
 -- what each hand was told is bounded by the passes
@@ -42,7 +45,8 @@ nones_few requests passes word hands rule =
     omega arith
 
 -- a pass is cut off a hand that stands for more than one
-pub splits : (requests passes word : ℕ) (hands : List Hand) (i : ℕ) (v : Hand) → Claimed requests passes word hands → get_elem? hands i ≡ some v → 1 < v.parts → v.nones ≡ 0 → Claimed requests passes word (set hands i (one_less v) ++ new_hand v ∷ [])
+pub splits : (requests passes word : ℕ) (hands : List Hand) (i : ℕ) (v : Hand) → Claimed requests passes word hands →
+    get_elem? hands i ≡ some v → 1 < v.parts → v.nones ≡ 0 → Claimed requests passes word (set hands i (one_less v) ++ new_hand v ∷ [])
 splits requests passes word hands i v rule at more untold =
     let left = one_less v in
     let right = new_hand v in
@@ -67,12 +71,14 @@ splits requests passes word hands i v rule at more untold =
           omega arith);
       fair =
           fair_push requests (set hands i left) right
-          (fair_set requests hands i left rule.fair (record { nones = omega arith; most = λ some. fair.most (omega arith); empty = λ none. absurd (omega arith) }))
+          (fair_set requests hands i left rule.fair (record { nones = omega arith; most = λ some. fair.most (omega arith); empty =
+              λ none. absurd (omega arith) }))
           (record { nones = omega arith; most = λ some. fair.most (omega arith); empty = λ none. refl });
     }
 
 -- the next number is drawn
-pub draws_number : (requests passes word : ℕ) (hands : List Hand) (i : ℕ) (v : Hand) → Claimed requests passes word hands → get_elem? hands i ≡ some v → 0 < v.parts → word < requests
+pub draws_number : (requests passes word : ℕ) (hands : List Hand) (i : ℕ) (v : Hand) → Claimed requests passes word hands →
+    get_elem? hands i ≡ some v → 0 < v.parts → word < requests
     → Claimed requests passes (word + 1) (set hands i (hand v.most v.parts (v.drawn ++ word ∷ []) v.nones))
 draws_number requests passes word hands i v rule at some_part left =
     let w = hand v.most v.parts (v.drawn ++ word ∷ []) v.nones in
@@ -114,7 +120,8 @@ draws_number requests passes word hands i v rule at some_part left =
     }
 
 -- a hand is told that none is left
-pub draws_none : (requests passes word : ℕ) (hands : List Hand) (i : ℕ) (v : Hand) → Claimed requests passes word hands → get_elem? hands i ≡ some v → 0 < v.parts → v.nones ≡ 0 → requests ≤ word
+pub draws_none : (requests passes word : ℕ) (hands : List Hand) (i : ℕ) (v : Hand) → Claimed requests passes word hands →
+    get_elem? hands i ≡ some v → 0 < v.parts → v.nones ≡ 0 → requests ≤ word
     → Claimed requests passes (word + 1) (set hands i (hand v.most v.parts v.drawn (v.nones + 1)))
 draws_none requests passes word hands i v rule at some_part untold over =
     let w = hand v.most v.parts v.drawn (v.nones + 1) in
@@ -138,7 +145,8 @@ draws_none requests passes word hands i v rule at some_part untold over =
     }
 
 -- all that a hand drew before is below the number that it draws
-pub drawn_before : (requests passes word : ℕ) (hands : List Hand) (i : ℕ) (v : Hand) → Claimed requests passes word hands → get_elem? hands i ≡ some v → All (λ j. j < word) v.drawn
+pub drawn_before : (requests passes word : ℕ) (hands : List Hand) (i : ℕ) (v : Hand) → Claimed requests passes word hands →
+    get_elem? hands i ≡ some v → All (λ j. j < word) v.drawn
 drawn_before requests passes word hands i v rule at =
     below_all word v.drawn (λ x above.
     let mine : times x v.drawn ≤ total (λ u. times x u.drawn) hands = at_most_total (λ u. times x u.drawn) hands i v at in
@@ -146,7 +154,8 @@ drawn_before requests passes word hands i v rule at =
     omega arith)
 
 -- a hand takes in another
-pub joins : (requests passes word : ℕ) (hands : List Hand) (i j : ℕ) (v w : Hand) → Claimed requests passes word hands → get_elem? hands i ≡ some v → 0 < v.parts → get_elem? (set hands i (both_hands v w)) j ≡ some w
+pub joins : (requests passes word : ℕ) (hands : List Hand) (i j : ℕ) (v w : Hand) → Claimed requests passes word hands →
+    get_elem? hands i ≡ some v → 0 < v.parts → get_elem? (set hands i (both_hands v w)) j ≡ some w
     → get_elem? hands j ≡ some w → Claimed requests passes word (set (set hands i (both_hands v w)) j spent_hand)
 joins requests passes word hands i j v w rule at some_part then there =
     let both = both_hands v w in
@@ -188,10 +197,12 @@ pub record Knows (requests word : ℕ) (v : Hand) : Type 0 where
   pub no_other : (x : ℕ) → min word requests ≤ x → times x v.drawn ≡ 0
   pub nones : v.nones ≡ word - requests
 
-pub knows_all : (requests passes word : ℕ) (hands : List Hand) (i : ℕ) (v : Hand) → Claimed requests passes word hands → get_elem? hands i ≡ some v → v.parts ≡ passes → Knows requests word v
+pub knows_all : (requests passes word : ℕ) (hands : List Hand) (i : ℕ) (v : Hand) → Claimed requests passes word hands →
+    get_elem? hands i ≡ some v → v.parts ≡ passes → Knows requests word v
 knows_all requests passes word hands i v rule at all =
     let alone = rule.parts ∙ sym all in
-    let drawn = λ (x : ℕ). total-alone (λ u. times x u.drawn) hands i v at alone (λ j u there none. ap (times x) ((rule.fair j u there).empty none)) in
+    let drawn = λ (x : ℕ). total-alone (λ u. times x u.drawn) hands i v at alone
+        (λ j u there none. ap (times x) ((rule.fair j u there).empty none)) in
     let nones = total-alone (λ u. u.nones) hands i v at alone (λ j u there none. let few = (rule.fair j u there).nones in omega arith) in
     record {
       once = λ x below. sym (drawn x) ∙ rule.once x below;

@@ -35,7 +35,8 @@ below_all n (y ∷ ys) none (suc k) d within =
     omega arith) k d (omega arith)
 
 -- the total after a change of one hand
-pub total-set : (f : Hand → ℕ) (hands : List Hand) (i : ℕ) (v w : Hand) → get_elem? hands i ≡ some v → total f (set hands i w) + f v ≡ total f hands + f w
+pub total-set : (f : Hand → ℕ) (hands : List Hand) (i : ℕ) (v w : Hand) → get_elem? hands i ≡ some v →
+    total f (set hands i w) + f v ≡ total f hands + f w
 total-set f [] i v w at = absurd (some-ne-none v (sym at))
 total-set f (x ∷ xs) zero v w at = let same : f x ≡ f v = ap f (some-injective x v at) in omega arith
 total-set f (x ∷ xs) (suc i) v w at = let rest = total-set f xs i v w at in omega arith
@@ -52,7 +53,8 @@ at_most_total f (x ∷ xs) zero v at = let same : f x ≡ f v = ap f (some-injec
 at_most_total f (x ∷ xs) (suc i) v at = let rest = at_most_total f xs i v at in omega arith
 
 -- one total is at most another where it is so for each hand
-pub total-le : (f g : Hand → ℕ) (hands : List Hand) → ((i : ℕ) (v : Hand) → get_elem? hands i ≡ some v → f v ≤ g v) → total f hands ≤ total g hands
+pub total-le : (f g : Hand → ℕ) (hands : List Hand) → ((i : ℕ) (v : Hand) → get_elem? hands i ≡ some v → f v ≤ g v) →
+    total f hands ≤ total g hands
 total-le f g [] each = omega arith
 total-le f g (x ∷ xs) each =
     let first : f x ≤ g x = each 0 x refl in
@@ -60,7 +62,8 @@ total-le f g (x ∷ xs) each =
     omega arith
 
 -- hands that stand for no pass have nothing
-pub total-none : (f : Hand → ℕ) (hands : List Hand) → total (λ v. v.parts) hands ≡ 0 → ((i : ℕ) (v : Hand) → get_elem? hands i ≡ some v → v.parts ≡ 0 → f v ≡ 0) → total f hands ≡ 0
+pub total-none : (f : Hand → ℕ) (hands : List Hand) → total (λ v. v.parts) hands ≡ 0 →
+    ((i : ℕ) (v : Hand) → get_elem? hands i ≡ some v → v.parts ≡ 0 → f v ≡ 0) → total f hands ≡ 0
 total-none f [] none each = refl
 total-none f (x ∷ xs) none each =
     let first : f x ≡ 0 = each 0 x refl (omega arith) in
@@ -68,7 +71,8 @@ total-none f (x ∷ xs) none each =
     omega arith
 
 -- the hand that stands for all passes has everything
-pub total-alone : (f : Hand → ℕ) (hands : List Hand) (i : ℕ) (v : Hand) → get_elem? hands i ≡ some v → total (λ u. u.parts) hands ≡ v.parts → ((j : ℕ) (u : Hand) → get_elem? hands j ≡ some u → u.parts ≡ 0 → f u ≡ 0) → total f hands ≡ f v
+pub total-alone : (f : Hand → ℕ) (hands : List Hand) (i : ℕ) (v : Hand) → get_elem? hands i ≡ some v →
+    total (λ u. u.parts) hands ≡ v.parts → ((j : ℕ) (u : Hand) → get_elem? hands j ≡ some u → u.parts ≡ 0 → f u ≡ 0) → total f hands ≡ f v
 total-alone f [] i v at all each = absurd (some-ne-none v (sym at))
 total-alone f (x ∷ xs) zero v at all each =
     let same : f x ≡ f v = ap f (some-injective x v at) in

@@ -31,7 +31,8 @@ abbrev mutual
   cancels_in round (scope name deadline shield fail body) = cancels_of (name ∷ round) body
   cancels_in round (nursery name deadline shield body) = cancels_of (name ∷ round) body
   cancels_in round (start name over body) = cancels_of round body
-  cancels_in round (attempt body handler cleanup) = cancels_of round body ++ (handled_cancels round handler ++ cleaned_cancels round cleanup)
+  cancels_in round (attempt body handler cleanup) =
+      cancels_of round body ++ (handled_cancels round handler ++ cleaned_cancels round cleanup)
 
   pub handled_cancels : List (List ℕ) → Handled → List Cancel
   handled_cancels round unhandled = []

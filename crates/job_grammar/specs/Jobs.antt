@@ -11,4 +11,5 @@ abbrev pub IsReadable : Tree → Type 0
 IsReadable job = Spells (canon job) job
 
 abbrev pub tree_code : Coded Tree
-tree_code = code_by (List ℕ × Steps) (coded× (coded_list coded_ℕ) steps_code) (λ t. (t.name, t.steps)) (λ p. record { name = p.0; steps = p.1 }) (λ _. refl)
+tree_code = code_by (List ℕ × Steps) (coded× (coded_list coded_ℕ) steps_code) (λ t. (t.name, t.steps))
+    (λ p. record { name = p.0; steps = p.1 }) (λ _. refl)

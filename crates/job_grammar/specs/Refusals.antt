@@ -64,7 +64,8 @@ Finds kind.Number text at = (tokens : List Token) × HasTokens text tokens None 
 Finds kind.Syntax text at = (tokens : List Token) × HasTokens text tokens None × LeavesAt (length text) whole_job tokens at
 Finds kind.Depth text at = (tokens : List Token) × HasTokens text tokens None × (depth_fault 0 tokens ≡ Some at)
 Finds kind.Twice text at = (tokens : List Token) × (job : Tree) × IsOf text tokens job × (twice_in [] tokens (roles_of job) ≡ Some at)
-Finds kind.NotEnclosing text at = (tokens : List Token) × (job : Tree) × IsOf text tokens job × (stray_of job tokens (roles_of job) ≡ Some at)
+Finds kind.NotEnclosing text at = (tokens : List Token) × (job : Tree) × IsOf text tokens job
+    × (stray_of job tokens (roles_of job) ≡ Some at)
 Finds kind.Reserved text at = (tokens : List Token) × (job : Tree) × IsOf text tokens job × (reserved_in tokens (roles_of job) ≡ Some at)
 Finds kind.TooLarge text at = (tokens : List Token) × (job : Tree) × IsOf text tokens job × (most_steps < size_of job.steps) × (at ≡ 0)
 Finds kind.NoMemory text at = ⊥

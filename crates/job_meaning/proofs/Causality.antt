@@ -22,8 +22,10 @@ agree_same c r = by_order (cases_lt r.end c)
     by_order (inr le) = later le le refl
 
 -- one after another
-pub agree_joined : (c : ℕ) (r r' q q' : Result) → Agree c r r' → Agree c q q' → r.end ≤ q.end → r'.end ≤ q'.end → Agree c (joined r q) (joined r' q')
-agree_joined c r r' q q' (soon b e x m l) (soon b₂ e₂ x₂ m₂ l₂) le le' = soon b₂ e₂ x₂ (both_known c _ _ _ _ m m₂) (both_clipped c r.log q.log r'.log q'.log l l₂)
+pub agree_joined : (c : ℕ) (r r' q q' : Result) → Agree c r r' → Agree c q q' → r.end ≤ q.end → r'.end ≤ q'.end →
+    Agree c (joined r q) (joined r' q')
+agree_joined c r r' q q' (soon b e x m l) (soon b₂ e₂ x₂ m₂ l₂) le le' =
+    soon b₂ e₂ x₂ (both_known c _ _ _ _ m m₂) (both_clipped c r.log q.log r'.log q'.log l l₂)
 agree_joined c r r' q q' (soon b e x m l) (later f s l₂) le le' = later f s (both_clipped c r.log q.log r'.log q'.log l l₂)
 agree_joined c r r' q q' (later f s l) (soon b₂ e₂ x₂ m₂ l₂) le le' = absurd (omega arith)
 agree_joined c r r' q q' (later f s l) (later f₂ s₂ l₂) le le' = later f₂ s₂ (both_clipped c r.log q.log r'.log q'.log l l₂)
@@ -55,10 +57,12 @@ agree_from c go go' h u v e = subst (λ (w : ℕ). Agree c (go u) (go' w)) e (h 
 pub agree_and_then : (c : ℕ) (r r' : Result) (go go' : ℕ → Result) → Agree c r r' → ((u : ℕ) → Agree c (go u) (go' u)) →
     ((u : ℕ) → Late u (go u)) → ((u : ℕ) → Late u (go' u)) → Agree c (and_then r go) (and_then r' go')
 unfolding and_then
-agree_and_then c r r' go go' (soon b e x m l) h k k' = subst (λ (o : Option Exc). Agree c (then_if r.exc r go) (then_if o r' go')) x (by_exc r.exc)
+agree_and_then c r r' go go' (soon b e x m l) h k k' =
+    subst (λ (o : Option Exc). Agree c (then_if r.exc r go) (then_if o r' go')) x (by_exc r.exc)
   where
     by_exc : (o : Option Exc) → Agree c (then_if o r go) (then_if o r' go')
-    by_exc None = agree_joined c r r' (go r.end) (go' r'.end) (soon b e x m l) (agree_from c go go' h r.end r'.end e) (k r.end).ends (k' r'.end).ends
+    by_exc None = agree_joined c r r' (go r.end) (go' r'.end) (soon b e x m l) (agree_from c go go' h r.end r'.end e) (k r.end).ends
+        (k' r'.end).ends
     by_exc (Some y) = soon b e x m l
 agree_and_then c r r' go go' (later f s l) h k k' = agree_past c r r' _ _ l (past_then c r go k f r.exc) (past_then c r' go' k' s r'.exc)
 
@@ -66,7 +70,8 @@ agree_and_then c r r' go go' (later f s l) h k k' = agree_past c r r' _ _ l (pas
 slept_past : (from n t c : ℕ) → c ≤ from → c ≤ t + n → Past c (done_at c) (slept (Some from) n t)
 slept_past from n t c le far = by_now (nat_le from t) (nat_le from (t + n)) refl
   where
-    by_now : (now due : Bool) → nat_le from t ≡ now → Past c (done_at c) (if now then raised_at cancelled t else (if due then raised_at cancelled from else done_at (t + n)))
+    by_now : (now due : Bool) → nat_le from t ≡ now → Past c (done_at c)
+        (if now then raised_at cancelled t else (if due then raised_at cancelled from else done_at (t + n)))
     by_now true due e = record { ends = grind (arith, nat_tests); logs = refl }
     by_now false true e = record { ends = le; logs = refl }
     by_now false false e = record { ends = far; logs = refl }
@@ -74,7 +79,8 @@ slept_past from n t c le far = by_now (nat_le from t) (nat_le from (t + n)) refl
 slept_whole : (from n t c : ℕ) → c ≤ from → t + n < c → slept (Some from) n t ≡ done_at (t + n)
 slept_whole from n t c le lt = by_now (nat_le from t) (nat_le from (t + n)) (grind (arith, nat_tests)) (grind (arith, nat_tests))
   where
-    by_now : (now due : Bool) → now ≡ false → due ≡ false → (if now then raised_at cancelled t else (if due then raised_at cancelled from else done_at (t + n))) ≡ done_at (t + n)
+    by_now : (now due : Bool) → now ≡ false → due ≡ false →
+        (if now then raised_at cancelled t else (if due then raised_at cancelled from else done_at (t + n))) ≡ done_at (t + n)
     by_now true due e f = absurd (true≢false e)
     by_now false true e f = absurd (true≢false f)
     by_now false false e f = refl
@@ -90,7 +96,8 @@ agree_slept c None (Some y) n t e = by_order (cases_lt (t + n) c)
     le = omega arith
 
     by_order : (t + n < c) ⊎ (c ≤ t + n) → Agree c (slept None n t) (slept (Some y) n t)
-    by_order (inl lt) = subst (λ (r : Result). Agree c (done_at (t + n)) r) (sym (slept_whole y n t c le lt)) (agree_same c (done_at (t + n)))
+    by_order (inl lt) = subst (λ (r : Result). Agree c (done_at (t + n)) r) (sym (slept_whole y n t c le lt))
+        (agree_same c (done_at (t + n)))
     by_order (inr far) = agree_past c (done_at c) (done_at c) _ _ refl (never_past n t c far) (slept_past y n t c le far)
 agree_slept c (Some x) None n t e = by_order (cases_lt (t + n) c)
   where
@@ -98,7 +105,8 @@ agree_slept c (Some x) None n t e = by_order (cases_lt (t + n) c)
     le = omega arith
 
     by_order : (t + n < c) ⊎ (c ≤ t + n) → Agree c (slept (Some x) n t) (slept None n t)
-    by_order (inl lt) = subst (λ (r : Result). Agree c r (done_at (t + n))) (sym (slept_whole x n t c le lt)) (agree_same c (done_at (t + n)))
+    by_order (inl lt) = subst (λ (r : Result). Agree c r (done_at (t + n))) (sym (slept_whole x n t c le lt))
+        (agree_same c (done_at (t + n)))
     by_order (inr far) = agree_past c (done_at c) (done_at c) _ _ refl (slept_past x n t c le far) (never_past n t c far)
 agree_slept c (Some x) (Some y) n t e = by_before (cases_lt x c)
   where
@@ -109,28 +117,34 @@ agree_slept c (Some x) (Some y) n t e = by_before (cases_lt x c)
     by_order p q (inr far) = agree_past c (done_at c) (done_at c) _ _ refl (slept_past x n t c p far) (slept_past y n t c q far)
 
     by_before : (x < c) ⊎ (c ≤ x) → Agree c (slept (Some x) n t) (slept (Some y) n t)
-    by_before (inl lt) = subst (λ (u : ℕ). Agree c (slept (Some x) n t) (slept (Some u) n t)) (omega arith) (agree_same c (slept (Some x) n t))
+    by_before (inl lt) = subst (λ (u : ℕ). Agree c (slept (Some x) n t) (slept (Some u) n t)) (omega arith)
+        (agree_same c (slept (Some x) n t))
     by_before (inr p) = by_order p (omega arith) (cases_lt (t + n) c)
 
 pub agree_sleeping : (c : ℕ) (st su : Stack) (n t : ℕ) → Near c st su → Agree c (sleeping st n t) (sleeping su n t)
 unfolding sleeping
 agree_sleeping c st su n t near = agree_slept c (sight st) (sight su) n t (sight_near c st su near)
 
-pub agree_cancelling : (c : ℕ) (name : List ℕ) (st su : Stack) (t : ℕ) → Near c st su → Agree c (cancelling (label_on name st) t) (cancelling (label_on name su) t)
+pub agree_cancelling : (c : ℕ) (name : List ℕ) (st su : Stack) (t : ℕ) → Near c st su →
+    Agree c (cancelling (label_on name st) t) (cancelling (label_on name su) t)
 agree_cancelling c name st su t near =
-    subst (λ (o : Option Label). Agree c (cancelling (label_on name st) t) (cancelling o t)) (label_near c name st su near) (agree_same c (cancelling (label_on name st) t))
+    subst (λ (o : Option Label). Agree c (cancelling (label_on name st) t) (cancelling o t)) (label_near c name st su near)
+        (agree_same c (cancelling (label_on name st) t))
 
 -- whether a block catches in a tick before c is told by stacks and froms before c
-catches_near : (c : ℕ) (f g : Tick) (shield : Bool) (st su : Stack) (u v : ℕ) → upto c f ≡ upto c g → Near c st su → u < c → u ≡ v → catches f shield st u ≡ catches g shield su v
+catches_near : (c : ℕ) (f g : Tick) (shield : Bool) (st su : Stack) (u v : ℕ) → upto c f ≡ upto c g → Near c st su → u < c → u ≡ v →
+    catches f shield st u ≡ catches g shield su v
 catches_near c f g shield st su u v e near lt same =
     let a : reached f u ≡ reached g u = reached_near c f g u e lt in
     let b : seen st u ≡ seen su u = seen_near c st su u near lt in
     same_tests a b
   where
-    same_tests : reached f u ≡ reached g u → seen st u ≡ seen su u → (reached f u && (shield || not (seen st u))) ≡ (reached g v && (shield || not (seen su v)))
+    same_tests : reached f u ≡ reached g u → seen st u ≡ seen su u →
+        (reached f u && (shield || not (seen st u))) ≡ (reached g v && (shield || not (seen su v)))
     same_tests a b = ap2 a b ∙ ap (λ (w : ℕ). reached g w && (shield || not (seen su w))) same
       where
-        ap2 : reached f u ≡ reached g u → seen st u ≡ seen su u → (reached f u && (shield || not (seen st u))) ≡ (reached g u && (shield || not (seen su u)))
+        ap2 : reached f u ≡ reached g u → seen st u ≡ seen su u → (reached f u && (shield || not (seen st u)))
+            ≡ (reached g u && (shield || not (seen su u)))
         ap2 p q = cc
 
 pub agree_logs : {c : ℕ} {r q : Result} → Agree c r q → clipped c r.log ≡ clipped c q.log
@@ -168,31 +182,36 @@ module _ (c : ℕ) (kind : Kind) (label : Label) (t : ℕ) (d : Tick) where
 
     -- the froms of a block are near, where its insides agree
     block_near : (m : Mode) (inside inside' : Tick → Result) → ((f : Tick) → Late t (inside f)) → ((f : Tick) → Late t (inside' f)) →
-        ((f g : Tick) → upto c f ≡ upto c g → Agree c (inside f) (inside' g)) → upto c (from_of m label d inside) ≡ upto c (from_of m label d inside')
+        ((f g : Tick) → upto c f ≡ upto c g → Agree c (inside f) (inside' g)) →
+            upto c (from_of m label d inside) ≡ upto c (from_of m label d inside')
     block_near two_walks inside inside' h h' k =
         from_near c d _ _ (least_near c t label _ _ (h d).timed (h' d).timed (agree_logs (k d d refl)))
     block_near (by_table table) inside inside' h h' k = refl
 
     pub agree_block : (m : Mode) (inside inside' : Tick → Result) → ((f : Tick) → Late t (inside f)) → ((f : Tick) → Late t (inside' f)) →
-        ((f g : Tick) → upto c f ≡ upto c g → Agree c (inside f) (inside' g)) → Agree c (block m kind label t d shield st inside) (block m kind label t d shield su inside')
+        ((f g : Tick) → upto c f ≡ upto c g → Agree c (inside f) (inside' g)) →
+            Agree c (block m kind label t d shield st inside) (block m kind label t d shield su inside')
     unfolding block
     agree_block m inside inside' h h' k =
         let e = block_near m inside inside' h h' k in
         agree_left _ _ _ _ e (k _ _ e)
 
-pub near_within : (c : ℕ) (label : Label) (shield : Bool) (f g : Tick) (st su : Stack) → upto c f ≡ upto c g → Near c st su → Near c (within label shield f st) (within label shield g su)
+pub near_within : (c : ℕ) (label : Label) (shield : Bool) (f g : Tick) (st su : Stack) → upto c f ≡ upto c g → Near c st su →
+    Near c (within label shield f st) (within label shield g su)
 near_within c label shield f g st su e near = (refl, refl, e, near)
 
 -- a member's sign at the end of its log
 pub agree_signed : (c : ℕ) (st su : Stack) (r q : Result) → Near c st su → Agree c r q → Agree c (signed st r) (signed su q)
 unfolding signed
 agree_signed c st su r q near (soon b e x m l) =
-    soon b e x m (both_clipped c r.log _ q.log _ l (ap (λ (z : Log). clipped c z) (same_sign r.exc q.exc (home_of st) (home_of su) r.end q.end x (home_near c st su near) e)))
+    soon b e x m (both_clipped c r.log _ q.log _ l (ap (λ (z : Log). clipped c z)
+        (same_sign r.exc q.exc (home_of st) (home_of su) r.end q.end x (home_near c st su near) e)))
   where
     same_sign : (o p : Option Exc) (a b : Option Label) (u v : ℕ) → o ≡ p → a ≡ b → u ≡ v → sign_if o a u ≡ sign_if p b v
     same_sign o p a b u v i j k = cc
 agree_signed c st su r q near (later p s l) =
-    later p s (clipped_tail c r.end r.log _ p (timed_sign r.exc (home_of st) r.end) ∙ (l ∙ sym (clipped_tail c q.end q.log _ s (timed_sign q.exc (home_of su) q.end))))
+    later p s (clipped_tail c r.end r.log _ p (timed_sign r.exc (home_of st) r.end)
+        ∙ (l ∙ sym (clipped_tail c q.end q.log _ s (timed_sign q.exc (home_of su) q.end))))
   where
     timed_sign : (o : Option Exc) (a : Option Label) (u : ℕ) → Timed u (sign_if o a u)
     timed_sign None a u = tt
@@ -207,12 +226,14 @@ agree_gathered c label r q (soon b e x m l) = by_order (cases_lt (latest r.end r
     known : min c (latest r.end r.members) ≡ min c (latest q.end q.members)
     known =
         latest_known c r.end r.members
-        ∙ (ends_known (min c r.end) (min c q.end) (known_members c r.members) (known_members c q.members) (ap (λ (u : ℕ). min c u) e) m ∙ sym (latest_known c q.end q.members))
+        ∙ (ends_known (min c r.end) (min c q.end) (known_members c r.members) (known_members c q.members) (ap (λ (u : ℕ). min c u) e) m
+            ∙ sym (latest_known c q.end q.members))
       where
         ends_known : (u v : ℕ) (ms ns : List Member) → u ≡ v → ms ≡ ns → latest u ms ≡ latest v ns
         ends_known u v ms ns i j = cc
 
-    same_group : (o p : Option Exc) (ms ns : List Member) → o ≡ p → ms ≡ ns → group_of (by_nursery label) (parts_of (with_exc o (excs_of ms))) ≡ group_of (by_nursery label) (parts_of (with_exc p (excs_of ns)))
+    same_group : (o p : Option Exc) (ms ns : List Member) → o ≡ p → ms ≡ ns →
+        group_of (by_nursery label) (parts_of (with_exc o (excs_of ms))) ≡ group_of (by_nursery label) (parts_of (with_exc p (excs_of ns)))
     same_group o p ms ns i j = cc
 
     by_order : (latest r.end r.members < c) ⊎ (c ≤ latest r.end r.members) → Agree c (gathered label r) (gathered label q)
@@ -224,7 +245,8 @@ agree_gathered c label r q (soon b e x m l) = by_order (cases_lt (latest r.end r
         at_end : latest r.end r.members ≡ latest q.end q.members → Agree c (gathered label r) (gathered label q)
         at_end i =
             soon lt i
-            (same_group r.exc q.exc r.members q.members x (sym (all_known c r.end r.members lt) ∙ (m ∙ all_known c q.end q.members (below i))))
+            (same_group r.exc q.exc r.members q.members x (sym (all_known c r.end r.members lt)
+                ∙ (m ∙ all_known c q.end q.members (below i))))
             refl l
           where
             below : latest r.end r.members ≡ latest q.end q.members → latest q.end q.members < c
@@ -245,7 +267,8 @@ known_outcome c r q (soon b e x m l) = same_known r.end q.end r.exc q.exc e x
   where
     same_known : (u v : ℕ) (o p : Option Exc) → u ≡ v → o ≡ p → exc_if (nat_lt u c) o ≡ exc_if (nat_lt v c) p
     same_known u v o p i j = cc
-known_outcome c r q (later f s l) = unknown (nat_lt r.end c) r.exc (le-ltb r.end c f) ∙ sym (unknown (nat_lt q.end c) q.exc (le-ltb q.end c s))
+known_outcome c r q (later f s l) = unknown (nat_lt r.end c) r.exc (le-ltb r.end c f)
+    ∙ sym (unknown (nat_lt q.end c) q.exc (le-ltb q.end c s))
   where
     unknown : (b : Bool) (o : Option Exc) → b ≡ false → exc_if b o ≡ None
     unknown true o e = absurd (true≢false e)
@@ -255,17 +278,21 @@ pub agree_child : (c : ℕ) (label : Label) (t : ℕ) (r q : Result) → Agree c
 unfolding child
 agree_child c label t r q h = by_order (cases_lt t c) (known_end c r q h) (known_outcome c r q h) (agree_logs h)
   where
-    same_member : (u v : ℕ) (o p : Option Exc) → u ≡ v → o ≡ p → ◌≡◌ {A = List Member} (record { end = u; exc = o } ∷ []) (record { end = v; exc = p } ∷ [])
+    same_member : (u v : ℕ) (o p : Option Exc) → u ≡ v → o ≡ p →
+        ◌≡◌ {A = List Member} (record { end = u; exc = o } ∷ []) (record { end = v; exc = p } ∷ [])
     same_member u v o p i j = cc
 
-    same_task : (b : Bool) (u v : ℕ) (o p : Option Exc) (x y : Log) → u ≡ v → o ≡ p → x ≡ y → task_if b label t u o x nil ≡ task_if b label t v p y nil
+    same_task : (b : Bool) (u v : ℕ) (o p : Option Exc) (x y : Log) → u ≡ v → o ≡ p → x ≡ y →
+        task_if b label t u o x nil ≡ task_if b label t v p y nil
     same_task b u v o p x y i j k = cc
 
-    by_order : (t < c) ⊎ (c ≤ t) → min c r.end ≡ min c q.end → exc_if (nat_lt r.end c) r.exc ≡ exc_if (nat_lt q.end c) q.exc → clipped c r.log ≡ clipped c q.log → Agree c (child label t r) (child label t q)
+    by_order : (t < c) ⊎ (c ≤ t) → min c r.end ≡ min c q.end → exc_if (nat_lt r.end c) r.exc ≡ exc_if (nat_lt q.end c) q.exc →
+        clipped c r.log ≡ clipped c q.log → Agree c (child label t r) (child label t q)
     by_order (inl lt) i j k = soon lt refl refl (same_member _ _ _ _ i j) (same_task (nat_lt t c) _ _ _ _ _ _ i j k)
     by_order (inr le) i j k = later le le (same_task (nat_lt t c) _ _ _ _ _ _ i j k)
 
-pub agree_each : (c : ℕ) (k : ℕ) (go go' : ℕ → Result) (t : ℕ) → ((i : ℕ) → (go i).end ≡ t) → ((i : ℕ) → (go' i).end ≡ t) → ((i : ℕ) → Agree c (go i) (go' i)) → Agree c (each k go t) (each k go' t)
+pub agree_each : (c : ℕ) (k : ℕ) (go go' : ℕ → Result) (t : ℕ) → ((i : ℕ) → (go i).end ≡ t) → ((i : ℕ) → (go' i).end ≡ t) →
+    ((i : ℕ) → Agree c (go i) (go' i)) → Agree c (each k go t) (each k go' t)
 agree_each c zero go go' t e e' h = agree_same c (done_at t)
 agree_each c (suc k) go go' t e e' h =
     let a = each_ends k go t e in
@@ -275,11 +302,13 @@ agree_each c (suc k) go go' t e e' h =
     agree_joined c (each k go t) (each k go' t) (go k) (go' k) (agree_each c k go go' t e e' h) (h k) (omega arith) (omega arith)
 
 -- an outcome that goes by the exception agrees where the walks do
-agree_outcome : (c : ℕ) (r q : Result) (f : Option Exc → Option Exc) → Agree c r q → Agree c (with_outcome (f r.exc) r) (with_outcome (f q.exc) q)
+agree_outcome : (c : ℕ) (r q : Result) (f : Option Exc → Option Exc) → Agree c r q →
+    Agree c (with_outcome (f r.exc) r) (with_outcome (f q.exc) q)
 agree_outcome c r q f (soon b e x m l) = soon b e (ap f x) m l
 agree_outcome c r q f (later p s l) = later p s l
 
-past_handled : (c : ℕ) (wanted : Wanted) (r : Result) (go : ℕ → Result) → ((u : ℕ) → Late u (go u)) → c ≤ r.end → (o : Option Exc) → Past c r (handled_exc o wanted r go)
+past_handled : (c : ℕ) (wanted : Wanted) (r : Result) (go : ℕ → Result) → ((u : ℕ) → Late u (go u)) → c ≤ r.end → (o : Option Exc) →
+    Past c r (handled_exc o wanted r go)
 past_handled c wanted r go h le None = past_same c r le
 past_handled c wanted r go h le (Some e) = by_match (keep wanted e) (drop wanted e)
   where
@@ -293,10 +322,12 @@ past_handled c wanted r go h le (Some e) = by_match (keep wanted e) (drop wanted
 pub agree_handled : (c : ℕ) (wanted : Wanted) (r r' : Result) (go go' : ℕ → Result) → Agree c r r' → ((u : ℕ) → Agree c (go u) (go' u)) →
     ((u : ℕ) → Late u (go u)) → ((u : ℕ) → Late u (go' u)) → Agree c (handled wanted r go) (handled wanted r' go')
 unfolding handled
-agree_handled c wanted r r' go go' (soon b e x m l) h k k' = subst (λ (o : Option Exc). Agree c (handled_exc r.exc wanted r go) (handled_exc o wanted r' go')) x (by_exc r.exc)
+agree_handled c wanted r r' go go' (soon b e x m l) h k k' =
+    subst (λ (o : Option Exc). Agree c (handled_exc r.exc wanted r go) (handled_exc o wanted r' go')) x (by_exc r.exc)
   where
     both : Agree c (joined r (go r.end)) (joined r' (go' r'.end))
-    both = agree_joined c r r' (go r.end) (go' r'.end) (soon b e x m l) (agree_from c go go' h r.end r'.end e) (k r.end).ends (k' r'.end).ends
+    both = agree_joined c r r' (go r.end) (go' r'.end) (soon b e x m l) (agree_from c go go' h r.end r'.end e) (k r.end).ends
+        (k' r'.end).ends
 
     by_match : (o rest : Option Exc) → Agree c (handled_if o rest r go) (handled_if o rest r' go')
     by_match None rest = soon b e x m l
@@ -305,13 +336,15 @@ agree_handled c wanted r r' go go' (soon b e x m l) h k k' = subst (λ (o : Opti
     by_exc : (o : Option Exc) → Agree c (handled_exc o wanted r go) (handled_exc o wanted r' go')
     by_exc None = soon b e x m l
     by_exc (Some y) = by_match (keep wanted y) (drop wanted y)
-agree_handled c wanted r r' go go' (later f s l) h k k' = agree_past c r r' _ _ l (past_handled c wanted r go k f r.exc) (past_handled c wanted r' go' k' s r'.exc)
+agree_handled c wanted r r' go go' (later f s l) h k k' =
+    agree_past c r r' _ _ l (past_handled c wanted r go k f r.exc) (past_handled c wanted r' go' k' s r'.exc)
 
 pub agree_cleaned : (c : ℕ) (r r' : Result) (go go' : ℕ → Result) → Agree c r r' → ((u : ℕ) → Agree c (go u) (go' u)) →
     ((u : ℕ) → Late u (go u)) → ((u : ℕ) → Late u (go' u)) → Agree c (cleaned r go) (cleaned r' go')
 unfolding cleaned
 agree_cleaned c r r' go go' (soon b e x m l) h k k' =
-    subst (λ (o : Option Exc). Agree c (with_outcome (outcome_after r.exc (go r.end).exc) (joined r (go r.end))) (with_outcome (outcome_after o (go' r'.end).exc) (joined r' (go' r'.end)))) x
+    subst (λ (o : Option Exc). Agree c (with_outcome (outcome_after r.exc (go r.end).exc) (joined r (go r.end)))
+        (with_outcome (outcome_after o (go' r'.end).exc) (joined r' (go' r'.end)))) x
     (agree_outcome c (joined r (go r.end)) (joined r' (go' r'.end)) (λ o. outcome_after r.exc o)
     (agree_joined c r r' (go r.end) (go' r'.end) (soon b e x m l) (agree_from c go go' h r.end r'.end e) (k r.end).ends (k' r'.end).ends))
 agree_cleaned c r r' go go' (later f s l) h k k' =
@@ -323,12 +356,15 @@ mutual
   unfolding walk
 
   -- on near stacks every walk agrees
-  pub agree : (c : ℕ) (m : Mode) (b : Steps) (here : Here) (st su : Stack) (t : ℕ) → Near c st su → Agree c (walk m b here st t) (walk m b here su t)
+  pub agree : (c : ℕ) (m : Mode) (b : Steps) (here : Here) (st su : Stack) (t : ℕ) → Near c st su →
+      Agree c (walk m b here st t) (walk m b here su t)
   agree c m stop here st su t near = agree_same c (done_at t)
   agree c m (step s ss) here st su t near =
-      agree_and_then c _ _ _ _ (agree_step c m s here st su t near) (λ u. agree c m ss here st su u near) (λ u. late m ss here st u) (λ u. late m ss here su u)
+      agree_and_then c _ _ _ _ (agree_step c m s here st su t near) (λ u. agree c m ss here st su u near) (λ u. late m ss here st u)
+          (λ u. late m ss here su u)
 
-  pub agree_step : (c : ℕ) (m : Mode) (s : Step) (here : Here) (st su : Stack) (t : ℕ) → Near c st su → Agree c (walk_step m s here st t) (walk_step m s here su t)
+  pub agree_step : (c : ℕ) (m : Mode) (s : Step) (here : Here) (st su : Stack) (t : ℕ) → Near c st su →
+      Agree c (walk_step m s here st t) (walk_step m s here su t)
   agree_step c m (sleep n) here st su t near = agree_sleeping c st su _ t near
   agree_step c m checkpoint here st su t near = agree_sleeping c st su _ t near
   agree_step c m forever here st su t near = agree_sleeping c st su _ t near
@@ -348,7 +384,8 @@ mutual
       agree_block c _ _ t _ shield st su near m _ _
       (λ f. late_gathered t _ _ (late_signed t _ _ (late m body here _ t)))
       (λ f. late_gathered t _ _ (late_signed t _ _ (late m body here _ t)))
-      (λ f g e. agree_gathered c _ _ _ (agree_signed c _ _ _ _ (near_within c _ shield f g st su e near) (agree c m body here _ _ t (near_within c _ shield f g st su e near))))
+      (λ f g e. agree_gathered c _ _ _ (agree_signed c _ _ _ _ (near_within c _ shield f g st su e near)
+          (agree c m body here _ _ t (near_within c _ shield f g st su e near))))
   agree_step c m (start name None body) here st su t near =
       agree_child c _ t _ _ (agree_signed c st su _ _ near (agree c m body _ st su t near))
   agree_step c m (start name (Some k) body) here st su t near =
@@ -357,12 +394,14 @@ mutual
   agree_step c m (attempt body handler cleanup) here st su t near =
       agree_cleanup c m cleanup here st su _ _ near (agree_handler c m handler here st su _ _ near (agree c m body here st su t near))
 
-  pub agree_handler : (c : ℕ) (m : Mode) (x : Handled) (here : Here) (st su : Stack) (r q : Result) → Near c st su → Agree c r q → Agree c (walk_handler m x here st r) (walk_handler m x here su q)
+  pub agree_handler : (c : ℕ) (m : Mode) (x : Handled) (here : Here) (st su : Stack) (r q : Result) → Near c st su → Agree c r q →
+      Agree c (walk_handler m x here st r) (walk_handler m x here su q)
   agree_handler c m unhandled here st su r q near h = h
   agree_handler c m (except name body) here st su r q near h =
       agree_handled c _ r q _ _ h (λ u. agree c m body here st su u near) (λ u. late m body here st u) (λ u. late m body here su u)
 
-  pub agree_cleanup : (c : ℕ) (m : Mode) (x : Cleaned) (here : Here) (st su : Stack) (r q : Result) → Near c st su → Agree c r q → Agree c (walk_cleanup m x here st r) (walk_cleanup m x here su q)
+  pub agree_cleanup : (c : ℕ) (m : Mode) (x : Cleaned) (here : Here) (st su : Stack) (r q : Result) → Near c st su → Agree c r q →
+      Agree c (walk_cleanup m x here st r) (walk_cleanup m x here su q)
   agree_cleanup c m uncleaned here st su r q near h = h
   agree_cleanup c m (finally body) here st su r q near h =
       agree_cleaned c r q _ _ h (λ u. agree c m body here st su u near) (λ u. late m body here st u) (λ u. late m body here su u)

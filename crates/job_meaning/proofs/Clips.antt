@@ -54,7 +54,8 @@ sight_near c [] (k ∷ ks) n = absurd n
 sight_near c (l ∷ ls) [] n = absurd n
 sight_near c (l ∷ ls) (k ∷ ks) n = by_shield l.shield k.shield n.1 (sight_near c ls ks n.3)
   where
-    by_shield : (s r : Bool) → s ≡ r → upto c (sight ls) ≡ upto c (sight ks) → upto c (if s then l.from else earlier l.from (sight ls)) ≡ upto c (if r then k.from else earlier k.from (sight ks))
+    by_shield : (s r : Bool) → s ≡ r → upto c (sight ls) ≡ upto c (sight ks) →
+        upto c (if s then l.from else earlier l.from (sight ls)) ≡ upto c (if r then k.from else earlier k.from (sight ks))
     by_shield true true e f = n.2
     by_shield false false e f = upto_earlier_same c l.from (sight ls) k.from (sight ks) n.2 f
     by_shield true false e f = absurd (true≢false e)
@@ -70,7 +71,8 @@ label_near c name [] (k ∷ ks) n = absurd n
 label_near c name (l ∷ ls) [] n = absurd n
 label_near c name (l ∷ ls) (k ∷ ks) n = same_labels l.label k.label (label_on name ls) (label_on name ks) n.0 (label_near c name ls ks n.3)
   where
-    same_labels : (a b : Label) (x y : Option Label) → a ≡ b → x ≡ y → label_if (bytes_eq name a.name) a x ≡ label_if (bytes_eq name b.name) b y
+    same_labels : (a b : Label) (x y : Option Label) → a ≡ b → x ≡ y →
+        label_if (bytes_eq name a.name) a x ≡ label_if (bytes_eq name b.name) b y
     same_labels a b x y e f = cc
 
 pub home_near : (c : ℕ) (st su : Stack) → Near c st su → home_of st ≡ home_of su
@@ -83,29 +85,36 @@ followed_entry : (b : Bool) (t : ℕ) (e : Entry) (x y : Log) → entry_if b t e
 followed_entry true t e x y = refl
 followed_entry false t e x y = refl
 
-followed_sign_before : (b : Bool) (l : Label) (t : ℕ) (x y : Log) → sign_before b l t (followed_by x y) ≡ followed_by (sign_before b l t x) y
+followed_sign_before : (b : Bool) (l : Label) (t : ℕ) (x y : Log) →
+    sign_before b l t (followed_by x y) ≡ followed_by (sign_before b l t x) y
 followed_sign_before true l t x y = refl
 followed_sign_before false l t x y = refl
 
-followed_entered : (b : Bool) (l : Label) (t : ℕ) (d : Tick) (x y : Log) → entered_if b l t d (followed_by x y) ≡ followed_by (entered_if b l t d x) y
+followed_entered : (b : Bool) (l : Label) (t : ℕ) (d : Tick) (x y : Log) →
+    entered_if b l t d (followed_by x y) ≡ followed_by (entered_if b l t d x) y
 followed_entered true l t d x y = refl
 followed_entered false l t d x y = refl
 
-followed_task : (b : Bool) (l : Label) (s u : ℕ) (e : Option Exc) (own x y : Log) → task_if b l s u e own (followed_by x y) ≡ followed_by (task_if b l s u e own x) y
+followed_task : (b : Bool) (l : Label) (s u : ℕ) (e : Option Exc) (own x y : Log) →
+    task_if b l s u e own (followed_by x y) ≡ followed_by (task_if b l s u e own x) y
 followed_task true l s u e own x y = refl
 followed_task false l s u e own x y = refl
 
 -- a log is cut piece by piece
 pub clipped_followed : (c : ℕ) (a b : Log) → clipped c (followed_by a b) ≡ followed_by (clipped c a) (clipped c b)
 clipped_followed c nil b = refl
-clipped_followed c (entry t e rest) b = ap (λ (x : Log). entry_if (nat_lt t c) t e x) (clipped_followed c rest b) ∙ followed_entry (nat_lt t c) t e (clipped c rest) (clipped c b)
-clipped_followed c (sign l t rest) b = ap (λ (x : Log). sign_before (nat_lt t c) l t x) (clipped_followed c rest b) ∙ followed_sign_before (nat_lt t c) l t (clipped c rest) (clipped c b)
-clipped_followed c (entered l t d rest) b = ap (λ (x : Log). entered_if (nat_lt t c) l t d x) (clipped_followed c rest b) ∙ followed_entered (nat_lt t c) l t d (clipped c rest) (clipped c b)
+clipped_followed c (entry t e rest) b = ap (λ (x : Log). entry_if (nat_lt t c) t e x) (clipped_followed c rest b)
+    ∙ followed_entry (nat_lt t c) t e (clipped c rest) (clipped c b)
+clipped_followed c (sign l t rest) b = ap (λ (x : Log). sign_before (nat_lt t c) l t x) (clipped_followed c rest b)
+    ∙ followed_sign_before (nat_lt t c) l t (clipped c rest) (clipped c b)
+clipped_followed c (entered l t d rest) b = ap (λ (x : Log). entered_if (nat_lt t c) l t d x) (clipped_followed c rest b)
+    ∙ followed_entered (nat_lt t c) l t d (clipped c rest) (clipped c b)
 clipped_followed c (task l s u e own rest) b =
     ap (λ (x : Log). task_if (nat_lt s c) l s (min c u) (exc_if (nat_lt u c) e) (clipped c own) x) (clipped_followed c rest b)
     ∙ followed_task (nat_lt s c) l s (min c u) (exc_if (nat_lt u c) e) (clipped c own) (clipped c rest) (clipped c b)
 
-pub both_clipped : (c : ℕ) (a b x y : Log) → clipped c a ≡ clipped c x → clipped c b ≡ clipped c y → clipped c (followed_by a b) ≡ clipped c (followed_by x y)
+pub both_clipped : (c : ℕ) (a b x y : Log) → clipped c a ≡ clipped c x → clipped c b ≡ clipped c y →
+    clipped c (followed_by a b) ≡ clipped c (followed_by x y)
 both_clipped c a b x y e f = cc (clipped_followed c a b, clipped_followed c x y)
 
 pub followed_nil : (a : Log) → followed_by a nil ≡ a
@@ -134,20 +143,24 @@ without_task false l s u e own x f = refl
 -- nothing is left of what is all at c or later
 pub clipped_late : (c t : ℕ) (a : Log) → c ≤ t → Timed t a → clipped c a ≡ nil
 clipped_late c t nil le h = refl
-clipped_late c t (entry u e rest) le h = without_entry (nat_lt u c) u e (clipped c rest) (le-ltb u c (past h.0)) ∙ clipped_late c t rest le h.1
+clipped_late c t (entry u e rest) le h = without_entry (nat_lt u c) u e (clipped c rest) (le-ltb u c (past h.0))
+    ∙ clipped_late c t rest le h.1
   where
     past : t ≤ u → c ≤ u
     past k = omega arith
-clipped_late c t (sign l u rest) le h = without_sign_before (nat_lt u c) l u (clipped c rest) (le-ltb u c (past h.0)) ∙ clipped_late c t rest le h.1
+clipped_late c t (sign l u rest) le h = without_sign_before (nat_lt u c) l u (clipped c rest) (le-ltb u c (past h.0))
+    ∙ clipped_late c t rest le h.1
   where
     past : t ≤ u → c ≤ u
     past k = omega arith
-clipped_late c t (entered l u d rest) le h = without_entered (nat_lt u c) l u d (clipped c rest) (le-ltb u c (past h.0)) ∙ clipped_late c t rest le h.1
+clipped_late c t (entered l u d rest) le h = without_entered (nat_lt u c) l u d (clipped c rest) (le-ltb u c (past h.0))
+    ∙ clipped_late c t rest le h.1
   where
     past : t ≤ u → c ≤ u
     past k = omega arith
 clipped_late c t (task l u v e own rest) le h =
-    without_task (nat_lt u c) l u (min c v) (exc_if (nat_lt v c) e) (clipped c own) (clipped c rest) (le-ltb u c (past h.0)) ∙ clipped_late c t rest le h.3
+    without_task (nat_lt u c) l u (min c v) (exc_if (nat_lt v c) e) (clipped c own) (clipped c rest) (le-ltb u c (past h.0))
+        ∙ clipped_late c t rest le h.3
   where
     past : t ≤ u → c ≤ u
     past k = omega arith
@@ -187,7 +200,8 @@ pub least_clipped : (c t : ℕ) (l : Label) (a : Log) → Timed t a → upto c (
 least_clipped c t l nil h = refl
 least_clipped c t l (entry u e rest) h = by_kept (nat_lt u c) (least_clipped c t l rest h.1)
   where
-    by_kept : (b : Bool) → upto c (least_sign l rest) ≡ upto c (least_sign l (clipped c rest)) → upto c (least_sign l rest) ≡ upto c (least_sign l (entry_if b u e (clipped c rest)))
+    by_kept : (b : Bool) → upto c (least_sign l rest) ≡ upto c (least_sign l (clipped c rest)) →
+        upto c (least_sign l rest) ≡ upto c (least_sign l (entry_if b u e (clipped c rest)))
     by_kept true k = k
     by_kept false k = k
 least_clipped c t l (sign m u rest) h = by_kept (nat_lt u c) refl (least_clipped c t l rest h.1)
@@ -200,13 +214,15 @@ least_clipped c t l (sign m u rest) h = by_kept (nat_lt u c) refl (least_clipped
 
     by_kept : (b : Bool) → nat_lt u c ≡ b → upto c (least_sign l rest) ≡ upto c (least_sign l (clipped c rest)) →
         upto c (earlier (tick_if (same_label l m) u) (least_sign l rest)) ≡ upto c (least_sign l (sign_before b m u (clipped c rest)))
-    by_kept true e k = upto_earlier_same c (tick_if (same_label l m) u) (least_sign l rest) (tick_if (same_label l m) u) (least_sign l (clipped c rest)) refl k
+    by_kept true e k = upto_earlier_same c (tick_if (same_label l m) u) (least_sign l rest) (tick_if (same_label l m) u)
+        (least_sign l (clipped c rest)) refl k
     by_kept false e k =
         upto_earlier c (tick_if (same_label l m) u) (least_sign l rest)
         ∙ at_c _ _ _ (upto_tick_if c u (same_label l m) (grind (arith, nat_tests))) most k
 least_clipped c t l (entered m u d rest) h = by_kept (nat_lt u c) (least_clipped c t l rest h.1)
   where
-    by_kept : (b : Bool) → upto c (least_sign l rest) ≡ upto c (least_sign l (clipped c rest)) → upto c (least_sign l rest) ≡ upto c (least_sign l (entered_if b m u d (clipped c rest)))
+    by_kept : (b : Bool) → upto c (least_sign l rest) ≡ upto c (least_sign l (clipped c rest)) →
+        upto c (least_sign l rest) ≡ upto c (least_sign l (entered_if b m u d (clipped c rest)))
     by_kept true k = k
     by_kept false k = k
 least_clipped c t l (task m u v e own rest) h = by_kept (nat_lt u c) refl (least_clipped c u l own h.2) (least_clipped c t l rest h.3)
@@ -217,15 +233,19 @@ least_clipped c t l (task m u v e own rest) h = by_kept (nat_lt u c) refl (least
     at_c : (x y z : ℕ) → x ≡ c → y ≤ c → y ≡ z → min x y ≡ z
     at_c x y z e f g = omega arith
 
-    by_kept : (b : Bool) → nat_lt u c ≡ b → upto c (least_sign l own) ≡ upto c (least_sign l (clipped c own)) → upto c (least_sign l rest) ≡ upto c (least_sign l (clipped c rest)) →
-        upto c (earlier (least_sign l own) (least_sign l rest)) ≡ upto c (least_sign l (task_if b m u (min c v) (exc_if (nat_lt v c) e) (clipped c own) (clipped c rest)))
-    by_kept true e j k = upto_earlier_same c (least_sign l own) (least_sign l rest) (least_sign l (clipped c own)) (least_sign l (clipped c rest)) j k
+    by_kept : (b : Bool) → nat_lt u c ≡ b → upto c (least_sign l own) ≡ upto c (least_sign l (clipped c own)) →
+        upto c (least_sign l rest) ≡ upto c (least_sign l (clipped c rest)) →
+        upto c (earlier (least_sign l own) (least_sign l rest)) ≡ upto c
+            (least_sign l (task_if b m u (min c v) (exc_if (nat_lt v c) e) (clipped c own) (clipped c rest)))
+    by_kept true e j k = upto_earlier_same c (least_sign l own) (least_sign l rest) (least_sign l (clipped c own))
+        (least_sign l (clipped c rest)) j k
     by_kept false e j k =
         upto_earlier c (least_sign l own) (least_sign l rest)
         ∙ at_c _ _ _ (least_late c u l own (grind (arith, nat_tests)) h.2) most k
 
 -- logs that agree before c have their first signs at the same ticks before c
-pub least_near : (c t : ℕ) (l : Label) (a b : Log) → Timed t a → Timed t b → clipped c a ≡ clipped c b → upto c (least_sign l a) ≡ upto c (least_sign l b)
+pub least_near : (c t : ℕ) (l : Label) (a b : Log) → Timed t a → Timed t b → clipped c a ≡ clipped c b →
+    upto c (least_sign l a) ≡ upto c (least_sign l b)
 least_near c t l a b h k e =
     least_clipped c t l a h ∙ (ap (λ (x : Log). upto c (least_sign l x)) e ∙ sym (least_clipped c t l b k))
 
@@ -237,7 +257,8 @@ pub known_append : (c : ℕ) (a b : List Member) → known_members c (a ++ b) �
 known_append c [] b = refl
 known_append c (m ∷ ms) b = ap (λ (x : List Member). known_member c m ∷ x) (known_append c ms b)
 
-pub both_known : (c : ℕ) (a b x y : List Member) → known_members c a ≡ known_members c x → known_members c b ≡ known_members c y → known_members c (a ++ b) ≡ known_members c (x ++ y)
+pub both_known : (c : ℕ) (a b x y : List Member) → known_members c a ≡ known_members c x → known_members c b ≡ known_members c y →
+    known_members c (a ++ b) ≡ known_members c (x ++ y)
 both_known c a b x y e f = cc (known_append c a b, known_append c x y)
 
 -- the last end before c is told by what is known of the members
@@ -248,7 +269,8 @@ latest_known c t (m ∷ ms) = latest_known c (max t m.end) ms ∙ ap (λ (u : �
     min_max : min c (max t m.end) ≡ max (min c t) (min c m.end)
     min_max = omega arith
 
-same_members : (u v : ℕ) (e f : Option Exc) → u ≡ v → e ≡ f → (let x : Member = record { end = u; exc = e } in x) ≡ record { end = v; exc = f }
+same_members : (u v : ℕ) (e f : Option Exc) → u ≡ v → e ≡ f →
+    (let x : Member = record { end = u; exc = e } in x) ≡ record { end = v; exc = f }
 same_members u v e f p q = cc
 
 -- where all have ended before c, all is known

@@ -55,7 +55,8 @@ distinct_by_bytes (n ∷ ns) h = (none_equal ns h.0, distinct_by_bytes ns h.1)
     none_equal (m ∷ ms) k (inl e) = true≢false (sym ((bytes_eq-Decides n m).1 e) ∙ k.0)
     none_equal (m ∷ ms) k (inr i) = none_equal ms k.1 i
 
-label_of : (n m : List ℕ) (a b : List ℕ) → n ≡ m → a ≡ b → (let x : Label = record { name = n; indices = a } in x) ≡ record { name = m; indices = b }
+label_of : (n m : List ℕ) (a b : List ℕ) → n ≡ m → a ≡ b → (let x : Label = record { name = n; indices = a } in x)
+    ≡ record { name = m; indices = b }
 label_of n m a b e f = cc
 
 -- the test on labels finds the equal ones
@@ -65,7 +66,8 @@ same_label_equal l m h =
     label_of l.name m.name l.indices m.indices ((bytes_eq-Decides l.name m.name).0 both.0) ((bytes_eq-Decides l.indices m.indices).0 both.1)
 
 pub same_label_itself : (l : Label) → same_label l l ≡ true
-same_label_itself l = and_from (bytes_eq l.name l.name) (bytes_eq l.indices l.indices) ((bytes_eq-Decides l.name l.name).1 refl) ((bytes_eq-Decides l.indices l.indices).1 refl)
+same_label_itself l = and_from (bytes_eq l.name l.name) (bytes_eq l.indices l.indices) ((bytes_eq-Decides l.name l.name).1 refl)
+    ((bytes_eq-Decides l.indices l.indices).1 refl)
 
 -- a label that a block with these names may enter, where the block stands behind this path of indices
 pub record Belongs (names : List (List ℕ)) (path : List ℕ) (l : Label) : Type 0 where
@@ -73,7 +75,8 @@ pub record Belongs (names : List (List ℕ)) (path : List ℕ) (l : Label) : Typ
   pub beyond : List ℕ
   pub extends : l.indices ≡ path ++ beyond
 
-pub belongs_in : (a b : List (List ℕ)) (path : List ℕ) → ((n : List ℕ) → Among n a → Among n b) → (l : Label) → Belongs a path l → Belongs b path l
+pub belongs_in : (a b : List (List ℕ)) (path : List ℕ) → ((n : List ℕ) → Among n a → Among n b) → (l : Label) → Belongs a path l →
+    Belongs b path l
 belongs_in a b path f l h = record { named = f l.name h.named; beyond = h.beyond; extends = h.extends }
 
 -- a longer path
@@ -85,7 +88,8 @@ pub behind_one : (path : List ℕ) (i j : ℕ) (x y : List ℕ) → (path ++ i �
 behind_one [] i j x y e = cc
 behind_one (p ∷ path) i j x y e = behind_one path i j x y (cc)
 
-pub behind_other : (a b : List (List ℕ)) (path : List ℕ) (i j : ℕ) (l : Label) → i < j → Belongs a (path ++ i ∷ []) l → Belongs b (path ++ j ∷ []) l → ⊥
+pub behind_other : (a b : List (List ℕ)) (path : List ℕ) (i j : ℕ) (l : Label) → i < j → Belongs a (path ++ i ∷ []) l →
+    Belongs b (path ++ j ∷ []) l → ⊥
 behind_other a b path i j l lt h k =
     let e = behind_one path i j h.beyond k.beyond (sym h.extends ∙ k.extends) in
     absurd (omega arith)

@@ -38,7 +38,8 @@ after_signed : (a : Log) (st : Stack) (r : Result) → signed st (after a r) ≡
 unfolding signed
 after_signed a st r = ap (λ (x : Log). record r { log = x }) (followed_assoc a r.log _)
 
-after_block_left : (a : Log) (kind : Kind) (l : Level Label) (outer : Stack) (r : Result) → block_left kind l outer (after a r) ≡ after a (block_left kind l outer r)
+after_block_left : (a : Log) (kind : Kind) (l : Level Label) (outer : Stack) (r : Result) →
+    block_left kind l outer (after a r) ≡ after a (block_left kind l outer r)
 after_block_left a kind l outer r = ap (λ (x : Log). record (block_left kind l outer r) { log = x }) (followed_assoc a r.log _)
 
 after_handled : (a : Log) (wanted : Wanted) (r : Result) (go : ℕ → Result) → handled wanted (after a r) go ≡ after a (handled wanted r go)
@@ -57,18 +58,21 @@ after_cleaned : (a : Log) (r : Result) (go : ℕ → Result) → cleaned (after 
 unfolding cleaned
 after_cleaned a r go = ap (λ (x : Result). with_outcome (outcome_after r.exc (go r.end).exc) x) (after_joined a r (go r.end))
 
-after_handler : (a : Log) (m : Mode) (x : Handled) (here : Here) (st : Stack) (r : Result) → walk_handler m x here st (after a r) ≡ after a (walk_handler m x here st r)
+after_handler : (a : Log) (m : Mode) (x : Handled) (here : Here) (st : Stack) (r : Result) →
+    walk_handler m x here st (after a r) ≡ after a (walk_handler m x here st r)
 unfolding walk
 after_handler a m unhandled here st r = refl
 after_handler a m (except name body) here st r = after_handled a (named name) r (λ u. walk m body here st u)
 
-after_cleanup : (a : Log) (m : Mode) (x : Cleaned) (here : Here) (st : Stack) (r : Result) → walk_cleanup m x here st (after a r) ≡ after a (walk_cleanup m x here st r)
+after_cleanup : (a : Log) (m : Mode) (x : Cleaned) (here : Here) (st : Stack) (r : Result) →
+    walk_cleanup m x here st (after a r) ≡ after a (walk_cleanup m x here st r)
 unfolding walk
 after_cleanup a m uncleaned here st r = refl
 after_cleanup a m (finally body) here st r = after_cleaned a r (λ u. walk m body here st u)
 
 -- no frame reads what was made before it
-pub finish_after : (fs : List Frame) (a : Log) (m : Mode) (told : Telling) (here : Here) (st : Stack) (r : Result) → finish m told fs here st (after a r) ≡ after a (finish m told fs here st r)
+pub finish_after : (fs : List Frame) (a : Log) (m : Mode) (told : Telling) (here : Here) (st : Stack) (r : Result) →
+    finish m told fs here st (after a r) ≡ after a (finish m told fs here st r)
 unfolding finish gathered
 finish_after [] a m told here st r = after_signed a st r
 finish_after (steps_left ss ∷ fs) a m told here st r =
@@ -79,31 +83,39 @@ finish_after (in_scope fail ∷ fs) a m told here (l ∷ outer) r =
     ap (λ (x : Result). finish m told fs here outer x) (after_block_left a (a_scope fail) l outer r) ∙ finish_after fs a m told here outer _
 finish_after (in_nursery children ∷ fs) a m told here [] r = finish_after fs a m told here [] r
 finish_after (in_nursery children ∷ fs) a m told here (l ∷ outer) r =
-    ap (λ (x : Result). finish m told fs here outer (block_left a_nursery l outer (gathered l.label (with_children (told_members told children) x)))) (after_signed a (l ∷ outer) r)
-    ∙ (ap (λ (x : Result). finish m told fs here outer x) (after_block_left a a_nursery l outer (gathered l.label (with_children (told_members told children) (signed (l ∷ outer) r))))
+    ap (λ (x : Result). finish m told fs here outer (block_left a_nursery l outer
+        (gathered l.label (with_children (told_members told children) x)))) (after_signed a (l ∷ outer) r)
+    ∙ (ap (λ (x : Result). finish m told fs here outer x) (after_block_left a a_nursery l outer
+        (gathered l.label (with_children (told_members told children) (signed (l ∷ outer) r))))
     ∙ finish_after fs a m told here outer _)
 finish_after (in_try handler cleanup ∷ fs) a m told here st r =
-    ap (λ (x : Result). finish m told fs here st (walk_cleanup m cleanup (inside fs here) st x)) (after_handler a m handler (inside fs here) st r)
-    ∙ (ap (λ (x : Result). finish m told fs here st x) (after_cleanup a m cleanup (inside fs here) st (walk_handler m handler (inside fs here) st r))
+    ap (λ (x : Result). finish m told fs here st (walk_cleanup m cleanup (inside fs here) st x))
+        (after_handler a m handler (inside fs here) st r)
+    ∙ (ap (λ (x : Result). finish m told fs here st x) (after_cleanup a m cleanup (inside fs here) st
+        (walk_handler m handler (inside fs here) st r))
     ∙ finish_after fs a m told here st _)
 finish_after (in_handler rest cleanup ∷ fs) a m told here st r =
-    ap (λ (x : Result). finish m told fs here st x) (after_cleanup a m cleanup (inside fs here) st (with_outcome (handler_exc r.exc rest) r))
+    ap (λ (x : Result). finish m told fs here st x) (after_cleanup a m cleanup (inside fs here) st
+        (with_outcome (handler_exc r.exc rest) r))
     ∙ finish_after fs a m told here st _
 finish_after (in_cleanup outcome ∷ fs) a m told here st r = finish_after fs a m told here st _
 
 -- a task that was started comes to what its block does
-pub finish_begin : (m : Mode) (told : Telling) (b : Steps) (here : Here) (st : Stack) (t : ℕ) → rest_comes_to m told (rest_at_start b) here st t ≡ signed st (walk m b here st t)
+pub finish_begin : (m : Mode) (told : Telling) (b : Steps) (here : Here) (st : Stack) (t : ℕ) →
+    rest_comes_to m told (rest_at_start b) here st t ≡ signed st (walk m b here st t)
 unfolding finish and_then
 finish_begin m told b here st t = refl
 
 -- a block with no step left
-pub finish_stop : (fs : List Frame) (m : Mode) (told : Telling) (here : Here) (st : Stack) (t : ℕ) → finish m told (steps_left stop ∷ fs) here st (done_at t) ≡ finish m told fs here st (done_at t)
+pub finish_stop : (fs : List Frame) (m : Mode) (told : Telling) (here : Here) (st : Stack) (t : ℕ) →
+    finish m told (steps_left stop ∷ fs) here st (done_at t) ≡ finish m told fs here st (done_at t)
 unfolding finish and_then walk
 finish_stop fs m told here st t = refl
 
 -- a step that opens no frame
 pub finish_step : (fs : List Frame) (m : Mode) (told : Telling) (s : Step) (ss : Steps) (here : Here) (st : Stack) (t : ℕ) →
-    finish m told (steps_left (step s ss) ∷ fs) here st (done_at t) ≡ finish m told (steps_left ss ∷ fs) here st (walk_step m s (inside fs here) st t)
+    finish m told (steps_left (step s ss) ∷ fs) here st (done_at t)
+        ≡ finish m told (steps_left ss ∷ fs) here st (walk_step m s (inside fs here) st t)
 unfolding finish and_then walk
 finish_step fs m told s ss here st t = refl
 
@@ -114,68 +126,85 @@ unfolding finish and_then
 finish_raised fs m told ss here st r e = refl
 
 -- a scope is entered
-pub finish_scope : (fs : List Frame) (table : Table) (told : Telling) (name : List ℕ) (d : Deadline) (shield fail : Bool) (body ss : Steps) (here : Here) (st : Stack) (t : ℕ) →
+pub finish_scope : (fs : List Frame) (table : Table) (told : Telling) (name : List ℕ) (d : Deadline) (shield fail : Bool) (body ss : Steps)
+    (here : Here) (st : Stack) (t : ℕ) →
     finish (by_table table) told (steps_left (step (scope name d shield fail body) ss) ∷ fs) here st (done_at t)
     ≡ after (entered (label_here name (inside fs here)) t (due d t) nil)
-    (finish (by_table table) told (steps_left body ∷ in_scope fail ∷ steps_left ss ∷ fs) here (within (label_here name (inside fs here)) shield (table (label_here name (inside fs here))) st) (done_at t))
+    (finish (by_table table) told (steps_left body ∷ in_scope fail ∷ steps_left ss ∷ fs) here
+        (within (label_here name (inside fs here)) shield (table (label_here name (inside fs here))) st) (done_at t))
 unfolding finish and_then walk block
 finish_scope fs table told name d shield fail body ss here st t =
-    finish_after (steps_left body ∷ in_scope fail ∷ steps_left ss ∷ fs) (entered (label_here name (inside fs here)) t (due d t) nil) (by_table table) told here
+    finish_after (steps_left body ∷ in_scope fail ∷ steps_left ss ∷ fs) (entered (label_here name (inside fs here)) t (due d t) nil)
+        (by_table table) told here
     (within (label_here name (inside fs here)) shield (table (label_here name (inside fs here))) st) (done_at t)
 
 -- a nursery is entered
-pub finish_nursery : (fs : List Frame) (table : Table) (told : Telling) (name : List ℕ) (d : Deadline) (shield : Bool) (body ss : Steps) (here : Here) (st : Stack) (t : ℕ) →
+pub finish_nursery : (fs : List Frame) (table : Table) (told : Telling) (name : List ℕ) (d : Deadline) (shield : Bool) (body ss : Steps)
+    (here : Here) (st : Stack) (t : ℕ) →
     finish (by_table table) told (steps_left (step (nursery name d shield body) ss) ∷ fs) here st (done_at t)
     ≡ after (entered (label_here name (inside fs here)) t (due d t) nil)
-    (finish (by_table table) told (steps_left body ∷ in_nursery [] ∷ steps_left ss ∷ fs) here (within (label_here name (inside fs here)) shield (table (label_here name (inside fs here))) st) (done_at t))
+    (finish (by_table table) told (steps_left body ∷ in_nursery [] ∷ steps_left ss ∷ fs) here
+        (within (label_here name (inside fs here)) shield (table (label_here name (inside fs here))) st) (done_at t))
 unfolding finish and_then walk block gathered signed
 finish_nursery fs table told name d shield body ss here st t =
-    finish_after (steps_left body ∷ in_nursery [] ∷ steps_left ss ∷ fs) (entered (label_here name (inside fs here)) t (due d t) nil) (by_table table) told here
+    finish_after (steps_left body ∷ in_nursery [] ∷ steps_left ss ∷ fs) (entered (label_here name (inside fs here)) t (due d t) nil)
+        (by_table table) told here
     (within (label_here name (inside fs here)) shield (table (label_here name (inside fs here))) st) (done_at t)
 
 -- a `try` is entered
-pub finish_try : (fs : List Frame) (m : Mode) (told : Telling) (body : Steps) (handler : Handled) (cleanup : Cleaned) (ss : Steps) (here : Here) (st : Stack) (t : ℕ) →
+pub finish_try : (fs : List Frame) (m : Mode) (told : Telling) (body : Steps) (handler : Handled) (cleanup : Cleaned) (ss : Steps)
+    (here : Here) (st : Stack) (t : ℕ) →
     finish m told (steps_left (step (attempt body handler cleanup) ss) ∷ fs) here st (done_at t)
     ≡ finish m told (steps_left body ∷ in_try handler cleanup ∷ steps_left ss ∷ fs) here st (done_at t)
 unfolding finish and_then walk
 finish_try fs m told body handler cleanup ss here st t = refl
 
 -- a handler is entered where the exception has such leaves
-pub finish_handler : (fs : List Frame) (m : Mode) (told : Telling) (name : List ℕ) (body : Steps) (cleanup : Cleaned) (here : Here) (st : Stack) (r : Result) (e x : Exc) → keep (named name) e ≡ Some x →
+pub finish_handler : (fs : List Frame) (m : Mode) (told : Telling) (name : List ℕ) (body : Steps) (cleanup : Cleaned) (here : Here)
+    (st : Stack) (r : Result) (e x : Exc) → keep (named name) e ≡ Some x →
     finish m told (in_try (except name body) cleanup ∷ fs) here st (record r { exc = Some e })
     ≡ finish m told (steps_left body ∷ in_handler (drop (named name) e) cleanup ∷ fs) here st (record r { exc = None })
 unfolding finish and_then walk handled
 finish_handler fs m told name body cleanup here st r e x k =
-    ap (λ (o : Option Exc). finish m told fs here st (walk_cleanup m cleanup (inside fs here) st (handled_if o (drop (named name) e) (record r { exc = Some e }) (λ u. walk m body (inside fs here) st u)))) k
+    ap (λ (o : Option Exc). finish m told fs here st (walk_cleanup m cleanup (inside fs here) st
+        (handled_if o (drop (named name) e) (record r { exc = Some e }) (λ u. walk m body (inside fs here) st u)))) k
 
 -- and where it has none, or there is no exception, it is passed by
-pub finish_unhandled : (fs : List Frame) (m : Mode) (told : Telling) (name : List ℕ) (body : Steps) (cleanup : Cleaned) (here : Here) (st : Stack) (r : Result) (e : Exc) → keep (named name) e ≡ None →
+pub finish_unhandled : (fs : List Frame) (m : Mode) (told : Telling) (name : List ℕ) (body : Steps) (cleanup : Cleaned) (here : Here)
+    (st : Stack) (r : Result) (e : Exc) → keep (named name) e ≡ None →
     finish m told (in_try (except name body) cleanup ∷ fs) here st (record r { exc = Some e })
     ≡ finish m told (in_try unhandled cleanup ∷ fs) here st (record r { exc = Some e })
 unfolding finish walk handled
 finish_unhandled fs m told name body cleanup here st r e k =
-    ap (λ (o : Option Exc). finish m told fs here st (walk_cleanup m cleanup (inside fs here) st (handled_if o (drop (named name) e) (record r { exc = Some e }) (λ u. walk m body (inside fs here) st u)))) k
+    ap (λ (o : Option Exc). finish m told fs here st (walk_cleanup m cleanup (inside fs here) st
+        (handled_if o (drop (named name) e) (record r { exc = Some e }) (λ u. walk m body (inside fs here) st u)))) k
 
-pub finish_no_handler : (fs : List Frame) (m : Mode) (told : Telling) (handler : Handled) (cleanup : Cleaned) (here : Here) (st : Stack) (r : Result) →
-    finish m told (in_try handler cleanup ∷ fs) here st (record r { exc = None }) ≡ finish m told (in_try unhandled cleanup ∷ fs) here st (record r { exc = None })
+pub finish_no_handler : (fs : List Frame) (m : Mode) (told : Telling) (handler : Handled) (cleanup : Cleaned) (here : Here) (st : Stack)
+    (r : Result) →
+    finish m told (in_try handler cleanup ∷ fs) here st (record r { exc = None })
+        ≡ finish m told (in_try unhandled cleanup ∷ fs) here st (record r { exc = None })
 unfolding finish walk handled
 finish_no_handler fs m told unhandled cleanup here st r = refl
 finish_no_handler fs m told (except name body) cleanup here st r = refl
 
 -- a handler has ended: the rest of the split goes with what it raised
-pub finish_handled : (fs : List Frame) (m : Mode) (told : Telling) (rest : Option Exc) (cleanup : Cleaned) (here : Here) (st : Stack) (r : Result) →
-    finish m told (in_handler rest cleanup ∷ fs) here st r ≡ finish m told (in_try unhandled cleanup ∷ fs) here st (with_outcome (handler_exc r.exc rest) r)
+pub finish_handled : (fs : List Frame) (m : Mode) (told : Telling) (rest : Option Exc) (cleanup : Cleaned) (here : Here) (st : Stack)
+    (r : Result) →
+    finish m told (in_handler rest cleanup ∷ fs) here st r ≡ finish m told (in_try unhandled cleanup ∷ fs) here st
+        (with_outcome (handler_exc r.exc rest) r)
 unfolding finish walk
 finish_handled fs m told rest cleanup here st r = refl
 
 -- with no cleanup to come a `try` is left
-pub finish_uncleaned : (fs : List Frame) (m : Mode) (told : Telling) (here : Here) (st : Stack) (r : Result) → finish m told (in_try unhandled uncleaned ∷ fs) here st r ≡ finish m told fs here st r
+pub finish_uncleaned : (fs : List Frame) (m : Mode) (told : Telling) (here : Here) (st : Stack) (r : Result) →
+    finish m told (in_try unhandled uncleaned ∷ fs) here st r ≡ finish m told fs here st r
 unfolding finish walk
 finish_uncleaned fs m told here st r = refl
 
 -- a cleanup is entered, with the outcome so far
 pub finish_cleanup : (fs : List Frame) (m : Mode) (told : Telling) (body : Steps) (here : Here) (st : Stack) (r : Result) →
-    finish m told (in_try unhandled (finally body) ∷ fs) here st r ≡ finish m told (steps_left body ∷ in_cleanup r.exc ∷ fs) here st (record r { exc = None })
+    finish m told (in_try unhandled (finally body) ∷ fs) here st r
+        ≡ finish m told (steps_left body ∷ in_cleanup r.exc ∷ fs) here st (record r { exc = None })
 unfolding finish and_then walk cleaned
 finish_cleanup fs m told body here st r = refl
 
@@ -186,20 +215,27 @@ unfolding finish
 finish_cleaned fs m told outcome here st r = refl
 
 -- a scope is left
-pub finish_leave : (fs : List Frame) (m : Mode) (told : Telling) (fail : Bool) (here : Here) (l : Level Label) (outer : Stack) (r : Result) →
+pub finish_leave : (fs : List Frame) (m : Mode) (told : Telling) (fail : Bool) (here : Here) (l : Level Label) (outer : Stack)
+    (r : Result) →
     finish m told (in_scope fail ∷ fs) here (l ∷ outer) r ≡ finish m told fs here outer (block_left (a_scope fail) l outer r)
 unfolding finish
 finish_leave fs m told fail here l outer r = refl
 
 -- the body of a nursery has ended, and the wait begins: with the sign of a body that failed before it
-pub finish_wait : (fs : List Frame) (m : Mode) (told : Telling) (children : List ℕ) (here : Here) (l : Level Label) (outer : Stack) (t : ℕ) (e : Option Exc) →
+pub finish_wait : (fs : List Frame) (m : Mode) (told : Telling) (children : List ℕ) (here : Here) (l : Level Label) (outer : Stack) (t : ℕ)
+    (e : Option Exc) →
     finish m told (in_nursery children ∷ fs) here (l ∷ outer) (record { end = t; exc = e; members = []; log = nil })
     ≡ after (sign_if e (Some l.label) t) (finish m told fs here outer (waited (told_members told children) t e l outer))
 unfolding finish signed gathered
 finish_wait fs m told children here l outer t e =
-    ap (λ (ms : List Member). finish m told fs here outer (block_left a_nursery l outer (gathered l.label (record { end = t; exc = e; members = ms; log = sign_if e (Some l.label) t })))) (append-nil (told_members told children))
-    ∙ (ap (λ (x : Log). finish m told fs here outer (block_left a_nursery l outer (gathered l.label (record { end = t; exc = e; members = told_members told children; log = x })))) (sym (followed_nil (sign_if e (Some l.label) t)))
-    ∙ (ap (λ (x : Result). finish m told fs here outer x) (after_block_left (sign_if e (Some l.label) t) a_nursery l outer (gathered l.label (record { end = t; exc = e; members = told_members told children; log = nil })))
+    ap (λ (ms : List Member). finish m told fs here outer (block_left a_nursery l outer
+        (gathered l.label (record { end = t; exc = e; members = ms; log = sign_if e (Some l.label) t }))))
+        (append-nil (told_members told children))
+    ∙ (ap (λ (x : Log). finish m told fs here outer (block_left a_nursery l outer
+        (gathered l.label (record { end = t; exc = e; members = told_members told children; log = x }))))
+        (sym (followed_nil (sign_if e (Some l.label) t)))
+    ∙ (ap (λ (x : Result). finish m told fs here outer x) (after_block_left (sign_if e (Some l.label) t) a_nursery l outer
+        (gathered l.label (record { end = t; exc = e; members = told_members told children; log = nil })))
     ∙ finish_after fs (sign_if e (Some l.label) t) m told here outer (waited (told_members told children) t e l outer)))
 
 told_append : (told : Telling) (is js : List ℕ) → told_members told (is ++ js) ≡ told_members told is ++ told_members told js
@@ -207,19 +243,24 @@ told_append told [] js = refl
 told_append told (i ∷ is) js = ap (λ (ms : List Member). record { end = (told i).end; exc = (told i).exc } ∷ ms) (told_append told is js)
 
 -- children of a nursery count by number as they did by what they come to
-pub finish_children : (fs : List Frame) (m : Mode) (told : Telling) (children more : List ℕ) (here : Here) (l : Level Label) (outer : Stack) (r : Result) →
+pub finish_children : (fs : List Frame) (m : Mode) (told : Telling) (children more : List ℕ) (here : Here) (l : Level Label) (outer : Stack)
+    (r : Result) →
     finish m told (in_nursery (children ++ more) ∷ fs) here (l ∷ outer) r
     ≡ finish m told (in_nursery children ∷ fs) here (l ∷ outer) (record r { members = told_members told more ++ r.members })
 unfolding finish signed
 finish_children fs m told children more here l outer r =
-    ap (λ (ms : List Member). finish m told fs here outer (block_left a_nursery l outer (gathered l.label (record { end = r.end; exc = r.exc; members = ms; log = followed_by r.log (sign_if r.exc (Some l.label) r.end) }))))
-    (ap (λ (ms : List Member). ms ++ r.members) (told_append told children more) ∙ append_assoc (told_members told children) (told_members told more) r.members)
+    ap (λ (ms : List Member). finish m told fs here outer (block_left a_nursery l outer
+        (gathered l.label (record { end = r.end; exc = r.exc; members = ms; log =
+        followed_by r.log (sign_if r.exc (Some l.label) r.end) }))))
+    (ap (λ (ms : List Member). ms ++ r.members) (told_append told children more)
+        ∙ append_assoc (told_members told children) (told_members told more) r.members)
 
 -- what stands for children that were just started: the starter goes on in the same tick
 abbrev pub just_started : Telling → List ℕ → Log → ℕ → Result
 just_started told more a t = record { end = t; exc = None; members = told_members told more; log = a }
 
-pub finish_started : (fs : List Frame) (m : Mode) (told : Telling) (ss : Steps) (children more : List ℕ) (here : Here) (l : Level Label) (outer : Stack) (t : ℕ) (a : Log) →
+pub finish_started : (fs : List Frame) (m : Mode) (told : Telling) (ss : Steps) (children more : List ℕ) (here : Here) (l : Level Label)
+    (outer : Stack) (t : ℕ) (a : Log) →
     finish m told (steps_left ss ∷ in_nursery children ∷ fs) here (l ∷ outer) (just_started told more a t)
     ≡ after a (finish m told (steps_left ss ∷ in_nursery (children ++ more) ∷ fs) here (l ∷ outer) (done_at t))
 unfolding finish and_then
@@ -228,7 +269,8 @@ finish_started fs m told ss children more here l outer t a =
     ∙ finish_after (in_nursery (children ++ more) ∷ fs) a m told here (l ∷ outer) (walk m ss (inside fs here) (l ∷ outer) t)
 
 -- a child is started
-pub finish_start : (fs : List Frame) (m : Mode) (told : Telling) (i : ℕ) (name : List ℕ) (body ss : Steps) (children : List ℕ) (here : Here) (l : Level Label) (outer : Stack) (t : ℕ) →
+pub finish_start : (fs : List Frame) (m : Mode) (told : Telling) (i : ℕ) (name : List ℕ) (body ss : Steps) (children : List ℕ) (here : Here)
+    (l : Level Label) (outer : Stack) (t : ℕ) →
     told i ≡ signed (l ∷ outer) (walk m body (here_in (label_here name (inside fs here)) here.part here) (l ∷ outer) t) →
     finish m told (steps_left (step (start name None body) ss) ∷ in_nursery children ∷ fs) here (l ∷ outer) (done_at t)
     ≡ after (fill told (starts i (label_here name (inside fs here)) t ∷ []))
@@ -236,7 +278,8 @@ pub finish_start : (fs : List Frame) (m : Mode) (told : Telling) (i : ℕ) (name
 unfolding walk child
 finish_start fs m told i name body ss children here l outer t e =
     finish_step (in_nursery children ∷ fs) m told (start name None body) ss here (l ∷ outer) t
-    ∙ (ap (λ (r : Result). finish m told (steps_left ss ∷ in_nursery children ∷ fs) here (l ∷ outer) (child (label_here name (inside fs here)) t r)) (sym e)
+    ∙ (ap (λ (r : Result). finish m told (steps_left ss ∷ in_nursery children ∷ fs) here (l ∷ outer)
+        (child (label_here name (inside fs here)) t r)) (sym e)
     ∙ finish_started fs m told ss children (i ∷ []) here l outer t (fill told (starts i (label_here name (inside fs here)) t ∷ [])))
 
 -- what was made, and more
@@ -245,27 +288,36 @@ fill_append told [] others = refl
 fill_append told (noted t e ∷ es) others = ap (λ (x : Log). entry t e x) (fill_append told es others)
 fill_append told (signs l t ∷ es) others = ap (λ (x : Log). sign l t x) (fill_append told es others)
 fill_append told (enters l t d ∷ es) others = ap (λ (x : Log). entered l t d x) (fill_append told es others)
-fill_append told (starts i l t ∷ es) others = ap (λ (x : Log). task l t (told i).end (told i).exc (told i).log x) (fill_append told es others)
+fill_append told (starts i l t ∷ es) others =
+    ap (λ (x : Log). task l t (told i).end (told i).exc (told i).log x) (fill_append told es others)
 
 -- the children of a `start .. over`, by their numbers
-each_started : (told : Telling) (name : List ℕ) (here : Here) (t first k : ℕ) (go : ℕ → Result) → ((i : ℕ) → i < k → told (first + i) ≡ go i) →
-    each k (λ i. child (label_over name here i) t (go i)) t ≡ just_started told (numbered first k) (fill told (starts_over name here t first k)) t
+each_started : (told : Telling) (name : List ℕ) (here : Here) (t first k : ℕ) (go : ℕ → Result) →
+    ((i : ℕ) → i < k → told (first + i) ≡ go i) →
+    each k (λ i. child (label_over name here i) t (go i)) t ≡ just_started told (numbered first k)
+        (fill told (starts_over name here t first k)) t
 unfolding child
 each_started told name here t first zero go h = refl
 each_started told name here t first (suc k) go h =
-    ap (λ (r : Result). joined r (child (label_over name here k) t (go k))) (each_started told name here t first k go (λ i lt. h i (below i lt)))
-    ∙ (ap (λ (r : Result). joined (just_started told (numbered first k) (fill told (starts_over name here t first k)) t) (child (label_over name here k) t r)) (sym (h k (omega arith)))
-    ∙ both (sym (told_append told (numbered first k) ((first + k) ∷ []))) (sym (fill_append told (starts_over name here t first k) (starts (first + k) (label_over name here k) t ∷ []))))
+    ap (λ (r : Result). joined r (child (label_over name here k) t (go k)))
+        (each_started told name here t first k go (λ i lt. h i (below i lt)))
+    ∙ (ap (λ (r : Result). joined (just_started told (numbered first k) (fill told (starts_over name here t first k)) t)
+        (child (label_over name here k) t r)) (sym (h k (omega arith)))
+    ∙ both (sym (told_append told (numbered first k) ((first + k) ∷ [])))
+        (sym (fill_append told (starts_over name here t first k) (starts (first + k) (label_over name here k) t ∷ []))))
   where
     below : (i : ℕ) → i < k → i < suc k
     below i lt = omega arith
 
-    both : {ms ns : List Member} {a b : Log} → ms ≡ ns → a ≡ b → ◌≡◌ {A = Result} (record { end = t; exc = None; members = ms; log = a }) (record { end = t; exc = None; members = ns; log = b })
+    both : {ms ns : List Member} {a b : Log} → ms ≡ ns → a ≡ b →
+        ◌≡◌ {A = Result} (record { end = t; exc = None; members = ms; log = a }) (record { end = t; exc = None; members = ns; log = b })
     both e f = cc
 
 -- the children of a `start .. over` are started
-pub finish_start_over : (fs : List Frame) (m : Mode) (told : Telling) (first k : ℕ) (name : List ℕ) (body ss : Steps) (children : List ℕ) (here : Here) (l : Level Label) (outer : Stack) (t : ℕ) →
-    ((i : ℕ) → i < k → told (first + i) ≡ signed (l ∷ outer) (walk m body (here_in (label_over name (inside fs here) i) (cut_of here.input here.part k i) here) (l ∷ outer) t)) →
+pub finish_start_over : (fs : List Frame) (m : Mode) (told : Telling) (first k : ℕ) (name : List ℕ) (body ss : Steps) (children : List ℕ)
+    (here : Here) (l : Level Label) (outer : Stack) (t : ℕ) →
+    ((i : ℕ) → i < k → told (first + i) ≡ signed (l ∷ outer) (walk m body
+        (here_in (label_over name (inside fs here) i) (cut_of here.input here.part k i) here) (l ∷ outer) t)) →
     finish m told (steps_left (step (start name (Some k) body) ss) ∷ in_nursery children ∷ fs) here (l ∷ outer) (done_at t)
     ≡ after (fill told (starts_over name (inside fs here) t first k))
     (finish m told (steps_left ss ∷ in_nursery (children ++ numbered first k) ∷ fs) here (l ∷ outer) (done_at t))
@@ -273,5 +325,6 @@ unfolding walk
 finish_start_over fs m told first k name body ss children here l outer t h =
     finish_step (in_nursery children ∷ fs) m told (start name (Some k) body) ss here (l ∷ outer) t
     ∙ (ap (λ (r : Result). finish m told (steps_left ss ∷ in_nursery children ∷ fs) here (l ∷ outer) r)
-    (each_started told name (inside fs here) t first k (λ i. signed (l ∷ outer) (walk m body (here_in (label_over name (inside fs here) i) (cut_of here.input here.part k i) here) (l ∷ outer) t)) h)
+    (each_started told name (inside fs here) t first k (λ i. signed (l ∷ outer)
+        (walk m body (here_in (label_over name (inside fs here) i) (cut_of here.input here.part k i) here) (l ∷ outer) t)) h)
     ∙ finish_started fs m told ss children (numbered first k) here l outer t (fill told (starts_over name (inside fs here) t first k)))

@@ -86,7 +86,8 @@ same_first_sign d None None h = refl
 same_first_sign d None (Some m) h =
     let e = h (m + 1) (ap (λ (x : Tick). upto (m + 1) x) (sym (earlier_never d))) in
     absurd (omega arith)
-same_first_sign d (Some n) u h = by_sign u (h (n + 1) (least_same (upto (n + 1) d) (upto_most (n + 1) d) ∙ sym (upto_earlier (n + 1) d (Some (n + 1)))))
+same_first_sign d (Some n) u h =
+    by_sign u (h (n + 1) (least_same (upto (n + 1) d) (upto_most (n + 1) d) ∙ sym (upto_earlier (n + 1) d (Some (n + 1)))))
   where
     least_same : (x : ℕ) → x ≤ n + 1 → x ≡ min x (min (n + 1) (n + 1))
     least_same x le = omega arith

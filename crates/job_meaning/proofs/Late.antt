@@ -79,7 +79,8 @@ pub late_slept : (a : Tick) (n t : ℕ) → Late t (slept a n t)
 late_slept None n t = late_done t (t + n) (omega arith)
 late_slept (Some from) n t = by_now (nat_le from t) (nat_le from (t + n)) refl
   where
-    by_now : (now due : Bool) → nat_le from t ≡ now → Late t (if now then raised_at cancelled t else (if due then raised_at cancelled from else done_at (t + n)))
+    by_now : (now due : Bool) → nat_le from t ≡ now →
+        Late t (if now then raised_at cancelled t else (if due then raised_at cancelled from else done_at (t + n)))
     by_now true due e = late_raised cancelled t t (omega arith)
     by_now false true e = late_raised cancelled t from (grind (arith, nat_tests))
     by_now false false e = late_done t (t + n) (omega arith)
@@ -113,7 +114,8 @@ late_block m kind label t d shield st inside h =
     let inner : Late t (inside (from_of m label d inside)) = h (from_of m label d inside) in
     record {
       ends = inner.ends;
-      timed = (omega arith, timed_followed t (inside (from_of m label d inside)).log (entry (inside (from_of m label d inside)).end _ nil) inner.timed (inner.ends, tt));
+      timed = (omega arith, timed_followed t (inside (from_of m label d inside)).log (entry (inside (from_of m label d inside)).end _ nil)
+          inner.timed (inner.ends, tt));
     }
 
 pub late_signed : (t : ℕ) (st : Stack) (r : Result) → Late t r → Late t (signed st r)
@@ -162,7 +164,8 @@ late_each (suc k) go t ends h =
     late_joined t (each k go t) (go k) (late_each k go t ends h)
     (subst (λ (u : ℕ). Late u (go k)) (sym (each_ends k go t ends)) (h k))
 
-pub late_handled : (t : ℕ) (wanted : Wanted) (r : Result) (go : ℕ → Result) → Late t r → ((u : ℕ) → Late u (go u)) → Late t (handled wanted r go)
+pub late_handled : (t : ℕ) (wanted : Wanted) (r : Result) (go : ℕ → Result) → Late t r → ((u : ℕ) → Late u (go u)) →
+    Late t (handled wanted r go)
 unfolding handled
 late_handled t wanted r go h k = by_exc r.exc
   where
@@ -212,10 +215,12 @@ mutual
   late_step m (attempt body handler cleanup) here st t =
       late_cleanup m cleanup here st _ t (late_handler m handler here st _ t (late m body here st t))
 
-  pub late_handler : (m : Mode) (x : Handled) (here : Here) (st : Stack) (r : Result) (t : ℕ) → Late t r → Late t (walk_handler m x here st r)
+  pub late_handler : (m : Mode) (x : Handled) (here : Here) (st : Stack) (r : Result) (t : ℕ) → Late t r →
+      Late t (walk_handler m x here st r)
   late_handler m unhandled here st r t h = h
   late_handler m (except name body) here st r t h = late_handled t _ r _ h (λ u. late m body here st u)
 
-  pub late_cleanup : (m : Mode) (x : Cleaned) (here : Here) (st : Stack) (r : Result) (t : ℕ) → Late t r → Late t (walk_cleanup m x here st r)
+  pub late_cleanup : (m : Mode) (x : Cleaned) (here : Here) (st : Stack) (r : Result) (t : ℕ) → Late t r →
+      Late t (walk_cleanup m x here st r)
   late_cleanup m uncleaned here st r t h = h
   late_cleanup m (finally body) here st r t h = late_cleaned t r _ h (λ u. late m body here st u)

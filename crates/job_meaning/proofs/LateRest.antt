@@ -12,24 +12,28 @@ pub late_left : (t : ℕ) (kind : Kind) (l : Level Label) (outer : Stack) (r : R
 late_left t kind l outer r h =
     record {
       ends = h.ends;
-      timed = timed_followed t r.log (entry r.end (left_as kind l.label (left_with (catches l.from l.shield outer r.end) r.exc).caught) nil) h.timed (h.ends, tt);
+      timed = timed_followed t r.log (entry r.end (left_as kind l.label (left_with (catches l.from l.shield outer r.end) r.exc).caught) nil)
+          h.timed (h.ends, tt);
     }
 
 late_with_outcome : (t : ℕ) (o : Option Exc) (r : Result) → Late t r → Late t (with_outcome o r)
 late_with_outcome t o r h = record { ends = h.ends; timed = h.timed }
 
 -- what a task comes to is as late as what it has come to so far
-pub late_finish : (fs : List Frame) (t : ℕ) (m : Mode) (told : Telling) (here : Here) (st : Stack) (r : Result) → Late t r → Late t (finish m told fs here st r)
+pub late_finish : (fs : List Frame) (t : ℕ) (m : Mode) (told : Telling) (here : Here) (st : Stack) (r : Result) → Late t r →
+    Late t (finish m told fs here st r)
 unfolding finish gathered
 late_finish [] t m told here st r h = late_signed t st r h
 late_finish (steps_left ss ∷ fs) t m told here st r h =
     late_finish fs t m told here st _ (late_and_then t r (λ u. walk m ss (inside fs here) st u) h (λ u. late m ss (inside fs here) st u))
 late_finish (in_scope fail ∷ fs) t m told here [] r h = late_finish fs t m told here [] r h
-late_finish (in_scope fail ∷ fs) t m told here (l ∷ outer) r h = late_finish fs t m told here outer _ (late_left t (a_scope fail) l outer r h)
+late_finish (in_scope fail ∷ fs) t m told here (l ∷ outer) r h =
+    late_finish fs t m told here outer _ (late_left t (a_scope fail) l outer r h)
 late_finish (in_nursery children ∷ fs) t m told here [] r h = late_finish fs t m told here [] r h
 late_finish (in_nursery children ∷ fs) t m told here (l ∷ outer) r h =
     late_finish fs t m told here outer _
-    (late_left t a_nursery l outer _ (late_gathered t l.label (with_children (told_members told children) (signed (l ∷ outer) r)) (late_children (late_signed t (l ∷ outer) r h))))
+    (late_left t a_nursery l outer _ (late_gathered t l.label (with_children (told_members told children) (signed (l ∷ outer) r))
+        (late_children (late_signed t (l ∷ outer) r h))))
   where
     late_children : Late t (signed (l ∷ outer) r) → Late t (with_children (told_members told children) (signed (l ∷ outer) r))
     late_children k = record { ends = k.ends; timed = k.timed }
@@ -37,10 +41,13 @@ late_finish (in_try handler cleanup ∷ fs) t m told here st r h =
     late_finish fs t m told here st _ (late_cleanup m cleanup (inside fs here) st _ t (late_handler m handler (inside fs here) st r t h))
 late_finish (in_handler rest cleanup ∷ fs) t m told here st r h =
     late_finish fs t m told here st _ (late_cleanup m cleanup (inside fs here) st _ t (late_with_outcome t (handler_exc r.exc rest) r h))
-late_finish (in_cleanup outcome ∷ fs) t m told here st r h = late_finish fs t m told here st _ (late_with_outcome t (outcome_after outcome r.exc) r h)
+late_finish (in_cleanup outcome ∷ fs) t m told here st r h =
+    late_finish fs t m told here st _ (late_with_outcome t (outcome_after outcome r.exc) r h)
 
 -- who waits for children that end at tick t or later is as late
-pub late_waited : (t : ℕ) (ms : List Member) (u : ℕ) (exc : Option Exc) (l : Level Label) (outer : Stack) → t ≤ latest u ms → Late t (waited ms u exc l outer)
+pub late_waited : (t : ℕ) (ms : List Member) (u : ℕ) (exc : Option Exc) (l : Level Label) (outer : Stack) → t ≤ latest u ms →
+    Late t (waited ms u exc l outer)
 unfolding gathered
 late_waited t ms u exc l outer h =
-    late_left t a_nursery l outer (gathered l.label (record { end = u; exc = exc; members = ms; log = nil })) (record { ends = h; timed = tt })
+    late_left t a_nursery l outer (gathered l.label (record { end = u; exc = exc; members = ms; log = nil }))
+        (record { ends = h; timed = tt })

@@ -15,7 +15,8 @@ pub with_part_holds : (o : Option Exc) (es : Excs) → hold_cancelled (with_part
 with_part_holds None es = refl
 with_part_holds (Some e) es = refl
 
-pub with_exc_holds : (o : Option Exc) (es : List Exc) → hold_cancelled (parts_of (with_exc o es)) ≡ (some_cancelled o || hold_cancelled (parts_of es))
+pub with_exc_holds : (o : Option Exc) (es : List Exc) → hold_cancelled (parts_of (with_exc o es))
+    ≡ (some_cancelled o || hold_cancelled (parts_of es))
 with_exc_holds None es = refl
 with_exc_holds (Some e) es = refl
 
@@ -62,13 +63,15 @@ mutual
       ∙ or_neither _ _ (drop_holds_none e) (drop_parts_hold_none es)
 
 -- `TooSlow` is no `Cancelled`
-pub slow_holds : (b : Bool) (label : Label) (t : ℕ) (o : Option Exc) → IsTrue (some_cancelled (slow_if b label t o)) → IsTrue (some_cancelled o)
+pub slow_holds : (b : Bool) (label : Label) (t : ℕ) (o : Option Exc) → IsTrue (some_cancelled (slow_if b label t o)) →
+    IsTrue (some_cancelled o)
 slow_holds true label t None h = h
 slow_holds true label t (Some e) h = h
 slow_holds false label t o h = h
 
 -- what leaves a block holds a `Cancelled` only where the block did not catch, and its inside held one
-pub left_holds : (kind : Kind) (label : Label) (t : ℕ) (b : Bool) (o : Option Exc) → IsTrue (some_cancelled (exc_after kind label t (left_with b o))) → (b ≡ false) × IsTrue (some_cancelled o)
+pub left_holds : (kind : Kind) (label : Label) (t : ℕ) (b : Bool) (o : Option Exc) →
+    IsTrue (some_cancelled (exc_after kind label t (left_with b o))) → (b ≡ false) × IsTrue (some_cancelled o)
 left_holds (a_scope fail) label t b o h = of_left b o (slow_holds (fail && (left_with b o).caught) label t (left_with b o).exc h)
   where
     of_left : (c : Bool) (p : Option Exc) → IsTrue (some_cancelled (left_with c p).exc) → (c ≡ false) × IsTrue (some_cancelled p)

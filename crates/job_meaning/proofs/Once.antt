@@ -28,7 +28,8 @@ pub once_followed : (a b : Log) → GivesOnce a → GivesOnce b → ((l : Label)
 once_followed nil b h k differ = k
 once_followed (entry t e rest) b h k differ = once_followed rest b h k differ
 once_followed (sign l t rest) b h k differ = once_followed rest b h k differ
-once_followed (entered l t d rest) b h k differ = (λ i. neither (gives_followed l rest b i), once_followed rest b h.1 k (λ m i. differ m (inr i)))
+once_followed (entered l t d rest) b h k differ =
+    (λ i. neither (gives_followed l rest b i), once_followed rest b h.1 k (λ m i. differ m (inr i)))
   where
     neither : Gives l rest ⊎ Gives l b → ⊥
     neither (inl i) = h.0 i
@@ -55,7 +56,8 @@ pub record Unique (r : Result) : Type 0 where
 unique_joined : (r q : Result) → Unique r → Unique q → ((l : Label) → Gives l r.log → Gives l q.log → ⊥) → Unique (joined r q)
 unique_joined r q h k differ = record { once = once_followed r.log q.log h.once k.once differ }
 
-unique_and_then : (r : Result) (go : ℕ → Result) → Unique r → ((u : ℕ) → Unique (go u)) → ((u : ℕ) (l : Label) → Gives l r.log → Gives l (go u).log → ⊥) → Unique (and_then r go)
+unique_and_then : (r : Result) (go : ℕ → Result) → Unique r → ((u : ℕ) → Unique (go u)) →
+    ((u : ℕ) (l : Label) → Gives l r.log → Gives l (go u).log → ⊥) → Unique (and_then r go)
 unfolding and_then
 unique_and_then r go h k differ = by_exc r.exc
   where
@@ -74,7 +76,8 @@ unique_sleeping st n t = by_sight (sight st)
     by_sight None = unique_done (t + n)
     by_sight (Some from) = by_now (nat_le from t) (nat_le from (t + n))
       where
-        by_now : (now due : Bool) → Unique (if now then raised_at cancelled t else (if due then raised_at cancelled from else done_at (t + n)))
+        by_now : (now due : Bool) → Unique (if now then raised_at cancelled t else
+            (if due then raised_at cancelled from else done_at (t + n)))
         by_now true due = record { once = tt }
         by_now false true = record { once = tt }
         by_now false false = record { once = tt }
@@ -107,7 +110,8 @@ unique_block m kind label t d shield st inside h own = at_from (from_of m label 
   where
     at_from : (f : Tick) → Unique (left_from kind label t d shield st f (inside f))
     at_from f =
-        record { once = (λ i. not_there (gives_followed label (inside f).log _ i), once_followed (inside f).log _ (h f).once tt (λ l i j. j)) }
+        record { once = (λ i. not_there (gives_followed label (inside f).log _ i),
+            once_followed (inside f).log _ (h f).once tt (λ l i j. j)) }
       where
         not_there : Gives label (inside f).log ⊎ ⊥ → ⊥
         not_there (inl i) = own f i
@@ -116,7 +120,8 @@ unique_block m kind label t d shield st inside h own = at_from (from_of m label 
 unique_signed : (st : Stack) (r : Result) → Unique r → Unique (signed st r)
 unfolding signed
 unique_signed st r h =
-    record { once = once_followed r.log (sign_if r.exc (home_of st) r.end) h.once (once_home r.exc) (λ l i j. gives_home st r.exc r.end l j) }
+    record { once = once_followed r.log (sign_if r.exc (home_of st) r.end) h.once (once_home r.exc) (λ l i j. gives_home st r.exc r.end l j)
+        }
   where
     once_home : (o : Option Exc) → GivesOnce (sign_if o (home_of st) r.end)
     once_home None = tt
@@ -154,7 +159,8 @@ unique_each st names path (suc n) go t h k = unique_joined (each n go t) (go n) 
         apart : Before l → Belongs names (path ++ n ∷ []) l → ⊥
         apart b c = behind_other names names path b.0 n l b.1 b.2 c
 
-unique_handled : (wanted : Wanted) (r : Result) (go : ℕ → Result) → Unique r → ((u : ℕ) → Unique (go u)) → ((u : ℕ) (l : Label) → Gives l r.log → Gives l (go u).log → ⊥) → Unique (handled wanted r go)
+unique_handled : (wanted : Wanted) (r : Result) (go : ℕ → Result) → Unique r → ((u : ℕ) → Unique (go u)) →
+    ((u : ℕ) (l : Label) → Gives l r.log → Gives l (go u).log → ⊥) → Unique (handled wanted r go)
 unfolding handled
 unique_handled wanted r go h k differ = by_exc r.exc
   where
@@ -169,14 +175,16 @@ unique_handled wanted r go h k differ = by_exc r.exc
     by_exc None = h
     by_exc (Some e) = by_match (keep wanted e) (drop wanted e)
 
-unique_cleaned : (r : Result) (go : ℕ → Result) → Unique r → ((u : ℕ) → Unique (go u)) → ((u : ℕ) (l : Label) → Gives l r.log → Gives l (go u).log → ⊥) → Unique (cleaned r go)
+unique_cleaned : (r : Result) (go : ℕ → Result) → Unique r → ((u : ℕ) → Unique (go u)) →
+    ((u : ℕ) (l : Label) → Gives l r.log → Gives l (go u).log → ⊥) → Unique (cleaned r go)
 unfolding cleaned
 unique_cleaned r go h k differ =
     let both : Unique (joined r (go r.end)) = unique_joined r (go r.end) h (k r.end) (differ r.end) in
     record { once = both.once }
 
 -- two blocks whose names are given once give no label in common
-differ_by_names : (st : Stack) (a b : List (List ℕ)) (path : List ℕ) (r q : Result) → Distinct (a ++ b) → Tidy st (Belongs a path) r → Tidy st (Belongs b path) q →
+differ_by_names : (st : Stack) (a b : List (List ℕ)) (path : List ℕ) (r q : Result) → Distinct (a ++ b) → Tidy st (Belongs a path) r →
+    Tidy st (Belongs b path) q →
     (l : Label) → Gives l r.log → Gives l q.log → ⊥
 differ_by_names st a b path r q distinct h k l i j = apart (h.gives l i) (k.gives l j)
   where
@@ -215,7 +223,8 @@ mutual
       (λ f. unique_gathered _ _ (unique_signed _ _ (unique m body here _ t distinct.1)))
       (λ f i. distinct.0
       ((tidy_gathered (within (label_here name here) shield f st) (Belongs (names_of body) here.path) (label_here name here) _
-      (tidy_signed (within (label_here name here) shield f st) _ _ (tidy m body here (within (label_here name here) shield f st) t))).gives _ i).named)
+      (tidy_signed (within (label_here name here) shield f st) _ _ (tidy m body here (within (label_here name here) shield f st) t))).gives
+          _ i).named)
   unique_step m (start name None body) here st t distinct =
       unique_child _ t _
       (λ i. distinct.0 ((tidy_signed st _ _ (tidy m body (here_in (label_here name here) here.part here) st t)).gives _ i).named)
@@ -224,7 +233,8 @@ mutual
       unique_each st (name ∷ names_of body) here.path k _ t
       (λ i. tidy_over m name body here (cut_of here.input here.part k i) i st t)
       (λ i. unique_child _ t _
-      (λ j. distinct.0 ((tidy_signed st _ _ (tidy m body (here_in (label_over name here i) (cut_of here.input here.part k i) here) st t)).gives _ j).named)
+      (λ j. distinct.0 ((tidy_signed st _ _ (tidy m body (here_in (label_over name here i) (cut_of here.input here.part k i) here) st
+          t)).gives _ j).named)
       (unique_signed st _ (unique m body _ st t distinct.1)))
   unique_step m (attempt body handler cleanup) here st t distinct =
       unique_cleanup m cleanup here st _ (names_of body ++ handled_names handler)
@@ -232,16 +242,19 @@ mutual
       (unique_handler m handler here st _ (names_of body) (tidy m body here st t)
       (distinct_left (names_of body ++ handled_names handler) (cleaned_names cleanup) distinct)
       (unique m body here st t
-      (distinct_left (names_of body) (handled_names handler) (distinct_left (names_of body ++ handled_names handler) (cleaned_names cleanup) distinct))))
+      (distinct_left (names_of body) (handled_names handler) (distinct_left (names_of body ++ handled_names handler) (cleaned_names cleanup)
+          distinct))))
 
-  pub unique_handler : (m : Mode) (x : Handled) (here : Here) (st : Stack) (r : Result) (names : List (List ℕ)) → Tidy st (Belongs names here.path) r →
+  pub unique_handler : (m : Mode) (x : Handled) (here : Here) (st : Stack) (r : Result) (names : List (List ℕ)) →
+      Tidy st (Belongs names here.path) r →
       Distinct (names ++ handled_names x) → Unique r → Unique (walk_handler m x here st r)
   unique_handler m unhandled here st r names h distinct k = k
   unique_handler m (except name body) here st r names h distinct k =
       unique_handled _ r _ k (λ u. unique m body here st u (distinct_right names (names_of body) distinct))
       (λ u. differ_by_names st names (names_of body) here.path r _ distinct h (tidy m body here st u))
 
-  pub unique_cleanup : (m : Mode) (x : Cleaned) (here : Here) (st : Stack) (r : Result) (names : List (List ℕ)) → Tidy st (Belongs names here.path) r →
+  pub unique_cleanup : (m : Mode) (x : Cleaned) (here : Here) (st : Stack) (r : Result) (names : List (List ℕ)) →
+      Tidy st (Belongs names here.path) r →
       Distinct (names ++ cleaned_names x) → Unique r → Unique (walk_cleanup m x here st r)
   unique_cleanup m uncleaned here st r names h distinct k = k
   unique_cleanup m (finally body) here st r names h distinct k =
@@ -310,7 +323,8 @@ times_once l (task m s u e own rest) h = by_test (same_label l m) refl (times_on
     none_rest : l ≡ m → times_given l rest ≡ 0
     none_rest e = times_none l rest (λ i. h.0 (inr (subst (λ (x : Label). Gives x rest) e i)))
 
-    by_own : (0 < times_given l own) ⊎ (times_given l own ≤ 0) → times_given l own ≤ 1 → times_given l rest ≤ 1 → times_given l own + times_given l rest ≤ 1
+    by_own : (0 < times_given l own) ⊎ (times_given l own ≤ 0) → times_given l own ≤ 1 → times_given l rest ≤ 1 →
+        times_given l own + times_given l rest ≤ 1
     by_own (inl there) i j = let n = times_none l rest (λ k. h.3 l (times_some l own there) k) in omega arith
     by_own (inr none) i j = omega arith
 
@@ -333,10 +347,12 @@ enters_once l a h = let i = entered_given l a in let j = times_once l a h in ome
 
 -- no label is given twice in a walk of a job whose names are given once
 pub job_gives_once : (m : Mode) (job : Tree) (input : List ℕ) → GivesNamesOnce job → GivesOnce (root_walk m job input).log
-job_gives_once m job input once = (unique m job.steps (root_here job input) [] 0 (distinct_by_bytes (job.name ∷ names_of job.steps) once).1).once
+job_gives_once m job input once =
+    (unique m job.steps (root_here job input) [] 0 (distinct_by_bytes (job.name ∷ names_of job.steps) once).1).once
 
 -- nor with the root, whose label is the job's name
-pub labels_once : (m : Mode) (job : Tree) (input : List ℕ) → GivesNamesOnce job → (l : Label) → times_given l (root_log job (root_walk m job input)) ≤ 1
+pub labels_once : (m : Mode) (job : Tree) (input : List ℕ) → GivesNamesOnce job → (l : Label) →
+    times_given l (root_log job (root_walk m job input)) ≤ 1
 labels_once m job input once l = times_once l (root_log job (root_walk m job input)) (none, job_gives_once m job input once, tt, λ n i j. j)
   where
     distinct : Distinct (job.name ∷ names_of job.steps)

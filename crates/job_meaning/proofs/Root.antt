@@ -55,7 +55,8 @@ root_sleeping st n t = by_sight (sight st) (λ u h. h)
         at_from : IsTrue (seen st from)
         at_from = sees from (grind (arith, nat_tests))
 
-        by_now : (now due : Bool) → (IsTrue now → IsTrue (seen st t)) → Rooted st (if now then raised_at cancelled t else (if due then raised_at cancelled from else done_at (t + n)))
+        by_now : (now due : Bool) → (IsTrue now → IsTrue (seen st t)) →
+            Rooted st (if now then raised_at cancelled t else (if due then raised_at cancelled from else done_at (t + n)))
         by_now true due h = record { exc = h; members = tt }
         by_now false true h = record { exc = λ k. at_from; members = tt }
         by_now false false h = root_done st (t + n)
@@ -76,7 +77,8 @@ root_cancelling st label t = record { exc = λ h. absurd (false≢true h); membe
 -- where a block sees a cancellation and does not catch, its outside sees it
 pub seen_outside : (label : Label) (shield : Bool) (from : Tick) (st : Stack) (t : ℕ) →
     catches from shield st t ≡ false → IsTrue (seen (within label shield from st) t) → IsTrue (seen st t)
-seen_outside label shield from st t c h = outside (reached from t) shield (seen st t) c (sym (seen_cons (record { label = label; shield = shield; from = from }) st t) ∙ h)
+seen_outside label shield from st t c h =
+    outside (reached from t) shield (seen st t) c (sym (seen_cons (record { label = label; shield = shield; from = from }) st t) ∙ h)
   where
     outside : (a s x : Bool) → (a && (s || not x)) ≡ false → IsTrue (a || (not s && x)) → IsTrue x
     outside a s x e k = grind arith
@@ -87,7 +89,9 @@ unfolding block
 root_block m kind label t d shield st inside h =
     record { exc = leaves (from_of m label d inside); members = tt }
   where
-    leaves : (from : Tick) → IsTrue (some_cancelled (exc_after kind label (inside from).end (left_with (catches from shield st (inside from).end) (inside from).exc))) → IsTrue (seen st (inside from).end)
+    leaves : (from : Tick) → IsTrue
+        (some_cancelled (exc_after kind label (inside from).end (left_with (catches from shield st (inside from).end) (inside from).exc))) →
+        IsTrue (seen st (inside from).end)
     leaves from k =
         let both = left_holds kind label (inside from).end (catches from shield st (inside from).end) (inside from).exc k in
         seen_outside label shield from st (inside from).end both.0 ((h from).exc both.1)
@@ -97,7 +101,8 @@ unfolding signed
 root_signed st r h = record { exc = h.exc; members = h.members }
 
 -- a member's `Cancelled` is still seen when the last member ends
-pub members_hold : (st : Stack) (t : ℕ) (ms : List Member) → MembersSeen st ms → IsTrue (hold_cancelled (parts_of (excs_of ms))) → IsTrue (seen st (latest t ms))
+pub members_hold : (st : Stack) (t : ℕ) (ms : List Member) → MembersSeen st ms → IsTrue (hold_cancelled (parts_of (excs_of ms))) →
+    IsTrue (seen st (latest t ms))
 members_hold st t [] h k = absurd (false≢true k)
 members_hold st t (m ∷ ms) h k =
     either_one (members_hold st (max t m.end) ms h.1) (or_cases _ _ (sym (with_exc_holds m.exc (excs_of ms)) ∙ k))
@@ -116,9 +121,11 @@ members_hold st t (m ∷ ms) h k =
 pub root_gathered : (st : Stack) (label : Label) (r : Result) → Rooted st r → Rooted st (gathered label r)
 unfolding gathered
 root_gathered st label r h =
-    record { exc = λ k. either_one (or_cases _ _ (sym (with_exc_holds r.exc (excs_of r.members)) ∙ (sym (group_holds (by_nursery label) (parts_of (with_exc r.exc (excs_of r.members)))) ∙ k))); members = tt }
+    record { exc = λ k. either_one (or_cases _ _ (sym (with_exc_holds r.exc (excs_of r.members))
+        ∙ (sym (group_holds (by_nursery label) (parts_of (with_exc r.exc (excs_of r.members)))) ∙ k))); members = tt }
   where
-    either_one : IsTrue (some_cancelled r.exc) ⊎ IsTrue (hold_cancelled (parts_of (excs_of r.members))) → IsTrue (seen st (latest r.end r.members))
+    either_one : IsTrue (some_cancelled r.exc) ⊎ IsTrue (hold_cancelled (parts_of (excs_of r.members))) →
+        IsTrue (seen st (latest r.end r.members))
     either_one (inl body) = stays_seen st r.end (latest r.end r.members) (latest_ends r.end r.members) (h.exc body)
     either_one (inr rest) = members_hold st r.end r.members h.members rest
 
@@ -131,14 +138,17 @@ root_each st zero go t h = root_done st t
 root_each st (suc k) go t h = root_joined st (each k go t) (go k) (root_each st k go t h) (h k)
 
 -- a handler ends no earlier than the body, so what the body's rest holds is still seen
-pub root_handled : (st : Stack) (wanted : Wanted) (r : Result) (go : ℕ → Result) → Rooted st r → ((u : ℕ) → Rooted st (go u)) → ((u : ℕ) → Late u (go u)) → Rooted st (handled wanted r go)
+pub root_handled : (st : Stack) (wanted : Wanted) (r : Result) (go : ℕ → Result) → Rooted st r → ((u : ℕ) → Rooted st (go u)) →
+    ((u : ℕ) → Late u (go u)) → Rooted st (handled wanted r go)
 unfolding handled
 root_handled st wanted r go h k later = by_exc r.exc h.exc
   where
     still : IsTrue (seen st r.end) → IsTrue (seen st (go r.end).end)
     still s = stays_seen st r.end (go r.end).end (later r.end).ends s
 
-    outcome : (o rest : Option Exc) → (IsTrue (some_cancelled o) → IsTrue (seen st (go r.end).end)) → (IsTrue (some_cancelled rest) → IsTrue (seen st r.end)) → IsTrue (some_cancelled (handler_exc o rest)) → IsTrue (seen st (go r.end).end)
+    outcome : (o rest : Option Exc) → (IsTrue (some_cancelled o) → IsTrue (seen st (go r.end).end)) →
+        (IsTrue (some_cancelled rest) → IsTrue (seen st r.end)) → IsTrue (some_cancelled (handler_exc o rest)) →
+        IsTrue (seen st (go r.end).end)
     outcome None rest own old e = still (old e)
     outcome (Some x) None own old e = own e
     outcome (Some x) (Some y) own old e = by_part (or_cases (holds_cancelled x) (holds_cancelled y || false) e)
@@ -154,18 +164,22 @@ root_handled st wanted r go h k later = by_exc r.exc h.exc
     by_match : (o rest : Option Exc) → (IsTrue (some_cancelled rest) → IsTrue (seen st r.end)) → Rooted st (handled_if o rest r go)
     by_match None rest old = h
     by_match (Some e) rest old =
-        record { exc = outcome (go r.end).exc rest (k r.end).exc old; members = members_append st r.members (go r.end).members h.members (k r.end).members }
+        record { exc = outcome (go r.end).exc rest (k r.end).exc old; members =
+            members_append st r.members (go r.end).members h.members (k r.end).members }
 
     by_exc : (o : Option Exc) → (IsTrue (some_cancelled o) → IsTrue (seen st r.end)) → Rooted st (handled_exc o wanted r go)
     by_exc None old = h
     by_exc (Some e) old = by_match (keep wanted e) (drop wanted e) (λ i. old (pruned_holds e _ i))
 
-pub root_cleaned : (st : Stack) (r : Result) (go : ℕ → Result) → Rooted st r → ((u : ℕ) → Rooted st (go u)) → ((u : ℕ) → Late u (go u)) → Rooted st (cleaned r go)
+pub root_cleaned : (st : Stack) (r : Result) (go : ℕ → Result) → Rooted st r → ((u : ℕ) → Rooted st (go u)) → ((u : ℕ) → Late u (go u)) →
+    Rooted st (cleaned r go)
 unfolding cleaned
 root_cleaned st r go h k later =
-    record { exc = outcome (go r.end).exc (k r.end).exc; members = members_append st r.members (go r.end).members h.members (k r.end).members }
+    record { exc = outcome (go r.end).exc (k r.end).exc; members =
+        members_append st r.members (go r.end).members h.members (k r.end).members }
   where
-    outcome : (o : Option Exc) → (IsTrue (some_cancelled o) → IsTrue (seen st (go r.end).end)) → IsTrue (some_cancelled (outcome_after r.exc o)) → IsTrue (seen st (go r.end).end)
+    outcome : (o : Option Exc) → (IsTrue (some_cancelled o) → IsTrue (seen st (go r.end).end)) →
+        IsTrue (some_cancelled (outcome_after r.exc o)) → IsTrue (seen st (go r.end).end)
     outcome None own e = stays_seen st r.end (go r.end).end (later r.end).ends (h.exc e)
     outcome (Some x) own e = own e
 

@@ -21,16 +21,19 @@ use Rattle.job_meaning.proofs.Tidy.{Tidy, tidy, tidy_step, tidy_handler, tidy_in
 use Rattle.job_meaning.proofs.Fits.{Fits, fits_own, fits_first, fits_second, Apart, apart_tidy, same_first_sign}
 
 -- one after another: the first walk is the same, and then the second
-fits_then : (table : Table) (r : Result) (go : ℕ → Result) → ((u : ℕ) → Apart r.log (go u).log) → (o : Option Exc) → Fits table (then_if o r go).log → Fits table r.log
+fits_then : (table : Table) (r : Result) (go : ℕ → Result) → ((u : ℕ) → Apart r.log (go u).log) → (o : Option Exc) →
+    Fits table (then_if o r go).log → Fits table r.log
 fits_then table r go apart None f = fits_first table r.log (go r.end).log (apart r.end) f
 fits_then table r go apart (Some e) f = f
 
-same_then : (table : Table) (r : Result) (go go' : ℕ → Result) → ((u : ℕ) → Apart r.log (go u).log) → ((u : ℕ) → Fits table (go u).log → go' u ≡ go u) →
+same_then : (table : Table) (r : Result) (go go' : ℕ → Result) → ((u : ℕ) → Apart r.log (go u).log) →
+    ((u : ℕ) → Fits table (go u).log → go' u ≡ go u) →
     (o : Option Exc) → Fits table (then_if o r go).log → then_if o r go' ≡ then_if o r go
 same_then table r go go' apart h None f = ap (λ (q : Result). joined r q) (h r.end (fits_second table r.log (go r.end).log (apart r.end) f))
 same_then table r go go' apart h (Some e) f = refl
 
-settled_and_then : (table : Table) (r q : Result) (go go' : ℕ → Result) → (Fits table r.log → q ≡ r) → ((u : ℕ) → Fits table (go u).log → go' u ≡ go u) →
+settled_and_then : (table : Table) (r q : Result) (go go' : ℕ → Result) → (Fits table r.log → q ≡ r) →
+    ((u : ℕ) → Fits table (go u).log → go' u ≡ go u) →
     ((u : ℕ) → Apart r.log (go u).log) → Fits table (and_then r go).log → and_then q go' ≡ and_then r go
 unfolding and_then
 settled_and_then table r q go go' h k apart f =
@@ -40,7 +43,8 @@ module _ (table : Table) (kind : Kind) (label : Label) (t : ℕ) (d : Tick) (shi
     (own : (f : Tick) → Gives label (inside f).log → ⊥) where
   -- the log of a block behind the entering of its label
   abbrev inner_log : Tick → Log
-  inner_log f = followed_by (inside f).log (entry (inside f).end (left_as kind label (left_with (catches f shield st (inside f).end) (inside f).exc).caught) nil)
+  inner_log f = followed_by (inside f).log (entry (inside f).end
+      (left_as kind label (left_with (catches f shield st (inside f).end) (inside f).exc).caught) nil)
 
   -- the deadline and signs in a block's log are those inside, but for its own deadline
   block_signs : (f : Tick) (l : Label) → least_sign l (left_from kind label t d shield st f (inside f)).log ≡ least_sign l (inside f).log
@@ -56,18 +60,22 @@ module _ (table : Table) (kind : Kind) (label : Label) (t : ℕ) (d : Tick) (shi
           rest = deadline_followed l (inside f).log _ ∙ (either_nothing (deadline_of l (inside f).log) ∙ e)
 
           found : (b : Bool) → same_label l label ≡ b → either (deadline_if b d) (deadline_of l (inner_log f)) ≡ Some x
-          found true i = absurd (own f (subst (λ (m : Label). Gives m (inside f).log) (same_label_equal l label i) (deadline_entered l (inside f).log x e)))
+          found true i = absurd (own f (subst (λ (m : Label). Gives m (inside f).log) (same_label_equal l label i)
+              (deadline_entered l (inside f).log x e)))
           found false i = rest
 
-  fits_label : (f : Tick) → Fits table (left_from kind label t d shield st f (inside f)).log → table label ≡ from_by d (least_sign label (inside f).log)
+  fits_label : (f : Tick) → Fits table (left_from kind label t d shield st f (inside f)).log →
+      table label ≡ from_by d (least_sign label (inside f).log)
   fits_label f h =
       h.each_label label d (ap (λ (b : Bool). either (deadline_if b d) (deadline_of label (inner_log f))) (same_label_itself label))
       ∙ ap (λ (s : Tick). from_by d s) (block_signs f label)
 
   -- a block: the table has its from, and inside all is the same
-  settled_block : ((f : Tick) → Late t (inside f)) → ((c : ℕ) (f g : Tick) → upto c f ≡ upto c g → clipped c (inside f).log ≡ clipped c (inside g).log) →
+  settled_block : ((f : Tick) → Late t (inside f)) → ((c : ℕ) (f g : Tick) → upto c f ≡ upto c g →
+      clipped c (inside f).log ≡ clipped c (inside g).log) →
       ((f : Tick) → Fits table (inside f).log → inside' f ≡ inside f) →
-      Fits table (block two_walks kind label t d shield st inside).log → block (by_table table) kind label t d shield st inside' ≡ block two_walks kind label t d shield st inside
+      Fits table (block two_walks kind label t d shield st inside).log →
+          block (by_table table) kind label t d shield st inside' ≡ block two_walks kind label t d shield st inside
   unfolding block
   settled_block later causal same h =
       let first : Tick = least_sign label (inside d).log in
@@ -80,7 +88,8 @@ module _ (table : Table) (kind : Kind) (label : Label) (t : ℕ) (d : Tick) (shi
       ∙ ap (λ (r : Result). left_from kind label t d shield st from r) (same from (fits_inside from h))
 
 -- a sign for the home of a stack is for no label that a walk on it enters
-home_apart : (st : Stack) (P : Label → Type 0) (r : Result) → Tidy st P r → ((l : Label) → OnStack l st → P l → ⊥) → Apart r.log (sign_if r.exc (home_of st) r.end)
+home_apart : (st : Stack) (P : Label → Type 0) (r : Result) → Tidy st P r → ((l : Label) → OnStack l st → P l → ⊥) →
+    Apart r.log (sign_if r.exc (home_of st) r.end)
 home_apart st P r h fresh =
     record {
       unsigned_after = λ l e s. fresh l (signs_home st r.exc r.end l s) (h.gives l e);
@@ -94,17 +103,20 @@ unfolding signed
 settled_signed table st P r q h fresh same f =
     ap (λ (x : Result). signed st x) (same (fits_first table r.log (sign_if r.exc (home_of st) r.end) (home_apart st P r h fresh) f))
 
-settled_gathered : (table : Table) (label : Label) (r q : Result) → (Fits table r.log → q ≡ r) → Fits table (gathered label r).log → gathered label q ≡ gathered label r
+settled_gathered : (table : Table) (label : Label) (r q : Result) → (Fits table r.log → q ≡ r) → Fits table (gathered label r).log →
+    gathered label q ≡ gathered label r
 unfolding gathered
 settled_gathered table label r q same f = ap (λ (x : Result). gathered label x) (same f)
 
 -- a child's log stands alone in what it leaves
-settled_child : (table : Table) (label : Label) (t : ℕ) (r q : Result) → (Fits table r.log → q ≡ r) → Fits table (child label t r).log → child label t q ≡ child label t r
+settled_child : (table : Table) (label : Label) (t : ℕ) (r q : Result) → (Fits table r.log → q ≡ r) → Fits table (child label t r).log →
+    child label t q ≡ child label t r
 unfolding child
 settled_child table label t r q same f = ap (λ (x : Result). child label t x) (same (record { each_label = own }))
   where
     own : (l : Label) (d : Tick) → deadline_of l r.log ≡ Some d → table l ≡ from_by d (least_sign l r.log)
-    own l d e = f.each_label l d (either_nothing (deadline_of l r.log) ∙ e) ∙ ap (λ (s : Tick). from_by d s) (earlier_never (least_sign l r.log))
+    own l d e = f.each_label l d (either_nothing (deadline_of l r.log) ∙ e)
+        ∙ ap (λ (s : Tick). from_by d s) (earlier_never (least_sign l r.log))
 
 -- the children of one `start .. over` enter different labels
 settled_each : (table : Table) (st : Stack) (names : List (List ℕ)) (path : List ℕ) (k : ℕ) (go go' : ℕ → Result) (t : ℕ) →
@@ -134,7 +146,8 @@ settled_each table st names path (suc k) go go' t fresh h same f =
     both e i = ap (λ (x : Result). joined x (go' k)) e ∙ ap (λ (x : Result). joined (each k go t) x) i
 
 -- a handler or a cleanup behind a body that is the same
-fits_handled : (table : Table) (wanted : Wanted) (r : Result) (go : ℕ → Result) → ((u : ℕ) → Apart r.log (go u).log) → (o : Option Exc) → Fits table (handled_exc o wanted r go).log → Fits table r.log
+fits_handled : (table : Table) (wanted : Wanted) (r : Result) (go : ℕ → Result) → ((u : ℕ) → Apart r.log (go u).log) → (o : Option Exc) →
+    Fits table (handled_exc o wanted r go).log → Fits table r.log
 fits_handled table wanted r go apart None f = f
 fits_handled table wanted r go apart (Some e) f = by_match (keep wanted e) (drop wanted e) f
   where
@@ -142,21 +155,26 @@ fits_handled table wanted r go apart (Some e) f = by_match (keep wanted e) (drop
     by_match None rest h = h
     by_match (Some x) rest h = fits_first table r.log (go r.end).log (apart r.end) h
 
-same_handled : (table : Table) (wanted : Wanted) (r : Result) (go go' : ℕ → Result) → ((u : ℕ) → Apart r.log (go u).log) → ((u : ℕ) → Fits table (go u).log → go' u ≡ go u) →
+same_handled : (table : Table) (wanted : Wanted) (r : Result) (go go' : ℕ → Result) → ((u : ℕ) → Apart r.log (go u).log) →
+    ((u : ℕ) → Fits table (go u).log → go' u ≡ go u) →
     (o : Option Exc) → Fits table (handled_exc o wanted r go).log → handled_exc o wanted r go' ≡ handled_exc o wanted r go
 same_handled table wanted r go go' apart same None f = refl
 same_handled table wanted r go go' apart same (Some e) f = by_match (keep wanted e) (drop wanted e) f
   where
     by_match : (o rest : Option Exc) → Fits table (handled_if o rest r go).log → handled_if o rest r go' ≡ handled_if o rest r go
     by_match None rest h = refl
-    by_match (Some x) rest h = ap (λ (q : Result). handled_by rest r q) (same r.end (fits_second table r.log (go r.end).log (apart r.end) h))
+    by_match (Some x) rest h = ap (λ (q : Result). handled_by rest r q)
+        (same r.end (fits_second table r.log (go r.end).log (apart r.end) h))
 
-settled_handled : (table : Table) (wanted : Wanted) (r : Result) (go go' : ℕ → Result) → ((u : ℕ) → Apart r.log (go u).log) → ((u : ℕ) → Fits table (go u).log → go' u ≡ go u) →
+settled_handled : (table : Table) (wanted : Wanted) (r : Result) (go go' : ℕ → Result) → ((u : ℕ) → Apart r.log (go u).log) →
+    ((u : ℕ) → Fits table (go u).log → go' u ≡ go u) →
     Fits table (handled wanted r go).log → Fits table r.log × (handled wanted r go' ≡ handled wanted r go)
 unfolding handled
-settled_handled table wanted r go go' apart same f = (fits_handled table wanted r go apart r.exc f, same_handled table wanted r go go' apart same r.exc f)
+settled_handled table wanted r go go' apart same f =
+    (fits_handled table wanted r go apart r.exc f, same_handled table wanted r go go' apart same r.exc f)
 
-settled_cleaned : (table : Table) (r : Result) (go go' : ℕ → Result) → ((u : ℕ) → Apart r.log (go u).log) → ((u : ℕ) → Fits table (go u).log → go' u ≡ go u) →
+settled_cleaned : (table : Table) (r : Result) (go go' : ℕ → Result) → ((u : ℕ) → Apart r.log (go u).log) →
+    ((u : ℕ) → Fits table (go u).log → go' u ≡ go u) →
     Fits table (cleaned r go).log → Fits table r.log × (cleaned r go' ≡ cleaned r go)
 unfolding cleaned
 settled_cleaned table r go go' apart same f = (
@@ -180,7 +198,8 @@ fresh_right : (st : Stack) (a b : List (List ℕ)) → Fresh st (a ++ b) → Fre
 fresh_right st a b h = fresh_in st b (a ++ b) (λ n i. among_right n a b i) h
 
 -- inside a block its own name stands on the stack, and is not given again
-fresh_within : (name : List ℕ) (names : List (List ℕ)) (here : Here) (shield : Bool) (f : Tick) (st : Stack) → Distinct (name ∷ names) → Fresh st (name ∷ names) → Fresh (within (label_here name here) shield f st) names
+fresh_within : (name : List ℕ) (names : List (List ℕ)) (here : Here) (shield : Bool) (f : Tick) (st : Stack) → Distinct (name ∷ names) →
+    Fresh st (name ∷ names) → Fresh (within (label_here name here) shield f st) names
 fresh_within name names here shield f st distinct fresh = record { none = none }
   where
     none : (l : Label) → (l ≡ label_here name here) ⊎ OnStack l st → Among l.name names → ⊥
@@ -188,7 +207,8 @@ fresh_within name names here shield f st distinct fresh = record { none = none }
     none l (inr o) i = fresh.none l o (inr i)
 
 -- a block's own label is not entered inside it
-not_inside : (name : List ℕ) (names : List (List ℕ)) (here : Here) (path : List ℕ) → Distinct (name ∷ names) → Belongs names path (label_here name here) → ⊥
+not_inside : (name : List ℕ) (names : List (List ℕ)) (here : Here) (path : List ℕ) → Distinct (name ∷ names) →
+    Belongs names path (label_here name here) → ⊥
 not_inside name names here path distinct b = distinct.0 b.named
 
 near_same : (c : ℕ) (st : Stack) → Near c st st
@@ -199,10 +219,12 @@ near_same c (l ∷ ls) = (refl, refl, refl, near_same c ls)
 abbrev nursery_inside : Mode → Steps → Label → Here → Stack → ℕ → Result
 nursery_inside m body label here inner t = gathered label (signed inner (walk m body here inner t))
 
-tidy_nursery : (body : Steps) (label : Label) (here : Here) (inner : Stack) (t : ℕ) → Tidy inner (Belongs (names_of body) here.path) (nursery_inside two_walks body label here inner t)
+tidy_nursery : (body : Steps) (label : Label) (here : Here) (inner : Stack) (t : ℕ) →
+    Tidy inner (Belongs (names_of body) here.path) (nursery_inside two_walks body label here inner t)
 tidy_nursery body label here inner t = tidy_gathered inner _ label _ (tidy_signed inner _ _ (tidy two_walks body here inner t))
 
-late_nursery : (body : Steps) (label : Label) (here : Here) (inner : Stack) (t : ℕ) → Late t (nursery_inside two_walks body label here inner t)
+late_nursery : (body : Steps) (label : Label) (here : Here) (inner : Stack) (t : ℕ) →
+    Late t (nursery_inside two_walks body label here inner t)
 late_nursery body label here inner t = late_gathered t label _ (late_signed t inner _ (late two_walks body here inner t))
 
 agree_nursery : (c : ℕ) (body : Steps) (label : Label) (here : Here) (inner other : Stack) (t : ℕ) → Near c inner other →
@@ -220,9 +242,12 @@ mutual
   settled table (step s ss) here st t distinct fresh f =
       settled_and_then table (walk_step two_walks s here st t) (walk_step (by_table table) s here st t)
       (λ u. walk two_walks ss here st u) (λ u. walk (by_table table) ss here st u)
-      (λ g. settled_step table s here st t (distinct_left (names_in s) (names_of ss) distinct) (fresh_left st (names_in s) (names_of ss) fresh) g)
-      (λ u g. settled table ss here st u (distinct_right (names_in s) (names_of ss) distinct) (fresh_right st (names_in s) (names_of ss) fresh) g)
-      (λ u. side_by_side st (names_in s) (names_of ss) here.path (walk_step two_walks s here st t) (walk two_walks ss here st u) distinct fresh (tidy_step two_walks s here st t) (tidy two_walks ss here st u))
+      (λ g. settled_step table s here st t (distinct_left (names_in s) (names_of ss) distinct)
+          (fresh_left st (names_in s) (names_of ss) fresh) g)
+      (λ u g. settled table ss here st u (distinct_right (names_in s) (names_of ss) distinct)
+          (fresh_right st (names_in s) (names_of ss) fresh) g)
+      (λ u. side_by_side st (names_in s) (names_of ss) here.path (walk_step two_walks s here st t) (walk two_walks ss here st u) distinct
+          fresh (tidy_step two_walks s here st t) (tidy two_walks ss here st u))
       f
 
   settled_step : (table : Table) (s : Step) (here : Here) (st : Stack) (t : ℕ) → Distinct (names_in s) → Fresh st (names_in s) →
@@ -249,13 +274,15 @@ mutual
       (λ g e. not_inside name (names_of body) here here.path distinct
       ((tidy_nursery body (label_here name here) here (within (label_here name here) shield g st) t).gives _ e))
       (λ g. late_nursery body (label_here name here) here (within (label_here name here) shield g st) t)
-      (λ c g k e. agree_nursery c body (label_here name here) here (within (label_here name here) shield g st) (within (label_here name here) shield k st) t
+      (λ c g k e. agree_nursery c body (label_here name here) here (within (label_here name here) shield g st)
+          (within (label_here name here) shield k st) t
       (near_within c (label_here name here) shield g k st st e (near_same c st)))
       (λ g h. settled_gathered table (label_here name here) _ _
       (settled_signed table (within (label_here name here) shield g st) (Belongs (names_of body) here.path) _ _
       (tidy two_walks body here (within (label_here name here) shield g st) t)
       (λ l o b. (fresh_within name (names_of body) here shield g st distinct fresh).none l o b.named)
-      (λ i. settled table body here (within (label_here name here) shield g st) t distinct.1 (fresh_within name (names_of body) here shield g st distinct fresh) i))
+      (λ i. settled table body here (within (label_here name here) shield g st) t distinct.1
+          (fresh_within name (names_of body) here shield g st distinct fresh) i))
       h)
       f
   settled_step table (start name None body) here st t distinct fresh f =
@@ -268,9 +295,11 @@ mutual
       settled_each table st (name ∷ names_of body) here.path k _ _ t fresh
       (λ i. tidy_over two_walks name body here (cut_of here.input here.part k i) i st t)
       (λ i g. settled_child table (label_over name here i) t _ _
-      (settled_signed table st (Belongs (names_of body) (here.path ++ i ∷ [])) _ _ (tidy two_walks body (here_in (label_over name here i) (cut_of here.input here.part k i) here) st t)
+      (settled_signed table st (Belongs (names_of body) (here.path ++ i ∷ [])) _ _
+          (tidy two_walks body (here_in (label_over name here i) (cut_of here.input here.part k i) here) st t)
       (λ l o b. fresh.none l o (inr b.named))
-      (λ h. settled table body (here_in (label_over name here i) (cut_of here.input here.part k i) here) st t distinct.1 (fresh_in st (names_of body) (name ∷ names_of body) (λ n j. inr j) fresh) h))
+      (λ h. settled table body (here_in (label_over name here i) (cut_of here.input here.part k i) here) st t distinct.1
+          (fresh_in st (names_of body) (name ∷ names_of body) (λ n j. inr j) fresh) h))
       g)
       f
   settled_step table (attempt body handler cleanup) here st t distinct fresh f =
@@ -289,24 +318,28 @@ mutual
       ∙ (ap (λ (r : Result). walk_cleanup (by_table table) cleanup here st r) handler_same.1 ∙ cleanup_same.1)
 
   -- a handler behind a body that is the same
-  settled_handler : (table : Table) (x : Handled) (here : Here) (st : Stack) (r : Result) (names : List (List ℕ)) → Tidy st (Belongs names here.path) r →
+  settled_handler : (table : Table) (x : Handled) (here : Here) (st : Stack) (r : Result) (names : List (List ℕ)) →
+      Tidy st (Belongs names here.path) r →
       Distinct (names ++ handled_names x) → Fresh st (names ++ handled_names x) → Fits table (walk_handler two_walks x here st r).log →
       Fits table r.log × (walk_handler (by_table table) x here st r ≡ walk_handler two_walks x here st r)
   settled_handler table unhandled here st r names h distinct fresh f = (f, refl)
   settled_handler table (except name body) here st r names h distinct fresh f =
       settled_handled table _ r (λ u. walk two_walks body here st u) (λ u. walk (by_table table) body here st u)
-      (λ u. side_by_side st names (names_of body) here.path r (walk two_walks body here st u) distinct fresh h (tidy two_walks body here st u))
+      (λ u. side_by_side st names (names_of body) here.path r (walk two_walks body here st u) distinct fresh h
+          (tidy two_walks body here st u))
       (λ u g. settled table body here st u (distinct_right names (names_of body) distinct) (fresh_right st names (names_of body) fresh) g)
       f
 
   -- a cleanup behind what is the same
-  settled_cleanup : (table : Table) (x : Cleaned) (here : Here) (st : Stack) (r : Result) (names : List (List ℕ)) → Tidy st (Belongs names here.path) r →
+  settled_cleanup : (table : Table) (x : Cleaned) (here : Here) (st : Stack) (r : Result) (names : List (List ℕ)) →
+      Tidy st (Belongs names here.path) r →
       Distinct (names ++ cleaned_names x) → Fresh st (names ++ cleaned_names x) → Fits table (walk_cleanup two_walks x here st r).log →
       Fits table r.log × (walk_cleanup (by_table table) x here st r ≡ walk_cleanup two_walks x here st r)
   settled_cleanup table uncleaned here st r names h distinct fresh f = (f, refl)
   settled_cleanup table (finally body) here st r names h distinct fresh f =
       settled_cleaned table r (λ u. walk two_walks body here st u) (λ u. walk (by_table table) body here st u)
-      (λ u. side_by_side st names (names_of body) here.path r (walk two_walks body here st u) distinct fresh h (tidy two_walks body here st u))
+      (λ u. side_by_side st names (names_of body) here.path r (walk two_walks body here st u) distinct fresh h
+          (tidy two_walks body here st u))
       (λ u g. settled table body here st u (distinct_right names (names_of body) distinct) (fresh_right st names (names_of body) fresh) g)
       f
 

@@ -50,5 +50,6 @@ lowering_shows (l ∷ ls) (k ∷ ks) t low h =
     rw (seen_cons k ks t) (lowered_or (reached l.from t) (reached k.from t) l.shield k.shield (seen ls t) (seen ks t)
     low.1 (reached_at_most l.from k.from t low.2) (lowering_shows ls ks t low.3) (rw (seen_cons l ls t) at h))
   where
-    lowered_or : (a b s r x y : Bool) → s ≡ r → (IsTrue a → IsTrue b) → (IsTrue x → IsTrue y) → IsTrue (a || (not s && x)) → IsTrue (b || (not r && y))
+    lowered_or : (a b s r x y : Bool) → s ≡ r → (IsTrue a → IsTrue b) → (IsTrue x → IsTrue y) → IsTrue (a || (not s && x)) →
+        IsTrue (b || (not r && y))
     lowered_or a b s r x y e f g h = grind arith

@@ -56,7 +56,8 @@ tidy_joined st P r q h k =
     seen_to l (inl e) = first l (h.signs l e)
     seen_to l (inr e) = second l (k.signs l e)
 
-pub tidy_and_then : (st : Stack) (P : Label → Type 0) (r : Result) (go : ℕ → Result) → Tidy st P r → ((u : ℕ) → Tidy st P (go u)) → Tidy st P (and_then r go)
+pub tidy_and_then : (st : Stack) (P : Label → Type 0) (r : Result) (go : ℕ → Result) → Tidy st P r → ((u : ℕ) → Tidy st P (go u)) →
+    Tidy st P (and_then r go)
 unfolding and_then
 tidy_and_then st P r go h k = by_exc r.exc
   where
@@ -78,7 +79,8 @@ tidy_sleeping st P n t = by_sight (sight st)
     by_sight None = tidy_done st P (t + n)
     by_sight (Some from) = by_now (nat_le from t) (nat_le from (t + n))
       where
-        by_now : (now due : Bool) → Tidy st P (if now then raised_at cancelled t else (if due then raised_at cancelled from else done_at (t + n)))
+        by_now : (now due : Bool) → Tidy st P (if now then raised_at cancelled t else
+            (if due then raised_at cancelled from else done_at (t + n)))
         by_now true due = tidy_raised st P cancelled t
         by_now false true = tidy_raised st P cancelled from
         by_now false false = tidy_done st P (t + n)
@@ -93,9 +95,11 @@ no_signs_lines l t (s ∷ ss) h = no_signs_lines l t ss h
 
 pub tidy_showing : (st : Stack) (P : Label → Type 0) (ls : List Span) (t : ℕ) → Tidy st P (showing ls t)
 unfolding showing
-tidy_showing st P ls t = tidy_plain st P (showing ls t) (record { none = λ l h. no_enters_lines l t ls h; unsigned = λ l h. no_signs_lines l t ls h })
+tidy_showing st P ls t = tidy_plain st P (showing ls t) (record
+    { none = λ l h. no_enters_lines l t ls h; unsigned = λ l h. no_signs_lines l t ls h })
 
-pub tidy_needing : (st : Stack) (P : Label → Type 0) (found : Option Span) (name : List ℕ) (label : Label) (t : ℕ) → Tidy st P (needing found name label t)
+pub tidy_needing : (st : Stack) (P : Label → Type 0) (found : Option Span) (name : List ℕ) (label : Label) (t : ℕ) →
+    Tidy st P (needing found name label t)
 unfolding needing
 tidy_needing st P (Some l) name label t = tidy_showing st P (l ∷ []) t
 tidy_needing st P None name label t = tidy_plain st P (needing None name label t) plain_nil
@@ -136,7 +140,8 @@ tidy_cancelling st P name t =
       signs = λ l e. inl (sign_on st (label_on name st) t (found_on name st) l e);
     }
 
-pub tidy_block : (m : Mode) (kind : Kind) (label : Label) (t : ℕ) (d : Tick) (shield : Bool) (st : Stack) (P : Label → Type 0) (inside : Tick → Result) →
+pub tidy_block : (m : Mode) (kind : Kind) (label : Label) (t : ℕ) (d : Tick) (shield : Bool) (st : Stack) (P : Label → Type 0)
+    (inside : Tick → Result) →
     P label → ((f : Tick) → Tidy (within label shield f st) P (inside f)) → Tidy st P (block m kind label t d shield st inside)
 unfolding block
 tidy_block m kind label t d shield st P inside p h = at_from (from_of m label d inside)
@@ -155,7 +160,8 @@ tidy_block m kind label t d shield st P inside p h = at_from (from_of m label d 
         own l (inl e) = subst P (sym e) p
         own l (inr e) = behind l (gives_followed l (inside f).log end_log e)
 
-        by_place : (l : Label) → ((l ≡ label) ⊎ OnStack l st) ⊎ Gives l (inside f).log → OnStack l st ⊎ ((l ≡ label) ⊎ Gives l (followed_by (inside f).log end_log))
+        by_place : (l : Label) → ((l ≡ label) ⊎ OnStack l st) ⊎ Gives l (inside f).log → OnStack l st
+            ⊎ ((l ≡ label) ⊎ Gives l (followed_by (inside f).log end_log))
         by_place l (inl (inl e)) = inr (inl e)
         by_place l (inl (inr o)) = inl o
         by_place l (inr e) = inr (inr (gives_first l (inside f).log end_log e))
@@ -189,7 +195,8 @@ tidy_signed st P r h =
     first l (inl o) = inl o
     first l (inr e) = inr (gives_first l r.log _ e)
 
-    seen_to : (l : Label) → Signs l r.log ⊎ Signs l (sign_if r.exc (home_of st) r.end) → OnStack l st ⊎ Gives l (followed_by r.log (sign_if r.exc (home_of st) r.end))
+    seen_to : (l : Label) → Signs l r.log ⊎ Signs l (sign_if r.exc (home_of st) r.end) → OnStack l st
+        ⊎ Gives l (followed_by r.log (sign_if r.exc (home_of st) r.end))
     seen_to l (inl e) = first l (h.signs l e)
     seen_to l (inr e) = inl (signs_home st r.exc r.end l e)
 
@@ -197,7 +204,8 @@ pub tidy_gathered : (st : Stack) (P : Label → Type 0) (label : Label) (r : Res
 unfolding gathered
 tidy_gathered st P label r h = record { gives = h.gives; signs = h.signs }
 
-pub tidy_child : (st : Stack) (P : Label → Type 0) (label : Label) (t : ℕ) (r : Result) → P label → Tidy st P r → Tidy st P (child label t r)
+pub tidy_child : (st : Stack) (P : Label → Type 0) (label : Label) (t : ℕ) (r : Result) → P label → Tidy st P r →
+    Tidy st P (child label t r)
 unfolding child
 tidy_child st P label t r p h = record { gives = own; signs = seen_to }
   where
@@ -214,14 +222,16 @@ tidy_child st P label t r p h = record { gives = own; signs = seen_to }
     seen_to l (inl e) = first l (h.signs l e)
     seen_to l (inr e) = absurd e
 
-pub tidy_each : (st : Stack) (P : Label → Type 0) (k : ℕ) (go : ℕ → Result) (t : ℕ) → ((i : ℕ) → i < k → Tidy st P (go i)) → Tidy st P (each k go t)
+pub tidy_each : (st : Stack) (P : Label → Type 0) (k : ℕ) (go : ℕ → Result) (t : ℕ) → ((i : ℕ) → i < k → Tidy st P (go i)) →
+    Tidy st P (each k go t)
 tidy_each st P zero go t h = tidy_done st P t
 tidy_each st P (suc k) go t h = tidy_joined st P (each k go t) (go k) (tidy_each st P k go t (λ i lt. h i (below i lt))) (h k (omega arith))
   where
     below : (i : ℕ) → i < k → i < suc k
     below i lt = omega arith
 
-pub tidy_handled : (st : Stack) (P : Label → Type 0) (wanted : Wanted) (r : Result) (go : ℕ → Result) → Tidy st P r → ((u : ℕ) → Tidy st P (go u)) → Tidy st P (handled wanted r go)
+pub tidy_handled : (st : Stack) (P : Label → Type 0) (wanted : Wanted) (r : Result) (go : ℕ → Result) → Tidy st P r →
+    ((u : ℕ) → Tidy st P (go u)) → Tidy st P (handled wanted r go)
 unfolding handled
 tidy_handled st P wanted r go h k = by_exc r.exc
   where
@@ -236,7 +246,8 @@ tidy_handled st P wanted r go h k = by_exc r.exc
     by_exc None = h
     by_exc (Some e) = by_match (keep wanted e) (drop wanted e)
 
-pub tidy_cleaned : (st : Stack) (P : Label → Type 0) (r : Result) (go : ℕ → Result) → Tidy st P r → ((u : ℕ) → Tidy st P (go u)) → Tidy st P (cleaned r go)
+pub tidy_cleaned : (st : Stack) (P : Label → Type 0) (r : Result) (go : ℕ → Result) → Tidy st P r → ((u : ℕ) → Tidy st P (go u)) →
+    Tidy st P (cleaned r go)
 unfolding cleaned
 tidy_cleaned st P r go h k =
     let both : Tidy st P (joined r (go r.end)) = tidy_joined st P r (go r.end) h (k r.end) in
@@ -247,7 +258,8 @@ pub belongs_here : (name : List ℕ) (names : List (List ℕ)) (here : Here) →
 belongs_here name names here = record { named = inl refl; beyond = []; extends = sym (append-nil here.path) }
 
 -- so does that of a child of a `start .. over`, behind its index
-pub belongs_over : (name : List ℕ) (names : List (List ℕ)) (here : Here) (i : ℕ) → Belongs (name ∷ names) (here.path ++ i ∷ []) (label_over name here i)
+pub belongs_over : (name : List ℕ) (names : List (List ℕ)) (here : Here) (i : ℕ) →
+    Belongs (name ∷ names) (here.path ++ i ∷ []) (label_over name here i)
 belongs_over name names here i = record { named = inl refl; beyond = []; extends = sym (append-nil (here.path ++ i ∷ [])) }
 
 -- what belongs to a part belongs to the whole
@@ -271,7 +283,8 @@ mutual
       (tidy_in st _ _ _ (in_left (names_in s) (names_of ss) here.path) (tidy_step m s here st t))
       (λ u. tidy_in st _ _ _ (in_right (names_in s) (names_of ss) here.path) (tidy m ss here st u))
 
-  pub tidy_step : (m : Mode) (s : Step) (here : Here) (st : Stack) (t : ℕ) → Tidy st (Belongs (names_in s) here.path) (walk_step m s here st t)
+  pub tidy_step : (m : Mode) (s : Step) (here : Here) (st : Stack) (t : ℕ) →
+      Tidy st (Belongs (names_in s) here.path) (walk_step m s here st t)
   tidy_step m (sleep n) here st t = tidy_sleeping st _ _ t
   tidy_step m checkpoint here st t = tidy_sleeping st _ _ t
   tidy_step m forever here st t = tidy_sleeping st _ _ t
@@ -319,4 +332,5 @@ pub tidy_over : (m : Mode) (name : List ℕ) (body : Steps) (here : Here) (lent 
     (child (label_over name here i) t (signed st (walk m body (here_in (label_over name here i) lent here) st t)))
 tidy_over m name body here lent i st t =
     tidy_child st _ (label_over name here i) t _ (belongs_over name (names_of body) here i)
-    (tidy_in st _ _ _ (in_body name (names_of body) (here.path ++ i ∷ [])) (tidy_signed st _ _ (tidy m body (here_in (label_over name here i) lent here) st t)))
+    (tidy_in st _ _ _ (in_body name (names_of body) (here.path ++ i ∷ []))
+        (tidy_signed st _ _ (tidy m body (here_in (label_over name here i) lent here) st t)))

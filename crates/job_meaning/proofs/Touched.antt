@@ -127,12 +127,14 @@ deadline_entered l (entry t e rest) d h = deadline_entered l rest d h
 deadline_entered l (sign m t rest) d h = deadline_entered l rest d h
 deadline_entered l (entered m t x rest) d h = by_test (same_label l m) refl h (deadline_entered l rest d)
   where
-    by_test : (b : Bool) → same_label l m ≡ b → either (deadline_if b x) (deadline_of l rest) ≡ Some d → (deadline_of l rest ≡ Some d → Gives l rest) → (l ≡ m) ⊎ Gives l rest
+    by_test : (b : Bool) → same_label l m ≡ b → either (deadline_if b x) (deadline_of l rest) ≡ Some d →
+        (deadline_of l rest ≡ Some d → Gives l rest) → (l ≡ m) ⊎ Gives l rest
     by_test true e k others = inl (same_label_equal l m e)
     by_test false e k others = inr (others k)
 deadline_entered l (task m s u e own rest) d h = by_own (deadline_of l own) refl h (deadline_entered l own d) (deadline_entered l rest d)
   where
-    by_own : (o : Option Tick) → deadline_of l own ≡ o → either o (deadline_of l rest) ≡ Some d → (deadline_of l own ≡ Some d → Gives l own) → (deadline_of l rest ≡ Some d → Gives l rest) → (l ≡ m) ⊎ (Gives l own ⊎ Gives l rest)
+    by_own : (o : Option Tick) → deadline_of l own ≡ o → either o (deadline_of l rest) ≡ Some d →
+        (deadline_of l own ≡ Some d → Gives l own) → (deadline_of l rest ≡ Some d → Gives l rest) → (l ≡ m) ⊎ (Gives l own ⊎ Gives l rest)
     by_own None e k inner others = inr (inr (others k))
     by_own (Some x) e k inner others = inr (inl (inner (e ∙ k)))
 

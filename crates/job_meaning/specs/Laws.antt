@@ -66,4 +66,5 @@ TableIsSettled = (job : Tree) (input : List ℕ) → GivesNamesOnce job → IsSe
 -- where names are given once, no label of a scope, a nursery or a task is given twice: by the meaning, and by any table
 abbrev pub LabelsAreGivenOnce : Type 0
 LabelsAreGivenOnce =
-    (mode : Mode) (job : Tree) (input : List ℕ) → GivesNamesOnce job → (l : Label) → times_given l (root_log job (root_walk mode job input)) ≤ 1
+    (mode : Mode) (job : Tree) (input : List ℕ) → GivesNamesOnce job → (l : Label) →
+        times_given l (root_log job (root_walk mode job input)) ≤ 1

@@ -9,7 +9,8 @@ escaped-plain : (x : ℕ) → stands_for_itself x ≡ true → escaped x ≡ x �
 escaped-plain x h = rw h refl
 
 -- plain bytes are shown as they are
-pub escaped_front : (xs : List ℕ) (n : ℕ) → n ≤ length xs → ((k : ℕ) → k < n → stands_for_itself (get_or xs k 0) ≡ true) → flat_map escaped xs ≡ take n xs ++ flat_map escaped (drop n xs)
+pub escaped_front : (xs : List ℕ) (n : ℕ) → n ≤ length xs → ((k : ℕ) → k < n → stands_for_itself (get_or xs k 0) ≡ true) →
+    flat_map escaped xs ≡ take n xs ++ flat_map escaped (drop n xs)
 escaped_front xs zero h plain = refl
 escaped_front [] (suc n) h plain = absurd (omega arith)
 escaped_front (x ∷ xs) (suc n) h plain =
@@ -18,14 +19,18 @@ escaped_front (x ∷ xs) (suc n) h plain =
     rw (first, others) refl
 
 -- bytes of which none needs an escape
-pub escaped_none : (xs front back : List ℕ) (n : ℕ) → n ≤ length xs → ((k : ℕ) → k < n → stands_for_itself (get_or xs k 0) ≡ true) → front ≡ take n xs → back ≡ drop n xs → length back ≡ 0 → flat_map escaped xs ≡ xs
+pub escaped_none : (xs front back : List ℕ) (n : ℕ) → n ≤ length xs → ((k : ℕ) → k < n → stands_for_itself (get_or xs k 0) ≡ true) →
+    front ≡ take n xs → back ≡ drop n xs → length back ≡ 0 → flat_map escaped xs ≡ xs
 escaped_none xs front back n h plain f b none =
     let all : take n xs ≡ xs = take_all n xs (omega (arith, length-drop n xs, ap length b)) in
     let rest : drop n xs ≡ [] = sym b ∙ nil_from_length back none in
     escaped_front xs n h plain ∙ rw (all, rest) (append-nil xs)
 
 -- bytes before the first that needs an escape, that byte, and those behind it
-pub escaped_some : (xs front back others : List ℕ) (x n : ℕ) → n ≤ length xs → ((k : ℕ) → k < n → stands_for_itself (get_or xs k 0) ≡ true) → front ≡ take n xs → back ≡ drop n xs → back ≡ x ∷ others → flat_map escaped xs ≡ front ++ (escaped x ++ flat_map escaped others)
+pub escaped_some : (xs front back others : List ℕ) (x n : ℕ) → n ≤ length xs →
+    ((k : ℕ) → k < n → stands_for_itself (get_or xs k 0) ≡ true) → front ≡ take n xs → back ≡ drop n xs → back ≡ x ∷ others →
+    flat_map escaped xs ≡ front ++ (escaped x ++ flat_map escaped others)
 escaped_some xs front back others x n h plain f b some =
     let rest : drop n xs ≡ x ∷ others = sym b ∙ some in
-    escaped_front xs n h plain ∙ ap (λ ys. take n xs ++ flat_map escaped ys) rest ∙ ap (λ ys. ys ++ (escaped x ++ flat_map escaped others)) (sym f)
+    escaped_front xs n h plain ∙ ap (λ ys. take n xs ++ flat_map escaped ys) rest
+        ∙ ap (λ ys. ys ++ (escaped x ++ flat_map escaped others)) (sym f)

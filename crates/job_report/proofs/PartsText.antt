@@ -8,7 +8,8 @@ use Rattle.exc_groups.specs.Weigh.{weight_of, weight_in}
 use Rattle.job_report.specs.Text.{exc_text, more_text}
 
 -- a further part stands behind a comma and a space
-pub more_text-take : (es : List Exc) (i : ℕ) (d : Exc) → i < length es → more_text (excs_of (take (i + 1) es)) ≡ more_text (excs_of (take i es)) ++ (codes ", " ++ exc_text (exc_of (slice_index_or es i d)))
+pub more_text-take : (es : List Exc) (i : ℕ) (d : Exc) → i < length es →
+    more_text (excs_of (take (i + 1) es)) ≡ more_text (excs_of (take i es)) ++ (codes ", " ++ exc_text (exc_of (slice_index_or es i d)))
 more_text-take [] i d h = absurd (omega arith)
 more_text-take (e ∷ es) zero d h = simp append-nil
 more_text-take (e ∷ es) (suc i) d h =
@@ -21,7 +22,8 @@ weight_of-some no_parts = omega arith
 weight_of-some (part e es) = omega (arith, weight_of-some es)
 
 -- a part weighs less than all parts together
-pub weight_in-at : (es : List Exc) (i : ℕ) (d : Exc) → i < length es → weight_in (exc_of (slice_index_or es i d)) + 1 ≤ weight_of (excs_of es)
+pub weight_in-at : (es : List Exc) (i : ℕ) (d : Exc) → i < length es →
+    weight_in (exc_of (slice_index_or es i d)) + 1 ≤ weight_of (excs_of es)
 weight_in-at [] i d h = absurd (omega arith)
 weight_in-at (e ∷ es) zero d h = omega (arith, weight_of-some (excs_of es))
 weight_in-at (e ∷ es) (suc i) d h = omega (arith, weight_in-at es i d (omega arith))

@@ -60,13 +60,15 @@ caught_text false = codes " passed\n"
 
 -- the line of a report for an entry
 abbrev pub shown_text : Shown → List ℕ
-shown_text (line_shown at text) = codes "  line " ++ decimal at ++ codes "+" ++ decimal (length text) ++ codes " " ++ flat_map escaped text ++ codes "\n"
+shown_text (line_shown at text) =
+    codes "  line " ++ decimal at ++ codes "+" ++ decimal (length text) ++ codes " " ++ flat_map escaped text ++ codes "\n"
 shown_text (scope_shown label tick caught) = codes "  scope " ++ label_text label ++ codes " " ++ decimal tick ++ caught_text caught
 shown_text (nursery_shown label tick caught) = codes "  nursery " ++ label_text label ++ codes " " ++ decimal tick ++ caught_text caught
 
 -- the lines of a report for a task
 abbrev pub row_text : Row → List ℕ
-row_text r = codes "task " ++ label_text r.label ++ codes " " ++ decimal r.start ++ codes " " ++ decimal r.end ++ codes " " ++ ending_text r.ending ++ codes "\n" ++ flat_map shown_text r.entries
+row_text r = codes "task " ++ label_text r.label ++ codes " " ++ decimal r.start ++ codes " " ++ decimal r.end ++ codes " "
+    ++ ending_text r.ending ++ codes "\n" ++ flat_map shown_text r.entries
 
 -- the tick at which the root ended
 abbrev pub last_tick : List Row → ℕ

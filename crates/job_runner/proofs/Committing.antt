@@ -32,8 +32,10 @@ use Rattle.job_runner.proofs.Waking.{running_most}
 abbrev pub HasRight : Entry → Type 0
 HasRight e = IsRight e.call e.answer
 
-first_right : (task : ℕ) (call : Call) (old : Option Answer) (es : List Entry) (answers : List Answer) → AreAnswers (requests_of (record { task = task; call = call; answer = old } ∷ es)) answers →
-    HasRight (with_placed answers (record { task = task; call = call; answer = old })) × AreAnswers (requests_of es) (answers_after (request_in call) answers)
+first_right : (task : ℕ) (call : Call) (old : Option Answer) (es : List Entry) (answers : List Answer) →
+    AreAnswers (requests_of (record { task = task; call = call; answer = old } ∷ es)) answers →
+    HasRight (with_placed answers (record { task = task; call = call; answer = old }))
+        × AreAnswers (requests_of es) (answers_after (request_in call) answers)
 first_right task Begin old es answers h = (tt, h)
 first_right task Due old es answers h = (tt, h)
 first_right task Seen old es answers h = (tt, h)
@@ -43,19 +45,23 @@ first_right task (Ask request) old es [] h =
     absurd (omega (arith, count))
 first_right task (Ask request) old es (answer ∷ answers) h =
     let count : suc (length answers) ≡ suc (length (requests_of es)) = h.count in
-    (h.each zero request answer (omega arith), record { count = omega (arith, count); each = λ i q a lt. h.each (suc i) q a (omega (arith, lt)) })
+    (h.each zero request answer (omega arith), record { count = omega (arith, count); each =
+        λ i q a lt. h.each (suc i) q a (omega (arith, lt)) })
 
 pub answers_right : (es : List Entry) (answers : List Answer) → AreAnswers (requests_of es) answers → All HasRight (placed es answers)
 answers_right [] answers h = All-nil HasRight
 answers_right (e ∷ es) answers h =
     let first = first_right e.task e.call e.answer es answers h in
-    All-cons HasRight (with_placed answers e) (placed es (answers_after (request_in e.call) answers)) first.0 (answers_right es (answers_after (request_in e.call) answers) first.1)
+    All-cons HasRight (with_placed answers e) (placed es (answers_after (request_in e.call) answers)) first.0
+        (answers_right es (answers_after (request_in e.call) answers) first.1)
 
 -- who is called by what stays
-placed_same : (P : ℕ → Call → Type 0) (es : List Entry) (answers : List Answer) → All (λ (e : Entry). P e.task e.call) es → All (λ (e : Entry). P e.task e.call) (placed es answers)
+placed_same : (P : ℕ → Call → Type 0) (es : List Entry) (answers : List Answer) → All (λ (e : Entry). P e.task e.call) es →
+    All (λ (e : Entry). P e.task e.call) (placed es answers)
 placed_same P [] answers all = all
 placed_same P (e ∷ es) answers all =
-    All-cons (λ (x : Entry). P x.task x.call) (with_placed answers e) (placed es (answers_after (request_in e.call) answers)) (All-head (λ (x : Entry). P x.task x.call) e es all)
+    All-cons (λ (x : Entry). P x.task x.call) (with_placed answers e) (placed es (answers_after (request_in e.call) answers))
+        (All-head (λ (x : Entry). P x.task x.call) e es all)
     (placed_same P es (answers_after (request_in e.call) answers) (All-tail (λ (x : Entry). P x.task x.call) e es all))
 
 placed_tasks : (es : List Entry) (answers : List Answer) → map (λ (e : Entry). e.task) (placed es answers) ≡ map (λ (e : Entry). e.task) es
@@ -66,7 +72,8 @@ placed_length : (es : List Entry) (answers : List Answer) → length (placed es 
 placed_length [] answers = refl
 placed_length (e ∷ es) answers = ap suc (placed_length es (answers_after (request_in e.call) answers))
 
-shelved_placed : (r : Runner) (b : Batches) (answers : List Answer) → AreShelved None r → b.current ≡ placed r.batch.current answers → b.next ≡ r.batch.next → AreShelved None (record r { batch = b })
+shelved_placed : (r : Runner) (b : Batches) (answers : List Answer) → AreShelved None r → b.current ≡ placed r.batch.current answers →
+    b.next ≡ r.batch.next → AreShelved None (record r { batch = b })
 shelved_placed r b answers s current next =
     record {
       agree = s.agree;
@@ -78,11 +85,13 @@ shelved_placed r b answers s current next =
       none_started = s.none_started;
       doze = s.doze;
       known = s.known;
-      current = subst (All (λ (e : Entry). IsCalled r.roster r.world e.task e.call)) (sym current) (placed_same (IsCalled r.roster r.world) r.batch.current answers s.current);
+      current = subst (All (λ (e : Entry). IsCalled r.roster r.world e.task e.call)) (sym current)
+          (placed_same (IsCalled r.roster r.world) r.batch.current answers s.current);
       next = subst (All (λ (a : Added). IsCalled r.roster r.world a.0 a.1)) (sym next) s.next;
       once = λ id other.
           let all : times_shelved r.batch r.clock id ≡ running_times r.world.book (running_at r.roster id) = s.once id other in
-          let a : times_now id b.current ≡ times_now id r.batch.current = ap (times_now id) current ∙ ap (times id) (placed_tasks r.batch.current answers) in
+          let a : times_now id b.current ≡ times_now id r.batch.current =
+              ap (times_now id) current ∙ ap (times id) (placed_tasks r.batch.current answers) in
           let c : times_next id b.next ≡ times_next id r.batch.next = ap (times_next id) next in
           omega (arith, all, a, c);
       away = none_away (λ (x : ℕ). times_shelved b r.clock x ≡ 0);
@@ -96,7 +105,8 @@ all_without P [] (suc i) all = all
 all_without P (x ∷ xs) zero all = All-tail P x xs all
 all_without P (x ∷ xs) (suc i) all = All-cons P x (remove xs i) (All-head P x xs all) (all_without P xs i (All-tail P x xs all))
 
-times_out : (id : ℕ) (es : List Entry) (i : ℕ) (e : Entry) → slice_get es i ≡ Some e → times_now id es ≡ one_if (e.task == id) + times_now id (remove es i)
+times_out : (id : ℕ) (es : List Entry) (i : ℕ) (e : Entry) → slice_get es i ≡ Some e →
+    times_now id es ≡ one_if (e.task == id) + times_now id (remove es i)
 times_out id [] i e is = absurd (none-some e is)
 times_out id (x ∷ es) zero e is =
     let same : x ≡ e = same_Some x e is in
@@ -104,16 +114,19 @@ times_out id (x ∷ es) zero e is =
 times_out id (x ∷ es) (suc i) e is =
     let a : times_now id (x ∷ es) ≡ one_if (x.task == id) + times_now id es = times_cons id x.task (map (λ (y : Entry). y.task) es) in
     let b : times_now id es ≡ one_if (e.task == id) + times_now id (remove es i) = times_out id es i e is in
-    let c : times_now id (x ∷ remove es i) ≡ one_if (x.task == id) + times_now id (remove es i) = times_cons id x.task (map (λ (y : Entry). y.task) (remove es i)) in
+    let c : times_now id (x ∷ remove es i) ≡ one_if (x.task == id) + times_now id (remove es i) =
+        times_cons id x.task (map (λ (y : Entry). y.task) (remove es i)) in
     omega (arith, a, b, c)
 
 one_fewer : {X : Type 0} (xs : List X) (i : ℕ) (x : X) → slice_get xs i ≡ Some x → length xs ≡ length (remove xs i) + 1
 one_fewer [] i x is = absurd (none-some x is)
 one_fewer (y ∷ xs) zero x is = let e : suc (length xs) ≡ length xs + 1 = omega arith in e
-one_fewer (y ∷ xs) (suc i) x is = let h : length xs ≡ length (remove xs i) + 1 = one_fewer xs i x is in let e : suc (length xs) ≡ suc (length (remove xs i)) + 1 = omega (arith, h) in e
+one_fewer (y ∷ xs) (suc i) x is = let h : length xs ≡ length (remove xs i) + 1 =
+    one_fewer xs i x is in let e : suc (length xs) ≡ suc (length (remove xs i)) + 1 = omega (arith, h) in e
 
 -- the task of an entry that was taken out is away
-shelved_out : (r : Runner) (b : Batches) (place : ℕ) (e : Entry) → AreShelved None r → slice_get r.batch.current place ≡ Some e → b.current ≡ remove r.batch.current place → b.next ≡ r.batch.next →
+shelved_out : (r : Runner) (b : Batches) (place : ℕ) (e : Entry) → AreShelved None r → slice_get r.batch.current place ≡ Some e →
+    b.current ≡ remove r.batch.current place → b.next ≡ r.batch.next →
     AreShelved (Some e.task) (record r { batch = b })
 shelved_out r b place e s is current next =
     record {
@@ -127,7 +140,8 @@ shelved_out r b place e s is current next =
       doze = s.doze;
       known = s.known;
       current =
-          subst (All (λ (x : Entry). IsCalled r.roster r.world x.task x.call)) (sym current) (all_without (λ (x : Entry). IsCalled r.roster r.world x.task x.call) r.batch.current place s.current);
+          subst (All (λ (x : Entry). IsCalled r.roster r.world x.task x.call)) (sym current)
+              (all_without (λ (x : Entry). IsCalled r.roster r.world x.task x.call) r.batch.current place s.current);
       next = subst (All (λ (a : Added). IsCalled r.roster r.world a.0 a.1)) (sym next) s.next;
       once = λ id other.
           let all : times_shelved r.batch r.clock id ≡ running_times r.world.book (running_at r.roster id) = s.once id tt in
@@ -145,7 +159,8 @@ shelved_out r b place e s is current next =
   where
     fewer : (id : ℕ) → times_shelved r.batch r.clock id ≡ one_if (e.task == id) + times_shelved b r.clock id
     fewer id =
-        let a : times_now id r.batch.current ≡ one_if (e.task == id) + times_now id (remove r.batch.current place) = times_out id r.batch.current place e is in
+        let a : times_now id r.batch.current ≡ one_if (e.task == id) + times_now id (remove r.batch.current place) =
+            times_out id r.batch.current place e is in
         let c : times_now id b.current ≡ times_now id (remove r.batch.current place) = ap (times_now id) current in
         let d : times_next id b.next ≡ times_next id r.batch.next = ap (times_next id) next in
         omega (arith, a, c, d)
@@ -160,7 +175,8 @@ pub record IsCommitting (was r : Runner) : Type 0 where
   pub same : IsSameJob was r
   pub turns : r.turns + length r.batch.current ≡ was.turns + length was.batch.current
 
-pub commits_first : (r : Runner) (b : Batches) (answers : List Answer) → IsUnderway r → AreAnswers (requests_of r.batch.current) answers → b.current ≡ placed r.batch.current answers → b.next ≡ r.batch.next →
+pub commits_first : (r : Runner) (b : Batches) (answers : List Answer) → IsUnderway r → AreAnswers (requests_of r.batch.current) answers →
+    b.current ≡ placed r.batch.current answers → b.next ≡ r.batch.next →
     AllPlaced b.current → IsCommitting r (record r { batch = b })
 commits_first r b answers w are current next all =
     record {
@@ -171,24 +187,28 @@ commits_first r b answers w are current next all =
       turns = ap (λ (n : ℕ). r.turns + n) (ap length current ∙ placed_length r.batch.current answers);
     }
 
-module _ {P : Type 0} (picks : P → ℕ → ℕ → P → Type 0) (was r : Runner) (b : Batches) (p q : P) (id : ℕ) (wake : Wake) (h : IsCommitting was r) (out : HandsOut picks r.batch b p q id wake) where
+module _ {P : Type 0} (picks : P → ℕ → ℕ → P → Type 0) (was r : Runner) (b : Batches) (p q : P) (id : ℕ) (wake : Wake)
+    (h : IsCommitting was r) (out : HandsOut picks r.batch b p q id wake) where
   pub turn_going : IsGoing (Some id) (record r { batch = b })
   turn_going =
       record {
         sound = h.going.sound;
-        shelved = subst (λ (x : ℕ). AreShelved (Some x) (record r { batch = b })) (sym out.its_task) (shelved_out r b out.place out.entry h.going.shelved out.at_place out.rest out.added);
+        shelved = subst (λ (x : ℕ). AreShelved (Some x) (record r { batch = b })) (sym out.its_task)
+            (shelved_out r b out.place out.entry h.going.shelved out.at_place out.rest out.added);
         course = h.going.course;
       }
 
   pub turn_goes : IsSomeAnd (running_at r.roster id) (λ (x : Running). MayGo r.world x.task wake)
   turn_goes =
       subst (λ (key : ℕ). IsSomeAnd (running_at r.roster key) (λ (x : Running). MayGo r.world x.task wake)) (sym out.its_task)
-      (some_has (running_at r.roster out.entry.task) (λ (x : Running). MayGo r.world x.task wake) x.0 x.1 (x.2 out.entry.answer wake right out.its_wake))
+      (some_has (running_at r.roster out.entry.task) (λ (x : Running). MayGo r.world x.task wake) x.0 x.1
+          (x.2 out.entry.answer wake right out.its_wake))
     where
       x : (x : Running) × (running_at r.roster out.entry.task ≡ Some x) × GoesBy r.world x.task out.entry.call
       x =
           some_is (running_at r.roster out.entry.task) (λ (y : Running). GoesBy r.world y.task out.entry.call)
-          (at_place (λ (e : Entry). IsCalled r.roster r.world e.task e.call) r.batch.current out.place out.entry out.at_place h.going.shelved.current)
+          (at_place (λ (e : Entry). IsCalled r.roster r.world e.task e.call) r.batch.current out.place out.entry out.at_place
+              h.going.shelved.current)
 
       right : HasRight out.entry
       right = at_place HasRight r.batch.current out.place out.entry out.at_place h.right
@@ -196,7 +216,8 @@ module _ {P : Type 0} (picks : P → ℕ → ℕ → P → Type 0) (was r : Runn
   fewer_left : length r.batch.current ≡ length b.current + 1
   fewer_left = one_fewer r.batch.current out.place out.entry out.at_place ∙ ap (λ (es : List Entry). length es + 1) (sym out.rest)
 
-  module _ (new : Runner) (going : IsGoing None new) (same : IsSameJob (record r { batch = b }) new) (current : new.batch.current ≡ b.current) where
+  module _ (new : Runner) (going : IsGoing None new) (same : IsSameJob (record r { batch = b }) new)
+      (current : new.batch.current ≡ b.current) where
     pub turn_fewer : length new.batch.current < length r.batch.current
     turn_fewer = let a = fewer_left in let c : length new.batch.current ≡ length b.current = ap length current in omega (arith, a, c)
 
@@ -215,8 +236,10 @@ module _ {P : Type 0} (picks : P → ℕ → ℕ → P → Type 0) (was r : Runn
         }
 
 -- none is left of the batch, and the sleepers know of each sight that was lowered
-module _ (was r told : Runner) (left b : Batches) (h : IsCommitting was r) (same : left ≡ r.batch) (over : r.batch.current ≡ []) (only : SeesOnly (record r { batch = left }) told) (going : IsGoing None told)
-    (unchanged : NoneChanged told.world) (current : b.current ≡ map unplaced told.batch.next) (next : b.next ≡ []) (fresh : NonePlaced b.current) where
+module _ (was r told : Runner) (left b : Batches) (h : IsCommitting was r) (same : left ≡ r.batch) (over : r.batch.current ≡ [])
+    (only : SeesOnly (record r { batch = left }) told) (going : IsGoing None told)
+    (unchanged : NoneChanged told.world) (current : b.current ≡ map unplaced told.batch.next) (next : b.next ≡ [])
+        (fresh : NonePlaced b.current) where
   told_batch : told.batch ≡ r.batch
   told_batch = ap (λ (x : Runner). x.batch) only ∙ same
 

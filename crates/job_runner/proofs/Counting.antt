@@ -19,15 +19,18 @@ same_below (suc n) f g same =
     let e : one_where (g n) + count_below n g ≡ one_where (f n) + count_below n f = omega (arith, a, b) in e
 
 -- one that passed passes no more, and the others as before
-pub fewer_below : (n : ℕ) (f g : ℕ → Bool) (key : ℕ) → key < n → f key ≡ true → g key ≡ false → ((other : ℕ) → other ≢ key → g other ≡ f other) → count_below n g < count_below n f
+pub fewer_below : (n : ℕ) (f g : ℕ → Bool) (key : ℕ) → key < n → f key ≡ true → g key ≡ false →
+    ((other : ℕ) → other ≢ key → g other ≡ f other) → count_below n g < count_below n f
 fewer_below zero f g key lt was is others = absurd (omega (arith, lt))
 fewer_below (suc n) f g key lt was is others = by_key (cases_eq n key) (λ less. fewer_below n f g key less was is others)
   where
-    by_key : (n ≡ key) ⊎ (n ≢ key) → (key < n → count_below n g < count_below n f) → one_where (g n) + count_below n g < one_where (f n) + count_below n f
+    by_key : (n ≡ key) ⊎ (n ≢ key) → (key < n → count_below n g < count_below n f) →
+        one_where (g n) + count_below n g < one_where (f n) + count_below n f
     by_key (inl e) more =
         let a : one_where (g n) ≡ 0 = ap one_where (ap g e ∙ is) in
         let b : one_where (f n) ≡ 1 = ap one_where (ap f e ∙ was) in
-        let c : count_below n g ≡ count_below n f = same_below n f g (λ k less. others k (λ h. let same : n ≡ key = e in omega (arith, h, less, same))) in
+        let c : count_below n g ≡ count_below n f =
+            same_below n f g (λ k less. others k (λ h. let same : n ≡ key = e in omega (arith, h, less, same))) in
         omega (arith, a, b, c)
     by_key (inr differs) more =
         let a : one_where (g n) ≡ one_where (f n) = ap one_where (others n differs) in

@@ -45,7 +45,8 @@ use Rattle.job_runner.proofs.Stopped.{some_is, some_has, no_timer}
 use Rattle.job_runner.proofs.Lived.{LivesBy, lives_by, task_at}
 
 -- a home is at a place of a nursery
-pub home_is : (o : Option Home) (nursery place : ℕ) → option_map {U = ℕ × ℕ} (λ (h : Home). (h.nursery, h.place)) o ≡ Some (nursery, place) →
+pub home_is : (o : Option Home) (nursery place : ℕ) → option_map {U = ℕ × ℕ} (λ (h : Home). (h.nursery, h.place)) o
+    ≡ Some (nursery, place) →
     (y : Home) × (o ≡ Some y) × (y.nursery ≡ nursery) × (y.place ≡ place)
 home_is None nursery place e = absurd (let f : None ≡ Some (nursery, place) = e in cc)
 home_is (Some y) nursery place e =
@@ -54,16 +55,20 @@ home_is (Some y) nursery place e =
     (y, refl, ap (λ (z : ℕ × ℕ). z.0) g, ap (λ (z : ℕ × ℕ). z.1) g)
 
 -- what holds of the others holds of all where the one is not among them
-each_other : {T : Type 0} (key : T → ℕ) (id : ℕ) (xs : List T) → times id (map key xs) ≡ 0 → (P Q : T → Type 0) → All P xs → ((x : T) → key x ≢ id → P x → Q x) → All Q xs
+each_other : {T : Type 0} (key : T → ℕ) (id : ℕ) (xs : List T) → times id (map key xs) ≡ 0 → (P Q : T → Type 0) → All P xs →
+    ((x : T) → key x ≢ id → P x → Q x) → All Q xs
 each_other key id [] none P Q all more = All-nil Q
 each_other key id (x ∷ xs) none P Q all more =
-    let step : times id (map key (x ∷ xs)) ≡ one_if (key x == id) + times id (map key xs) = sum_by-cons (λ (n : ℕ). one_if (n == id)) (key x) (map key xs) in
-    All-cons Q x xs (more x (λ e. let one : one_if (key x == id) ≡ 1 = one_same (key x) id e in absurd (omega (arith, step, one, none))) (All-head P x xs all))
+    let step : times id (map key (x ∷ xs)) ≡ one_if (key x == id) + times id (map key xs) =
+        sum_by-cons (λ (n : ℕ). one_if (n == id)) (key x) (map key xs) in
+    All-cons Q x xs (more x (λ e. let one : one_if (key x == id) ≡ 1 = one_same (key x) id e in absurd (omega (arith, step, one, none)))
+        (All-head P x xs all))
     (each_other key id xs (omega (arith, step, none)) P Q (All-tail P x xs all) more)
 
 -- ---- the task that ended
 
-pub ends_now : (old new : Roster) (id tick now : ℕ) (exc : Option held.Exc) → tick ≡ now → Ends old new id tick exc → Ends old new id now exc
+pub ends_now : (old new : Roster) (id tick now : ℕ) (exc : Option held.Exc) → tick ≡ now → Ends old new id tick exc →
+    Ends old new id now exc
 ends_now old new id tick now exc is e = subst (λ (t : ℕ). Ends old new id t exc) is e
 
 -- the task whose nursery is the home of the one of this row
@@ -75,17 +80,20 @@ pub record HasWaiter (r : Runner) (row : ℕ) (home : Home) : Type 0 where
   pub earlier : parent_of r.roster row < row
   pub runs : HasNursery r.world.book home.nursery (λ n. slice_get n.children home.place ≡ Some None)
 
-module _ (r : Runner) (roster : Roster) (id row : ℕ) (exc : Option held.Exc) (h : IsStopping id row (stops.Ended exc) r) (e : Ends r.roster roster id r.world.tick exc) where
+module _ (r : Runner) (roster : Roster) (id row : ℕ) (exc : Option held.Exc) (h : IsStopping id row (stops.Ended exc) r)
+    (e : Ends r.roster roster id r.world.tick exc) where
   lived : (x : Running) × (running_at r.roster id ≡ Some x) × ((x.row ≡ row) × StopSays r.world x.task (stops.Ended exc))
   lived = some_is (running_at r.roster id) (λ (x : Running). (x.row ≡ row) × StopSays r.world x.task (stops.Ended exc)) h.lives
 
   pub its_row : e.row ≡ row
   its_row =
-      let same : lived.0 ≡ record { task = e.task; row = e.row } = one_of lived.0 (record { task = e.task; row = e.row }) (sym lived.1 ∙ e.lived) in
+      let same : lived.0 ≡ record { task = e.task; row = e.row } =
+          one_of lived.0 (record { task = e.task; row = e.row }) (sym lived.1 ∙ e.lived) in
       sym (ap (λ (x : Running). x.row) same) ∙ lived.2.0
 
   pub was_there : task_of r.roster row ≡ Some e.task
-  was_there = subst (λ (p : ℕ). task_of r.roster p ≡ Some e.task) its_row (task_at r.roster h.shelved.agree id (record { task = e.task; row = e.row }) e.lived)
+  was_there = subst (λ (p : ℕ). task_of r.roster p ≡ Some e.task) its_row
+      (task_at r.roster h.shelved.agree id (record { task = e.task; row = e.row }) e.lived)
 
   -- one settled table
   pub table_settled : IsSettled (meaning_table r.job.now r.input.now) r.job.now r.input.now
@@ -103,7 +111,8 @@ module _ (r : Runner) (roster : Roster) (id row : ℕ) (exc : Option held.Exc) (
         lives = lives_by r.roster h.shelved.agree (parent_of r.roster row) keeps.task keeps.lives;
         earlier = subst (λ (p : ℕ). p < row) same its.earlier;
         runs =
-            let n = finds r.world.book home.nursery (λ n. (n.scope ≡ home.scope) × (slice_get n.children home.place ≡ Some None)) its.runs in
+            let n = finds r.world.book home.nursery (λ n. (n.scope ≡ home.scope) × (slice_get n.children home.place ≡ Some None))
+                its.runs in
             puts r.world.book home.nursery n.0 (λ n. slice_get n.children home.place ≡ Some None) n.1 n.2.1;
       }
     where
@@ -115,7 +124,8 @@ module _ (r : Runner) (roster : Roster) (id row : ℕ) (exc : Option held.Exc) (
 
       same : its.parent ≡ parent_of r.roster row
       same =
-          same_owner (meaning_table r.job.now r.input.now) r.job.now r.input.now r.world.tick (many r.roster) (Some row) (crew_in r) crew_before its.parent (parent_of r.roster row) its.starter
+          same_owner (meaning_table r.job.now r.input.now) r.job.now r.input.now r.world.tick (many r.roster) (Some row) (crew_in r)
+              crew_before its.parent (parent_of r.roster row) its.starter
           keeps.task home.nursery its.lives keeps.lives its.owned keeps.owned
 
   -- what `tell` asks for
@@ -129,20 +139,24 @@ module _ (r : Runner) (roster : Roster) (id row : ℕ) (exc : Option held.Exc) (
   pub tell_row : row < many roster
   tell_row = subst (λ (m : ℕ). row < m) (sym e.same.many) (lives_by r.roster h.shelved.agree row e.task was_there).below
 
-  pub tell_parent : (nursery place : ℕ) → option_map {U = ℕ × ℕ} (λ (x : Home). (x.nursery, x.place)) e.task.home ≡ Some (nursery, place) → parent_of roster row < many roster
+  pub tell_parent : (nursery place : ℕ) → option_map {U = ℕ × ℕ} (λ (x : Home). (x.nursery, x.place)) e.task.home ≡ Some (nursery, place) →
+      parent_of roster row < many roster
   tell_parent nursery place f =
       let y = home_is e.task.home nursery place f in
-      subst (λ (m : ℕ). parent_of roster row < m) (sym e.same.many) (subst (λ (p : ℕ). p < many r.roster) (sym (e.same.parent row)) (waiter_of y.0 y.1).lives.below)
+      subst (λ (m : ℕ). parent_of roster row < m) (sym e.same.many)
+          (subst (λ (p : ℕ). p < many r.roster) (sym (e.same.parent row)) (waiter_of y.0 y.1).lives.below)
 
 -- ---- all others
 
 abbrev pub ended_runner : Runner → Roster → NurseryBook → Batches → Runner
 ended_runner r roster book b = record r { roster = roster; world = record r.world { book = book }; batch = b }
 
-module _ (r : Runner) (roster : Roster) (book : NurseryBook) (b : Batches) (id row : ℕ) (exc : Option held.Exc) (h : IsStopping id row (stops.Ended exc) r)
+module _ (r : Runner) (roster : Roster) (book : NurseryBook) (b : Batches) (id row : ℕ) (exc : Option held.Exc)
+    (h : IsStopping id row (stops.Ended exc) r)
     (e : Ends r.roster roster id r.world.tick exc) (told : EndIsTold r.world.book book e.task.home (option_map exc_of exc)) where
   left_by : (k : Table) → (settled : IsSettled k r.job.now r.input.now) →
-      Leaving r.world.tick row (crew_in r) (crew_in (ended_runner r roster book b)) ((h.course k settled).is.course.at row) e.task (option_map exc_of exc)
+      Leaving r.world.tick row (crew_in r) (crew_in (ended_runner r roster book b)) ((h.course k settled).is.course.at row) e.task
+          (option_map exc_of exc)
   left_by k settled =
       record {
         was = was_there r roster id row exc h e;
@@ -163,34 +177,45 @@ module _ (r : Runner) (roster : Roster) (book : NurseryBook) (b : Batches) (id r
   pub course_after : AreOnCourse (ended_runner r roster book b)
   course_after k settled =
       subst (λ (m : ℕ). IsCrew k r.job.now r.input.now r.world.tick m None (crew_in (ended_runner r roster book b))) (sym e.same.many)
-      (crew_left k r.job.now r.input.now r.world.tick (many r.roster) row (crew_in r) (crew_in (ended_runner r roster book b)) e.task (option_map exc_of exc) (h.course k settled).is
+      (crew_left k r.job.now r.input.now r.world.tick (many r.roster) row (crew_in r) (crew_in (ended_runner r roster book b)) e.task
+          (option_map exc_of exc) (h.course k settled).is
       (left_by k settled))
 
   homes_after : AreHomesOf (crew_in (ended_runner r roster book b)) (parent_of roster)
   homes_after p x home lives at =
       subst (λ (n : ℕ). Keeps (crew_in (ended_runner r roster book b)) n home.nursery) (sym (e.same.parent p))
-      (homes_left (meaning_table r.job.now r.input.now) r.job.now r.input.now r.world.tick (many r.roster) row (crew_in r) (crew_in (ended_runner r roster book b)) e.task (option_map exc_of exc)
-      (h.course (meaning_table r.job.now r.input.now) (table_settled r roster id row exc h e)).is (left_by (meaning_table r.job.now r.input.now) (table_settled r roster id row exc h e)) (parent_of r.roster) h.shelved.homes p x home lives at)
+      (homes_left (meaning_table r.job.now r.input.now) r.job.now r.input.now r.world.tick (many r.roster) row (crew_in r)
+          (crew_in (ended_runner r roster book b)) e.task (option_map exc_of exc)
+      (h.course (meaning_table r.job.now r.input.now) (table_settled r roster id row exc h e)).is
+          (left_by (meaning_table r.job.now r.input.now) (table_settled r roster id row exc h e)) (parent_of r.roster) h.shelved.homes p x
+          home lives at)
 
   goes_after : (x : Task) (call : Call) → GoesBy r.world x call → GoesBy (record r.world { book = book }) x call
   goes_after x call goes answer wake right is =
-      goes_left (meaning_table r.job.now r.input.now) r.job.now r.input.now r.world.tick (many r.roster) row (crew_in r) (crew_in (ended_runner r roster book b)) e.task (option_map exc_of exc)
-      (h.course (meaning_table r.job.now r.input.now) (table_settled r roster id row exc h e)).is (left_by (meaning_table r.job.now r.input.now) (table_settled r roster id row exc h e)) x wake (goes answer wake right is)
+      goes_left (meaning_table r.job.now r.input.now) r.job.now r.input.now r.world.tick (many r.roster) row (crew_in r)
+          (crew_in (ended_runner r roster book b)) e.task (option_map exc_of exc)
+      (h.course (meaning_table r.job.now r.input.now) (table_settled r roster id row exc h e)).is
+          (left_by (meaning_table r.job.now r.input.now) (table_settled r roster id row exc h e)) x wake (goes answer wake right is)
 
-  called_after : (key : ℕ) (call : Call) → key ≢ id → IsCalled r.roster r.world key call → IsCalled roster (record r.world { book = book }) key call
+  called_after : (key : ℕ) (call : Call) → key ≢ id → IsCalled r.roster r.world key call →
+      IsCalled roster (record r.world { book = book }) key call
   called_after key call differs c =
       let x = some_is (running_at r.roster key) (λ (y : Running). GoesBy r.world y.task call) c in
-      some_has (running_at roster key) (λ (y : Running). GoesBy (record r.world { book = book }) y.task call) x.0 (e.others key differs ∙ x.1) (goes_after x.0.task call x.2)
+      some_has (running_at roster key) (λ (y : Running). GoesBy (record r.world { book = book }) y.task call) x.0
+          (e.others key differs ∙ x.1) (goes_after x.0.task call x.2)
 
   -- who has a timer is another task
   timer_else : (key due : ℕ) → due_of r.clock key ≡ Some due → key ≢ id
   timer_else key due f same =
-      none-some due (sym (no_timer (due_of r.clock id) (let a : times_shelved r.batch r.clock id ≡ 0 = h.shelved.away id refl in omega (arith, a))) ∙ (ap (due_of r.clock) (sym same) ∙ f))
+      none-some due (sym (no_timer (due_of r.clock id) (let a : times_shelved r.batch r.clock id ≡ 0 = h.shelved.away id refl in
+          omega (arith, a))) ∙ (ap (due_of r.clock) (sym same) ∙ f))
 
-  dozes_after : (key due : ℕ) → due_of r.clock key ≡ Some due → IsSomeAnd (running_at roster key) (λ (y : Running). Dozes (record r.world { book = book }) due y.task)
+  dozes_after : (key due : ℕ) → due_of r.clock key ≡ Some due →
+      IsSomeAnd (running_at roster key) (λ (y : Running). Dozes (record r.world { book = book }) due y.task)
   dozes_after key due f =
       let x = some_is (running_at r.roster key) (λ (y : Running). Dozes r.world due y.task) (h.shelved.doze key due f) in
-      some_has (running_at roster key) (λ (y : Running). Dozes (record r.world { book = book }) due y.task) x.0 (e.others key (timer_else key due f) ∙ x.1)
+      some_has (running_at roster key) (λ (y : Running). Dozes (record r.world { book = book }) due y.task) x.0
+          (e.others key (timer_else key due f) ∙ x.1)
       (record {
         asleep =
             record {
@@ -207,8 +232,10 @@ module _ (r : Runner) (roster : Roster) (book : NurseryBook) (b : Batches) (id r
   known_after : AreKnown roster (record r.world { book = book }) r.clock r.sleepers
   known_after = record { berths = λ key. h.shelved.known.berths key ∙ berth key (due_of r.clock key) refl; sights = h.shelved.known.sights }
     where
-      berth : (key : ℕ) (d : Option ℕ) → due_of r.clock key ≡ d → berth_of (due_of r.clock key) (running_at r.roster key) ≡ berth_of (due_of r.clock key) (running_at roster key)
-      berth key None f = ap (λ (o : Option ℕ). berth_of o (running_at r.roster key)) f ∙ sym (ap (λ (o : Option ℕ). berth_of o (running_at roster key)) f)
+      berth : (key : ℕ) (d : Option ℕ) → due_of r.clock key ≡ d → berth_of (due_of r.clock key) (running_at r.roster key)
+          ≡ berth_of (due_of r.clock key) (running_at roster key)
+      berth key None f = ap (λ (o : Option ℕ). berth_of o (running_at r.roster key)) f
+          ∙ sym (ap (λ (o : Option ℕ). berth_of o (running_at roster key)) f)
       berth key (Some due) f = ap (berth_of (due_of r.clock key)) (sym (e.others key (timer_else key due f)))
 
   none : times_shelved r.batch r.clock id ≡ 0
@@ -217,11 +244,14 @@ module _ (r : Runner) (roster : Roster) (book : NurseryBook) (b : Batches) (id r
   pub added_after : All (λ (a : Added). IsCalled roster (record r.world { book = book }) a.0 a.1) r.batch.next
   added_after =
       each_other (λ (a : Added). a.0) id r.batch.next (let n : times_shelved r.batch r.clock id ≡ 0 = none in omega (arith, n))
-      (λ (a : Added). IsCalled r.roster r.world a.0 a.1) (λ (a : Added). IsCalled roster (record r.world { book = book }) a.0 a.1) h.shelved.next (λ a differs c. called_after a.0 a.1 differs c)
+      (λ (a : Added). IsCalled r.roster r.world a.0 a.1) (λ (a : Added). IsCalled roster (record r.world { book = book }) a.0 a.1)
+          h.shelved.next (λ a differs c. called_after a.0 a.1 differs c)
 
   -- where those that were added go on, and each stands as often as it has to
-  pub ended_going : IsRoster roster → b.current ≡ r.batch.current → All (λ (a : Added). IsCalled roster (record r.world { book = book }) a.0 a.1) b.next →
-      ((other : ℕ) → times_shelved b r.clock other ≡ running_times book (running_at roster other)) → IsGoing None (ended_runner r roster book b)
+  pub ended_going : IsRoster roster → b.current ≡ r.batch.current →
+      All (λ (a : Added). IsCalled roster (record r.world { book = book }) a.0 a.1) b.next →
+      ((other : ℕ) → times_shelved b r.clock other ≡ running_times book (running_at roster other)) →
+          IsGoing None (ended_runner r roster book b)
   ended_going agree current next once =
       record {
         sound = h.sound;
@@ -238,8 +268,10 @@ module _ (r : Runner) (roster : Roster) (book : NurseryBook) (b : Batches) (id r
               known = known_after;
               current =
                   subst (All (λ (x : Entry). IsCalled roster (record r.world { book = book }) x.task x.call)) (sym current)
-                  (each_other (λ (x : Entry). x.task) id r.batch.current (let n : times_shelved r.batch r.clock id ≡ 0 = none in omega (arith, n))
-                  (λ (x : Entry). IsCalled r.roster r.world x.task x.call) (λ (x : Entry). IsCalled roster (record r.world { book = book }) x.task x.call) h.shelved.current
+                  (each_other (λ (x : Entry). x.task) id r.batch.current (let n : times_shelved r.batch r.clock id ≡ 0 = none in
+                      omega (arith, n))
+                  (λ (x : Entry). IsCalled r.roster r.world x.task x.call) (λ (x : Entry).
+                      IsCalled roster (record r.world { book = book }) x.task x.call) h.shelved.current
                   (λ x differs c. called_after x.task x.call differs c));
               next = next;
               once = λ other any. once other;

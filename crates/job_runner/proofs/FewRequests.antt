@@ -47,7 +47,8 @@ record Runs (r : Roster) (e : Entry) : Type 0 where
   pub is : running_at r e.task ≡ Some running
 
 -- a row that is among those of entries has its id among them
-among : (r : Roster) → IsRoster r → (id : ℕ) (x : Running) → running_at r id ≡ Some x → (es : List Entry) → All (Runs r) es → In x.row (rows_in r es) →
+among : (r : Roster) → IsRoster r → (id : ℕ) (x : Running) → running_at r id ≡ Some x → (es : List Entry) → All (Runs r) es →
+    In x.row (rows_in r es) →
     1 ≤ times id (map (λ (e : Entry). e.task) es)
 among r agree id x e [] all i = absurd i
 among r agree id x e (y ∷ es) all (inl h) =
@@ -62,7 +63,8 @@ among r agree id x e (y ∷ es) all (inr i) =
     omega (arith, some, more)
 
 -- entries of other tasks have other rows
-rows_differ : (r : Roster) → IsRoster r → (es : List Entry) → All (Runs r) es → ((id : ℕ) → times id (map (λ (e : Entry). e.task) es) ≤ 1) → AreDistinct (rows_in r es)
+rows_differ : (r : Roster) → IsRoster r → (es : List Entry) → All (Runs r) es → ((id : ℕ) → times id (map (λ (e : Entry). e.task) es) ≤ 1) →
+    AreDistinct (rows_in r es)
 rows_differ r agree [] all once = tt
 rows_differ r agree (e ∷ es) all once = (no_other, rows_differ r agree es rest fewer)
   where
@@ -94,7 +96,8 @@ rows_live r agree (e ∷ es) all s (inr i) = rows_live r agree es (All-tail (Run
 -- ---- requests
 
 -- an entry makes one request at most
-one_request : (task : ℕ) (call : Call) (answer : Option Answer) (es : List Entry) → length (requests_of (record { task = task; call = call; answer = answer } ∷ es)) ≤ suc (length (requests_of es))
+one_request : (task : ℕ) (call : Call) (answer : Option Answer) (es : List Entry) →
+    length (requests_of (record { task = task; call = call; answer = answer } ∷ es)) ≤ suc (length (requests_of es))
 one_request task Begin answer es = omega arith
 one_request task Due answer es = omega arith
 one_request task Seen answer es = omega arith
@@ -123,7 +126,8 @@ few_requests r h =
     shelved = h.going.shelved
 
     runs : (e : Entry) → IsCalled r.roster r.world e.task e.call → Runs r.roster e
-    runs e called = let x = some_is (running_at r.roster e.task) (λ (y : Running). GoesBy r.world y.task e.call) called in record { running = x.0; is = x.1 }
+    runs e called = let x = some_is (running_at r.roster e.task) (λ (y : Running). GoesBy r.world y.task e.call) called in
+        record { running = x.0; is = x.1 }
 
     all : All (Runs r.roster) r.batch.current
     all = All-weaker (λ (e : Entry). IsCalled r.roster r.world e.task e.call) (Runs r.roster) runs r.batch.current shelved.current

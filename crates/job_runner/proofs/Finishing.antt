@@ -58,8 +58,10 @@ none_lives (Some end) x y e none = refl
 -- ---- what is kept shows the row
 
 -- what is kept of an end, as it is read
-end_shown : (input : List ℕ) (row : course.Row) (end : Option Ended) (gone : Gone) → option_map gone_from end ≡ Some gone → gone.label ≡ row.label → gone.end ≡ row.end → gone.exc ≡ row.exc →
-    map entry_of gone.entries ≡ map (shown input) row.entries → All (IsSlice input) gone.entries → map from_of gone.froms ≡ row.froms → EndIsShown input row end
+end_shown : (input : List ℕ) (row : course.Row) (end : Option Ended) (gone : Gone) → option_map gone_from end ≡ Some gone →
+    gone.label ≡ row.label → gone.end ≡ row.end → gone.exc ≡ row.exc →
+    map entry_of gone.entries ≡ map (shown input) row.entries → All (IsSlice input) gone.entries → map from_of gone.froms ≡ row.froms →
+        EndIsShown input row end
 end_shown input row None gone e label tick exc entries slices froms = tt
 end_shown input row (Some end) gone e label tick exc entries slices froms =
     let is : gone_from end ≡ gone = same_Some (gone_from end) gone e in
@@ -72,7 +74,8 @@ end_shown input row (Some end) gone e label tick exc entries slices froms =
       froms = ap (λ (g : Gone). map from_of g.froms) is ∙ froms;
     }
 
-row_shown : (input : List ℕ) (roster : Roster) (world : World) (turns s : ℕ) (row : course.Row) (held : Row) → row_at roster s ≡ Some held → ShowsRow input (crew_of roster world turns) s row →
+row_shown : (input : List ℕ) (roster : Roster) (world : World) (turns s : ℕ) (row : course.Row) (held : Row) → row_at roster s ≡ Some held →
+    ShowsRow input (crew_of roster world turns) s row →
     IsShown input row held
 row_shown input roster world turns s row held e h =
     record {
@@ -95,11 +98,13 @@ module _ (r : Runner) (w : IsUnderway r) (over : phase_of r ≡ phases.Over) whe
 
   -- no task lives
   none_left : (p : ℕ) → task_of r.roster p ≡ None
-  none_left p = root_last k r.job.now r.input.now r.world.tick (many r.roster) (crew_in r) crew (no_task r.roster.live (row_at r.roster 0) root.0 root.1) p
+  none_left p = root_last k r.job.now r.input.now r.world.tick (many r.roster) (crew_in r) crew
+      (no_task r.roster.live (row_at r.roster 0) root.0 root.1) p
 
   -- so each row has its end
   pub all_ended : (rows : List Row) → rows ≡ r.roster.rows.items → All (λ (x : Row). IsSome x.end) rows
-  all_ended rows same = subst (All (λ (x : Row). IsSome x.end)) (sym same) (all_by_place (λ (x : Row). IsSome x.end) r.roster.rows.items (λ p row e. by_end p row e row.end refl))
+  all_ended rows same = subst (All (λ (x : Row). IsSome x.end)) (sym same)
+      (all_by_place (λ (x : Row). IsSome x.end) r.roster.rows.items (λ p row e. by_end p row e row.end refl))
     where
       by_end : (p : ℕ) (row : Row) → row_at r.roster p ≡ Some row → (end : Option Ended) → row.end ≡ end → IsSome row.end
       by_end p row e None f =
@@ -112,7 +117,8 @@ module _ (r : Runner) (w : IsUnderway r) (over : phase_of r ≡ phases.Over) whe
 
   are_shown : AreShown r.input.now is_over.rows r.roster.rows.items
   are_shown s held e =
-      row_shown r.input.now r.roster r.world r.turns s (is_over.rows s) held e (is_over.shows s (slice_get_within r.roster.rows.items s held e))
+      row_shown r.input.now r.roster r.world r.turns s (is_over.rows s) held e
+          (is_over.shows s (slice_get_within r.roster.rows.items s held e))
 
   -- the records and froms that rows come to
   module _ (rows : List Row) (same : rows ≡ r.roster.rows.items) (records : List Record) (froms : List ScopeFrom)
@@ -120,7 +126,8 @@ module _ (r : Runner) (w : IsUnderway r) (over : phase_of r ≡ phases.Over) whe
     told : ShowRecords r.input.now is_over.rows records froms
     told = tells r.input.now is_over.rows (subst (AreShown r.input.now is_over.rows) (sym same) are_shown)
 
-    pub is_run : (run : Run) → name_of run ≡ r.job.now.name → records_in run ≡ records → froms_in run ≡ froms → IsRun r.job.now r.input.now run
+    pub is_run : (run : Run) → name_of run ≡ r.job.now.name → records_in run ≡ records → froms_in run ≡ froms →
+        IsRun r.job.now r.input.now run
     is_run run name rs fs =
         record {
           name = name;

@@ -55,15 +55,18 @@ record LivesAt (r : Roster) (task : Task) : Type 0 where
   task_is : running.task ≡ task
 
 lives_at : (r : Roster) → IsRoster r → (p : ℕ) (task : Task) → task_of r p ≡ Some task → LivesAt r task
-lives_at r agree p task e = let l = lives_by r agree p task e in record { id = id_of r p; running = l.running; is = l.is; task_is = l.task_is }
+lives_at r agree p task e = let l = lives_by r agree p task e in
+    record { id = id_of r p; running = l.running; is = l.is; task_is = l.task_is }
 
 -- ---- a run of which nobody is ready
 
-crew_now : (r : Runner) → IsGoing None r → IsCrew (meaning_table r.job.now r.input.now) r.job.now r.input.now r.world.tick (many r.roster) None (crew_in r)
+crew_now : (r : Runner) → IsGoing None r → IsCrew (meaning_table r.job.now r.input.now) r.job.now r.input.now r.world.tick (many r.roster)
+    None (crew_in r)
 crew_now r g = g.course (meaning_table r.job.now r.input.now) (table_is_settled r.job.now r.input.now g.sound.names)
 
 -- the scope of each task is open
-pub scopes_open : (r : Runner) → IsGoing None r → (id : ℕ) (x : Running) → running_at r.roster id ≡ Some x → ForSome (scope_of x.task) (IsOpen r.world.scopes)
+pub scopes_open : (r : Runner) → IsGoing None r → (id : ℕ) (x : Running) → running_at r.roster id ≡ Some x →
+    ForSome (scope_of x.task) (IsOpen r.world.scopes)
 scopes_open r g id x is = ((crew_now r g).follows x.row x.task (task_at r.roster g.shelved.agree id x is)).goes.scope
 
 -- ---- until when they stay
@@ -83,9 +86,12 @@ module _ (r : Runner) (w : IsUnderway r) (none : r.batch.current ≡ []) where
   -- a task that lives has a timer as often as its halt says
   timed_times : (task : Task) (at : LivesAt r.roster task) → timer_times (due_of r.clock at.id) ≡ halt_times r.world.book task.halt
   timed_times task at =
-      let all : times_shelved r.batch r.clock at.id ≡ running_times r.world.book (running_at r.roster at.id) = w.going.shelved.once at.id tt in
-      let current : times at.id (map (λ (e : Entry). e.task) r.batch.current) ≡ 0 = ap (λ (es : List Entry). times at.id (map (λ (e : Entry). e.task) es)) none in
-      let next : times at.id (map (λ (a : Added). a.0) r.batch.next) ≡ 0 = ap (λ (es : List Added). times at.id (map (λ (a : Added). a.0) es)) w.nothing_added in
+      let all : times_shelved r.batch r.clock at.id ≡ running_times r.world.book (running_at r.roster at.id) =
+          w.going.shelved.once at.id tt in
+      let current : times at.id (map (λ (e : Entry). e.task) r.batch.current) ≡ 0 =
+          ap (λ (es : List Entry). times at.id (map (λ (e : Entry). e.task) es)) none in
+      let next : times at.id (map (λ (a : Added). a.0) r.batch.next) ≡ 0 =
+          ap (λ (es : List Added). times at.id (map (λ (a : Added). a.0) es)) w.nothing_added in
       let its : running_times r.world.book (running_at r.roster at.id) ≡ halt_times r.world.book task.halt =
       ap (running_times r.world.book) at.is ∙ ap (λ (t : Task). halt_times r.world.book t.halt) at.task_is in
       omega (arith, all, current, next, its)
@@ -114,7 +120,8 @@ module _ (r : Runner) (w : IsUnderway r) (none : r.batch.current ≡ []) where
             seen_by = ap (sight_by r.world) at.is ∙ ap (λ (t : Task). sight (outer_of r.world.scopes (scope_of t))) at.task_is;
             dozes =
                 subst (Dozes r.world due) at.task_is
-                (subst (λ (o : Option Running). IsSomeAnd o (λ (x : Running). Dozes r.world due x.task)) at.is (w.going.shelved.doze at.id due e));
+                (subst (λ (o : Option Running). IsSomeAnd o (λ (x : Running). Dozes r.world due x.task)) at.is
+                    (w.going.shelved.doze at.id due e));
           }
 
   -- no sleeper is due before a tick, or sees a cancellation before it
@@ -132,7 +139,8 @@ module _ (r : Runner) (w : IsUnderway r) (none : r.batch.current ≡ []) where
       asleep_as halt h one = sleeps_as task at (ap (halt_times r.world.book) h ∙ one)
 
       by_nursery : (id since : ℕ) → task.halt ≡ Awaits id since → (o : Option Nursery) → nursery_at r.world.book id ≡ o →
-          IsSomeAnd o (λ (n : Nursery). HasMembers (crew_in r) crew.course.at r.world.tick (crew.numbers p) (crew.course.at p) id n) → IsSomeAnd o (λ (n : Nursery). is_settled n ≡ false)
+          IsSomeAnd o (λ (n : Nursery). HasMembers (crew_in r) crew.course.at r.world.tick (crew.numbers p) (crew.course.at p) id n) →
+              IsSomeAnd o (λ (n : Nursery). is_settled n ≡ false)
       by_nursery id since h None f members = members
       by_nursery id since h (Some n) f members = by_settled (is_settled n) refl
         where
@@ -153,12 +161,15 @@ module _ (r : Runner) (w : IsUnderway r) (none : r.batch.current ≡ []) where
           let a = asleep_as (Asleep ticks since) h refl in
           let b = bound a.id a.due a.timer in
           let same = same_sleep ticks since a.dozes.asleep.ticks a.dozes.asleep.since (sym h ∙ a.dozes.asleep.halt) in
-          ((let le = b.0 in let due = a.dozes.asleep.due_is in let x = same.0 in let y = same.1 in omega (arith, le, due, x, y)), ap (upto u) (sym a.seen_by) ∙ b.1)
+          ((let le = b.0 in let due = a.dozes.asleep.due_is in let x = same.0 in let y = same.1 in omega (arith, le, due, x, y)),
+              ap (upto u) (sym a.seen_by) ∙ b.1)
       by_halt (Awaits id since) h =
           by_nursery id since h (nursery_at r.world.book id) refl ((crew.follows p task e).nurseries id (inr (ap waits_of h)))
       by_halt Over h =
           let it = crew.follows p task e in
-          absurd (over_has_ended (crew.numbers p) r.world.book (crew.course.at p).rest.stopped (subst (λ (x : Halt). IsHalt (crew.numbers p) r.world.book x (crew.course.at p).rest.stopped) h it.halt) (it.lives (λ f. none-some p f)))
+          absurd (over_has_ended (crew.numbers p) r.world.book (crew.course.at p).rest.stopped
+              (subst (λ (x : Halt). IsHalt (crew.numbers p) r.world.book x (crew.course.at p).rest.stopped) h it.halt)
+              (it.lives (λ f. none-some p f)))
 
   -- ---- what the clock asks
 
@@ -183,7 +194,8 @@ module _ (r : Runner) (w : IsUnderway r) (none : r.batch.current ≡ []) where
   -- a task that lives is one of a crew of which one sleeps
   pub has_timer : (s : ℕ) (task : Task) → task_of r.roster s ≡ Some task → HasTimer r.clock
   has_timer s task e =
-      let h = crew_sleeps (meaning_table r.job.now r.input.now) r.job.now r.input.now r.world.tick (many r.roster) (crew_in r) (table_is_settled r.job.now r.input.now w.going.sound.names) w.going.sound.names
+      let h = crew_sleeps (meaning_table r.job.now r.input.now) r.job.now r.input.now r.world.tick (many r.roster) (crew_in r)
+          (table_is_settled r.job.now r.input.now w.going.sound.names) w.going.sound.names
       w.going.sound.starts crew 0 (all_stay 0 none_before_zero) s task e in
       let a = sleeps_as h.task (lives_at r.roster w.going.shelved.agree h.serial h.task h.lives) (ap (halt_times r.world.book) h.asleep) in
       (a.id, a.due, a.timer)
@@ -200,7 +212,8 @@ module _ (r : Runner) (w : IsUnderway r) (none : r.batch.current ≡ []) where
 
   module _ (first : Tick) (is_first : IsFirst r.sleepers first) where
     -- some sleeper sees from that tick on
-    seer : (t : ℕ) → first ≡ Some t → (id : ℕ) × (due : ℕ) × (x : Running) × (due_of r.clock id ≡ Some due) × (running_at r.roster id ≡ Some x) × (sight (outer_of r.world.scopes (scope_of x.task)) ≡ Some t)
+    seer : (t : ℕ) → first ≡ Some t → (id : ℕ) × (due : ℕ) × (x : Running) × (due_of r.clock id ≡ Some due)
+        × (running_at r.roster id ≡ Some x) × (sight (outer_of r.world.scopes (scope_of x.task)) ≡ Some t)
     seer t e =
         let one = is_first.is_one t e in
         let z = seen_by r.roster r.world r.clock r.sleepers w.going.shelved.known w.unchanged one.0 t one.1 in
@@ -216,7 +229,9 @@ module _ (r : Runner) (w : IsUnderway r) (none : r.batch.current ≡ []) where
         ∙ (ap (λ (x : Running). seen (outer_of r.world.scopes (scope_of x.task)) r.world.tick) (sym same) ∙ d.2.unseen) in
         by_test w.going.shelved.now unseen (leb_tells cancel r.world.tick)
       where
-        by_test : now_of r.clock ≡ r.world.tick → nat_le cancel r.world.tick ≡ false → ((nat_le cancel r.world.tick ≡ true) × (cancel ≤ r.world.tick)) ⊎ ((nat_le cancel r.world.tick ≡ false) × (r.world.tick < cancel)) →
+        by_test : now_of r.clock ≡ r.world.tick → nat_le cancel r.world.tick ≡ false →
+            ((nat_le cancel r.world.tick ≡ true) × (cancel ≤ r.world.tick))
+            ⊎ ((nat_le cancel r.world.tick ≡ false) × (r.world.tick < cancel)) →
             now_of r.clock < cancel
         by_test now unseen (inl h) = absurd (let f : true ≡ false = sym h.0 ∙ unseen in cc)
         by_test now unseen (inr h) = let lt = h.1 in omega (arith, lt, now)
@@ -232,13 +247,15 @@ module _ (r : Runner) (w : IsUnderway r) (none : r.batch.current ≡ []) where
           by_one now (inr h) = let lt = timers_later h.0 t h.1 in omega (arith, lt, now)
 
       -- no sleeper sees a cancellation before it
-      none_earlier : (id due : ℕ) (x : Running) → due_of r.clock id ≡ Some due → running_at r.roster id ≡ Some x → upto t (sight (outer_of r.world.scopes (scope_of x.task))) ≡ t
+      none_earlier : (id due : ℕ) (x : Running) → due_of r.clock id ≡ Some due → running_at r.roster id ≡ Some x →
+          upto t (sight (outer_of r.world.scopes (scope_of x.task))) ≡ t
       none_earlier id due x e f = by_sight (sight (outer_of r.world.scopes (scope_of x.task))) refl
         where
           by_sight : (c : Tick) → sight (outer_of r.world.scopes (scope_of x.task)) ≡ c → upto t c ≡ t
           by_sight None g = refl
           by_sight (Some cancel) g =
-              let u = some_is first (λ (v : ℕ). v ≤ cancel) (is_first.least id cancel (sees_from r.roster r.world r.clock r.sleepers w.going.shelved.known w.unchanged id due x cancel e f g)) in
+              let u = some_is first (λ (v : ℕ). v ≤ cancel) (is_first.least id cancel
+                  (sees_from r.roster r.world r.clock r.sleepers w.going.shelved.known w.unchanged id due x cancel e f g)) in
               let le : t ≤ u.0 = next.by_cancel u.0 u.1 in
               let more : u.0 ≤ cancel = u.2 in
               omega (arith, le, more)
@@ -252,17 +269,20 @@ module _ (r : Runner) (w : IsUnderway r) (none : r.batch.current ≡ []) where
       later_world = record r.world { tick = t }
 
       -- the same tasks are a run of the definitions in that tick
-      pub course_jumps : (k : Table) → IsSettled k r.job.now r.input.now → IsCrew k r.job.now r.input.now t (many r.roster) None (crew_of r.roster (record r.world { tick = t }) r.turns)
+      pub course_jumps : (k : Table) → IsSettled k r.job.now r.input.now →
+          IsCrew k r.job.now r.input.now t (many r.roster) None (crew_of r.roster (record r.world { tick = t }) r.turns)
       course_jumps k settled =
           let c = w.going.course k settled in
-          crew_jumps k r.job.now r.input.now r.world.tick t (many r.roster) (crew_in r) (crew_of r.roster later_world r.turns) (let lt = next_later in omega (arith, lt))
+          crew_jumps k r.job.now r.input.now r.world.tick t (many r.roster) (crew_in r) (crew_of r.roster later_world r.turns)
+              (let lt = next_later in omega (arith, lt))
           (record { turns = refl; task = λ p. refl; gone = λ p. refl; start = λ p. refl; children = λ p. refl }) refl c
           (crew_blocked k r.job.now r.input.now r.world.tick (many r.roster) (crew_in r) c t (all_stay t none_before_next))
 
       -- and while one lives, the meaning does not end before it
       pub ends_later : (s : ℕ) (task : Task) → task_of r.roster s ≡ Some task → t ≤ meaning_end r.job.now r.input.now
       ends_later s task e =
-          crew_in_time r.job.now r.input.now t (many r.roster) (crew_of r.roster later_world r.turns) w.going.sound.names w.going.sound.starts
+          crew_in_time r.job.now r.input.now t (many r.roster) (crew_of r.roster later_world r.turns) w.going.sound.names
+              w.going.sound.starts
           (course_jumps (meaning_table r.job.now r.input.now) (table_is_settled r.job.now r.input.now w.going.sound.names)) s task e
 
       -- one is due in that tick, or sees a cancellation
@@ -276,11 +296,13 @@ module _ (r : Runner) (w : IsUnderway r) (none : r.batch.current ≡ []) where
                 id = z.0;
                 due = z.1;
                 timer = timers z.0 ∙ z.3;
-                timely = inr (ap (λ (o : Option Running). reached (sight_by later_world o) t) z.4 ∙ (ap (λ (c : Tick). reached c t) z.5 ∙ le-leb t t (omega arith)));
+                timely = inr (ap (λ (o : Option Running). reached (sight_by later_world o) t) z.4
+                    ∙ (ap (λ (c : Tick). reached c t) z.5 ∙ le-leb t t (omega arith)));
               }
           by_one (inr h) = record { id = h.0; due = t; timer = timers h.0 ∙ h.1; timely = inl (omega arith) }
 
-      slept : (id due : ℕ) → due_of r.clock id ≡ Some due → IsSomeAnd (running_at r.roster id) (λ (x : Running). Slept later_world due x.task)
+      slept : (id due : ℕ) → due_of r.clock id ≡ Some due → IsSomeAnd (running_at r.roster id)
+          (λ (x : Running). Slept later_world due x.task)
       slept id due e =
           let d = dozer id due e in
           some_has (running_at r.roster id) (λ (x : Running). Slept later_world due x.task) d.0 d.1
@@ -294,12 +316,14 @@ module _ (r : Runner) (w : IsUnderway r) (none : r.batch.current ≡ []) where
           })
 
       -- the runner whose clock jumped there
-      pub has_jumped : (clock : Clock) → t ≤ limit_of r.clock → now_of clock ≡ t → limit_of clock ≡ limit_of r.clock → ((task : ℕ) → due_of clock task ≡ due_of r.clock task) →
+      pub has_jumped : (clock : Clock) → t ≤ limit_of r.clock → now_of clock ≡ t → limit_of clock ≡ limit_of r.clock →
+          ((task : ℕ) → due_of clock task ≡ due_of r.clock task) →
           IsWaking (record r { clock = clock; world = record r.world { tick = t } })
       has_jumped clock within now limit timers =
           record {
             agree = w.going.shelved.agree;
-            homes = λ s task home e f. (let k = w.going.shelved.homes s task home e f in record { task = k.task; lives = k.lives; owned = k.owned });
+            homes = λ s task home e f. (let k = w.going.shelved.homes s task home e f in
+                record { task = k.task; lives = k.lives; owned = k.owned });
             now = now;
             limit = limit ∙ w.going.shelved.limit;
             within = (let a : limit_of r.clock ≡ r.limit = w.going.shelved.limit in omega (arith, a, within));
@@ -308,14 +332,17 @@ module _ (r : Runner) (w : IsUnderway r) (none : r.batch.current ≡ []) where
             slept = λ id due e. slept id due (sym (timers id) ∙ e);
             known =
                 record {
-                  berths = λ id. w.going.shelved.known.berths id ∙ ap (λ (d : Option ℕ). berth_of d (running_at r.roster id)) (sym (timers id));
+                  berths = λ id. w.going.shelved.known.berths id ∙ ap (λ (d : Option ℕ). berth_of d (running_at r.roster id))
+                      (sym (timers id));
                   sights = w.going.shelved.known.sights;
                 };
             unchanged = w.unchanged;
             none_current = none;
-            next = subst (All (λ (a : Added). IsCalled r.roster later_world a.0 a.1)) (sym w.nothing_added) (All-nil (λ (a : Added). IsCalled r.roster later_world a.0 a.1));
+            next = subst (All (λ (a : Added). IsCalled r.roster later_world a.0 a.1)) (sym w.nothing_added)
+                (All-nil (λ (a : Added). IsCalled r.roster later_world a.0 a.1));
             once = λ id.
-                let all : times_shelved r.batch r.clock id ≡ running_times r.world.book (running_at r.roster id) = w.going.shelved.once id tt in
+                let all : times_shelved r.batch r.clock id ≡ running_times r.world.book (running_at r.roster id) =
+                    w.going.shelved.once id tt in
                 let same : timer_times (due_of clock id) ≡ timer_times (due_of r.clock id) = ap timer_times (timers id) in
                 omega (arith, all, same);
             someone = inr (any_now clock timers);

@@ -26,21 +26,26 @@ pub record SleepsIn (roster : Roster) (clock : Clock) (id key : ℕ) : Type 0 wh
   pub lives : running_at roster id ≡ Some running
   pub in_scope : scope_of running.task ≡ Some key
 
-pub sleeps_in : (roster : Roster) (world : World) (clock : Clock) (sleepers : Sleeping) → AreKnown roster world clock sleepers → (id key : ℕ) → scope_in sleepers id ≡ Some key →
+pub sleeps_in : (roster : Roster) (world : World) (clock : Clock) (sleepers : Sleeping) → AreKnown roster world clock sleepers →
+    (id key : ℕ) → scope_in sleepers id ≡ Some key →
     SleepsIn roster clock id key
 sleeps_in roster world clock sleepers k id key e = by_timer (due_of clock id) refl (running_at roster id) refl (sym (k.berths id) ∙ e)
   where
-    by_timer : (d : Option ℕ) → due_of clock id ≡ d → (o : Option Running) → running_at roster id ≡ o → berth_of (due_of clock id) (running_at roster id) ≡ Some key → SleepsIn roster clock id key
+    by_timer : (d : Option ℕ) → due_of clock id ≡ d → (o : Option Running) → running_at roster id ≡ o →
+        berth_of (due_of clock id) (running_at roster id) ≡ Some key → SleepsIn roster clock id key
     by_timer None f o g h = absurd (none-some key (sym (ap (λ (d : Option ℕ). berth_of d (running_at roster id)) f) ∙ h))
     by_timer (Some due) f None g h =
         absurd (none-some key (sym (ap (λ (d : Option ℕ). berth_of d (running_at roster id)) f ∙ ap (berth_of (Some due)) g) ∙ h))
     by_timer (Some due) f (Some x) g h =
-        record { due = due; running = x; timer = f; lives = g; in_scope = sym (ap (λ (d : Option ℕ). berth_of d (running_at roster id)) f ∙ ap (berth_of (Some due)) g) ∙ h }
+        record { due = due; running = x; timer = f; lives = g; in_scope =
+            sym (ap (λ (d : Option ℕ). berth_of d (running_at roster id)) f ∙ ap (berth_of (Some due)) g) ∙ h }
 
 -- and the other way round
-pub berth_is : (roster : Roster) (world : World) (clock : Clock) (sleepers : Sleeping) → AreKnown roster world clock sleepers → (id due : ℕ) (x : Running) → due_of clock id ≡ Some due →
+pub berth_is : (roster : Roster) (world : World) (clock : Clock) (sleepers : Sleeping) → AreKnown roster world clock sleepers →
+    (id due : ℕ) (x : Running) → due_of clock id ≡ Some due →
     running_at roster id ≡ Some x → scope_in sleepers id ≡ scope_of x.task
-berth_is roster world clock sleepers k id due x e f = k.berths id ∙ (ap (λ (d : Option ℕ). berth_of d (running_at roster id)) e ∙ ap (berth_of (Some due)) f)
+berth_is roster world clock sleepers k id due x e f = k.berths id
+    ∙ (ap (λ (d : Option ℕ). berth_of d (running_at roster id)) e ∙ ap (berth_of (Some due)) f)
 
 -- ---- what it sees
 
@@ -50,25 +55,31 @@ kept_sight sleepers None = None
 kept_sight sleepers (Some key) = sight_of sleepers key
 
 -- where no scope is left to hand out, that is what its tasks see
-pub shown_sight : (tree : Tree) (key : ℕ) (kept : Tick) → is_changed tree key ≡ false → Shows tree key kept → sight (outer_of tree (Some key)) ≡ kept
+pub shown_sight : (tree : Tree) (key : ℕ) (kept : Tick) → is_changed tree key ≡ false → Shows tree key kept →
+    sight (outer_of tree (Some key)) ≡ kept
 shown_sight tree key kept unchanged h = by_known h.known
   where
     by_known : (sight h.stack ≡ kept) ⊎ (is_changed tree key ≡ true) → sight (outer_of tree (Some key)) ≡ kept
     by_known (inl e) = ap (λ (o : Option Stack). sight (unwrap_or o [])) h.opened ∙ e
     by_known (inr e) = absurd (let f : false ≡ true = sym unchanged ∙ e in cc)
 
-pub known_sight : (roster : Roster) (world : World) (clock : Clock) (sleepers : Sleeping) → AreKnown roster world clock sleepers → NoneChanged world → (id due : ℕ) (x : Running) →
-    due_of clock id ≡ Some due → running_at roster id ≡ Some x → sight (outer_of world.scopes (scope_of x.task)) ≡ kept_sight sleepers (scope_of x.task)
+pub known_sight : (roster : Roster) (world : World) (clock : Clock) (sleepers : Sleeping) → AreKnown roster world clock sleepers →
+    NoneChanged world → (id due : ℕ) (x : Running) →
+    due_of clock id ≡ Some due → running_at roster id ≡ Some x →
+        sight (outer_of world.scopes (scope_of x.task)) ≡ kept_sight sleepers (scope_of x.task)
 known_sight roster world clock sleepers k unchanged id due x e f = by_scope (scope_of x.task) refl
   where
     by_scope : (o : Option ℕ) → scope_of x.task ≡ o → sight (outer_of world.scopes o) ≡ kept_sight sleepers o
     by_scope None h = refl
     by_scope (Some key) h =
-        shown_sight world.scopes key (sight_of sleepers key) (unchanged key) (k.sights id key (berth_is roster world clock sleepers k id due x e f ∙ h))
+        shown_sight world.scopes key (sight_of sleepers key) (unchanged key)
+            (k.sights id key (berth_is roster world clock sleepers k id due x e f ∙ h))
 
 -- a sleeper that sees a cancellation from a tick on, by its scope
-pub sees_from : (roster : Roster) (world : World) (clock : Clock) (sleepers : Sleeping) → AreKnown roster world clock sleepers → NoneChanged world → (id due : ℕ) (x : Running) (t : ℕ) →
-    due_of clock id ≡ Some due → running_at roster id ≡ Some x → sight (outer_of world.scopes (scope_of x.task)) ≡ Some t → SeesFrom sleepers id t
+pub sees_from : (roster : Roster) (world : World) (clock : Clock) (sleepers : Sleeping) → AreKnown roster world clock sleepers →
+    NoneChanged world → (id due : ℕ) (x : Running) (t : ℕ) →
+    due_of clock id ≡ Some due → running_at roster id ≡ Some x → sight (outer_of world.scopes (scope_of x.task)) ≡ Some t →
+        SeesFrom sleepers id t
 sees_from roster world clock sleepers k unchanged id due x t e f sees = by_scope (scope_of x.task) refl
   where
     by_scope : (o : Option ℕ) → scope_of x.task ≡ o → SeesFrom sleepers id t
@@ -80,26 +91,32 @@ sees_from roster world clock sleepers k unchanged id due x t e f sees = by_scope
           sight = sym (known_sight roster world clock sleepers k unchanged id due x e f ∙ ap (kept_sight sleepers) h) ∙ sees;
         }
 
-pub seen_by : (roster : Roster) (world : World) (clock : Clock) (sleepers : Sleeping) → AreKnown roster world clock sleepers → NoneChanged world → (id t : ℕ) → (s : SeesFrom sleepers id t) →
+pub seen_by : (roster : Roster) (world : World) (clock : Clock) (sleepers : Sleeping) → AreKnown roster world clock sleepers →
+    NoneChanged world → (id t : ℕ) → (s : SeesFrom sleepers id t) →
     (z : SleepsIn roster clock id s.scope) × (sight (outer_of world.scopes (scope_of z.running.task)) ≡ Some t)
 seen_by roster world clock sleepers k unchanged id t s =
     let z = sleeps_in roster world clock sleepers k id s.scope s.sleeps in
-    (z, known_sight roster world clock sleepers k unchanged id z.due z.running z.timer z.lives ∙ (ap (kept_sight sleepers) z.in_scope ∙ s.sight))
+    (z, known_sight roster world clock sleepers k unchanged id z.due z.running z.timer z.lives
+        ∙ (ap (kept_sight sleepers) z.in_scope ∙ s.sight))
 
 -- ---- one that is woken
 
 -- a task that has no timer any more sleeps in no scope
-pub known_without : (roster : Roster) (world : World) (old new : Clock) (was are : Sleeping) (id : ℕ) → AreKnown roster world old was → Updates old new id None → Moves was are id None →
+pub known_without : (roster : Roster) (world : World) (old new : Clock) (was are : Sleeping) (id : ℕ) → AreKnown roster world old was →
+    Updates old new id None → Moves was are id None →
     KeepsSights was are → AreKnown roster world new are
-known_without roster world old new was are id k u m keeps = record { berths = λ other. berth other (same_or other id); sights = λ other key e. sight_at other key e (same_or other id) }
+known_without roster world old new was are id k u m keeps =
+    record { berths = λ other. berth other (same_or other id); sights = λ other key e. sight_at other key e (same_or other id) }
   where
     berth : (other : ℕ) → (other ≡ id) ⊎ (other ≢ id) → scope_in are other ≡ berth_of (due_of new other) (running_at roster other)
     berth other (inl e) =
         subst (λ (n : ℕ). scope_in are n ≡ berth_of (due_of new n) (running_at roster n)) (sym e)
         (m.changed ∙ sym (ap (λ (d : Option ℕ). berth_of d (running_at roster id)) u.changed))
     berth other (inr differs) =
-        m.others other differs ∙ (k.berths other ∙ ap (λ (d : Option ℕ). berth_of d (running_at roster other)) (sym (u.others other differs)))
+        m.others other differs ∙ (k.berths other ∙ ap (λ (d : Option ℕ). berth_of d (running_at roster other))
+            (sym (u.others other differs)))
 
     sight_at : (other key : ℕ) → scope_in are other ≡ Some key → (other ≡ id) ⊎ (other ≢ id) → Shows world.scopes key (sight_of are key)
     sight_at other key e (inl same) = absurd (none-some key (sym (ap (scope_in are) same ∙ m.changed) ∙ e))
-    sight_at other key e (inr differs) = subst (Shows world.scopes key) (sym (keeps other key e)) (k.sights other key (sym (m.others other differs) ∙ e))
+    sight_at other key e (inr differs) =
+        subst (Shows world.scopes key) (sym (keeps other key e)) (k.sights other key (sym (m.others other differs) ∙ e))

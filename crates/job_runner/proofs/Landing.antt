@@ -31,7 +31,8 @@ blocked_none [] (Some g) e = absurd (let f : phases.Over ≡ phases.Blocked = e 
 blocked_none (x ∷ es) end e = absurd (let f : phases.Ready ≡ phases.Blocked = e in cc)
 
 -- and this, where some were added
-pub ready_some : (es : List Entry) (added : List Added) (end : Option Gone) → es ≡ map unplaced added → added ≢ [] → phase_by es end ≡ phases.Ready
+pub ready_some : (es : List Entry) (added : List Added) (end : Option Gone) → es ≡ map unplaced added → added ≢ [] →
+    phase_by es end ≡ phases.Ready
 ready_some es [] end e some = absurd (some refl)
 ready_some es (a ∷ added) end e some = ap (λ (xs : List Entry). phase_by xs end) e
 
@@ -40,7 +41,8 @@ same_tasks [] = refl
 same_tasks (a ∷ added) = ap (λ (xs : List ℕ). a.0 ∷ xs) (same_tasks added)
 
 -- what was added is the current batch
-pub turned_over : (r : Runner) (batch : Batches) → AreShelved None r → r.batch.current ≡ [] → batch.current ≡ map unplaced r.batch.next → batch.next ≡ [] → AreShelved None (record r { batch = batch })
+pub turned_over : (r : Runner) (batch : Batches) → AreShelved None r → r.batch.current ≡ [] → batch.current ≡ map unplaced r.batch.next →
+    batch.next ≡ [] → AreShelved None (record r { batch = batch })
 turned_over r batch h none current next =
     record {
       agree = h.agree;
@@ -52,21 +54,26 @@ turned_over r batch h none current next =
       none_started = h.none_started;
       doze = h.doze;
       known = h.known;
-      current = subst (All (λ (e : Entry). IsCalled r.roster r.world e.task e.call)) (sym current) (All-map (λ (e : Entry). IsCalled r.roster r.world e.task e.call) unplaced r.batch.next h.next);
-      next = subst (All (λ (a : Added). IsCalled r.roster r.world a.0 a.1)) (sym next) (All-nil (λ (a : Added). IsCalled r.roster r.world a.0 a.1));
+      current = subst (All (λ (e : Entry). IsCalled r.roster r.world e.task e.call)) (sym current)
+          (All-map (λ (e : Entry). IsCalled r.roster r.world e.task e.call) unplaced r.batch.next h.next);
+      next = subst (All (λ (a : Added). IsCalled r.roster r.world a.0 a.1)) (sym next)
+          (All-nil (λ (a : Added). IsCalled r.roster r.world a.0 a.1));
       once = λ id other.
           let all : times_shelved r.batch r.clock id ≡ running_times r.world.book (running_at r.roster id) = h.once id other in
-          let was : times id (map (λ (e : Entry). e.task) r.batch.current) ≡ 0 = ap (λ (es : List Entry). times id (map (λ (e : Entry). e.task) es)) none in
+          let was : times id (map (λ (e : Entry). e.task) r.batch.current) ≡ 0 =
+              ap (λ (es : List Entry). times id (map (λ (e : Entry). e.task) es)) none in
           let a : times id (map (λ (e : Entry). e.task) batch.current) ≡ times id (map (λ (x : Added). x.0) r.batch.next) =
           ap (λ (es : List Entry). times id (map (λ (e : Entry). e.task) es)) current ∙ ap (times id) (same_tasks r.batch.next) in
-          let b : times id (map (λ (x : Added). x.0) batch.next) ≡ 0 = ap (λ (es : List Added). times id (map (λ (x : Added). x.0) es)) next in
+          let b : times id (map (λ (x : Added). x.0) batch.next) ≡ 0 =
+              ap (λ (es : List Added). times id (map (λ (x : Added). x.0) es)) next in
           omega (arith, all, was, a, b);
       away = λ x f. absurd (none-some x f);
     }
 
 -- ---- a run that is blocked
 
-module _ (r : Runner) (w : IsUnderway r) (blocked : phase_of r ≡ phases.Blocked) (cancel : Tick) (is_first : IsFirst r.sleepers cancel) where
+module _ (r : Runner) (w : IsUnderway r) (blocked : phase_of r ≡ phases.Blocked) (cancel : Tick) (is_first : IsFirst r.sleepers cancel)
+    where
   none : r.batch.current ≡ []
   none = (blocked_none r.batch.current (gone_of r.roster 0) blocked).0
 
@@ -102,11 +109,14 @@ module _ (r : Runner) (w : IsUnderway r) (blocked : phase_of r ≡ phases.Blocke
           (has_jumped r w none cancel is_first t jumps.next clock jumps.within jumps.now jumps.limit jumps.timers)
 
       on_course : AreOnCourse (record r { clock = clock; world = world })
-      on_course = subst (λ (v : World). AreOnCourse (record r { clock = clock; world = v })) (sym is_world) (course_jumps r w none cancel is_first t jumps.next)
+      on_course = subst (λ (v : World). AreOnCourse (record r { clock = clock; world = v })) (sym is_world)
+          (course_jumps r w none cancel is_first t jumps.next)
 
       -- with those who are timely in the current batch
-      pub landed : (woken : Runner) → woken ≡ record r { world = world; clock = woken.clock; sleepers = woken.sleepers; batch = woken.batch } → AreShelved None woken → woken.batch.current ≡ [] →
-          (batch : Batches) → batch.current ≡ map unplaced woken.batch.next → batch.next ≡ [] → NonePlaced batch.current → IsUnderway (record woken { batch = batch })
+      pub landed : (woken : Runner) → woken ≡ record r { world = world; clock = woken.clock; sleepers = woken.sleepers; batch =
+          woken.batch } → AreShelved None woken → woken.batch.current ≡ [] →
+          (batch : Batches) → batch.current ≡ map unplaced woken.batch.next → batch.next ≡ [] → NonePlaced batch.current →
+              IsUnderway (record woken { batch = batch })
       landed woken rest shelved over batch current next fresh =
           record {
             going = record {
@@ -114,7 +124,8 @@ module _ (r : Runner) (w : IsUnderway r) (blocked : phase_of r ≡ phases.Blocke
               shelved = turned_over woken batch shelved over current next;
               course = subst AreOnCourse (sym rest) on_course;
             };
-            unchanged = subst (λ (x : Runner). NoneChanged x.world) (sym rest) (subst (λ (v : World). NoneChanged v) (sym is_world) w.unchanged);
+            unchanged = subst (λ (x : Runner). NoneChanged x.world) (sym rest)
+                (subst (λ (v : World). NoneChanged v) (sym is_world) w.unchanged);
             unplaced = fresh;
             nothing_added = next;
           }
@@ -122,4 +133,5 @@ module _ (r : Runner) (w : IsUnderway r) (blocked : phase_of r ≡ phases.Blocke
       -- first those that see a cancellation are woken, and then those that are due
       pub both_woken : (seen woken : Runner) → WakesOnly (record r { clock = clock; world = world }) seen → WakesOnly seen woken →
           woken ≡ record r { world = world; clock = woken.clock; sleepers = woken.sleepers; batch = woken.batch }
-      both_woken seen woken a b = b ∙ ap (λ (x : Runner). record x { clock = woken.clock; sleepers = woken.sleepers; batch = woken.batch }) a
+      both_woken seen woken a b = b ∙ ap (λ (x : Runner). record x { clock = woken.clock; sleepers = woken.sleepers; batch = woken.batch })
+          a

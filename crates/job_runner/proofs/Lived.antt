@@ -21,7 +21,8 @@ pub record LivesBy (r : Roster) (p : ℕ) (task : Task) : Type 0 where
   pub row_is : running.row ≡ p
   pub below : p < many r
 
-lives_under : (r : Roster) (p : ℕ) (row : Row) (task : Task) → IsRoster r → row_at r p ≡ Some row → (x : Option Ended) → row.end ≡ x → task_by r.live (Some row) ≡ Some task → LivesBy r p task
+lives_under : (r : Roster) (p : ℕ) (row : Row) (task : Task) → IsRoster r → row_at r p ≡ Some row → (x : Option Ended) → row.end ≡ x →
+    task_by r.live (Some row) ≡ Some task → LivesBy r p task
 lives_under r p row task ok at (Some x) ends e =
     absurd (not_both {o = task_by r.live (Some row)} (ap (λ (o : Option Ended). task_unless o (running_at r row.task)) ends) e)
 lives_under r p row task ok at None ends e =
@@ -29,7 +30,8 @@ lives_under r p row task ok at None ends e =
     record {
       running = l.running;
       is = ap (running_at r) (ap id_by at) ∙ l.is;
-      task_is = one_of l.running.task task (sym (ap (λ (o : Option Ended). task_unless o (running_at r row.task)) ends ∙ ap task_in l.is) ∙ e);
+      task_is = one_of l.running.task task (sym (ap (λ (o : Option Ended). task_unless o (running_at r row.task)) ends ∙ ap task_in l.is)
+          ∙ e);
       row_is = l.row_is;
       below = below_length r.rows.items p row at;
     }
@@ -47,13 +49,15 @@ lives_by r ok p task e = by_row (row_at r p) refl e
 pub task_at : (r : Roster) → IsRoster r → (id : ℕ) (x : Running) → running_at r id ≡ Some x → task_of r x.row ≡ Some x.task
 task_at r agree id x lives =
     let h : HasRow r x.row id = agree.rows id x lives in
-    ap (task_by r.live) h.is ∙ ap (λ (e : Option Ended). task_unless e (running_at r h.row.task)) h.endless ∙ ap (λ (n : ℕ). task_in (running_at r n)) h.id_is ∙ ap task_in lives
+    ap (task_by r.live) h.is ∙ ap (λ (e : Option Ended). task_unless e (running_at r h.row.task)) h.endless
+        ∙ ap (λ (n : ℕ). task_in (running_at r n)) h.id_is ∙ ap task_in lives
 
 pub row_below : (r : Roster) → IsRoster r → (id : ℕ) (x : Running) → running_at r id ≡ Some x → x.row < many r
 row_below r agree id x lives = let h : HasRow r x.row id = agree.rows id x lives in slice_get_within r.rows.items x.row h.row h.is
 
 -- two ids of one row are the same
-pub one_id : (r : Roster) → IsRoster r → (id other : ℕ) (x y : Running) → running_at r id ≡ Some x → running_at r other ≡ Some y → y.row ≡ x.row → other ≡ id
+pub one_id : (r : Roster) → IsRoster r → (id other : ℕ) (x y : Running) → running_at r id ≡ Some x → running_at r other ≡ Some y →
+    y.row ≡ x.row → other ≡ id
 one_id r agree id other x y e f same =
     let h : HasRow r x.row id = agree.rows id x e in
     let g : HasRow r y.row other = agree.rows other y f in
@@ -61,7 +65,8 @@ one_id r agree id other x y e f same =
     let one : g.row ≡ h.row = one_of g.row h.row both in
     sym g.id_is ∙ (ap (λ (z : Row). z.task) one ∙ h.id_is)
 
-pub rows_apart : (r : Roster) → IsRoster r → (id other : ℕ) (x y : Running) → running_at r id ≡ Some x → running_at r other ≡ Some y → other ≢ id → y.row ≢ x.row
+pub rows_apart : (r : Roster) → IsRoster r → (id other : ℕ) (x y : Running) → running_at r id ≡ Some x → running_at r other ≡ Some y →
+    other ≢ id → y.row ≢ x.row
 rows_apart r agree id other x y e f differs same = differs (one_id r agree id other x y e f same)
 
 -- and the id of its row is its own

@@ -42,12 +42,14 @@ root_goes world root halt answer wake right e =
       timely = subst (λ (h : Halt). IsTimely world (scope_of root) h wakes.Begin) (sym halt) tt;
     })
 
-module _ (r : Runner) (root : Task) (id : ℕ) (sound : IsSound r.job.now) (small : length r.input.now ≤ MOST_INPUT) (world : IsNewWorld r.world) (is_root : IsRootTask r.job.now r.input.now root)
+module _ (r : Runner) (root : Task) (id : ℕ) (sound : IsSound r.job.now) (small : length r.input.now ≤ MOST_INPUT)
+    (world : IsNewWorld r.world) (is_root : IsRootTask r.job.now r.input.now root)
     (has : HasRoot r.roster root id) (turns : r.turns ≡ 0) where
   begun : (k : Table) → IsCrew k r.job.now r.input.now 0 1 None (crew_in r)
   begun k =
       crew_begun k r.job.now r.input.now (crew_in r) root sound.modest sound.starts sound.names small world is_root has.task
-      (λ p. let more : p + 1 ≡ suc p = omega arith in subst (λ (n : ℕ). task_of r.roster n ≡ None) more (has.none p)) has.gone has.start has.children turns
+      (λ p. let more : p + 1 ≡ suc p = omega arith in subst (λ (n : ℕ). task_of r.roster n ≡ None) more (has.none p)) has.gone has.start
+          has.children turns
 
   on_course : AreOnCourse r
   on_course k settled =
@@ -65,8 +67,10 @@ module _ (r : Runner) (root : Task) (id : ℕ) (sound : IsSound r.job.now) (smal
           let more : n + 1 ≡ suc n = omega arith in
           none-some task (sym (has.none n) ∙ ap (task_of r.roster) more ∙ e)
 
-  module _ (agree : IsRoster r.roster) (now : now_of r.clock ≡ 0) (limit : limit_of r.clock ≡ r.limit) (bounded : r.limit ≤ GREATEST_LIMIT) (timers : (task : ℕ) → due_of r.clock task ≡ None)
-      (asleep : (task : ℕ) → scope_in r.sleepers task ≡ None) (unchanged : NoneChanged r.world) (before added : List Added) (none_before : before ≡ []) (was_added : added ≡ before ++ (id, Begin) ∷ []) (current : r.batch.current ≡ map unplaced added)
+  module _ (agree : IsRoster r.roster) (now : now_of r.clock ≡ 0) (limit : limit_of r.clock ≡ r.limit) (bounded : r.limit ≤ GREATEST_LIMIT)
+      (timers : (task : ℕ) → due_of r.clock task ≡ None)
+      (asleep : (task : ℕ) → scope_in r.sleepers task ≡ None) (unchanged : NoneChanged r.world) (before added : List Added)
+          (none_before : before ≡ []) (was_added : added ≡ before ++ (id, Begin) ∷ []) (current : r.batch.current ≡ map unplaced added)
       (next : r.batch.next ≡ []) (fresh : NonePlaced r.batch.current) where
     abbrev its_entry : Entry
     its_entry = unplaced (id, Begin)
@@ -83,10 +87,12 @@ module _ (r : Runner) (root : Task) (id : ℕ) (sound : IsSound r.job.now) (smal
         let e : one_if (id == other) ≡ running_times r.world.book (running_at r.roster other) = by_test (eqb_tells id other) in
         omega (arith, a, b, c, d, e)
       where
-        by_test : (((id == other) ≡ true) × (id ≡ other)) ⊎ (((id == other) ≡ false) × (id ≢ other)) → one_if (id == other) ≡ running_times r.world.book (running_at r.roster other)
+        by_test : (((id == other) ≡ true) × (id ≡ other)) ⊎ (((id == other) ≡ false) × (id ≢ other)) →
+            one_if (id == other) ≡ running_times r.world.book (running_at r.roster other)
         by_test (inl g) =
             ap one_if g.0
-            ∙ sym (ap (λ (key : ℕ). running_times r.world.book (running_at r.roster key)) (sym g.1) ∙ ap (running_times r.world.book) has.lives ∙ ap (halt_times r.world.book) is_root.halt)
+            ∙ sym (ap (λ (key : ℕ). running_times r.world.book (running_at r.roster key)) (sym g.1)
+                ∙ ap (running_times r.world.book) has.lives ∙ ap (halt_times r.world.book) is_root.halt)
         by_test (inr g) = ap one_if g.0 ∙ sym (ap (running_times r.world.book) (has.others other (λ e. g.1 (sym e))))
 
     pub opened : IsUnderway r
@@ -113,9 +119,11 @@ module _ (r : Runner) (root : Task) (id : ℕ) (sound : IsSound r.job.now) (smal
                       current =
                           subst (All (λ (e : Entry). IsCalled r.roster r.world e.task e.call)) (sym one_entry)
                           (All-cons (λ (e : Entry). IsCalled r.roster r.world e.task e.call) its_entry []
-                          (some_has (running_at r.roster id) (λ (x : Running). GoesBy r.world x.task Begin) (record { task = root; row = 0 }) has.lives (root_goes r.world root is_root.halt))
+                          (some_has (running_at r.roster id) (λ (x : Running). GoesBy r.world x.task Begin)
+                              (record { task = root; row = 0 }) has.lives (root_goes r.world root is_root.halt))
                           (All-nil (λ (e : Entry). IsCalled r.roster r.world e.task e.call)));
-                      next = subst (All (λ (a : Added). IsCalled r.roster r.world a.0 a.1)) (sym next) (All-nil (λ (a : Added). IsCalled r.roster r.world a.0 a.1));
+                      next = subst (All (λ (a : Added). IsCalled r.roster r.world a.0 a.1)) (sym next)
+                          (All-nil (λ (a : Added). IsCalled r.roster r.world a.0 a.1));
                       once = λ other h. stands_once other;
                       away = none_away (λ (x : ℕ). times_shelved r.batch r.clock x ≡ 0);
                     };

@@ -43,7 +43,8 @@ fewer_turns old new same u more =
     omega (arith, e, few, one, more)
 
 -- after a jump
-pub jump_made : (old new : Runner) → IsSameJob old new → new.turns ≡ old.turns → phase_of old ≡ Blocked → phase_of new ≡ Ready → rounds_left new < rounds_left old
+pub jump_made : (old new : Runner) → IsSameJob old new → new.turns ≡ old.turns → phase_of old ≡ Blocked → phase_of new ≡ Ready →
+    rounds_left new < rounds_left old
 jump_made old new same turns was now =
     let e : most_turns new ≡ most_turns old = same_most old new same in
     let a : jumps_before (phase_of old) ≡ 1 = ap jumps_before was in
@@ -59,7 +60,8 @@ pub record RunsFor (job : Tree) (input : List ℕ) (limit : ℕ) (r : Runner) : 
   pub input_is : r.input.now ≡ input
   pub limit_is : r.limit ≡ limit
 
-pub runs_on : (job : Tree) (input : List ℕ) (limit : ℕ) (old new : Runner) → RunsFor job input limit old → IsSameJob old new → IsUnderway new → RunsFor job input limit new
+pub runs_on : (job : Tree) (input : List ℕ) (limit : ℕ) (old new : Runner) → RunsFor job input limit old → IsSameJob old new →
+    IsUnderway new → RunsFor job input limit new
 runs_on job input limit old new h same u =
     record {
       underway = u;
@@ -69,11 +71,14 @@ runs_on job input limit old new h same u =
     }
 
 -- what is said of the runner's job, input and limit is said of these
-pub said_for : (job : Tree) (input : List ℕ) (limit : ℕ) (r : Runner) → RunsFor job input limit r → (P : Tree → List ℕ → ℕ → Type 0) → P r.job.now r.input.now r.limit → P job input limit
+pub said_for : (job : Tree) (input : List ℕ) (limit : ℕ) (r : Runner) → RunsFor job input limit r → (P : Tree → List ℕ → ℕ → Type 0) →
+    P r.job.now r.input.now r.limit → P job input limit
 said_for job input limit r h P p =
-    subst (λ (n : ℕ). P job input n) h.limit_is (subst (λ (xs : List ℕ). P job xs r.limit) h.input_is (subst (λ (j : Tree). P j r.input.now r.limit) h.job_is p))
+    subst (λ (n : ℕ). P job input n) h.limit_is (subst (λ (xs : List ℕ). P job xs r.limit) h.input_is
+        (subst (λ (j : Tree). P j r.input.now r.limit) h.job_is p))
 
-pub turns_for : (job : Tree) (input : List ℕ) (limit n : ℕ) (r : Runner) → RunsFor job input limit r → n ≡ r.turns → n ≤ 2 * size_of job.steps + 1
+pub turns_for : (job : Tree) (input : List ℕ) (limit n : ℕ) (r : Runner) → RunsFor job input limit r → n ≡ r.turns →
+    n ≤ 2 * size_of job.steps + 1
 turns_for job input limit n r h e =
     let few : r.turns ≤ most_turns r = few_turns r h.underway in
     let same : size_of r.job.now.steps ≡ size_of job.steps = ap (λ (j : Tree). size_of j.steps) h.job_is in

@@ -28,8 +28,10 @@ times_now id es = times id (map (λ (e : Entry). e.task) es)
 abbrev pub times_next : ℕ → List Added → ℕ
 times_next id added = times id (map (λ (a : Added). a.0) added)
 
-pub next_more : (id : ℕ) (added : List Added) (key : ℕ) (call : Call) → times_next id (added ++ (key, call) ∷ []) ≡ times_next id added + one_if (key == id)
-next_more id added key call = ap (times id) (map-append (λ (a : Added). a.0) added ((key, call) ∷ [])) ∙ times_push id (map (λ (a : Added). a.0) added) key
+pub next_more : (id : ℕ) (added : List Added) (key : ℕ) (call : Call) →
+    times_next id (added ++ (key, call) ∷ []) ≡ times_next id added + one_if (key == id)
+next_more id added key call = ap (times id) (map-append (λ (a : Added). a.0) added ((key, call) ∷ []))
+    ∙ times_push id (map (λ (a : Added). a.0) added) key
 
 pub one_same : (key id : ℕ) → key ≡ id → one_if (key == id) ≡ 1
 one_same key id e = by_test (eqb_tells key id)
@@ -48,7 +50,8 @@ one_else key id differs = by_test (eqb_tells key id)
 -- ---- the task that was away is there again
 
 -- where nothing but its own count grew, each stands as often as it has to
-pub once_again : (id : ℕ) (was now due : ℕ → ℕ) → ((other : ℕ) → IsElse (Some id) other → was other ≡ due other) → was id ≡ 0 → ((other : ℕ) → now other ≡ was other + one_if (id == other)) →
+pub once_again : (id : ℕ) (was now due : ℕ → ℕ) → ((other : ℕ) → IsElse (Some id) other → was other ≡ due other) → was id ≡ 0 →
+    ((other : ℕ) → now other ≡ was other + one_if (id == other)) →
     due id ≡ 1 → (other : ℕ) → IsElse None other → now other ≡ due other
 once_again id was now due once away more one other h = by_test (eqb_tells id other)
   where
@@ -64,7 +67,8 @@ once_again id was now due once away more one other h = by_test (eqb_tells id oth
         omega (arith, a, b)
 
 -- one that waits stands nowhere, and has to
-pub once_waiting : (id : ℕ) (was due : ℕ → ℕ) → ((other : ℕ) → IsElse (Some id) other → was other ≡ due other) → was id ≡ 0 → due id ≡ 0 → (other : ℕ) → IsElse None other → was other ≡ due other
+pub once_waiting : (id : ℕ) (was due : ℕ → ℕ) → ((other : ℕ) → IsElse (Some id) other → was other ≡ due other) → was id ≡ 0 → due id ≡ 0 →
+    (other : ℕ) → IsElse None other → was other ≡ due other
 once_waiting id was due once away none other h = by_test (eqb_tells id other)
   where
     by_test : (((id == other) ≡ true) × (id ≡ other)) ⊎ (((id == other) ≡ false) × (id ≢ other)) → was other ≡ due other
@@ -80,7 +84,8 @@ none_away P id e = absurd (let f : None ≡ Some id = e in cc)
 -- ---- the shelves
 
 -- it is in the next batch
-pub shelved_next : (r : Runner) (b : Batches) (id : ℕ) (call : Call) → AreShelved (Some id) r → b.current ≡ r.batch.current → b.next ≡ r.batch.next ++ (id, call) ∷ [] →
+pub shelved_next : (r : Runner) (b : Batches) (id : ℕ) (call : Call) → AreShelved (Some id) r → b.current ≡ r.batch.current →
+    b.next ≡ r.batch.next ++ (id, call) ∷ [] →
     IsCalled r.roster r.world id call → running_times r.world.book (running_at r.roster id) ≡ 1 → AreShelved None (record r { batch = b })
 shelved_next r b id call s current next called one =
     record {
@@ -98,18 +103,21 @@ shelved_next r b id call s current next called one =
           subst (All (λ (a : Added). IsCalled r.roster r.world a.0 a.1)) (sym next)
           (All-push (λ (a : Added). IsCalled r.roster r.world a.0 a.1) r.batch.next (id, call) s.next called);
       once =
-          once_again id (times_shelved r.batch r.clock) (times_shelved b r.clock) (λ (x : ℕ). running_times r.world.book (running_at r.roster x)) s.once (s.away id refl) more one;
+          once_again id (times_shelved r.batch r.clock) (times_shelved b r.clock)
+              (λ (x : ℕ). running_times r.world.book (running_at r.roster x)) s.once (s.away id refl) more one;
       away = none_away (λ (x : ℕ). times_shelved b r.clock x ≡ 0);
     }
   where
     more : (other : ℕ) → times_shelved b r.clock other ≡ times_shelved r.batch r.clock other + one_if (id == other)
     more other =
         let a : times_now other b.current ≡ times_now other r.batch.current = ap (times_now other) current in
-        let c : times_next other b.next ≡ times_next other r.batch.next + one_if (id == other) = ap (times_next other) next ∙ next_more other r.batch.next id call in
+        let c : times_next other b.next ≡ times_next other r.batch.next + one_if (id == other) =
+            ap (times_next other) next ∙ next_more other r.batch.next id call in
         omega (arith, a, c)
 
 -- it waits
-pub shelved_waiting : (r : Runner) (id : ℕ) → AreShelved (Some id) r → running_times r.world.book (running_at r.roster id) ≡ 0 → AreShelved None r
+pub shelved_waiting : (r : Runner) (id : ℕ) → AreShelved (Some id) r → running_times r.world.book (running_at r.roster id) ≡ 0 →
+    AreShelved None r
 shelved_waiting r id s none =
     record {
       agree = s.agree;
@@ -123,6 +131,7 @@ shelved_waiting r id s none =
       known = s.known;
       current = s.current;
       next = s.next;
-      once = once_waiting id (times_shelved r.batch r.clock) (λ (x : ℕ). running_times r.world.book (running_at r.roster x)) s.once (s.away id refl) none;
+      once = once_waiting id (times_shelved r.batch r.clock) (λ (x : ℕ). running_times r.world.book (running_at r.roster x)) s.once
+          (s.away id refl) none;
       away = none_away (λ (x : ℕ). times_shelved r.batch r.clock x ≡ 0);
     }

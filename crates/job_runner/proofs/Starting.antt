@@ -48,7 +48,8 @@ got_once id (x ∷ ids) h = at (eqb_tells x id) (λ more. got_once id ids more)
     step : times id (x ∷ ids) ≡ one_if (x == id) + times id ids
     step = sum_by-cons (λ (n : ℕ). one_if (n == id)) x ids
 
-    at : (((x == id) ≡ true) × (x ≡ id)) ⊎ (((x == id) ≡ false) × (x ≢ id)) → (1 ≤ times id ids → (i : ℕ) × (slice_get ids i ≡ Some id)) → (i : ℕ) × (slice_get (x ∷ ids) i ≡ Some id)
+    at : (((x == id) ≡ true) × (x ≡ id)) ⊎ (((x == id) ≡ false) × (x ≢ id)) → (1 ≤ times id ids → (i : ℕ) × (slice_get ids i ≡ Some id)) →
+        (i : ℕ) × (slice_get (x ∷ ids) i ≡ Some id)
     at (inl g) more = (zero, ap (λ (z : ℕ). Some z) g.1)
     at (inr g) more =
         let none : one_if (x == id) ≡ 0 = one_else x id g.1 in
@@ -72,7 +73,8 @@ serials_more m zero = ap (λ (x : ℕ). x ∷ []) (let e : m + 0 ≡ m = omega a
 serials_more m (suc n) =
     let e : suc m + n ≡ m + suc n = omega arith in
     let f : suc n + 1 ≡ suc (n + 1) = omega arith in
-    ap (λ (xs : List ℕ). m ∷ xs) (ap (λ (x : ℕ). serials_from (suc m) n ++ x ∷ []) (sym e) ∙ serials_more (suc m) n) ∙ ap (serials_from m) (sym f)
+    ap (λ (xs : List ℕ). m ∷ xs) (ap (λ (x : ℕ). serials_from (suc m) n ++ x ∷ []) (sym e) ∙ serials_more (suc m) n)
+        ∙ ap (serials_from m) (sym f)
 
 -- ---- tasks of a roster
 
@@ -101,7 +103,8 @@ starts_none r parent tick = record {
 }
 
 -- one more
-module _ (old mid new : Roster) (parent : ℕ) (tasks : List Task) (tick : ℕ) (ids : List ℕ) (task : Task) (id : ℕ) (a : StartsAll old mid parent tasks tick ids)
+module _ (old mid new : Roster) (parent : ℕ) (tasks : List Task) (tick : ℕ) (ids : List ℕ) (task : Task) (id : ℕ)
+    (a : StartsAll old mid parent tasks tick ids)
     (s : Starts mid new parent task tick id) (there : parent < many old) where
   longer : length (tasks ++ task ∷ []) ≡ length tasks + 1
   longer = length-append tasks (task ∷ [])
@@ -135,9 +138,11 @@ module _ (old mid new : Roster) (parent : ℕ) (tasks : List Task) (tick : ℕ) 
 
   lives_more : (i key : ℕ) (x : Task) → slice_get (ids ++ id ∷ []) i ≡ Some key → slice_get (tasks ++ task ∷ []) i ≡ Some x →
       (running_at old key ≡ None) × (running_at new key ≡ Some (record { task = x; row = many old + i }))
-  lives_more i key x e f = at (by_place (length tasks) i (let lt = slice_get_within (tasks ++ task ∷ []) i x f in omega (arith, lt, longer)))
+  lives_more i key x e f = at (by_place (length tasks) i (let lt = slice_get_within (tasks ++ task ∷ []) i x f in
+      omega (arith, lt, longer)))
     where
-      at : (i < length tasks) ⊎ (i ≡ length tasks) → (running_at old key ≡ None) × (running_at new key ≡ Some (record { task = x; row = many old + i }))
+      at : (i < length tasks) ⊎ (i ≡ length tasks) → (running_at old key ≡ None)
+          × (running_at new key ≡ Some (record { task = x; row = many old + i }))
       at (inl lt) =
           let long = a.as_many in
           let e2 : slice_get ids i ≡ Some key = sym (got_more ids id i (omega (arith, lt, long))) ∙ e in
@@ -175,7 +180,8 @@ module _ (old mid new : Roster) (parent : ℕ) (tasks : List Task) (tick : ℕ) 
   others_more : (other : ℕ) → times other (ids ++ id ∷ []) ≡ 0 → running_at new other ≡ running_at old other
   others_more other h =
       let c = counted other in
-      s.others other (λ (e : other ≡ id). (let one = one_same id other (sym e) in omega (arith, c, one, h))) ∙ a.others other (omega (arith, c, h))
+      s.others other (λ (e : other ≡ id). (let one = one_same id other (sym e) in omega (arith, c, one, h)))
+          ∙ a.others other (omega (arith, c, h))
 
   task_more : (i : ℕ) → task_of new (many old + i) ≡ slice_get (tasks ++ task ∷ []) i
   task_more i = at (cases_lt i (length tasks + 1))
@@ -189,14 +195,17 @@ module _ (old mid new : Roster) (parent : ℕ) (tasks : List Task) (tick : ℕ) 
       by : (i < length tasks) ⊎ (i ≡ length tasks) → task_of new (many old + i) ≡ slice_get (tasks ++ task ∷ []) i
       by (inl lt) = s.same_task (many old + i) (omega (arith, lt, more)) ∙ a.task i ∙ sym (got_more tasks task i lt)
       by (inr is) =
-          ap (λ (n : ℕ). task_of new (many old + n)) is ∙ ap (task_of new) (sym more) ∙ s.task ∙ sym (got_end tasks task) ∙ ap (slice_get (tasks ++ task ∷ [])) (sym is)
+          ap (λ (n : ℕ). task_of new (many old + n)) is ∙ ap (task_of new) (sym more) ∙ s.task ∙ sym (got_end tasks task)
+              ∙ ap (slice_get (tasks ++ task ∷ [])) (sym is)
 
       at : (i < length tasks + 1) ⊎ (length tasks + 1 ≤ i) → task_of new (many old + i) ≡ slice_get (tasks ++ task ∷ []) i
       at (inl lt) = by (by_place (length tasks) i lt)
       at (inr le) =
-          none_past new (many old + i) (omega (arith, le, more, there_now)) ∙ sym (slice_get_past (tasks ++ task ∷ []) i (omega (arith, le, longer)))
+          none_past new (many old + i) (omega (arith, le, more, there_now))
+              ∙ sym (slice_get_past (tasks ++ task ∷ []) i (omega (arith, le, longer)))
 
-  at_more : {A : Type 0} (get : Roster → ℕ → A) (x : A) → ((p : ℕ) → p < many mid → p ≢ parent → get new p ≡ get mid p) → get new (many mid) ≡ x →
+  at_more : {A : Type 0} (get : Roster → ℕ → A) (x : A) → ((p : ℕ) → p < many mid → p ≢ parent → get new p ≡ get mid p) →
+      get new (many mid) ≡ x →
       ((i : ℕ) → i < length tasks → get mid (many old + i) ≡ x) → (i : ℕ) → i < length (tasks ++ task ∷ []) → get new (many old + i) ≡ x
   at_more get x same last before i lt = by (by_place (length tasks) i (omega (arith, lt, longer)))
     where
@@ -222,9 +231,11 @@ module _ (old mid new : Roster) (parent : ℕ) (tasks : List Task) (tick : ℕ) 
     childless = at_more children_of [] s.same_children s.childless a.childless;
     parent_is = at_more parent_of parent (λ p lt differs. s.same_parent p lt) s.parent_is a.parent_is;
     child =
-        s.child ∙ ap (λ (xs : List ℕ). xs ++ many mid ∷ []) a.child ∙ append_assoc (children_of old parent) (serials_from (many old) (length tasks)) (many mid ∷ [])
+        s.child ∙ ap (λ (xs : List ℕ). xs ++ many mid ∷ []) a.child ∙ append_assoc (children_of old parent)
+            (serials_from (many old) (length tasks)) (many mid ∷ [])
         ∙ ap (λ (n : ℕ). children_of old parent ++ (serials_from (many old) (length tasks) ++ n ∷ [])) a.more
-        ∙ ap (λ (xs : List ℕ). children_of old parent ++ xs) (serials_more (many old) (length tasks) ∙ ap (serials_from (many old)) (sym longer));
+        ∙ ap (λ (xs : List ℕ). children_of old parent ++ xs) (serials_more (many old) (length tasks)
+            ∙ ap (serials_from (many old)) (sym longer));
     same_task = λ p lt. s.same_task p (less p lt) ∙ a.same_task p lt;
     same_gone = λ p. s.same_gone p ∙ a.same_gone p;
     same_start = λ p lt. s.same_start p (less p lt) ∙ a.same_start p lt;
@@ -263,16 +274,20 @@ taking_none r parent agree = record {
 pub row_there : (old now : Runner) (parent : ℕ) → Taking old now parent → parent < many old.roster → parent < many now.roster
 row_there old now parent t lt = let more = t.starts.more in omega (arith, lt, more)
 
-pub taking_more : (old now : Runner) (w : World) (roster : Roster) (b : Batches) (parent tick : ℕ) (task : Task) (id : ℕ) → Taking old now parent → parent < many old.roster →
-    now.world.started.items ≡ task ∷ w.started.items → w ≡ record now.world { started = w.started } → tick ≡ w.tick → Starts now.roster roster parent task tick id → IsRoster roster →
-    b.current ≡ now.batch.current → b.next ≡ now.batch.next ++ (id, Begin) ∷ [] → Taking old (record now { world = w; roster = roster; batch = b }) parent
+pub taking_more : (old now : Runner) (w : World) (roster : Roster) (b : Batches) (parent tick : ℕ) (task : Task) (id : ℕ) →
+    Taking old now parent → parent < many old.roster →
+    now.world.started.items ≡ task ∷ w.started.items → w ≡ record now.world { started = w.started } → tick ≡ w.tick →
+        Starts now.roster roster parent task tick id → IsRoster roster →
+    b.current ≡ now.batch.current → b.next ≡ now.batch.next ++ (id, Begin) ∷ [] →
+        Taking old (record now { world = w; roster = roster; batch = b }) parent
 taking_more old now w roster b parent tick task id t there first world tick_is starts agree current next = record {
   taken = t.taken ++ task ∷ [];
   ids = t.ids ++ id ∷ [];
   left = t.left ∙ ap (λ (ts : List Task). t.taken ++ ts) first ∙ sym (append_assoc t.taken (task ∷ []) w.started.items);
   starts =
       starts_more old.roster now.roster roster parent t.taken old.world.tick t.ids task id t.starts
-      (subst (λ (v : ℕ). Starts now.roster roster parent task v id) (tick_is ∙ (ap (λ (x : World). x.tick) world ∙ ap (λ (x : World). x.tick) t.world)) starts) there;
+      (subst (λ (v : ℕ). Starts now.roster roster parent task v id)
+          (tick_is ∙ (ap (λ (x : World). x.tick) world ∙ ap (λ (x : World). x.tick) t.world)) starts) there;
   agree = agree;
   world = world ∙ ap (λ (x : World). record x { started = w.started }) t.world;
   current = current ∙ t.current;
@@ -282,7 +297,8 @@ taking_more old now w roster b parent tick task id t there first world tick_is s
   rest = ap (λ (r : Runner). record r { world = w; roster = roster; batch = b }) t.rest;
 }
 
-pub taking_all : (old now : Runner) (w : World) (parent : ℕ) → Taking old now parent → now.world.started.items ≡ [] → w.started.items ≡ [] → w ≡ record now.world { started = w.started } →
+pub taking_all : (old now : Runner) (w : World) (parent : ℕ) → Taking old now parent → now.world.started.items ≡ [] → w.started.items ≡ [] →
+    w ≡ record now.world { started = w.started } →
     TakesStarted old (record now { world = w }) parent
 taking_all old now w parent t none left world = record {
   ids = t.ids;

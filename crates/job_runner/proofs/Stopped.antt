@@ -54,7 +54,8 @@ some_has {T} o P x e p = subst (λ (z : Option T). IsSomeAnd z P) (sym e) p
 
 -- ---- it asks
 
-answered_goes : (world : World) (task : Task) (request : Request) → Asks task request → (answer : Option Answer) (wake : Wake) → IsRight (calls.Ask request) answer →
+answered_goes : (world : World) (task : Task) (request : Request) → Asks task request → (answer : Option Answer) (wake : Wake) →
+    IsRight (calls.Ask request) answer →
     wake_of (calls.Ask request) answer ≡ Some wake → MayGo world task wake
 answered_goes world task request asks None wake right e = absurd (let f : None ≡ Some wake = e in cc)
 answered_goes world task request asks (Some answer) wake right e =
@@ -68,7 +69,8 @@ answered_goes world task request asks (Some answer) wake right e =
       timely = subst (λ (h : Halt). IsTimely world (scope_of task) h (wakes.Answer answer)) (sym asks.halt) tt;
     })
 
-pub asks_going : (r : Runner) (b : Batches) (id row : ℕ) (request : Request) → IsStopping id row (stops.Ask request) r → b.current ≡ r.batch.current →
+pub asks_going : (r : Runner) (b : Batches) (id row : ℕ) (request : Request) → IsStopping id row (stops.Ask request) r →
+    b.current ≡ r.batch.current →
     b.next ≡ r.batch.next ++ (id, calls.Ask request) ∷ [] → IsGoing None (record r { batch = b })
 asks_going r b id row request h current next =
     let x = some_is (running_at r.roster id) (λ (y : Running). (y.row ≡ row) × StopSays r.world y.task (stops.Ask request)) h.lives in
@@ -76,7 +78,8 @@ asks_going r b id row request h current next =
       sound = h.sound;
       shelved =
           shelved_next r b id (calls.Ask request) h.shelved current next
-          (some_has (running_at r.roster id) (λ (y : Running). GoesBy r.world y.task (calls.Ask request)) x.0 x.1 (answered_goes r.world x.0.task request x.2.1))
+          (some_has (running_at r.roster id) (λ (y : Running). GoesBy r.world y.task (calls.Ask request)) x.0 x.1
+              (answered_goes r.world x.0.task request x.2.1))
           (ap (running_times r.world.book) x.1 ∙ ap (halt_times r.world.book) x.2.1.halt);
       course = λ k settled. (h.course k settled).is;
     }
@@ -107,11 +110,13 @@ no_timer None e = refl
 no_timer (Some due) e = absurd (let f : 1 ≡ 0 = e in omega (arith, f))
 
 pub not_timed : (id row due : ℕ) (r : Runner) → IsStopping id row (stops.Sleep due) r → due_of r.clock id ≡ None
-not_timed id row due r h = no_timer (due_of r.clock id) (let a : times_shelved r.batch r.clock id ≡ 0 = h.shelved.away id refl in omega (arith, a))
+not_timed id row due r h = no_timer (due_of r.clock id) (let a : times_shelved r.batch r.clock id ≡ 0 = h.shelved.away id refl in
+    omega (arith, a))
 
 -- so it is known by no scope
 pub not_sleeping : (id row due : ℕ) (r : Runner) → IsStopping id row (stops.Sleep due) r → scope_in r.sleepers id ≡ None
-not_sleeping id row due r h = h.shelved.known.berths id ∙ ap (λ (d : Option ℕ). berth_of d (running_at r.roster id)) (not_timed id row due r h)
+not_sleeping id row due r h = h.shelved.known.berths id ∙ ap (λ (d : Option ℕ). berth_of d (running_at r.roster id))
+    (not_timed id row due r h)
 
 pub later_due : (id row due : ℕ) (r : Runner) → IsStopping id row (stops.Sleep due) r → now_of r.clock < due
 later_due id row due r h =
@@ -121,10 +126,12 @@ later_due id row due r h =
     omega (arith, now, later)
 
 -- a timer more
-timer_more : (id : ℕ) (old new : Clock) (due : ℕ) → due_of old id ≡ None → Updates old new id (Some due) → (other : ℕ) → timer_times (due_of new other) ≡ timer_times (due_of old other) + one_if (id == other)
+timer_more : (id : ℕ) (old new : Clock) (due : ℕ) → due_of old id ≡ None → Updates old new id (Some due) → (other : ℕ) →
+    timer_times (due_of new other) ≡ timer_times (due_of old other) + one_if (id == other)
 timer_more id old new due none u other = by_test (eqb_tells id other)
   where
-    by_test : (((id == other) ≡ true) × (id ≡ other)) ⊎ (((id == other) ≡ false) × (id ≢ other)) → timer_times (due_of new other) ≡ timer_times (due_of old other) + one_if (id == other)
+    by_test : (((id == other) ≡ true) × (id ≡ other)) ⊎ (((id == other) ≡ false) × (id ≢ other)) →
+        timer_times (due_of new other) ≡ timer_times (due_of old other) + one_if (id == other)
     by_test (inl h) =
         let a : timer_times (due_of new other) ≡ 1 = ap timer_times (ap (due_of new) (sym h.1) ∙ u.changed) in
         let b : timer_times (due_of old other) ≡ 0 = ap timer_times (ap (due_of old) (sym h.1) ∙ none) in
@@ -136,22 +143,26 @@ timer_more id old new due none u other = by_test (eqb_tells id other)
         omega (arith, a, c)
 
 -- the task of a stop has its scope open
-pub stopping_scope : (id row due : ℕ) (r : Runner) → IsStopping id row (stops.Sleep due) r → (scope : Option ℕ) → ForSome (running_at r.roster id) (λ (x : Running). scope ≡ scope_of x.task) →
+pub stopping_scope : (id row due : ℕ) (r : Runner) → IsStopping id row (stops.Sleep due) r → (scope : Option ℕ) →
+    ForSome (running_at r.roster id) (λ (x : Running). scope ≡ scope_of x.task) →
     (key : ℕ) → scope ≡ Some key → IsOpen r.world.scopes key
 stopping_scope id row due r h scope held key e =
     let x = some_is (running_at r.roster id) (λ (y : Running). (y.row ≡ row) × StopSays r.world y.task (stops.Sleep due)) h.lives in
     let k = meaning_table r.job.now r.input.now in
-    let c : IsCrew k r.job.now r.input.now r.world.tick (many r.roster) None (crew_in r) = (h.course k (table_is_settled r.job.now r.input.now h.sound.names)).is in
+    let c : IsCrew k r.job.now r.input.now r.world.tick (many r.roster) None (crew_in r) =
+        (h.course k (table_is_settled r.job.now r.input.now h.sound.names)).is in
     (c.follows x.0.row x.0.task (task_at r.roster h.shelved.agree id x.0 x.1)).goes.scope key (sym (held x.0 x.1) ∙ e)
 
-module _ (id row due : ℕ) (r : Runner) (clock : Clock) (u : Updates r.clock clock id (Some due)) (time : SameTime r.clock clock) (h : IsStopping id row (stops.Sleep due) r) where
+module _ (id row due : ℕ) (r : Runner) (clock : Clock) (u : Updates r.clock clock id (Some due)) (time : SameTime r.clock clock)
+    (h : IsStopping id row (stops.Sleep due) r) where
   x : (y : Running) × (running_at r.roster id ≡ Some y) × ((y.row ≡ row) × StopSays r.world y.task (stops.Sleep due))
   x = some_is (running_at r.roster id) (λ (y : Running). (y.row ≡ row) × StopSays r.world y.task (stops.Sleep due)) h.lives
 
   none : due_of r.clock id ≡ None
   none = not_timed id row due r h
 
-  dozes : (other tick : ℕ) → due_of clock other ≡ Some tick → IsSomeAnd (running_at r.roster other) (λ (y : Running). Dozes r.world tick y.task)
+  dozes : (other tick : ℕ) → due_of clock other ≡ Some tick → IsSomeAnd (running_at r.roster other)
+      (λ (y : Running). Dozes r.world tick y.task)
   dozes other tick e = by_test (same_or other id)
     where
       by_test : (other ≡ id) ⊎ (other ≢ id) → IsSomeAnd (running_at r.roster other) (λ (y : Running). Dozes r.world tick y.task)
@@ -162,7 +173,8 @@ module _ (id row due : ℕ) (r : Runner) (clock : Clock) (u : Updates r.clock cl
       by_test (inr differs) = h.shelved.doze other tick (sym (u.others other differs) ∙ e)
 
   -- it is one of the sleepers, where they know it by its scope
-  going_with : (sleepers : Sleeping) → AreKnown r.roster r.world clock sleepers → IsGoing None (record r { clock = clock; sleepers = sleepers })
+  going_with : (sleepers : Sleeping) → AreKnown r.roster r.world clock sleepers →
+      IsGoing None (record r { clock = clock; sleepers = sleepers })
   going_with sleepers known =
       record {
         sound = h.sound;
@@ -180,7 +192,8 @@ module _ (id row due : ℕ) (r : Runner) (clock : Clock) (u : Updates r.clock cl
               current = h.shelved.current;
               next = h.shelved.next;
               once =
-                  once_again id (times_shelved r.batch r.clock) (times_shelved r.batch clock) (λ (key : ℕ). running_times r.world.book (running_at r.roster key)) h.shelved.once
+                  once_again id (times_shelved r.batch r.clock) (times_shelved r.batch clock)
+                      (λ (key : ℕ). running_times r.world.book (running_at r.roster key)) h.shelved.once
                   (h.shelved.away id refl) counted (ap (running_times r.world.book) x.1 ∙ ap (halt_times r.world.book) x.2.1.halt);
               away = none_away (λ (key : ℕ). times_shelved r.batch clock key ≡ 0);
             };
@@ -195,29 +208,37 @@ module _ (id row due : ℕ) (r : Runner) (clock : Clock) (u : Updates r.clock cl
   berth_now o e = ap (λ (d : Option ℕ). berth_of d (running_at r.roster id)) u.changed ∙ ap (berth_of (Some due)) x.1
 
   berth_else : (other : ℕ) → other ≢ id → scope_in r.sleepers other ≡ berth_of (due_of clock other) (running_at r.roster other)
-  berth_else other differs = h.shelved.known.berths other ∙ ap (λ (d : Option ℕ). berth_of d (running_at r.roster other)) (sym (u.others other differs))
+  berth_else other differs = h.shelved.known.berths other ∙ ap (λ (d : Option ℕ). berth_of d (running_at r.roster other))
+      (sym (u.others other differs))
 
   -- outside any scope
-  pub sleeps_alone : (scope : Option ℕ) → ForSome (running_at r.roster id) (λ (y : Running). scope ≡ scope_of y.task) → scope ≡ None → IsGoing None (record r { clock = clock })
-  sleeps_alone scope held e = going_with r.sleepers (record { berths = λ other. berth other (same_or other id); sights = h.shelved.known.sights })
+  pub sleeps_alone : (scope : Option ℕ) → ForSome (running_at r.roster id) (λ (y : Running). scope ≡ scope_of y.task) → scope ≡ None →
+      IsGoing None (record r { clock = clock })
+  sleeps_alone scope held e = going_with r.sleepers (record { berths = λ other. berth other (same_or other id); sights =
+      h.shelved.known.sights })
     where
-      berth : (other : ℕ) → (other ≡ id) ⊎ (other ≢ id) → scope_in r.sleepers other ≡ berth_of (due_of clock other) (running_at r.roster other)
+      berth : (other : ℕ) → (other ≡ id) ⊎ (other ≢ id) → scope_in r.sleepers other
+          ≡ berth_of (due_of clock other) (running_at r.roster other)
       berth other (inl same) =
           subst (λ (n : ℕ). scope_in r.sleepers n ≡ berth_of (due_of clock n) (running_at r.roster n)) (sym same)
           (not_sleeping id row due r h ∙ sym (berth_now (running_at r.roster id) refl ∙ (sym (held x.0 x.1) ∙ e)))
       berth other (inr differs) = berth_else other differs
 
   -- or in one
-  pub sleeps_within : (scope : Option ℕ) → ForSome (running_at r.roster id) (λ (y : Running). scope ≡ scope_of y.task) → (key : ℕ) → scope ≡ Some key → (seen : Tick) →
-      ForSome (stack_of r.world.scopes key) (λ stack. seen ≡ sight stack) → (sleepers : Sleeping) → Moves r.sleepers sleepers id (Some key) → Sees r.sleepers sleepers key seen →
+  pub sleeps_within : (scope : Option ℕ) → ForSome (running_at r.roster id) (λ (y : Running). scope ≡ scope_of y.task) → (key : ℕ) →
+      scope ≡ Some key → (seen : Tick) →
+      ForSome (stack_of r.world.scopes key) (λ stack. seen ≡ sight stack) → (sleepers : Sleeping) →
+          Moves r.sleepers sleepers id (Some key) → Sees r.sleepers sleepers key seen →
       IsGoing None (record r { clock = clock; sleepers = sleepers })
   sleeps_within scope held key e seen sees sleepers moves tells =
-      going_with sleepers (record { berths = λ other. berth other (same_or other id); sights = λ other k f. sight_at other k f (same_or k key) })
+      going_with sleepers (record { berths = λ other. berth other (same_or other id); sights =
+          λ other k f. sight_at other k f (same_or k key) })
     where
       here : scope_of x.0.task ≡ Some key
       here = sym (held x.0 x.1) ∙ e
 
-      berth : (other : ℕ) → (other ≡ id) ⊎ (other ≢ id) → scope_in sleepers other ≡ berth_of (due_of clock other) (running_at r.roster other)
+      berth : (other : ℕ) → (other ≡ id) ⊎ (other ≢ id) → scope_in sleepers other
+          ≡ berth_of (due_of clock other) (running_at r.roster other)
       berth other (inl same) =
           subst (λ (n : ℕ). scope_in sleepers n ≡ berth_of (due_of clock n) (running_at r.roster n)) (sym same)
           (moves.changed ∙ sym (berth_now (running_at r.roster id) refl ∙ here))
@@ -247,7 +268,8 @@ module _ (id row due : ℕ) (r : Runner) (clock : Clock) (u : Updates r.clock cl
 
 -- ---- it waits
 
-pub settled_goes : (world : World) (task : Task) (id : ℕ) → AwaitsNow world task id → HasNursery world.book id (λ n. is_settled n ≡ true) → GoesBy world task calls.Settled
+pub settled_goes : (world : World) (task : Task) (id : ℕ) → AwaitsNow world task id → HasNursery world.book id (λ n. is_settled n ≡ true) →
+    GoesBy world task calls.Settled
 settled_goes world task id waits settled answer wake right e =
     let f : Some wakes.Settled ≡ Some wake = e in
     let is : wakes.Settled ≡ wake = cc in
@@ -271,7 +293,8 @@ is_over None b h e = absurd h
 is_over (Some n) b h e = sym h ∙ e
 
 -- where its nursery is settled already, it is in the next batch
-pub settles_going : (r : Runner) (b : Batches) (id row nursery : ℕ) (over : Bool) → IsStopping id row (stops.Wait nursery) r → HasNursery r.world.book nursery (λ n. over ≡ is_settled n) →
+pub settles_going : (r : Runner) (b : Batches) (id row nursery : ℕ) (over : Bool) → IsStopping id row (stops.Wait nursery) r →
+    HasNursery r.world.book nursery (λ n. over ≡ is_settled n) →
     over ≡ true → b.current ≡ r.batch.current → b.next ≡ r.batch.next ++ (id, calls.Settled) ∷ [] → IsGoing None (record r { batch = b })
 settles_going r b id row nursery over h tells is current next =
     let x = some_is (running_at r.roster id) (λ (y : Running). (y.row ≡ row) × StopSays r.world y.task (stops.Wait nursery)) h.lives in
@@ -281,11 +304,13 @@ settles_going r b id row nursery over h tells is current next =
           shelved_next r b id calls.Settled h.shelved current next
           (some_has (running_at r.roster id) (λ (y : Running). GoesBy r.world y.task calls.Settled) x.0 x.1
           (settled_goes r.world x.0.task nursery x.2.1 (is_over (nursery_at r.world.book nursery) over tells is)))
-          (ap (running_times r.world.book) x.1 ∙ (ap (halt_times r.world.book) x.2.1.halt ∙ settled_one (nursery_at r.world.book nursery) over tells is));
+          (ap (running_times r.world.book) x.1 ∙ (ap (halt_times r.world.book) x.2.1.halt
+              ∙ settled_one (nursery_at r.world.book nursery) over tells is));
       course = λ k settled. (h.course k settled).is;
     }
 
-pub waits_going : (r : Runner) (id row nursery : ℕ) (over : Bool) → IsStopping id row (stops.Wait nursery) r → HasNursery r.world.book nursery (λ n. over ≡ is_settled n) → over ≡ false →
+pub waits_going : (r : Runner) (id row nursery : ℕ) (over : Bool) → IsStopping id row (stops.Wait nursery) r →
+    HasNursery r.world.book nursery (λ n. over ≡ is_settled n) → over ≡ false →
     IsGoing None r
 waits_going r id row nursery over h tells is =
     let x = some_is (running_at r.roster id) (λ (y : Running). (y.row ≡ row) × StopSays r.world y.task (stops.Wait nursery)) h.lives in
@@ -293,11 +318,13 @@ waits_going r id row nursery over h tells is =
       sound = h.sound;
       shelved =
           shelved_waiting r id h.shelved
-          (ap (running_times r.world.book) x.1 ∙ (ap (halt_times r.world.book) x.2.1.halt ∙ settled_none (nursery_at r.world.book nursery) over tells is));
+          (ap (running_times r.world.book) x.1 ∙ (ap (halt_times r.world.book) x.2.1.halt
+              ∙ settled_none (nursery_at r.world.book nursery) over tells is));
       course = λ k settled. (h.course k settled).is;
     }
 
-pub waits_there : (id row nursery : ℕ) (r : Runner) (book : NurseryBook) → book ≡ r.world.book → IsStopping id row (stops.Wait nursery) r → IsSome (nursery_at book nursery)
+pub waits_there : (id row nursery : ℕ) (r : Runner) (book : NurseryBook) → book ≡ r.world.book → IsStopping id row (stops.Wait nursery) r →
+    IsSome (nursery_at book nursery)
 waits_there id row nursery r book same h =
     let x = some_is (running_at r.roster id) (λ (y : Running). (y.row ≡ row) × StopSays r.world y.task (stops.Wait nursery)) h.lives in
     subst (λ (b : NurseryBook). IsSome (nursery_at b nursery)) (sym same) x.2.1.there

@@ -36,7 +36,8 @@ marked world changed = record world { scopes = record (world.scopes) { changed =
 
 -- ---- who may go on may do so still
 
-timely_marked : (w : World) (changed : List Bool) (scope : Option ℕ) (halt : Halt) (wake : Wake) → IsTimely w scope halt wake → IsTimely (marked w changed) scope halt wake
+timely_marked : (w : World) (changed : List Bool) (scope : Option ℕ) (halt : Halt) (wake : Wake) → IsTimely w scope halt wake →
+    IsTimely (marked w changed) scope halt wake
 timely_marked w changed scope (Asleep ticks since) wakes.Due h = h
 timely_marked w changed scope (Asleep ticks since) wakes.Seen h = h
 timely_marked w changed scope _ _ h = h
@@ -46,7 +47,8 @@ goes_marked w changed task call h answer wake right e =
     let may = h answer wake right e in
     record { fits = may.fits; timely = timely_marked w changed (scope_of task) task.halt wake may.timely }
 
-called_marked : (r : Roster) (w : World) (changed : List Bool) (id : ℕ) (call : Call) → IsCalled r w id call → IsCalled r (marked w changed) id call
+called_marked : (r : Roster) (w : World) (changed : List Bool) (id : ℕ) (call : Call) → IsCalled r w id call →
+    IsCalled r (marked w changed) id call
 called_marked r w changed id call h =
     let x = some_is (running_at r id) (λ (y : Running). GoesBy w y.task call) h in
     some_has (running_at r id) (λ (y : Running). GoesBy (marked w changed) y.task call) x.0 x.1 (goes_marked w changed x.0.task call x.2)
@@ -63,25 +65,30 @@ pub telling_first : (r : Runner) → IsGoing None r → IsTelling r r
 telling_first r going = record { going = going; only = refl; fewer = λ key e. e }
 
 -- a scope that shows a sight, or is marked, does so where its mark stays
-shows_marked : (w : World) (changed : List Bool) (scope : ℕ) (was now : Tick) → now ≡ was → is_changed (marked w changed).scopes scope ≡ is_changed w.scopes scope → Shows w.scopes scope was →
+shows_marked : (w : World) (changed : List Bool) (scope : ℕ) (was now : Tick) → now ≡ was →
+    is_changed (marked w changed).scopes scope ≡ is_changed w.scopes scope → Shows w.scopes scope was →
     Shows (marked w changed).scopes scope now
 shows_marked w changed scope was now kept mark h = record { stack = h.stack; opened = h.opened; known = by_known h.known }
   where
-    by_known : (sight h.stack ≡ was) ⊎ (is_changed w.scopes scope ≡ true) → (sight h.stack ≡ now) ⊎ (is_changed (marked w changed).scopes scope ≡ true)
+    by_known : (sight h.stack ≡ was) ⊎ (is_changed w.scopes scope ≡ true) → (sight h.stack ≡ now)
+        ⊎ (is_changed (marked w changed).scopes scope ≡ true)
     by_known (inl f) = inl (f ∙ sym kept)
     by_known (inr f) = inr (mark ∙ f)
 
 -- a run with other marks, of which the sleepers know
-module _ (r : Runner) (going : IsGoing None r) (changed : List Bool) (sleepers : Sleeping) (known : AreKnown r.roster (marked r.world changed) r.clock sleepers) where
+module _ (r : Runner) (going : IsGoing None r) (changed : List Bool) (sleepers : Sleeping)
+    (known : AreKnown r.roster (marked r.world changed) r.clock sleepers) where
   abbrev told : Runner
   told = record r { world = marked r.world changed; sleepers = sleepers }
 
   course_told : AreOnCourse told
   course_told k settled =
       (crew_takes k r.job.now r.input.now r.world.tick (many r.roster) None (crew_in r) (crew_in told)
-      (record { turns = refl; task = λ p. refl; gone = λ p. refl; start = λ p. refl; children = λ p. refl }) refl (going.course k settled)).0
+      (record { turns = refl; task = λ p. refl; gone = λ p. refl; start = λ p. refl; children = λ p. refl }) refl
+          (going.course k settled)).0
 
-  dozes_told : (key due : ℕ) → due_of r.clock key ≡ Some due → IsSomeAnd (running_at r.roster key) (λ (x : Running). Dozes (marked r.world changed) due x.task)
+  dozes_told : (key due : ℕ) → due_of r.clock key ≡ Some due →
+      IsSomeAnd (running_at r.roster key) (λ (x : Running). Dozes (marked r.world changed) due x.task)
   dozes_told key due e =
       let x = some_is (running_at r.roster key) (λ (y : Running). Dozes r.world due y.task) (going.shelved.doze key due e) in
       some_has (running_at r.roster key) (λ (y : Running). Dozes (marked r.world changed) due y.task) x.0 x.1
@@ -105,7 +112,8 @@ module _ (r : Runner) (going : IsGoing None r) (changed : List Bool) (sleepers :
         shelved =
             record {
               agree = going.shelved.agree;
-              homes = λ p task home lives at. (let k = going.shelved.homes p task home lives at in record { task = k.task; lives = k.lives; owned = k.owned });
+              homes = λ p task home lives at. (let k = going.shelved.homes p task home lives at in
+                  record { task = k.task; lives = k.lives; owned = k.owned });
               now = going.shelved.now;
               limit = going.shelved.limit;
               within = going.shelved.within;
@@ -114,10 +122,12 @@ module _ (r : Runner) (going : IsGoing None r) (changed : List Bool) (sleepers :
               doze = dozes_told;
               known = known;
               current =
-                  All-weaker (λ (e : Entry). IsCalled r.roster r.world e.task e.call) (λ (e : Entry). IsCalled r.roster (marked r.world changed) e.task e.call)
+                  All-weaker (λ (e : Entry). IsCalled r.roster r.world e.task e.call)
+                      (λ (e : Entry). IsCalled r.roster (marked r.world changed) e.task e.call)
                   (λ e. called_marked r.roster r.world changed e.task e.call) r.batch.current going.shelved.current;
               next =
-                  All-weaker (λ (a : Added). IsCalled r.roster r.world a.0 a.1) (λ (a : Added). IsCalled r.roster (marked r.world changed) a.0 a.1)
+                  All-weaker (λ (a : Added). IsCalled r.roster r.world a.0 a.1)
+                      (λ (a : Added). IsCalled r.roster (marked r.world changed) a.0 a.1)
                   (λ a. called_marked r.roster r.world changed a.0 a.1) r.batch.next going.shelved.next;
               once = going.shelved.once;
               away = going.shelved.away;
@@ -127,44 +137,57 @@ module _ (r : Runner) (going : IsGoing None r) (changed : List Bool) (sleepers :
 
 -- one scope is known anew
 module _ (r : Runner) (going : IsGoing None r) (id : ℕ) (changed : List Bool) (seen : Tick) (sleepers : Sleeping)
-    (taken : is_changed (marked r.world changed).scopes id ≡ false) (others : OtherMarksKeep r.world.scopes (marked r.world changed).scopes id)
-    (sees : ForSome (stack_of r.world.scopes id) (λ stack. seen ≡ sight stack)) (same : SameScopes r.sleepers sleepers) (tells : Sees r.sleepers sleepers id seen) where
-  sight_told : (key scope : ℕ) → scope_in sleepers key ≡ Some scope → (scope ≡ id) ⊎ (scope ≢ id) → Shows (marked r.world changed).scopes scope (sight_of sleepers scope)
+    (taken : is_changed (marked r.world changed).scopes id ≡ false)
+        (others : OtherMarksKeep r.world.scopes (marked r.world changed).scopes id)
+    (sees : ForSome (stack_of r.world.scopes id) (λ stack. seen ≡ sight stack)) (same : SameScopes r.sleepers sleepers)
+        (tells : Sees r.sleepers sleepers id seen) where
+  sight_told : (key scope : ℕ) → scope_in sleepers key ≡ Some scope → (scope ≡ id) ⊎ (scope ≢ id) →
+      Shows (marked r.world changed).scopes scope (sight_of sleepers scope)
   sight_told key scope e (inl is) =
       let was = going.shelved.known.sights key scope (sym (same key) ∙ e) in
       record {
         stack = was.stack;
         opened = was.opened;
         known =
-            inl (sym (sees was.stack (ap (stack_of r.world.scopes) (sym is) ∙ was.opened)) ∙ sym (ap (sight_of sleepers) is ∙ tells.here key (e ∙ ap (λ (n : ℕ). Some n) is)));
+            inl (sym (sees was.stack (ap (stack_of r.world.scopes) (sym is) ∙ was.opened))
+                ∙ sym (ap (sight_of sleepers) is ∙ tells.here key (e ∙ ap (λ (n : ℕ). Some n) is)));
       }
   sight_told key scope e (inr differs) =
-      shows_marked r.world changed scope (sight_of r.sleepers scope) (sight_of sleepers scope) (tells.others key scope differs e) (others scope differs)
+      shows_marked r.world changed scope (sight_of r.sleepers scope) (sight_of sleepers scope) (tells.others key scope differs e)
+          (others scope differs)
       (going.shelved.known.sights key scope (sym (same key) ∙ e))
 
   pub told_going : IsGoing None (record r { world = marked r.world changed; sleepers = sleepers })
   told_going =
       going_marked r going changed sleepers
-      (record { berths = λ key. same key ∙ going.shelved.known.berths key; sights = λ key scope e. sight_told key scope e (same_or scope id) })
+      (record { berths = λ key. same key ∙ going.shelved.known.berths key; sights =
+          λ key scope e. sight_told key scope e (same_or scope id) })
 
 -- where no mark changes, nothing does
-still_going : (r : Runner) → IsGoing None r → (changed : List Bool) → ((key : ℕ) → is_changed (marked r.world changed).scopes key ≡ is_changed r.world.scopes key) →
+still_going : (r : Runner) → IsGoing None r → (changed : List Bool) →
+    ((key : ℕ) → is_changed (marked r.world changed).scopes key ≡ is_changed r.world.scopes key) →
     IsGoing None (record r { world = marked r.world changed; sleepers = r.sleepers })
 still_going r going changed marks =
     going_marked r going changed r.sleepers
     (record {
       berths = going.shelved.known.berths;
-      sights = λ key scope e. shows_marked r.world changed scope (sight_of r.sleepers scope) (sight_of r.sleepers scope) refl (marks scope) (going.shelved.known.sights key scope e);
+      sights = λ key scope e. shows_marked r.world changed scope (sight_of r.sleepers scope) (sight_of r.sleepers scope) refl (marks scope)
+          (going.shelved.known.sights key scope e);
     })
 
 -- a scope that is handed out is open still
-pub taken_open : (lent tree read : Tree) (id : ℕ) → tree ≡ record lent { changed = tree.changed } → TakesChanged lent tree id → read ≡ tree → IsOpen read id
-taken_open lent tree read id stacks takes reads = subst (λ (t : Tree). IsOpen t id) (sym reads) (subst (λ (t : Tree). IsOpen t id) (sym stacks) takes.was_open)
+pub taken_open : (lent tree read : Tree) (id : ℕ) → tree ≡ record lent { changed = tree.changed } → TakesChanged lent tree id →
+    read ≡ tree → IsOpen read id
+taken_open lent tree read id stacks takes reads =
+    subst (λ (t : Tree). IsOpen t id) (sym reads) (subst (λ (t : Tree). IsOpen t id) (sym stacks) takes.was_open)
 
 -- the next one
-module _ (was r new : Runner) (id : ℕ) (lent tree read : Tree) (seen : Tick) (s : IsTelling was r) (lends : lent ≡ r.world.scopes) (stacks_lent : tree ≡ record lent { changed = tree.changed })
-    (takes_lent : TakesChanged lent tree id) (reads : read ≡ tree) (sees_read : ForSome (stack_of read id) (λ stack. seen ≡ sight stack)) (same : SameScopes r.sleepers new.sleepers)
-    (tells : Sees r.sleepers new.sleepers id seen) (is : new ≡ record r { world = record r.world { scopes = tree }; sleepers = new.sleepers }) where
+module _ (was r new : Runner) (id : ℕ) (lent tree read : Tree) (seen : Tick) (s : IsTelling was r) (lends : lent ≡ r.world.scopes)
+    (stacks_lent : tree ≡ record lent { changed = tree.changed })
+    (takes_lent : TakesChanged lent tree id) (reads : read ≡ tree) (sees_read : ForSome (stack_of read id) (λ stack. seen ≡ sight stack))
+        (same : SameScopes r.sleepers new.sleepers)
+    (tells : Sees r.sleepers new.sleepers id seen) (is : new ≡ record r
+        { world = record r.world { scopes = tree }; sleepers = new.sleepers }) where
   stacks : tree ≡ record (r.world.scopes) { changed = tree.changed }
   stacks = stacks_lent ∙ ap (λ (t : Tree). record t { changed = tree.changed }) lends
 
@@ -192,7 +215,8 @@ module _ (was r new : Runner) (id : ℕ) (lent tree read : Tree) (seen : Tick) (
             (λ st e. sees st (ap (λ (t : Tree). stack_of t id) stacks ∙ e)) same tells);
         only =
             is_told ∙ ap (λ (x : Runner). record x { world = marked x.world tree.changed; sleepers = new.sleepers }) s.only
-            ∙ ap (λ (c : List Bool). record was { world = marked was.world c; sleepers = new.sleepers }) (ap (λ (t : Tree). t.changed) (sym tree_is));
+            ∙ ap (λ (c : List Bool). record was { world = marked was.world c; sleepers = new.sleepers })
+                (ap (λ (t : Tree). t.changed) (sym tree_is));
         fewer = λ key e. by_key key (same_or key id) (ap (λ (t : Tree). is_changed t key) (sym tree_is) ∙ e);
       }
     where
@@ -200,15 +224,20 @@ module _ (was r new : Runner) (id : ℕ) (lent tree read : Tree) (seen : Tick) (
       by_key key (inl e) f = absurd (let g : false ≡ true = sym takes.is ∙ (ap (is_changed tree) (sym e) ∙ f) in cc)
       by_key key (inr differs) f = s.fewer key (sym (takes.others key differs) ∙ f)
 
-  pub telling_fewer : count_below (length was.world.scopes.changed) (is_changed new.world.scopes) < count_below (length was.world.scopes.changed) (is_changed r.world.scopes)
+  pub telling_fewer : count_below (length was.world.scopes.changed) (is_changed new.world.scopes) < count_below
+      (length was.world.scopes.changed) (is_changed r.world.scopes)
   telling_fewer =
-      subst (λ (t : Tree). count_below (length was.world.scopes.changed) (is_changed t) < count_below (length was.world.scopes.changed) (is_changed r.world.scopes)) (sym tree_is)
+      subst (λ (t : Tree). count_below (length was.world.scopes.changed) (is_changed t) < count_below (length was.world.scopes.changed)
+          (is_changed r.world.scopes)) (sym tree_is)
       (fewer_below (length was.world.scopes.changed) (is_changed r.world.scopes) (is_changed tree) id
-      (found_within was.world.scopes.changed id false true (s.fewer id takes.was) (λ e. let f : true ≡ false = e in cc)) takes.was takes.is takes.others)
+      (found_within was.world.scopes.changed id false true (s.fewer id takes.was) (λ e. let f : true ≡ false = e in cc)) takes.was takes.is
+          takes.others)
 
 -- none is left
-module _ (was r new : Runner) (lent tree : Tree) (s : IsTelling was r) (lends : lent ≡ r.world.scopes) (stacks_lent : tree ≡ record lent { changed = tree.changed })
-    (marks_lent : (key : ℕ) → is_changed lent key ≡ false) (same_lent : SameMarks lent tree) (is : new ≡ record r { world = record r.world { scopes = tree } }) where
+module _ (was r new : Runner) (lent tree : Tree) (s : IsTelling was r) (lends : lent ≡ r.world.scopes)
+    (stacks_lent : tree ≡ record lent { changed = tree.changed })
+    (marks_lent : (key : ℕ) → is_changed lent key ≡ false) (same_lent : SameMarks lent tree)
+        (is : new ≡ record r { world = record r.world { scopes = tree } }) where
   last_stacks : tree ≡ record (r.world.scopes) { changed = tree.changed }
   last_stacks = stacks_lent ∙ ap (λ (t : Tree). record t { changed = tree.changed }) lends
 
@@ -226,9 +255,12 @@ module _ (was r new : Runner) (lent tree : Tree) (s : IsTelling was r) (lends : 
 
   pub told_all : IsGoing None new × NoneChanged new.world × SeesOnly was new
   told_all = (
-    subst (IsGoing None) (sym is_last) (still_going r s.going tree.changed (λ key. ap (λ (t : Tree). is_changed t key) (sym last_stacks) ∙ same key)),
+    subst (IsGoing None) (sym is_last) (still_going r s.going tree.changed
+        (λ key. ap (λ (t : Tree). is_changed t key) (sym last_stacks) ∙ same key)),
     λ key. ap (λ (t : Tree). is_changed t key) last_tree ∙ (same key ∙ marks key),
     is_last ∙ ap (λ (x : Runner). record x { world = marked x.world tree.changed }) s.only
-        ∙ ap (λ (c : List Bool). record was { world = marked was.world c; sleepers = r.sleepers }) (ap (λ (t : Tree). t.changed) (sym last_tree))
-        ∙ ap (λ (z : Sleeping). record was { world = marked was.world new.world.scopes.changed; sleepers = z }) (sym (ap (λ (x : Runner). x.sleepers) is)),
+        ∙ ap (λ (c : List Bool). record was { world = marked was.world c; sleepers = r.sleepers })
+            (ap (λ (t : Tree). t.changed) (sym last_tree))
+        ∙ ap (λ (z : Sleeping). record was { world = marked was.world new.world.scopes.changed; sleepers = z })
+            (sym (ap (λ (x : Runner). x.sleepers) is)),
   )

@@ -68,7 +68,8 @@ use Rattle.job_runner.proofs.Lived.{task_at, row_below, rows_apart}
 
 -- ---- a world from which the started tasks were taken
 
-timely_on : (w : World) (x : World) (scope : Option ℕ) (halt : Halt) (wake : Wake) → IsTimely w scope halt wake → IsTimely (record w { started = x.started }) scope halt wake
+timely_on : (w : World) (x : World) (scope : Option ℕ) (halt : Halt) (wake : Wake) → IsTimely w scope halt wake →
+    IsTimely (record w { started = x.started }) scope halt wake
 timely_on w x scope (Asleep ticks since) wakes.Due h = h
 timely_on w x scope (Asleep ticks since) wakes.Seen h = h
 timely_on w x scope _ _ h = h
@@ -78,29 +79,35 @@ goes_on w x task wake h = record { fits = h.fits; timely = timely_on w x (scope_
 
 says_on : (w : World) (x : World) (task : Task) (stop : Stop) → StopSays w task stop → StopSays (record w { started = x.started }) task stop
 says_on w x task (Ask request) h = h
-says_on w x task (Sleep due) h = record { ticks = h.ticks; halt = h.halt; short = h.short; due_is = h.due_is; later = h.later; unseen = h.unseen }
+says_on w x task (Sleep due) h =
+    record { ticks = h.ticks; halt = h.halt; short = h.short; due_is = h.due_is; later = h.later; unseen = h.unseen }
 says_on w x task (Wait id) h = record { since = h.since; halt = h.halt; there = h.there }
 says_on w x task (Ended exc) h = tt
 
 -- ---- lists
 
 -- what holds of each whose number another is
-pub each_not : {A : Type 0} (key : A → ℕ) (id : ℕ) (xs : List A) → times id (map key xs) ≡ 0 → (P Q : A → Type 0) → All P xs → ((x : A) → key x ≢ id → P x → Q x) → All Q xs
+pub each_not : {A : Type 0} (key : A → ℕ) (id : ℕ) (xs : List A) → times id (map key xs) ≡ 0 → (P Q : A → Type 0) → All P xs →
+    ((x : A) → key x ≢ id → P x → Q x) → All Q xs
 each_not key id [] none P Q all more = All-nil Q
 each_not key id (x ∷ xs) none P Q all more =
-    let step : times id (map key (x ∷ xs)) ≡ one_if (key x == id) + times id (map key xs) = sum_by-cons (λ (n : ℕ). one_if (n == id)) (key x) (map key xs) in
-    All-cons Q x xs (more x (λ e. let one : one_if (key x == id) ≡ 1 = one_same (key x) id e in absurd (omega (arith, step, one, none))) (All-head P x xs all))
+    let step : times id (map key (x ∷ xs)) ≡ one_if (key x == id) + times id (map key xs) =
+        sum_by-cons (λ (n : ℕ). one_if (n == id)) (key x) (map key xs) in
+    All-cons Q x xs (more x (λ e. let one : one_if (key x == id) ≡ 1 = one_same (key x) id e in absurd (omega (arith, step, one, none)))
+        (All-head P x xs all))
     (each_not key id xs (omega (arith, step, none)) P Q (All-tail P x xs all) more)
 
 -- what holds of each number holds of each that has to begin
-pub each_begins : (ids : List ℕ) (Q : Added → Type 0) → ((i id : ℕ) → slice_get ids i ≡ Some id → Q (id, calls.Begin)) → All Q (to_begin ids)
+pub each_begins : (ids : List ℕ) (Q : Added → Type 0) → ((i id : ℕ) → slice_get ids i ≡ Some id → Q (id, calls.Begin)) →
+    All Q (to_begin ids)
 each_begins [] Q h = All-nil Q
 each_begins (id ∷ ids) Q h = All-cons Q (id, calls.Begin) (to_begin ids) (h zero id refl) (each_begins ids Q (λ i x e. h (suc i) x e))
 
 pub times_begin : (id : ℕ) (ids : List ℕ) → times_next id (to_begin ids) ≡ times id ids
 times_begin id [] = refl
 times_begin id (x ∷ ids) =
-    sum_by-cons (λ (n : ℕ). one_if (n == id)) x (map (λ (a : Added). a.0) (to_begin ids)) ∙ ap (λ (n : ℕ). one_if (x == id) + n) (times_begin id ids)
+    sum_by-cons (λ (n : ℕ). one_if (n == id)) x (map (λ (a : Added). a.0) (to_begin ids))
+        ∙ ap (λ (n : ℕ). one_if (x == id) + n) (times_begin id ids)
     ∙ sym (sum_by-cons (λ (n : ℕ). one_if (n == id)) x ids)
 
 pub times_both : (id : ℕ) (added : List Added) (ids : List ℕ) → times_next id (added ++ to_begin ids) ≡ times_next id added + times id ids
@@ -111,14 +118,16 @@ times_both id added ids =
 
 -- ---- before the turn
 
-pub may_turn : (id : ℕ) (r : Runner) (wake : Wake) → IsGoing (Some id) r → IsSomeAnd (running_at r.roster id) (λ (x : Running). MayGo r.world x.task wake) → turns.IsSound r.world.scopes →
+pub may_turn : (id : ℕ) (r : Runner) (wake : Wake) → IsGoing (Some id) r →
+    IsSomeAnd (running_at r.roster id) (λ (x : Running). MayGo r.world x.task wake) → turns.IsSound r.world.scopes →
     (x : Running) → running_at r.roster id ≡ Some x → MayTurn r.world x.task wake
 may_turn id r wake going goes sound x lives =
     let g = some_is (running_at r.roster id) (λ (y : Running). MayGo r.world y.task wake) goes in
     let is : g.0 ≡ x = one_of g.0 x (sym g.1 ∙ lives) in
     let may : MayGo r.world x.task wake = subst (λ (y : Running). MayGo r.world y.task wake) is g.2 in
     let k = meaning_table r.job.now r.input.now in
-    let c : IsCrew k r.job.now r.input.now r.world.tick (many r.roster) None (crew_in r) = going.course k (table_is_settled r.job.now r.input.now going.sound.names) in
+    let c : IsCrew k r.job.now r.input.now r.world.tick (many r.roster) None (crew_in r) =
+        going.course k (table_is_settled r.job.now r.input.now going.sound.names) in
     let at : task_of r.roster x.row ≡ Some x.task = task_at r.roster going.shelved.agree id x lives in
     record {
       fits = crew_fits k r.job.now r.input.now r.world.tick (many r.roster) None (crew_in r) c sound x.row x.task at;
@@ -129,16 +138,20 @@ may_turn id r wake going goes sound x lives =
 pub turns_few : (away : Option ℕ) (r : Runner) → IsGoing away r → r.turns ≤ 200001
 turns_few away r going =
     let k = meaning_table r.job.now r.input.now in
-    let c : IsCrew k r.job.now r.input.now r.world.tick (many r.roster) None (crew_in r) = going.course k (table_is_settled r.job.now r.input.now going.sound.names) in
-    let few : r.turns ≤ 2 * size_of r.job.now.steps + 1 = crew_turns k r.job.now r.input.now r.world.tick (many r.roster) None (crew_in r) c in
+    let c : IsCrew k r.job.now r.input.now r.world.tick (many r.roster) None (crew_in r) =
+        going.course k (table_is_settled r.job.now r.input.now going.sound.names) in
+    let few : r.turns ≤ 2 * size_of r.job.now.steps + 1 =
+        crew_turns k r.job.now r.input.now r.world.tick (many r.roster) None (crew_in r) c in
     let size : size_of r.job.now.steps ≤ 100000 = going.sound.modest.size in
     omega (arith, few, size)
 
 -- ---- the turn
 
 module _ (id : ℕ) (wake : Wake) (stop : Stop) (r new : Runner) (ro : Roster) (w : World) (going : IsGoing (Some id) r)
-    (goes : IsSomeAnd (running_at r.roster id) (λ (x : Running). MayGo r.world x.task wake)) (turn : HasTurn r.roster ro r.world w id wake stop) (sound : turns.IsSound r.world.scopes)
-    (sound_after : turns.IsSound w.scopes) (takes : TakesStarted (record r { world = w; roster = ro; turns = r.turns + 1 }) new turn.row) where
+    (goes : IsSomeAnd (running_at r.roster id) (λ (x : Running). MayGo r.world x.task wake))
+        (turn : HasTurn r.roster ro r.world w id wake stop) (sound : turns.IsSound r.world.scopes)
+    (sound_after : turns.IsSound w.scopes) (takes : TakesStarted (record r { world = w; roster = ro; turns = r.turns + 1 }) new turn.row)
+        where
   job : Job
   job = r.job.now
 
@@ -174,7 +187,8 @@ module _ (id : ℕ) (wake : Wake) (stop : Stop) (r new : Runner) (ro : Roster) (
   row_at_all = going.shelved.agree.rows id (record { task = turn.before; row = s }) turn.lived
 
   row_there : s < many ro
-  row_there = let lt : s < m = row_below r.roster going.shelved.agree id (record { task = turn.before; row = s }) turn.lived in omega (arith, lt, same_many)
+  row_there = let lt : s < m = row_below r.roster going.shelved.agree id (record { task = turn.before; row = s }) turn.lived in
+      omega (arith, lt, same_many)
 
   below : (p : ℕ) → p < m → p < many ro
   below p lt = omega (arith, lt, same_many)
@@ -230,8 +244,10 @@ module _ (id : ℕ) (wake : Wake) (stop : Stop) (r new : Runner) (ro : Roster) (
 
     stopped_there : StoppedIn k r.job.now r.input.now t (m + length w.started.items) s stop that
     stopped_there =
-        stepped k r.job.now r.input.now t m s (crew_in r) that turn.before turn.after wake stop settled going.sound.names going.sound.starts c turn_taken
-        (may_wake k r.job.now r.input.now t m (crew_in r) settled going.sound.names going.sound.starts c s turn.before turn_taken.task wake may)
+        stepped k r.job.now r.input.now t m s (crew_in r) that turn.before turn.after wake stop settled going.sound.names going.sound.starts
+            c turn_taken
+        (may_wake k r.job.now r.input.now t m (crew_in r) settled going.sound.names going.sound.starts c s turn.before turn_taken.task wake
+            may)
 
     stopped_left : StoppedIn k r.job.now r.input.now t (m + length w.started.items) s stop (crew_in left)
     stopped_left =
@@ -256,11 +272,15 @@ module _ (id : ℕ) (wake : Wake) (stop : Stop) (r new : Runner) (ro : Roster) (
   crew : IsCrew table r.job.now r.input.now t m None (crew_in r)
   crew = going.course table settled
 
-  wakes_so : MayWake crew.course.froms crew.course.tasks t (crew.course.at s) (wake_in r.world.book turn.before.halt wake) (crew.course.at s).rest.stopped
-  wakes_so = may_wake table r.job.now r.input.now t m (crew_in r) settled going.sound.names going.sound.starts crew s turn.before turn_taken.task wake may
+  wakes_so : MayWake crew.course.froms crew.course.tasks t (crew.course.at s) (wake_in r.world.book turn.before.halt wake)
+      (crew.course.at s).rest.stopped
+  wakes_so = may_wake table r.job.now r.input.now t m (crew_in r) settled going.sound.names going.sound.starts crew s turn.before
+      turn_taken.task wake may
 
-  turned_so : (T : Turning table r.job.now r.input.now t m s (crew_in r) that crew.numbers turn.before turn.after stop crew.course) × (length T.move.begun ≡ length w.started.items)
-  turned_so = turning_of table r.job.now r.input.now t m s (crew_in r) that turn.before turn.after wake stop settled going.sound.names going.sound.starts crew turn_taken wakes_so
+  turned_so : (T : Turning table r.job.now r.input.now t m s (crew_in r) that crew.numbers turn.before turn.after stop crew.course)
+      × (length T.move.begun ≡ length w.started.items)
+  turned_so = turning_of table r.job.now r.input.now t m s (crew_in r) that turn.before turn.after wake stop settled going.sound.names
+      going.sound.starts crew turn_taken wakes_so
 
   abbrev T : Turning table r.job.now r.input.now t m s (crew_in r) that crew.numbers turn.before turn.after stop crew.course
   T = turned_so.0
@@ -272,7 +292,8 @@ module _ (id : ℕ) (wake : Wake) (stop : Stop) (r new : Runner) (ro : Roster) (
       by_order : (0 < times other takes.ids) ⊎ (times other takes.ids ≤ 0) → times other takes.ids ≡ 0
       by_order (inl h) =
           let g = got_once other takes.ids (omega (arith, h)) in
-          let lt : g.0 < length w.started.items = (let a = below_length takes.ids g.0 other g.1 in let b = started_at.as_many in omega (arith, a, b)) in
+          let lt : g.0 < length w.started.items =
+              (let a = below_length takes.ids g.0 other g.1 in let b = started_at.as_many in omega (arith, a, b)) in
           let task = nth w.started.items g.0 lt in
           let fresh = started_at.lives g.0 other task.0 g.1 task.1 in
           absurd (let f : None ≡ Some y = sym fresh.0 ∙ lives in cc)
@@ -297,13 +318,16 @@ module _ (id : ℕ) (wake : Wake) (stop : Stop) (r new : Runner) (ro : Roster) (
     y_task : task_of r.roster y.row ≡ Some y.task
     y_task = task_at r.roster going.shelved.agree other y lives
 
-    y_follows : Follows that T.is.froms r.input.now t T.is.at (numbers_then crew.numbers s m T.took.numbers_after) (leaving_by stop s) y.row y.task
+    y_follows : Follows that T.is.froms r.input.now t T.is.at (numbers_then crew.numbers s m T.took.numbers_after) (leaving_by stop s) y.row
+        y.task
     y_follows =
-        other_follows table r.job.now r.input.now t m s (crew_in r) that turn.before turn.after stop settled going.sound.names going.sound.starts crew T y.row y_below y_else y.task y_task
+        other_follows table r.job.now r.input.now t m s (crew_in r) that turn.before turn.after stop settled going.sound.names
+            going.sound.starts crew T y.row y_below y_else y.task y_task
 
     goes_still : (v : Wake) → MayGo r.world y.task v → MayGo left.world y.task v
     goes_still v h =
-        goes_on w new.world y.task v (still_goes settled going.sound.names going.sound.starts crew T y.row y_below y_else y.task y_task y_follows v h)
+        goes_on w new.world y.task v (still_goes settled going.sound.names going.sound.starts crew T y.row y_below y_else y.task y_task
+            y_follows v h)
 
     dozes_still : (due : ℕ) → Dozes r.world due y.task → Dozes left.world due y.task
     dozes_still due h =
@@ -335,7 +359,8 @@ module _ (id : ℕ) (wake : Wake) (stop : Stop) (r new : Runner) (ro : Roster) (
 
     same_times : running_times left.world.book (running_at new.roster other) ≡ running_times r.world.book (running_at r.roster other)
     same_times =
-        ap (running_times w.book) (lived_still other y differs lives) ∙ by_halt y.task.halt refl ∙ sym (ap (running_times r.world.book) lives)
+        ap (running_times w.book) (lived_still other y differs lives) ∙ by_halt y.task.halt refl
+            ∙ sym (ap (running_times r.world.book) lives)
 
   -- ---- the shelves
 
@@ -353,21 +378,26 @@ module _ (id : ℕ) (wake : Wake) (stop : Stop) (r new : Runner) (ro : Roster) (
   timer_else key due f same =
       none-some due (sym (no_timer (due_of r.clock id) (let a = none_here in omega (arith, a))) ∙ (ap (due_of r.clock) (sym same) ∙ f))
 
-  sleeper_still : (key due : ℕ) → due_of r.clock key ≡ Some due → (y : Running) × (running_at r.roster key ≡ Some y) × Dozes r.world due y.task
+  sleeper_still : (key due : ℕ) → due_of r.clock key ≡ Some due → (y : Running) × (running_at r.roster key ≡ Some y)
+      × Dozes r.world due y.task
   sleeper_still key due f = some_is (running_at r.roster key) (λ (z : Running). Dozes r.world due z.task) (going.shelved.doze key due f)
 
-  sleeps_still : (key due : ℕ) → due_of r.clock key ≡ Some due → IsSomeAnd (running_at new.roster key) (λ (z : Running). Dozes left.world due z.task)
+  sleeps_still : (key due : ℕ) → due_of r.clock key ≡ Some due →
+      IsSomeAnd (running_at new.roster key) (λ (z : Running). Dozes left.world due z.task)
   sleeps_still key due f =
       let y = sleeper_still key due f in
-      some_has (running_at new.roster key) (λ (z : Running). Dozes left.world due z.task) y.0 (lived_still key y.0 (timer_else key due f) y.1)
+      some_has (running_at new.roster key) (λ (z : Running). Dozes left.world due z.task) y.0
+          (lived_still key y.0 (timer_else key due f) y.1)
       (dozes_still key y.0 (timer_else key due f) y.1 due y.2)
 
   -- each sleeper is known by its scope still, and the scope by its sight
   known_still : AreKnown new.roster left.world r.clock r.sleepers
   known_still = record { berths = λ key. going.shelved.known.berths key ∙ berth key (due_of r.clock key) refl; sights = sight_still }
     where
-      berth : (key : ℕ) (d : Option ℕ) → due_of r.clock key ≡ d → berth_of (due_of r.clock key) (running_at r.roster key) ≡ berth_of (due_of r.clock key) (running_at new.roster key)
-      berth key None f = ap (λ (o : Option ℕ). berth_of o (running_at r.roster key)) f ∙ sym (ap (λ (o : Option ℕ). berth_of o (running_at new.roster key)) f)
+      berth : (key : ℕ) (d : Option ℕ) → due_of r.clock key ≡ d → berth_of (due_of r.clock key) (running_at r.roster key)
+          ≡ berth_of (due_of r.clock key) (running_at new.roster key)
+      berth key None f = ap (λ (o : Option ℕ). berth_of o (running_at r.roster key)) f
+          ∙ sym (ap (λ (o : Option ℕ). berth_of o (running_at new.roster key)) f)
       berth key (Some due) f =
           let y = sleeper_still key due f in
           ap (berth_of (due_of r.clock key)) (y.1 ∙ sym (lived_still key y.0 (timer_else key due f) y.1))
@@ -376,18 +406,23 @@ module _ (id : ℕ) (wake : Wake) (stop : Stop) (r new : Runner) (ro : Roster) (
       sight_still key scope f =
           let z = sleeps_in r.roster r.world r.clock r.sleepers going.shelved.known key scope f in
           let differs = timer_else key z.due z.timer in
-          let h = shows_still settled going.sound.names going.sound.starts crew T z.running.row (y_below key z.running differs z.lives) (y_else key z.running differs z.lives) z.running.task
-          (y_task key z.running differs z.lives) (y_follows key z.running differs z.lives) scope z.in_scope (sight_of r.sleepers scope) (going.shelved.known.sights key scope f) in
+          let h = shows_still settled going.sound.names going.sound.starts crew T z.running.row (y_below key z.running differs z.lives)
+              (y_else key z.running differs z.lives) z.running.task
+          (y_task key z.running differs z.lives) (y_follows key z.running differs z.lives) scope z.in_scope (sight_of r.sleepers scope)
+              (going.shelved.known.sights key scope f) in
           record { stack = h.stack; opened = h.opened; known = h.known }
 
   -- a task that was started has to begin
   begins : (i : ℕ) (task : Task) → slice_get w.started.items i ≡ Some task → task.halt ≡ ToBegin
   begins i task e =
-      let started : w.started.items ≡ T.took.tasks = T.took.started ∙ ap (λ (ts : List Task). ts ++ T.took.tasks) going.shelved.none_started in
-      let b = begun_at T.took.numbers_after w.book (blocks_of turn.after.frames.items) (waits_of turn.after.halt) T.took.tasks T.move.begun T.took.begun i task (sym (ap (λ (ts : List Task). slice_get ts i) started) ∙ e) in
+      let started : w.started.items ≡ T.took.tasks = T.took.started
+          ∙ ap (λ (ts : List Task). ts ++ T.took.tasks) going.shelved.none_started in
+      let b = begun_at T.took.numbers_after w.book (blocks_of turn.after.frames.items) (waits_of turn.after.halt) T.took.tasks T.move.begun
+          T.took.begun i task (sym (ap (λ (ts : List Task). slice_get ts i) started) ∙ e) in
       b.2.halt
 
-  new_task : (i key : ℕ) → slice_get takes.ids i ≡ Some key → (task : Task) × (running_at new.roster key ≡ Some (record { task = task; row = many ro + i })) × (task.halt ≡ ToBegin)
+  new_task : (i key : ℕ) → slice_get takes.ids i ≡ Some key → (task : Task)
+      × (running_at new.roster key ≡ Some (record { task = task; row = many ro + i })) × (task.halt ≡ ToBegin)
   new_task i key e =
       let lt : i < length w.started.items = (let a = below_length takes.ids i key e in let b = started_at.as_many in omega (arith, a, b)) in
       let task = nth w.started.items i lt in
@@ -406,13 +441,15 @@ module _ (id : ℕ) (wake : Wake) (stop : Stop) (r new : Runner) (ro : Roster) (
   called_new : (i key : ℕ) → slice_get takes.ids i ≡ Some key → IsCalled new.roster left.world key calls.Begin
   called_new i key e =
       let x = new_task i key e in
-      some_has (running_at new.roster key) (λ (z : Running). GoesBy left.world z.task calls.Begin) (record { task = x.0; row = many ro + i }) x.1 (begin_goes x.0 x.2)
+      some_has (running_at new.roster key) (λ (z : Running). GoesBy left.world z.task calls.Begin)
+          (record { task = x.0; row = many ro + i }) x.1 (begin_goes x.0 x.2)
 
   -- how often each stands on the shelves
   more_times : (other : ℕ) → times_shelved left.batch r.clock other ≡ times_shelved r.batch r.clock other + times other takes.ids
   more_times other =
       let a : times_now other new.batch.current ≡ times_now other r.batch.current = ap (times_now other) takes.current in
-      let b : times_next other new.batch.next ≡ times_next other r.batch.next + times other takes.ids = ap (times_next other) takes.next ∙ times_both other r.batch.next takes.ids in
+      let b : times_next other new.batch.next ≡ times_next other r.batch.next + times other takes.ids =
+          ap (times_next other) takes.next ∙ times_both other r.batch.next takes.ids in
       omega (arith, a, b)
 
   once_of : (other : ℕ) → other ≢ id → (o : Option Running) → running_at r.roster other ≡ o →
@@ -420,7 +457,8 @@ module _ (id : ℕ) (wake : Wake) (stop : Stop) (r new : Runner) (ro : Roster) (
   once_of other differs (Some y) e =
       let a = more_times other in
       let b : times other takes.ids ≡ 0 = none_new other y differs e in
-      let c : times_shelved r.batch r.clock other ≡ running_times r.world.book (running_at r.roster other) = going.shelved.once other differs in
+      let c : times_shelved r.batch r.clock other ≡ running_times r.world.book (running_at r.roster other) =
+          going.shelved.once other differs in
       let d = same_times other y differs e in
       omega (arith, a, b, c, d)
   once_of other differs None e = by_order (cases_lt 0 (times other takes.ids))
@@ -431,32 +469,37 @@ module _ (id : ℕ) (wake : Wake) (stop : Stop) (r new : Runner) (ro : Roster) (
       nothing : running_at ro other ≡ None
       nothing = turn.others other differs ∙ e
 
-      by_order : (0 < times other takes.ids) ⊎ (times other takes.ids ≤ 0) → times_shelved left.batch r.clock other ≡ running_times left.world.book (running_at new.roster other)
+      by_order : (0 < times other takes.ids) ⊎ (times other takes.ids ≤ 0) →
+          times_shelved left.batch r.clock other ≡ running_times left.world.book (running_at new.roster other)
       by_order (inl h) =
           let g = got_once other takes.ids (omega (arith, h)) in
           let x = new_task g.0 other g.1 in
           let a = more_times other in
           let b = before in
           let c : times other takes.ids ≤ 1 = started_at.once other in
-          let d : running_times left.world.book (running_at new.roster other) ≡ 1 = ap (running_times w.book) x.1 ∙ ap (halt_times w.book) x.2 in
+          let d : running_times left.world.book (running_at new.roster other) ≡ 1 =
+              ap (running_times w.book) x.1 ∙ ap (halt_times w.book) x.2 in
           omega (arith, a, b, c, d, h)
       by_order (inr h) =
           let a = more_times other in
           let b = before in
           let none : times other takes.ids ≡ 0 = omega (arith, h) in
-          let d : running_times left.world.book (running_at new.roster other) ≡ 0 = ap (running_times w.book) (started_at.others other none ∙ nothing) in
+          let d : running_times left.world.book (running_at new.roster other) ≡ 0 =
+              ap (running_times w.book) (started_at.others other none ∙ nothing) in
           omega (arith, a, b, none, d)
 
   homes_there : AreHomesOf that (parent_of new.roster)
   homes_there =
       homes_kept crew T (parent_of r.roster) (parent_of new.roster) (λ p lt. started_at.same_parent p (below p lt) ∙ turn.same.parent p)
-      (λ i lt. ap (λ (n : ℕ). parent_of new.roster (n + i)) (sym same_many) ∙ started_at.parent_is i (let e = turned_so.1 in omega (arith, lt, e))) going.shelved.homes
+      (λ i lt. ap (λ (n : ℕ). parent_of new.roster (n + i)) (sym same_many)
+          ∙ started_at.parent_is i (let e = turned_so.1 in omega (arith, lt, e))) going.shelved.homes
 
   shelved_left : AreShelved (Some id) left
   shelved_left =
       record {
         agree = takes.agree;
-        homes = λ p task home lives at. (let h = homes_there p task home lives at in record { task = h.task; lives = h.lives; owned = h.owned });
+        homes = λ p task home lives at. (let h = homes_there p task home lives at in
+            record { task = h.task; lives = h.lives; owned = h.owned });
         now = going.shelved.now ∙ sym tick;
         limit = going.shelved.limit;
         within = (let a = going.shelved.within in let b = tick in omega (arith, a, b));
@@ -466,12 +509,14 @@ module _ (id : ℕ) (wake : Wake) (stop : Stop) (r new : Runner) (ro : Roster) (
         known = known_still;
         current =
             subst (All (λ (e : Entry). IsCalled new.roster left.world e.task e.call)) (sym takes.current)
-            (each_not (λ (e : Entry). e.task) id r.batch.current (let a = none_here in omega (arith, a)) (λ (e : Entry). IsCalled r.roster r.world e.task e.call)
+            (each_not (λ (e : Entry). e.task) id r.batch.current (let a = none_here in omega (arith, a))
+                (λ (e : Entry). IsCalled r.roster r.world e.task e.call)
             (λ (e : Entry). IsCalled new.roster left.world e.task e.call) going.shelved.current (λ e. called_still e.task e.call));
         next =
             subst (All (λ (a : Added). IsCalled new.roster left.world a.0 a.1)) (sym takes.next)
             (All-append (λ (a : Added). IsCalled new.roster left.world a.0 a.1) r.batch.next (to_begin takes.ids)
-            (each_not (λ (a : Added). a.0) id r.batch.next (let a = none_here in omega (arith, a)) (λ (a : Added). IsCalled r.roster r.world a.0 a.1)
+            (each_not (λ (a : Added). a.0) id r.batch.next (let a = none_here in omega (arith, a))
+                (λ (a : Added). IsCalled r.roster r.world a.0 a.1)
             (λ (a : Added). IsCalled new.roster left.world a.0 a.1) going.shelved.next (λ a. called_still a.0 a.1))
             (each_begins takes.ids (λ (a : Added). IsCalled new.roster left.world a.0 a.1) called_new));
         once = λ other differs. once_of other differs (running_at r.roster other) refl;
@@ -479,16 +524,19 @@ module _ (id : ℕ) (wake : Wake) (stop : Stop) (r new : Runner) (ro : Roster) (
             let f : Some id ≡ Some key = e in
             let same : id ≡ key = cc in
             subst (λ (n : ℕ). times_shelved left.batch r.clock n ≡ 0) same
-            (let a = more_times id in let b = none_here in let c = not_new id (record { task = turn.after; row = s }) turn.lives in omega (arith, a, b, c));
+            (let a = more_times id in let b = none_here in let c = not_new id (record { task = turn.after; row = s }) turn.lives in
+                omega (arith, a, b, c));
       }
 
   lives_left : IsSomeAnd (running_at new.roster id) (λ (x : Running). (x.row ≡ s) × StopSays left.world x.task stop)
   lives_left =
-      some_has (running_at new.roster id) (λ (x : Running). (x.row ≡ s) × StopSays left.world x.task stop) (record { task = turn.after; row = s })
+      some_has (running_at new.roster id) (λ (x : Running). (x.row ≡ s) × StopSays left.world x.task stop)
+          (record { task = turn.after; row = s })
       (started_at.others id (not_new id (record { task = turn.after; row = s }) turn.lives) ∙ turn.lives) (
         refl,
         says_on w new.world turn.after stop
-            (stop_says table r.job.now r.input.now t m s (crew_in r) that turn.before turn.after wake stop settled going.sound.names going.sound.starts crew turn_taken wakes_so),
+            (stop_says table r.job.now r.input.now t m s (crew_in r) that turn.before turn.after wake stop settled going.sound.names
+                going.sound.starts crew turn_taken wakes_so),
       )
 
   -- the task has stopped, and those that it started are ready to begin
@@ -502,29 +550,35 @@ module _ (id : ℕ) (wake : Wake) (stop : Stop) (r new : Runner) (ro : Roster) (
 
 -- ---- for the code
 
-pub row_is : (id row : ℕ) (r : Runner) (ro : Roster) (w : World) (wake : Wake) (stop : Stop) → IsSomeAnd (running_at r.roster id) (λ (x : Running). x.row ≡ row) →
+pub row_is : (id row : ℕ) (r : Runner) (ro : Roster) (w : World) (wake : Wake) (stop : Stop) →
+    IsSomeAnd (running_at r.roster id) (λ (x : Running). x.row ≡ row) →
     (turn : HasTurn r.roster ro r.world w id wake stop) → turn.row ≡ row
 row_is id row r ro w wake stop at turn =
     let g = some_is (running_at r.roster id) (λ (x : Running). x.row ≡ row) at in
-    let same : g.0 ≡ record { task = turn.before; row = turn.row } = one_of g.0 (record { task = turn.before; row = turn.row }) (sym g.1 ∙ turn.lived) in
+    let same : g.0 ≡ record { task = turn.before; row = turn.row } =
+        one_of g.0 (record { task = turn.before; row = turn.row }) (sym g.1 ∙ turn.lived) in
     sym (ap (λ (x : Running). x.row) same) ∙ g.2
 
-pub row_within : (id row : ℕ) (r : Runner) (ro : Roster) (w : World) (wake : Wake) (stop : Stop) → IsGoing (Some id) r → IsSomeAnd (running_at r.roster id) (λ (x : Running). x.row ≡ row) →
+pub row_within : (id row : ℕ) (r : Runner) (ro : Roster) (w : World) (wake : Wake) (stop : Stop) → IsGoing (Some id) r →
+    IsSomeAnd (running_at r.roster id) (λ (x : Running). x.row ≡ row) →
     HasTurn r.roster ro r.world w id wake stop → row < many ro
 row_within id row r ro w wake stop going at turn =
     let e = row_is id row r ro w wake stop at turn in
-    let lt : turn.row < many r.roster = row_below r.roster going.shelved.agree id (record { task = turn.before; row = turn.row }) turn.lived in
+    let lt : turn.row < many r.roster =
+        row_below r.roster going.shelved.agree id (record { task = turn.before; row = turn.row }) turn.lived in
     let same : many ro ≡ many r.roster = turn.same.many in
     omega (arith, e, lt, same)
 
 pub goes_stopping : (id row : ℕ) (r new : Runner) (ro : Roster) (w : World) (wake : Wake) (stop : Stop) → IsGoing (Some id) r →
-    IsSomeAnd (running_at r.roster id) (λ (x : Running). MayGo r.world x.task wake) → IsSomeAnd (running_at r.roster id) (λ (x : Running). x.row ≡ row) →
+    IsSomeAnd (running_at r.roster id) (λ (x : Running). MayGo r.world x.task wake) →
+        IsSomeAnd (running_at r.roster id) (λ (x : Running). x.row ≡ row) →
     (turn : HasTurn r.roster ro r.world w id wake stop) → turns.IsSound r.world.scopes → turns.IsSound w.scopes →
     TakesStarted (record r { world = w; roster = ro; turns = r.turns + 1 }) new row → IsStopping id row stop new
 goes_stopping id row r new ro w wake stop going goes at turn sound sound_after takes =
     let e = row_is id row r ro w wake stop at turn in
     subst (λ (n : ℕ). IsStopping id n stop new) e
-    (is_stopping id wake stop r new ro w going goes turn sound sound_after (subst (λ (n : ℕ). TakesStarted (record r { world = w; roster = ro; turns = r.turns + 1 }) new n) (sym e) takes))
+    (is_stopping id wake stop r new ro w going goes turn sound sound_after
+        (subst (λ (n : ℕ). TakesStarted (record r { world = w; roster = ro; turns = r.turns + 1 }) new n) (sym e) takes))
 
 pub scopes_sound : (tree other : Tree) → tree ≡ other → IsOwn tree → IsChain tree → IsApart tree → turns.IsSound other
 scopes_sound tree other e own chain apart = subst turns.IsSound e (record { own = own; chain = chain; apart = apart })

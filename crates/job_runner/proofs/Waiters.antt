@@ -42,7 +42,8 @@ use Rattle.job_runner.proofs.Lived.{task_at, id_at}
 -- ---- how often a task has to stand somewhere
 
 -- as often where its nursery counts as much
-halt_due : (old new : NurseryBook) (halt : Halt) → ((key : ℕ) → waits_of halt ≡ Some key → settled_times (nursery_at new key) ≡ settled_times (nursery_at old key)) →
+halt_due : (old new : NurseryBook) (halt : Halt) → ((key : ℕ) → waits_of halt ≡ Some key →
+    settled_times (nursery_at new key) ≡ settled_times (nursery_at old key)) →
     halt_times new halt ≡ halt_times old halt
 halt_due old new ToBegin same = refl
 halt_due old new (Asked kernel purpose) same = refl
@@ -51,7 +52,8 @@ halt_due old new (Awaits id since) same = same id refl
 halt_due old new Over same = refl
 
 running_due : (old new : NurseryBook) (o : Option Running) →
-    ((x : Running) → o ≡ Some x → (key : ℕ) → waits_of x.task.halt ≡ Some key → settled_times (nursery_at new key) ≡ settled_times (nursery_at old key)) →
+    ((x : Running) → o ≡ Some x → (key : ℕ) → waits_of x.task.halt ≡ Some key →
+        settled_times (nursery_at new key) ≡ settled_times (nursery_at old key)) →
     running_times new o ≡ running_times old o
 running_due old new None same = refl
 running_due old new (Some x) same = halt_due old new x.task.halt (same x refl)
@@ -87,9 +89,11 @@ due_none n e = ap (λ (b : Bool). if b then 1 else 0) e
 -- ---- a root that ended
 
 -- nobody is told
-pub root_going : (r : Runner) (roster : Roster) (id row : ℕ) (exc : Option held.Exc) → IsStopping id row (stops.Ended exc) r → (e : Ends r.roster roster id r.world.tick exc) → IsRoster roster →
+pub root_going : (r : Runner) (roster : Roster) (id row : ℕ) (exc : Option held.Exc) → IsStopping id row (stops.Ended exc) r →
+    (e : Ends r.roster roster id r.world.tick exc) → IsRoster roster →
     e.task.home ≡ None → IsGoing None (ended_runner r roster r.world.book r.batch)
-root_going r roster id row exc h e agree rootless = ended_going r roster r.world.book r.batch id row exc h e told agree refl (added_after r roster r.world.book r.batch id row exc h e told) once
+root_going r roster id row exc h e agree rootless = ended_going r roster r.world.book r.batch id row exc h e told agree refl
+    (added_after r roster r.world.book r.batch id row exc h e told) once
   where
     told : EndIsTold r.world.book r.world.book e.task.home (option_map exc_of exc)
     told = subst (λ (o : Option Home). EndIsTold r.world.book r.world.book o (option_map exc_of exc)) (sym rootless) refl
@@ -106,13 +110,16 @@ root_going r roster id row exc h e agree rootless = ended_going r roster r.world
 
 -- ---- a child that ended
 
-module _ (r : Runner) (roster : Roster) (book : NurseryBook) (b : Batches) (id row : ℕ) (exc : Option held.Exc) (h : IsStopping id row (stops.Ended exc) r)
-    (e : Ends r.roster roster id r.world.tick exc) (home : Home) (at : e.task.home ≡ Some home) (n : Nursery) (was : nursery_at r.world.book home.nursery ≡ Some n)
+module _ (r : Runner) (roster : Roster) (book : NurseryBook) (b : Batches) (id row : ℕ) (exc : Option held.Exc)
+    (h : IsStopping id row (stops.Ended exc) r)
+    (e : Ends r.roster roster id r.world.tick exc) (home : Home) (at : e.task.home ≡ Some home) (n : Nursery)
+        (was : nursery_at r.world.book home.nursery ≡ Some n)
     (u : Updates r.world.book book home.nursery (Some (with_child home.place (option_map exc_of exc) n))) where
   told : EndIsTold r.world.book book e.task.home (option_map exc_of exc)
   told =
       subst (λ (o : Option Home). EndIsTold r.world.book book o (option_map exc_of exc)) (sym at)
-      (puts r.world.book home.nursery n (λ x. Updates r.world.book book home.nursery (Some (with_child home.place (option_map exc_of exc) x))) was u)
+      (puts r.world.book home.nursery n (λ x. Updates r.world.book book home.nursery
+          (Some (with_child home.place (option_map exc_of exc) x))) was u)
 
   w : HasWaiter r row home
   w = waiter_of r roster id row exc h e home at
@@ -131,13 +138,15 @@ module _ (r : Runner) (roster : Roster) (book : NurseryBook) (b : Batches) (id r
 
   -- the nursery was not settled, and each other one is as it was
   before : settled_times (nursery_at r.world.book home.nursery) ≡ 0
-  before = ap settled_times was ∙ due_none n (unsettled n home.place (gives r.world.book home.nursery n (λ x. slice_get x.children home.place ≡ Some None) was w.runs))
+  before = ap settled_times was ∙ due_none n (unsettled n home.place
+      (gives r.world.book home.nursery n (λ x. slice_get x.children home.place ≡ Some None) was w.runs))
 
   after : settled_times (nursery_at book home.nursery) ≡ settled_times (Some (with_child home.place (option_map exc_of exc) n))
   after = ap settled_times u.changed
 
   due_else : (o : Option Running) →
-      ((x : Running) → o ≡ Some x → waits_of x.task.halt ≡ Some home.nursery → settled_times (nursery_at book home.nursery) ≡ settled_times (nursery_at r.world.book home.nursery)) →
+      ((x : Running) → o ≡ Some x → waits_of x.task.halt ≡ Some home.nursery →
+          settled_times (nursery_at book home.nursery) ≡ settled_times (nursery_at r.world.book home.nursery)) →
       running_times book o ≡ running_times r.world.book o
   due_else o same = running_due r.world.book book o (λ x is key waits. by_test x is key waits (eqb_tells key home.nursery))
     where
@@ -145,23 +154,28 @@ module _ (r : Runner) (roster : Roster) (book : NurseryBook) (b : Batches) (id r
           (((key == home.nursery) ≡ true) × (key ≡ home.nursery)) ⊎ (((key == home.nursery) ≡ false) × (key ≢ home.nursery)) →
           settled_times (nursery_at book key) ≡ settled_times (nursery_at r.world.book key)
       by_test x is key waits (inl g) =
-          subst (λ (i : ℕ). settled_times (nursery_at book i) ≡ settled_times (nursery_at r.world.book i)) (sym g.1) (same x is (waits ∙ ap (λ (i : ℕ). Some i) g.1))
+          subst (λ (i : ℕ). settled_times (nursery_at book i) ≡ settled_times (nursery_at r.world.book i)) (sym g.1)
+              (same x is (waits ∙ ap (λ (i : ℕ). Some i) g.1))
       by_test x is key waits (inr g) = ap settled_times (u.others key g.1)
 
   -- no one else waits for it
-  one_waits : (other : ℕ) (x : Running) → running_at r.roster other ≡ Some x → waits_of x.task.halt ≡ Some home.nursery → id_of r.roster (parent_of r.roster row) ≡ other
+  one_waits : (other : ℕ) (x : Running) → running_at r.roster other ≡ Some x → waits_of x.task.halt ≡ Some home.nursery →
+      id_of r.roster (parent_of r.roster row) ≡ other
   one_waits other x is waits =
       let same : x.row ≡ parent_of r.roster row =
-      same_owner (meaning_table r.job.now r.input.now) r.job.now r.input.now r.world.tick (many r.roster) (Some row) (crew_in r) (crew_before r roster id row exc h e) x.row
+      same_owner (meaning_table r.job.now r.input.now) r.job.now r.input.now r.world.tick (many r.roster) (Some row) (crew_in r)
+          (crew_before r roster id row exc h e) x.row
       (parent_of r.roster row) x.task w.task home.nursery (task_at r.roster h.shelved.agree other x is) w.is (inr waits) w.owned in
       ap (id_of r.roster) (sym same) ∙ id_at r.roster h.shelved.agree other x is
 
   -- where the nursery is not settled yet
-  pub still_going : IsRoster roster → is_settled (with_child home.place (option_map exc_of exc) n) ≡ false → b.current ≡ r.batch.current → b.next ≡ r.batch.next →
+  pub still_going : IsRoster roster → is_settled (with_child home.place (option_map exc_of exc) n) ≡ false → b.current ≡ r.batch.current →
+      b.next ≡ r.batch.next →
       IsGoing None (ended_runner r roster book b)
   still_going agree over current next =
       ended_going r roster book b id row exc h e told agree current
-      (subst (All (λ (a : Added). IsCalled roster (record r.world { book = book }) a.0 a.1)) (sym next) (added_after r roster book b id row exc h e told)) once
+      (subst (All (λ (a : Added). IsCalled roster (record r.world { book = book }) a.0 a.1)) (sym next)
+          (added_after r roster book b id row exc h e told)) once
     where
       same : settled_times (nursery_at book home.nursery) ≡ settled_times (nursery_at r.world.book home.nursery)
       same = after ∙ (due_none (with_child home.place (option_map exc_of exc) n) over ∙ sym before)
@@ -182,7 +196,8 @@ module _ (r : Runner) (roster : Roster) (book : NurseryBook) (b : Batches) (id r
               (shelved id ∙ (h.shelved.away id refl ∙ sym (ap (running_times book) e.gone)))
           by_test (inr g) =
               shelved other
-              ∙ (h.shelved.once other g.1 ∙ (sym (due_else (running_at r.roster other) (λ x is waits. same)) ∙ sym (ap (running_times book) (e.others other g.1))))
+              ∙ (h.shelved.once other g.1 ∙ (sym (due_else (running_at r.roster other) (λ x is waits. same))
+                  ∙ sym (ap (running_times book) (e.others other g.1))))
 
   -- where it is settled now
   pub ready_going : IsRoster roster → is_settled (with_child home.place (option_map exc_of exc) n) ≡ true → b.current ≡ r.batch.current →
@@ -190,7 +205,8 @@ module _ (r : Runner) (roster : Roster) (book : NurseryBook) (b : Batches) (id r
   ready_going agree over current next =
       ended_going r roster book b id row exc h e told agree current
       (subst (All (λ (a : Added). IsCalled roster (record r.world { book = book }) a.0 a.1)) (sym next)
-      (All-push (λ (a : Added). IsCalled roster (record r.world { book = book }) a.0 a.1) r.batch.next (id_of r.roster (parent_of r.roster row), calls.Settled)
+      (All-push (λ (a : Added). IsCalled roster (record r.world { book = book }) a.0 a.1) r.batch.next
+          (id_of r.roster (parent_of r.roster row), calls.Settled)
       (added_after r roster book b id row exc h e told) called)) once
     where
       is_over : HasNursery book home.nursery (λ x. is_settled x ≡ true)
@@ -205,8 +221,10 @@ module _ (r : Runner) (roster : Roster) (book : NurseryBook) (b : Batches) (id r
       -- the one whose nursery it is waits for it
       waits : waits_of w.task.halt ≡ Some home.nursery
       waits =
-          settled_waits (meaning_table r.job.now r.input.now) r.job.now r.input.now r.world.tick (many roster) (crew_in (ended_runner r roster book b))
-          (course_after r roster book b id row exc h e told (meaning_table r.job.now r.input.now) (table_settled r roster id row exc h e)) (parent_of r.roster row) w.task home.nursery
+          settled_waits (meaning_table r.job.now r.input.now) r.job.now r.input.now r.world.tick (many roster)
+              (crew_in (ended_runner r roster book b))
+          (course_after r roster book b id row exc h e told (meaning_table r.job.now r.input.now) (table_settled r roster id row exc h e))
+              (parent_of r.roster row) w.task home.nursery
           (e.same.task (parent_of r.roster row) differs ∙ w.is) w.owned is_over
 
       halt : (since : ℕ) × (w.lives.running.task.halt ≡ Awaits home.nursery since)
@@ -214,7 +232,8 @@ module _ (r : Runner) (roster : Roster) (book : NurseryBook) (b : Batches) (id r
 
       called : IsCalled roster (record r.world { book = book }) (id_of r.roster (parent_of r.roster row)) calls.Settled
       called =
-          some_has (running_at roster (id_of r.roster (parent_of r.roster row))) (λ (x : Running). GoesBy (record r.world { book = book }) x.task calls.Settled) w.lives.running lives_on
+          some_has (running_at roster (id_of r.roster (parent_of r.roster row)))
+              (λ (x : Running). GoesBy (record r.world { book = book }) x.task calls.Settled) w.lives.running lives_on
           (settled_goes (record r.world { book = book }) w.lives.running.task home.nursery
           (record { since = halt.0; halt = halt.1; there = subst (λ (o : Option Nursery). IsSome o) (sym u.changed) refl }) is_over)
 
@@ -222,9 +241,11 @@ module _ (r : Runner) (roster : Roster) (book : NurseryBook) (b : Batches) (id r
       due_before = ap (running_times r.world.book) w.lives.is ∙ (ap (halt_times r.world.book) halt.1 ∙ before)
 
       due_after : running_times book (running_at roster (id_of r.roster (parent_of r.roster row))) ≡ 1
-      due_after = ap (running_times book) lives_on ∙ (ap (halt_times book) halt.1 ∙ (after ∙ due_one (with_child home.place (option_map exc_of exc) n) over))
+      due_after = ap (running_times book) lives_on ∙ (ap (halt_times book) halt.1
+          ∙ (after ∙ due_one (with_child home.place (option_map exc_of exc) n) over))
 
-      shelved : (other : ℕ) → times_shelved b r.clock other ≡ times_shelved r.batch r.clock other + one_if (id_of r.roster (parent_of r.roster row) == other)
+      shelved : (other : ℕ) → times_shelved b r.clock other ≡ times_shelved r.batch r.clock other + one_if
+          (id_of r.roster (parent_of r.roster row) == other)
       shelved other =
           let a : times_now other b.current ≡ times_now other r.batch.current = ap (times_now other) current in
           let c : times_next other b.next ≡ times_next other r.batch.next + one_if (id_of r.roster (parent_of r.roster row) == other) =
@@ -243,42 +264,52 @@ module _ (r : Runner) (roster : Roster) (book : NurseryBook) (b : Batches) (id r
               let a : times_shelved b r.clock other ≡ times_shelved r.batch r.clock other + 0 =
               shelved other ∙ ap (λ (c : Bool). times_shelved r.batch r.clock other + one_if c) k.0 in
               let none : times_shelved r.batch r.clock other ≡ 0 = ap (times_shelved r.batch r.clock) g.1 ∙ h.shelved.away id refl in
-              let due : running_times book (running_at roster other) ≡ 0 = ap (λ (i : ℕ). running_times book (running_at roster i)) g.1 ∙ ap (running_times book) e.gone in
+              let due : running_times book (running_at roster other) ≡ 0 =
+                  ap (λ (i : ℕ). running_times book (running_at roster i)) g.1 ∙ ap (running_times book) e.gone in
               omega (arith, a, none, due)
           by_test (inr g) (inl k) =
               let a : times_shelved b r.clock other ≡ times_shelved r.batch r.clock other + 1 =
               shelved other ∙ ap (λ (c : Bool). times_shelved r.batch r.clock other + one_if c) k.0 in
               let none : times_shelved r.batch r.clock other ≡ 0 =
               h.shelved.once other g.1 ∙ (ap (λ (i : ℕ). running_times r.world.book (running_at r.roster i)) (sym k.1) ∙ due_before) in
-              let due : running_times book (running_at roster other) ≡ 1 = ap (λ (i : ℕ). running_times book (running_at roster i)) (sym k.1) ∙ due_after in
+              let due : running_times book (running_at roster other) ≡ 1 =
+                  ap (λ (i : ℕ). running_times book (running_at roster i)) (sym k.1) ∙ due_after in
               omega (arith, a, none, due)
           by_test (inr g) (inr k) =
               let a : times_shelved b r.clock other ≡ times_shelved r.batch r.clock other + 0 =
               shelved other ∙ ap (λ (c : Bool). times_shelved r.batch r.clock other + one_if c) k.0 in
               let due : times_shelved r.batch r.clock other ≡ running_times book (running_at roster other) =
               h.shelved.once other g.1
-              ∙ (sym (due_else (running_at r.roster other) (λ x is wait. absurd (k.1 (one_waits other x is wait)))) ∙ sym (ap (running_times book) (e.others other g.1))) in
+              ∙ (sym (due_else (running_at r.roster other) (λ x is wait. absurd (k.1 (one_waits other x is wait))))
+                  ∙ sym (ap (running_times book) (e.others other g.1))) in
               omega (arith, a, due)
 
 -- the home of a task that ended was told
-home_going : (r : Runner) (roster : Roster) (new : Runner) (id row : ℕ) (exc : Option held.Exc) → IsStopping id row (stops.Ended exc) r → (e : Ends r.roster roster id r.world.tick exc) →
+home_going : (r : Runner) (roster : Roster) (new : Runner) (id row : ℕ) (exc : Option held.Exc) → IsStopping id row (stops.Ended exc) r →
+    (e : Ends r.roster roster id r.world.tick exc) →
     IsRoster roster → (home : Home) → e.task.home ≡ Some home →
-    TellsEnd (record r { roster = roster }) new home.nursery home.place (option_map exc_of exc) (id_of roster (parent_of roster row)) → IsGoing None new
-home_going r roster new id row exc h e agree home at t = subst (IsGoing None) (sym t.rest) (by_over (is_settled (with_child home.place (option_map exc_of exc) n.0)) refl)
+    TellsEnd (record r { roster = roster }) new home.nursery home.place (option_map exc_of exc) (id_of roster (parent_of roster row)) →
+        IsGoing None new
+home_going r roster new id row exc h e agree home at t =
+    subst (IsGoing None) (sym t.rest) (by_over (is_settled (with_child home.place (option_map exc_of exc) n.0)) refl)
   where
-    n : (n : Nursery) × (nursery_at r.world.book home.nursery ≡ Some n) × Updates r.world.book new.world.book home.nursery (Some (with_child home.place (option_map exc_of exc) n))
-    n = finds r.world.book home.nursery (λ x. Updates r.world.book new.world.book home.nursery (Some (with_child home.place (option_map exc_of exc) x))) t.book
+    n : (n : Nursery) × (nursery_at r.world.book home.nursery ≡ Some n)
+        × Updates r.world.book new.world.book home.nursery (Some (with_child home.place (option_map exc_of exc) n))
+    n = finds r.world.book home.nursery (λ x. Updates r.world.book new.world.book home.nursery
+        (Some (with_child home.place (option_map exc_of exc) x))) t.book
 
     waiter : id_of roster (parent_of roster row) ≡ id_of r.roster (parent_of r.roster row)
     waiter = e.same.id (parent_of roster row) ∙ ap (id_of r.roster) (e.same.parent row)
 
-    next : new.batch.next ≡ r.batch.next ++ called_if (is_settled (with_child home.place (option_map exc_of exc) n.0)) (id_of r.roster (parent_of r.roster row))
+    next : new.batch.next ≡ r.batch.next ++ called_if (is_settled (with_child home.place (option_map exc_of exc) n.0))
+        (id_of r.roster (parent_of r.roster row))
     next =
         gives new.world.book home.nursery (with_child home.place (option_map exc_of exc) n.0)
         (λ x. new.batch.next ≡ r.batch.next ++ called_if (is_settled x) (id_of roster (parent_of roster row))) n.2.changed t.next
         ∙ ap (λ (i : ℕ). r.batch.next ++ called_if (is_settled (with_child home.place (option_map exc_of exc) n.0)) i) waiter
 
-    by_over : (c : Bool) → is_settled (with_child home.place (option_map exc_of exc) n.0) ≡ c → IsGoing None (ended_runner r roster new.world.book new.batch)
+    by_over : (c : Bool) → is_settled (with_child home.place (option_map exc_of exc) n.0) ≡ c →
+        IsGoing None (ended_runner r roster new.world.book new.batch)
     by_over true over =
         ready_going r roster new.world.book new.batch id row exc h e home at n.0 n.1 n.2 agree over t.current
         (next ∙ ap (λ (c : Bool). r.batch.next ++ called_if c (id_of r.roster (parent_of r.roster row))) over)
@@ -286,14 +317,19 @@ home_going r roster new id row exc h e agree home at t = subst (IsGoing None) (s
         still_going r roster new.world.book new.batch id row exc h e home at n.0 n.1 n.2 agree over t.current
         (next ∙ (ap (λ (c : Bool). r.batch.next ++ called_if c (id_of r.roster (parent_of r.roster row))) over ∙ append-nil r.batch.next))
 
-pub child_going : (r : Runner) (roster : Roster) (new : Runner) (id row nursery place : ℕ) (exc : Option held.Exc) (end : Option Exc) → IsStopping id row (stops.Ended exc) r →
-    (e : Ends r.roster roster id r.world.tick exc) → IsRoster roster → option_map {U = ℕ × ℕ} (λ (x : Home). (x.nursery, x.place)) e.task.home ≡ Some (nursery, place) →
-    end ≡ option_map exc_of exc → TellsEnd (record r { roster = roster }) new nursery place end (id_of roster (parent_of roster row)) → IsGoing None new
+pub child_going : (r : Runner) (roster : Roster) (new : Runner) (id row nursery place : ℕ) (exc : Option held.Exc) (end : Option Exc) →
+    IsStopping id row (stops.Ended exc) r →
+    (e : Ends r.roster roster id r.world.tick exc) → IsRoster roster →
+        option_map {U = ℕ × ℕ} (λ (x : Home). (x.nursery, x.place)) e.task.home ≡ Some (nursery, place) →
+    end ≡ option_map exc_of exc → TellsEnd (record r { roster = roster }) new nursery place end (id_of roster (parent_of roster row)) →
+        IsGoing None new
 child_going r roster new id row nursery place exc end h e agree f same t =
     let y = home_is e.task.home nursery place f in
     home_going r roster new id row exc h e agree y.0 y.1
-    (subst (λ (i : ℕ). TellsEnd (record r { roster = roster }) new y.0.nursery i (option_map exc_of exc) (id_of roster (parent_of roster row))) (sym y.3)
-    (subst (λ (i : ℕ). TellsEnd (record r { roster = roster }) new i place (option_map exc_of exc) (id_of roster (parent_of roster row))) (sym y.2)
+    (subst (λ (i : ℕ). TellsEnd (record r { roster = roster }) new y.0.nursery i (option_map exc_of exc)
+        (id_of roster (parent_of roster row))) (sym y.3)
+    (subst (λ (i : ℕ). TellsEnd (record r { roster = roster }) new i place (option_map exc_of exc) (id_of roster (parent_of roster row)))
+        (sym y.2)
     (subst (λ (x : Option Exc). TellsEnd (record r { roster = roster }) new nursery place x (id_of roster (parent_of roster row))) same t)))
 
 -- there is no nursery

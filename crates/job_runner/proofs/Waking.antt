@@ -68,7 +68,8 @@ not_empty (y ∷ xs) x e = absurd (let n : suc (length (xs ++ x ∷ [])) ≡ zer
 -- ---- who may go on
 
 -- one that sees a cancellation
-seen_goes : (world : World) (due : ℕ) (task : Task) → Slept world due task → seen (outer_of world.scopes (scope_of task)) world.tick ≡ true → GoesBy world task calls.Seen
+seen_goes : (world : World) (due : ℕ) (task : Task) → Slept world due task →
+    seen (outer_of world.scopes (scope_of task)) world.tick ≡ true → GoesBy world task calls.Seen
 seen_goes world due task h saw answer wake right e =
     let f : Some wakes.Seen ≡ Some wake = e in
     subst (MayGo world task) (same_Some wakes.Seen wake f)
@@ -78,7 +79,8 @@ seen_goes world due task h saw answer wake right e =
     })
 
 -- one that is due and sees none
-due_goes : (world : World) (due : ℕ) (task : Task) → Slept world due task → due ≤ world.tick → seen (outer_of world.scopes (scope_of task)) world.tick ≡ false → GoesBy world task calls.Due
+due_goes : (world : World) (due : ℕ) (task : Task) → Slept world due task → due ≤ world.tick →
+    seen (outer_of world.scopes (scope_of task)) world.tick ≡ false → GoesBy world task calls.Due
 due_goes world due task h come unseen answer wake right e =
     let f : Some wakes.Due ≡ Some wake = e in
     subst (MayGo world task) (same_Some wakes.Due wake f)
@@ -91,8 +93,10 @@ due_goes world due task h come unseen answer wake right e =
 
 -- ---- one is woken
 
-module _ (old new : Runner) (id : ℕ) (call : Call) (h : IsWaking old) (due : ℕ) (timer : due_of old.clock id ≡ Some due) (called : IsCalled old.roster old.world id call)
-    (u : Updates old.clock new.clock id None) (time : SameTime old.clock new.clock) (moves : Moves old.sleepers new.sleepers id None) (keeps : KeepsSights old.sleepers new.sleepers)
+module _ (old new : Runner) (id : ℕ) (call : Call) (h : IsWaking old) (due : ℕ) (timer : due_of old.clock id ≡ Some due)
+    (called : IsCalled old.roster old.world id call)
+    (u : Updates old.clock new.clock id None) (time : SameTime old.clock new.clock) (moves : Moves old.sleepers new.sleepers id None)
+        (keeps : KeepsSights old.sleepers new.sleepers)
     (current : new.batch.current ≡ old.batch.current) (next : new.batch.next ≡ old.batch.next ++ (id, call) ∷ []) where
   abbrev woken : Runner
   woken = record old { clock = new.clock; sleepers = new.sleepers; batch = new.batch }
@@ -113,12 +117,15 @@ module _ (old new : Runner) (id : ℕ) (call : Call) (h : IsWaking old) (due : �
       now : times other (map (λ (e : Entry). e.task) new.batch.current) ≡ times other (map (λ (e : Entry). e.task) old.batch.current)
       now = ap (λ (es : List Entry). times other (map (λ (e : Entry). e.task) es)) current
 
-      more : times other (map (λ (a : Added). a.0) new.batch.next) ≡ times other (map (λ (a : Added). a.0) old.batch.next) + one_if (id == other)
+      more : times other (map (λ (a : Added). a.0) new.batch.next)
+          ≡ times other (map (λ (a : Added). a.0) old.batch.next) + one_if (id == other)
       more =
-          ap (λ (es : List Added). times other (map (λ (a : Added). a.0) es)) next ∙ ap (times other) (map-append (λ (a : Added). a.0) old.batch.next ((id, call) ∷ []))
+          ap (λ (es : List Added). times other (map (λ (a : Added). a.0) es)) next
+              ∙ ap (times other) (map-append (λ (a : Added). a.0) old.batch.next ((id, call) ∷ []))
           ∙ sum_by_push (λ (n : ℕ). one_if (n == other)) (map (λ (a : Added). a.0) old.batch.next) id
 
-      by_test : (((id == other) ≡ true) × (id ≡ other)) ⊎ (((id == other) ≡ false) × (id ≢ other)) → times_shelved new.batch new.clock other ≡ running_times old.world.book (running_at old.roster other)
+      by_test : (((id == other) ≡ true) × (id ≡ other)) ⊎ (((id == other) ≡ false) × (id ≢ other)) →
+          times_shelved new.batch new.clock other ≡ running_times old.world.book (running_at old.roster other)
       by_test (inl f) =
           let one : one_if (id == other) ≡ 1 = ap one_if f.0 in
           let was : timer_times (due_of old.clock other) ≡ 1 = ap timer_times (ap (due_of old.clock) (sym f.1) ∙ timer) in
@@ -126,7 +133,8 @@ module _ (old new : Runner) (id : ℕ) (call : Call) (h : IsWaking old) (due : �
           omega (arith, all, now, more, one, was, is)
       by_test (inr f) =
           let none : one_if (id == other) ≡ 0 = ap one_if f.0 in
-          let same : timer_times (due_of new.clock other) ≡ timer_times (due_of old.clock other) = ap timer_times (u.others other (λ e. f.1 (sym e))) in
+          let same : timer_times (due_of new.clock other) ≡ timer_times (due_of old.clock other) =
+              ap timer_times (u.others other (λ e. f.1 (sym e))) in
           omega (arith, all, now, more, none, same)
 
   waking_more : IsWaking woken
@@ -164,7 +172,8 @@ only_again was old new a b =
     b ∙ ap (λ (r : Runner). record r { clock = new.clock; sleepers = new.sleepers; batch = new.batch }) a
 
 -- a timer's task is one that lives, and so is below a bound
-timed_below : (r : Runner) → ((id due : ℕ) → due_of r.clock id ≡ Some due → IsSomeAnd (running_at r.roster id) (λ (x : Running). Slept r.world due x.task)) → (id due : ℕ) →
+timed_below : (r : Runner) → ((id due : ℕ) → due_of r.clock id ≡ Some due →
+    IsSomeAnd (running_at r.roster id) (λ (x : Running). Slept r.world due x.task)) → (id due : ℕ) →
     due_of r.clock id ≡ Some due → id < length r.roster.live.slots.slots
 timed_below r slept id due e =
     let x = some_is (running_at r.roster id) (λ (y : Running). Slept r.world due y.task) (slept id due e) in
@@ -174,7 +183,8 @@ timed_below r slept id due e =
 abbrev pub timed : ℕ → Clock → ℕ
 timed n clock = count_below n (λ id. is_some (due_of clock id))
 
-module _ (was old : Runner) (id : ℕ) (s : IsSeeing was old) (sleepers : Sleeping) (takes : TakesSeen old.sleepers sleepers id old.world.tick) where
+module _ (was old : Runner) (id : ℕ) (s : IsSeeing was old) (sleepers : Sleeping)
+    (takes : TakesSeen old.sleepers sleepers id old.world.tick) where
   abbrev seer : SleepsIn old.roster old.clock id takes.sees.scope
   seer = (seen_by old.roster old.world old.clock old.sleepers s.waking.known s.waking.unchanged id takes.from takes.sees).0
 
@@ -184,16 +194,19 @@ module _ (was old : Runner) (id : ℕ) (s : IsSeeing was old) (sleepers : Sleepi
 
   seer_called : IsCalled old.roster old.world id calls.Seen
   seer_called =
-      let x = some_is (running_at old.roster id) (λ (y : Running). Slept old.world seer.due y.task) (s.waking.slept id seer.due seer.timer) in
+      let x = some_is (running_at old.roster id) (λ (y : Running). Slept old.world seer.due y.task)
+          (s.waking.slept id seer.due seer.timer) in
       let same : seer.running ≡ x.0 = same_Some seer.running x.0 (sym seer.lives ∙ x.1) in
       let sees : sight (outer_of old.world.scopes (scope_of seer.running.task)) ≡ Some takes.from =
       (seen_by old.roster old.world old.clock old.sleepers s.waking.known s.waking.unchanged id takes.from takes.sees).1 in
       let saw : seen (outer_of old.world.scopes (scope_of x.0.task)) old.world.tick ≡ true =
       ap (λ (y : Running). seen (outer_of old.world.scopes (scope_of y.task)) old.world.tick) (sym same)
       ∙ (ap (λ (t : Tick). reached t old.world.tick) sees ∙ le-leb takes.from old.world.tick takes.come) in
-      some_has (running_at old.roster id) (λ (y : Running). GoesBy old.world y.task calls.Seen) x.0 x.1 (seen_goes old.world seer.due x.0.task x.2 saw)
+      some_has (running_at old.roster id) (λ (y : Running). GoesBy old.world y.task calls.Seen) x.0 x.1
+          (seen_goes old.world seer.due x.0.task x.2 saw)
 
-  module _ (new : Runner) (is_new : new ≡ record old { clock = new.clock; sleepers = sleepers; batch = new.batch }) (u : Updates old.clock new.clock id None) (time : SameTime old.clock new.clock)
+  module _ (new : Runner) (is_new : new ≡ record old { clock = new.clock; sleepers = sleepers; batch = new.batch })
+      (u : Updates old.clock new.clock id None) (time : SameTime old.clock new.clock)
       (current : new.batch.current ≡ old.batch.current) (next : new.batch.next ≡ old.batch.next ++ (id, calls.Seen) ∷ []) where
     same_sleepers : new.sleepers ≡ sleepers
     same_sleepers = ap (λ (r : Runner). r.sleepers) is_new
@@ -206,7 +219,8 @@ module _ (was old : Runner) (id : ℕ) (s : IsSeeing was old) (sleepers : Sleepi
         record {
           waking =
               subst IsWaking (sym only_new)
-              (waking_more old new id calls.Seen s.waking seer.due seer.timer seer_called u time (subst (λ (z : Sleeping). Moves old.sleepers z id None) (sym same_sleepers) takes.scopes)
+              (waking_more old new id calls.Seen s.waking seer.due seer.timer seer_called u time
+                  (subst (λ (z : Sleeping). Moves old.sleepers z id None) (sym same_sleepers) takes.scopes)
               (subst (KeepsSights old.sleepers) (sym same_sleepers) takes.sights) current next);
           only = only_again was old new s.only only_new;
         }
@@ -214,11 +228,13 @@ module _ (was old : Runner) (id : ℕ) (s : IsSeeing was old) (sleepers : Sleepi
     pub seeing_fewer : timed (length was.roster.live.slots.slots) new.clock < timed (length was.roster.live.slots.slots) old.clock
     seeing_fewer =
         fewer_below (length was.roster.live.slots.slots) (λ key. is_some (due_of old.clock key)) (λ key. is_some (due_of new.clock key)) id
-        (subst (λ (r : Roster). id < length r.live.slots.slots) (ap (λ (r : Runner). r.roster) s.only) (timed_below old s.waking.slept id seer.due seer.timer)) (ap is_some seer.timer)
+        (subst (λ (r : Roster). id < length r.live.slots.slots) (ap (λ (r : Runner). r.roster) s.only)
+            (timed_below old s.waking.slept id seer.due seer.timer)) (ap is_some seer.timer)
         (ap is_some u.changed) (λ other differs. ap is_some (u.others other differs))
 
 -- none is left
-pub seeing_last : (was r new : Runner) (sleepers : Sleeping) → IsSeeing was r → NoneSleeps r.sleepers sleepers r.world.tick → new ≡ record r { sleepers = sleepers } →
+pub seeing_last : (was r new : Runner) (sleepers : Sleeping) → IsSeeing was r → NoneSleeps r.sleepers sleepers r.world.tick →
+    new ≡ record r { sleepers = sleepers } →
     IsWaking new × NoneSees new × WakesOnly was new
 seeing_last was r new sleepers s none is =
     subst (λ (x : Runner). IsWaking x × NoneSees x × WakesOnly was x) (sym is) (
@@ -234,7 +250,8 @@ seeing_last was r new sleepers s none is =
         known =
             record {
               berths = λ id. none.scopes id ∙ s.waking.known.berths id;
-              sights = λ id key e. subst (Shows r.world.scopes key) (sym (none.sights id key e)) (s.waking.known.sights id key (sym (none.scopes id) ∙ e));
+              sights = λ id key e. subst (Shows r.world.scopes key) (sym (none.sights id key e))
+                  (s.waking.known.sights id key (sym (none.scopes id) ∙ e));
             };
         unchanged = s.waking.unchanged;
         none_current = s.waking.none_current;
@@ -247,7 +264,9 @@ seeing_last was r new sleepers s none is =
     )
   where
     unseen : NoneSees (record r { sleepers = sleepers })
-    unseen id due e = some_has (running_at r.roster id) (λ (x : Running). seen (outer_of r.world.scopes (scope_of x.task)) r.world.tick ≡ false) x.0 x.1 (by_sight (sight (outer_of r.world.scopes (scope_of x.0.task))) refl)
+    unseen id due e = some_has (running_at r.roster id) (λ (x : Running).
+        seen (outer_of r.world.scopes (scope_of x.task)) r.world.tick ≡ false) x.0 x.1
+        (by_sight (sight (outer_of r.world.scopes (scope_of x.0.task))) refl)
       where
         x : (y : Running) × (running_at r.roster id ≡ Some y) × Slept r.world due y.task
         x = some_is (running_at r.roster id) (λ (y : Running). Slept r.world due y.task) (s.waking.slept id due e)
@@ -259,7 +278,8 @@ seeing_last was r new sleepers s none is =
             none.all id from (sees_from r.roster r.world r.clock r.sleepers s.waking.known s.waking.unchanged id due x.0 from e x.1 f) in
             by_test later (leb_tells from r.world.tick)
           where
-            by_test : r.world.tick < from → ((nat_le from r.world.tick ≡ true) × (from ≤ r.world.tick)) ⊎ ((nat_le from r.world.tick ≡ false) × (r.world.tick < from)) → nat_le from r.world.tick ≡ false
+            by_test : r.world.tick < from → ((nat_le from r.world.tick ≡ true) × (from ≤ r.world.tick))
+                ⊎ ((nat_le from r.world.tick ≡ false) × (r.world.tick < from)) → nat_le from r.world.tick ≡ false
             by_test later (inl h) = absurd (let le = h.1 in omega (arith, le, later))
             by_test later (inr h) = h.0
 
@@ -279,7 +299,8 @@ module _ (was old : Runner) (id : ℕ) (s : IsDue was old) (clock : Clock) (take
 
   due_called : IsCalled old.roster old.world id calls.Due
   due_called =
-      let z = some_is (running_at old.roster id) (λ (y : Running). seen (outer_of old.world.scopes (scope_of y.task)) old.world.tick ≡ false) (s.unseen id takes.due takes.had) in
+      let z = some_is (running_at old.roster id) (λ (y : Running).
+          seen (outer_of old.world.scopes (scope_of y.task)) old.world.tick ≡ false) (s.unseen id takes.due takes.had) in
       let same : z.0 ≡ sleeper.0 = same_Some z.0 sleeper.0 (sym z.1 ∙ sleeper.1) in
       let now : now_of old.clock ≡ old.world.tick = s.waking.now in
       let come : takes.due ≤ now_of old.clock = takes.is_due in
@@ -287,8 +308,10 @@ module _ (was old : Runner) (id : ℕ) (s : IsDue was old) (clock : Clock) (take
       (due_goes old.world takes.due sleeper.0.task sleeper.2 (omega (arith, now, come))
       (ap (λ (y : Running). seen (outer_of old.world.scopes (scope_of y.task)) old.world.tick) (sym same) ∙ z.2))
 
-  module _ (new : Runner) (is_new : new ≡ record old { clock = clock; sleepers = new.sleepers; batch = new.batch }) (moves : Moves old.sleepers new.sleepers id None)
-      (keeps : KeepsSights old.sleepers new.sleepers) (current : new.batch.current ≡ old.batch.current) (next : new.batch.next ≡ old.batch.next ++ (id, calls.Due) ∷ []) where
+  module _ (new : Runner) (is_new : new ≡ record old { clock = clock; sleepers = new.sleepers; batch = new.batch })
+      (moves : Moves old.sleepers new.sleepers id None)
+      (keeps : KeepsSights old.sleepers new.sleepers) (current : new.batch.current ≡ old.batch.current)
+          (next : new.batch.next ≡ old.batch.next ++ (id, calls.Due) ∷ []) where
     same_clock : new.clock ≡ clock
     same_clock = ap (λ (r : Runner). r.clock) is_new
 
@@ -309,7 +332,8 @@ module _ (was old : Runner) (id : ℕ) (s : IsDue was old) (clock : Clock) (take
         record {
           waking =
               subst IsWaking (sym only_due)
-              (waking_more old new id calls.Due s.waking takes.due takes.had due_called timers_after (subst (SameTime old.clock) (sym same_clock) takes.time) moves keeps current next);
+              (waking_more old new id calls.Due s.waking takes.due takes.had due_called timers_after
+                  (subst (SameTime old.clock) (sym same_clock) takes.time) moves keeps current next);
           unseen = subst NoneSees (sym only_due) unseen_after;
           only = only_again was old new s.only only_due;
         }
@@ -317,11 +341,13 @@ module _ (was old : Runner) (id : ℕ) (s : IsDue was old) (clock : Clock) (take
     pub due_fewer : timed (length was.roster.live.slots.slots) new.clock < timed (length was.roster.live.slots.slots) old.clock
     due_fewer =
         fewer_below (length was.roster.live.slots.slots) (λ key. is_some (due_of old.clock key)) (λ key. is_some (due_of new.clock key)) id
-        (subst (λ (r : Roster). id < length r.live.slots.slots) (ap (λ (r : Runner). r.roster) s.only) (timed_below old s.waking.slept id takes.due takes.had)) (ap is_some takes.had)
+        (subst (λ (r : Roster). id < length r.live.slots.slots) (ap (λ (r : Runner). r.roster) s.only)
+            (timed_below old s.waking.slept id takes.due takes.had)) (ap is_some takes.had)
         (ap is_some timers_after.changed) (λ other differs. ap is_some (timers_after.others other differs))
 
 -- none is left: the others sleep on, and somebody was woken
-pub due_last : (was r new : Runner) (clock : Clock) → IsDue was r → NoneDue r.clock clock → new ≡ record r { clock = clock } → AreShelved None new × (new.batch.next ≢ []) × (new.batch.current ≡ []) × WakesOnly was new
+pub due_last : (was r new : Runner) (clock : Clock) → IsDue was r → NoneDue r.clock clock → new ≡ record r { clock = clock } →
+    AreShelved None new × (new.batch.next ≢ []) × (new.batch.current ≡ []) × WakesOnly was new
 due_last was r new clock s none is =
     subst (λ (x : Runner). AreShelved None x × (x.batch.next ≢ []) × (x.batch.current ≡ []) × WakesOnly was x) (sym is) (
       record {
@@ -335,10 +361,12 @@ due_last was r new clock s none is =
         doze = λ id due e. dozes id due (sym (none.unchanged.timers id) ∙ e);
         known =
             record {
-              berths = λ id. s.waking.known.berths id ∙ ap (λ (d : Option ℕ). berth_of d (running_at r.roster id)) (sym (none.unchanged.timers id));
+              berths = λ id. s.waking.known.berths id ∙ ap (λ (d : Option ℕ). berth_of d (running_at r.roster id))
+                  (sym (none.unchanged.timers id));
               sights = s.waking.known.sights;
             };
-        current = subst (All (λ (x : Entry). IsCalled r.roster r.world x.task x.call)) (sym s.waking.none_current) (All-nil (λ (x : Entry). IsCalled r.roster r.world x.task x.call));
+        current = subst (All (λ (x : Entry). IsCalled r.roster r.world x.task x.call)) (sym s.waking.none_current)
+            (All-nil (λ (x : Entry). IsCalled r.roster r.world x.task x.call));
         next = s.waking.next;
         once = λ id other.
             let all : times_shelved r.batch r.clock id ≡ running_times r.world.book (running_at r.roster id) = s.waking.once id in
@@ -352,12 +380,14 @@ due_last was r new clock s none is =
     )
   where
     later : (id due : ℕ) → due_of r.clock id ≡ Some due → r.world.tick < due
-    later id due e = let a : now_of r.clock < due = none.all_later id due e in let b : now_of r.clock ≡ r.world.tick = s.waking.now in omega (arith, a, b)
+    later id due e = let a : now_of r.clock < due = none.all_later id due e in let b : now_of r.clock ≡ r.world.tick =
+        s.waking.now in omega (arith, a, b)
 
     dozes : (id due : ℕ) → due_of r.clock id ≡ Some due → IsSomeAnd (running_at r.roster id) (λ (x : Running). Dozes r.world due x.task)
     dozes id due e =
         let x = some_is (running_at r.roster id) (λ (y : Running). Slept r.world due y.task) (s.waking.slept id due e) in
-        let z = some_is (running_at r.roster id) (λ (y : Running). seen (outer_of r.world.scopes (scope_of y.task)) r.world.tick ≡ false) (s.unseen id due e) in
+        let z = some_is (running_at r.roster id) (λ (y : Running). seen (outer_of r.world.scopes (scope_of y.task)) r.world.tick ≡ false)
+            (s.unseen id due e) in
         let same : z.0 ≡ x.0 = same_Some z.0 x.0 (sym z.1 ∙ x.1) in
         some_has (running_at r.roster id) (λ (y : Running). Dozes r.world due y.task) x.0 x.1
         (record {
@@ -383,6 +413,7 @@ due_last was r new clock s none is =
             by_timely : (a.due ≤ r.world.tick) ⊎ (reached (sight_in r.roster r.world a.id) r.world.tick ≡ true) → ⊥
             by_timely (inl le) = let lt = later a.id a.due a.timer in omega (arith, le, lt)
             by_timely (inr saw) =
-                let z = some_is (running_at r.roster a.id) (λ (y : Running). seen (outer_of r.world.scopes (scope_of y.task)) r.world.tick ≡ false) (s.unseen a.id a.due a.timer) in
+                let z = some_is (running_at r.roster a.id) (λ (y : Running).
+                    seen (outer_of r.world.scopes (scope_of y.task)) r.world.tick ≡ false) (s.unseen a.id a.due a.timer) in
                 let f : true ≡ false = sym saw ∙ (ap (λ (o : Option Running). reached (sight_by r.world o) r.world.tick) z.1 ∙ z.2) in
                 cc

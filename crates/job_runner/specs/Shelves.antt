@@ -47,7 +47,8 @@ IsRight call answer = Unit {0}
 
 -- a task that is ready by this call may go on, with whatever right answer
 abbrev pub GoesBy : World → Task → Call → Type 0
-GoesBy world task call = (answer : Option Answer) (wake : Wake) → IsRight call answer → wake_of call answer ≡ Some wake → MayGo world task wake
+GoesBy world task call = (answer : Option Answer) (wake : Wake) → IsRight call answer → wake_of call answer ≡ Some wake →
+    MayGo world task wake
 
 -- the task under an id lives, and is ready by this call
 abbrev pub IsCalled : Roster → World → ℕ → Call → Type 0
@@ -71,7 +72,8 @@ pub record Dozes (world : World) (due : ℕ) (task : Task) : Type 0 where
 
 -- each task that has a timer lives and dozes until it is due
 abbrev pub AllDoze : Roster → World → Clock → Type 0
-AllDoze roster world clock = (id due : ℕ) → due_of clock id ≡ Some due → IsSomeAnd (running_at roster id) (λ (x : Running). Dozes world due x.task)
+AllDoze roster world clock = (id due : ℕ) → due_of clock id ≡ Some due →
+    IsSomeAnd (running_at roster id) (λ (x : Running). Dozes world due x.task)
 
 -- the scope in which a task with such a timer sleeps
 abbrev pub berth_of : Option ℕ → Option Running → Option ℕ
@@ -147,7 +149,8 @@ crew_in r = crew_of r.roster r.world r.turns
 
 -- For each settled table it is a run of the definitions.
 abbrev pub AreOnCourse : Runner → Type 0
-AreOnCourse r = (k : Table) → IsSettled k r.job.now r.input.now → IsCrew k r.job.now r.input.now r.world.tick (many r.roster) None (crew_in r)
+AreOnCourse r = (k : Table) → IsSettled k r.job.now r.input.now →
+    IsCrew k r.job.now r.input.now r.world.tick (many r.roster) None (crew_in r)
 
 -- the job, the input and the limit stay
 pub record IsSameJob (old new : Runner) : Type 0 where

@@ -63,7 +63,8 @@ pub record IsStopping (id row : ℕ) (stop : Stop) (r : Runner) : Type 0 where
   pub sound : IsSound r.job.now
   pub shelved : AreShelved (Some id) r
   pub lives : IsSomeAnd (running_at r.roster id) (λ (x : Running). (x.row ≡ row) × StopSays r.world x.task stop)
-  pub course : (k : Table) → IsSettled k r.job.now r.input.now → StoppedIn k r.job.now r.input.now r.world.tick (many r.roster) row stop (crew_in r)
+  pub course : (k : Table) → IsSettled k r.job.now r.input.now →
+      StoppedIn k r.job.now r.input.now r.world.tick (many r.roster) row stop (crew_in r)
 
 -- what does not change where the runner does what comes of a stop
 pub record IsSameTurn (old new : Runner) : Type 0 where
@@ -92,4 +93,5 @@ pub record TellsEnd (old new : Runner) (nursery place : ℕ) (exc : Option Exc) 
 -- nothing but what is known of sleepers changed, and which scopes are still to be handed out
 abbrev pub SeesOnly : Runner → Runner → Type 0
 SeesOnly old new =
-    new ≡ record old { world = record (old.world) { scopes = record (old.world.scopes) { changed = new.world.scopes.changed } }; sleepers = new.sleepers }
+    new ≡ record old { world = record (old.world) { scopes = record (old.world.scopes) { changed = new.world.scopes.changed } }; sleepers =
+        new.sleepers }

@@ -47,10 +47,14 @@ mutual
   long_step (need t n) rest = omega arith
   long_step (raise n) rest = omega arith
   long_step (cancel n) rest = omega arith
-  long_step (scope n d s f body) rest = omega (arith, long_steps body rest, long_deadline d (flag_pieces word.Shield s (flag_pieces word.Fail f (opens ∷ steps_pieces body rest))), long_flag word.Shield s (flag_pieces word.Fail f (opens ∷ steps_pieces body rest)), long_flag word.Fail f (opens ∷ steps_pieces body rest))
+  long_step (scope n d s f body) rest = omega (arith, long_steps body rest,
+      long_deadline d (flag_pieces word.Shield s (flag_pieces word.Fail f (opens ∷ steps_pieces body rest))),
+      long_flag word.Shield s (flag_pieces word.Fail f (opens ∷ steps_pieces body rest)),
+      long_flag word.Fail f (opens ∷ steps_pieces body rest))
   long_step (nursery n d s body) rest = omega (arith, long_steps body rest)
   long_step (start n o body) rest = omega (arith, long_steps body rest, long_over o (opens ∷ steps_pieces body rest))
-  long_step (attempt body h c) rest = omega (arith, long_steps body (handler_pieces h (cleanup_pieces c rest)), long_handler h (cleanup_pieces c rest), long_cleanup c rest)
+  long_step (attempt body h c) rest =
+      omega (arith, long_steps body (handler_pieces h (cleanup_pieces c rest)), long_handler h (cleanup_pieces c rest), long_cleanup c rest)
 
   long_handler : (h : Handled) (rest : List Piece) → length rest ≤ length (handler_pieces h rest)
   long_handler unhandled rest = omega arith
@@ -69,7 +73,8 @@ ReadsAgain blocks body = (rest : List Piece) → blocks (shapes_in (steps_pieces
 abbrev step_read : Step → List Piece → Read Step
 step_read s rest = Some (s, shapes_in rest)
 
-scope_again : (blocks : Blocks) (n : List ℕ) (d : Deadline) (s f : Bool) (body : Steps) (rest : List Piece) → ReadsAgain blocks body → step_at blocks (shapes_in (step_pieces (scope n d s f body) rest)) ≡ step_read (scope n d s f body) rest
+scope_again : (blocks : Blocks) (n : List ℕ) (d : Deadline) (s f : Bool) (body : Steps) (rest : List Piece) → ReadsAgain blocks body →
+    step_at blocks (shapes_in (step_pieces (scope n d s f body) rest)) ≡ step_read (scope n d s f body) rest
 unfolding keyword_of
 scope_again blocks n Never false false body rest reads = rw (reads rest) refl
 scope_again blocks n Never false true body rest reads = rw (reads rest) refl
@@ -84,30 +89,43 @@ scope_again blocks n (At t) false true body rest reads = rw (reads rest) refl
 scope_again blocks n (At t) true false body rest reads = rw (reads rest) refl
 scope_again blocks n (At t) true true body rest reads = rw (reads rest) refl
 
-start_again : (blocks : Blocks) (n : List ℕ) (o : Option ℕ) (body : Steps) (rest : List Piece) → ReadsAgain blocks body → step_at blocks (shapes_in (step_pieces (start n o body) rest)) ≡ step_read (start n o body) rest
+start_again : (blocks : Blocks) (n : List ℕ) (o : Option ℕ) (body : Steps) (rest : List Piece) → ReadsAgain blocks body →
+    step_at blocks (shapes_in (step_pieces (start n o body) rest)) ≡ step_read (start n o body) rest
 unfolding keyword_of
 start_again blocks n None body rest reads = rw (reads rest) refl
 start_again blocks n (Some k) body rest reads = rw (reads rest) refl
 
-nursery_again : (blocks : Blocks) (n : List ℕ) (body : Steps) (rest : List Piece) → ReadsAgain blocks body → step_at blocks (shapes_in (step_pieces (nursery n Never false body) rest)) ≡ step_read (nursery n Never false body) rest
+nursery_again : (blocks : Blocks) (n : List ℕ) (body : Steps) (rest : List Piece) → ReadsAgain blocks body →
+    step_at blocks (shapes_in (step_pieces (nursery n Never false body) rest)) ≡ step_read (nursery n Never false body) rest
 unfolding keyword_of
 nursery_again blocks n body rest reads = rw (reads rest) refl
 
-nursery_with : (blocks : Blocks) (n : List ℕ) (d : Deadline) (s : Bool) (body : Steps) (rest : List Piece) → d ≡ Never → s ≡ false → ReadsAgain blocks body → step_at blocks (shapes_in (step_pieces (nursery n d s body) rest)) ≡ step_read (nursery n d s body) rest
+nursery_with : (blocks : Blocks) (n : List ℕ) (d : Deadline) (s : Bool) (body : Steps) (rest : List Piece) → d ≡ Never → s ≡ false →
+    ReadsAgain blocks body → step_at blocks (shapes_in (step_pieces (nursery n d s body) rest)) ≡ step_read (nursery n d s body) rest
 nursery_with blocks n d s body rest never unshielded reads =
-    subst (λ (x : Deadline). step_at blocks (shapes_in (step_pieces (nursery n x s body) rest)) ≡ step_read (nursery n x s body) rest) (sym never)
-    (subst (λ (b : Bool). step_at blocks (shapes_in (step_pieces (nursery n Never b body) rest)) ≡ step_read (nursery n Never b body) rest) (sym unshielded) (nursery_again blocks n body rest reads))
+    subst (λ (x : Deadline). step_at blocks (shapes_in (step_pieces (nursery n x s body) rest)) ≡ step_read (nursery n x s body) rest)
+        (sym never)
+    (subst (λ (b : Bool). step_at blocks (shapes_in (step_pieces (nursery n Never b body) rest)) ≡ step_read (nursery n Never b body) rest)
+        (sym unshielded) (nursery_again blocks n body rest reads))
 
-try_both : (blocks : Blocks) (body : Steps) (n : List ℕ) (handler clean : Steps) (rest : List Piece) → ReadsAgain blocks body → ReadsAgain blocks handler → ReadsAgain blocks clean → step_at blocks (shapes_in (step_pieces (attempt body (except n handler) (finally clean)) rest)) ≡ step_read (attempt body (except n handler) (finally clean)) rest
+try_both : (blocks : Blocks) (body : Steps) (n : List ℕ) (handler clean : Steps) (rest : List Piece) → ReadsAgain blocks body →
+    ReadsAgain blocks handler → ReadsAgain blocks clean → step_at blocks
+    (shapes_in (step_pieces (attempt body (except n handler) (finally clean)) rest))
+    ≡ step_read (attempt body (except n handler) (finally clean)) rest
 unfolding keyword_of
 try_both blocks body n handler clean rest b h c =
     rw (b (handler_pieces (except n handler) (cleanup_pieces (finally clean) rest)), h (cleanup_pieces (finally clean) rest), c rest) refl
 
-try_handler : (blocks : Blocks) (body : Steps) (n : List ℕ) (handler : Steps) (rest : List Piece) → ReadsAgain blocks body → ReadsAgain blocks handler → behind_word word.Finally (shapes_in rest) ≡ None → step_at blocks (shapes_in (step_pieces (attempt body (except n handler) uncleaned) rest)) ≡ step_read (attempt body (except n handler) uncleaned) rest
+try_handler : (blocks : Blocks) (body : Steps) (n : List ℕ) (handler : Steps) (rest : List Piece) → ReadsAgain blocks body →
+    ReadsAgain blocks handler → behind_word word.Finally (shapes_in rest) ≡ None →
+    step_at blocks (shapes_in (step_pieces (attempt body (except n handler) uncleaned) rest))
+    ≡ step_read (attempt body (except n handler) uncleaned) rest
 unfolding keyword_of
 try_handler blocks body n handler rest b h none = rw (b (handler_pieces (except n handler) rest), h rest, none) refl
 
-try_cleanup : (blocks : Blocks) (body clean : Steps) (rest : List Piece) → ReadsAgain blocks body → ReadsAgain blocks clean → step_at blocks (shapes_in (step_pieces (attempt body unhandled (finally clean)) rest)) ≡ step_read (attempt body unhandled (finally clean)) rest
+try_cleanup : (blocks : Blocks) (body clean : Steps) (rest : List Piece) → ReadsAgain blocks body → ReadsAgain blocks clean →
+    step_at blocks (shapes_in (step_pieces (attempt body unhandled (finally clean)) rest))
+    ≡ step_read (attempt body unhandled (finally clean)) rest
 unfolding keyword_of
 try_cleanup blocks body clean rest b c = rw (b (cleanup_pieces (finally clean) rest), c rest) refl
 
@@ -151,34 +169,43 @@ no_close (attempt body h c) rest = refl
 -- steps are read again where blocks are at most so deep, with room for so many steps
 abbrev StepsAgain : Steps → Type 0
 StepsAgain steps =
-    (inside : Bool) (depth n : ℕ) (rest : List Piece) → AreSteps inside steps → AreWithin depth steps → length (steps_pieces steps rest) ≤ n + length rest
+    (inside : Bool) (depth n : ℕ) (rest : List Piece) → AreSteps inside steps → AreWithin depth steps →
+        length (steps_pieces steps rest) ≤ n + length rest
     → steps_with (blocks_at depth) n (shapes_in (steps_pieces steps rest)) ≡ Some (steps, shapes_in rest)
 
-block_again : (inside : Bool) (body : Steps) (depth : ℕ) → StepsAgain body → AreSteps inside body → 0 < depth → AreWithin (depth - 1) body → ReadsAgain (blocks_at depth) body
+block_again : (inside : Bool) (body : Steps) (depth : ℕ) → StepsAgain body → AreSteps inside body → 0 < depth → AreWithin (depth - 1) body →
+    ReadsAgain (blocks_at depth) body
 unfolding blocks_at
 block_again inside body zero again are some within rest = absurd (omega arith)
 block_again inside body (suc depth) again are some within rest =
     let e : suc depth - 1 ≡ depth = omega arith in
-    again inside depth (length (shapes_in (steps_pieces body rest))) rest are (subst (λ (d : ℕ). AreWithin d body) e within) (omega (arith, length_shapes (steps_pieces body rest)))
+    again inside depth (length (shapes_in (steps_pieces body rest))) rest are (subst (λ (d : ℕ). AreWithin d body) e within)
+        (omega (arith, length_shapes (steps_pieces body rest)))
 
-one_step : (blocks : Blocks) (n : ℕ) (s : Step) (ss : Steps) (shapes after rest : List Shape) → mark_at mark.Close shapes ≡ None → step_at blocks shapes ≡ Some (s, after) → steps_with blocks n after ≡ Some (ss, rest) → steps_with blocks (suc n) shapes ≡ Some (step s ss, rest)
+one_step : (blocks : Blocks) (n : ℕ) (s : Step) (ss : Steps) (shapes after rest : List Shape) → mark_at mark.Close shapes ≡ None →
+    step_at blocks shapes ≡ Some (s, after) → steps_with blocks n after ≡ Some (ss, rest) →
+    steps_with blocks (suc n) shapes ≡ Some (step s ss, rest)
 unfolding steps_with
 one_step blocks n s ss shapes after rest going found others = rw (going, found, others) refl
 
 mutual
   unfolding steps_with keyword_of
 
-  pub steps_again : (steps : Steps) (inside : Bool) (depth n : ℕ) (rest : List Piece) → AreSteps inside steps → AreWithin depth steps → length (steps_pieces steps rest) ≤ n + length rest
+  pub steps_again : (steps : Steps) (inside : Bool) (depth n : ℕ) (rest : List Piece) → AreSteps inside steps → AreWithin depth steps →
+      length (steps_pieces steps rest) ≤ n + length rest
       → steps_with (blocks_at depth) n (shapes_in (steps_pieces steps rest)) ≡ Some (steps, shapes_in rest)
   steps_again stop inside depth zero rest are within le = absurd (omega arith)
   steps_again stop inside depth (suc n) rest are within le = refl
-  steps_again (step s ss) inside depth zero rest are within le = absurd (omega (arith, long_step s (steps_pieces ss rest), long_steps ss rest))
+  steps_again (step s ss) inside depth zero rest are within le =
+      absurd (omega (arith, long_step s (steps_pieces ss rest), long_steps ss rest))
   steps_again (step s ss) inside depth (suc n) rest are within le =
-      one_step (blocks_at depth) n s ss (shapes_in (step_pieces s (steps_pieces ss rest))) (shapes_in (steps_pieces ss rest)) (shapes_in rest) (no_close s (steps_pieces ss rest))
+      one_step (blocks_at depth) n s ss (shapes_in (step_pieces s (steps_pieces ss rest))) (shapes_in (steps_pieces ss rest))
+          (shapes_in rest) (no_close s (steps_pieces ss rest))
       (step_again s inside depth (steps_pieces ss rest) are.0 within.0 (no_finally ss rest))
       (steps_again ss inside depth n rest are.1 within.1 (omega (arith, le, long_step s (steps_pieces ss rest))))
 
-  step_again : (s : Step) (inside : Bool) (depth : ℕ) (rest : List Piece) → IsStep inside s → IsWithin depth s → behind_word word.Finally (shapes_in rest) ≡ None
+  step_again : (s : Step) (inside : Bool) (depth : ℕ) (rest : List Piece) → IsStep inside s → IsWithin depth s →
+      behind_word word.Finally (shapes_in rest) ≡ None
       → step_at (blocks_at depth) (shapes_in (step_pieces s rest)) ≡ Some (s, shapes_in rest)
   step_again (sleep n) inside depth rest is within none = refl
   step_again checkpoint inside depth rest is within none = refl
@@ -191,11 +218,14 @@ mutual
   step_again (raise n) inside depth rest is within none = refl
   step_again (cancel n) inside depth rest is within none = refl
   step_again (scope n d s f body) inside depth rest is within none =
-      scope_again (blocks_at depth) n d s f body rest (block_again false body depth (λ inside' depth' n' rest'. steps_again body inside' depth' n' rest') is within.0 within.1)
+      scope_again (blocks_at depth) n d s f body rest (block_again false body depth
+          (λ inside' depth' n' rest'. steps_again body inside' depth' n' rest') is within.0 within.1)
   step_again (nursery n d s body) inside depth rest is within none =
-      nursery_with (blocks_at depth) n d s body rest is.0 is.1 (block_again true body depth (λ inside' depth' n' rest'. steps_again body inside' depth' n' rest') is.2 within.0 within.1)
+      nursery_with (blocks_at depth) n d s body rest is.0 is.1 (block_again true body depth
+          (λ inside' depth' n' rest'. steps_again body inside' depth' n' rest') is.2 within.0 within.1)
   step_again (start n o body) inside depth rest is within none =
-      start_again (blocks_at depth) n o body rest (block_again false body depth (λ inside' depth' n' rest'. steps_again body inside' depth' n' rest') is.1 within.0 within.1)
+      start_again (blocks_at depth) n o body rest (block_again false body depth
+          (λ inside' depth' n' rest'. steps_again body inside' depth' n' rest') is.1 within.0 within.1)
   step_again (attempt body (except n handler) (finally clean)) inside depth rest is within none =
       try_both (blocks_at depth) body n handler clean rest
       (block_again false body depth (λ inside' depth' n' rest'. steps_again body inside' depth' n' rest') is.1 within.0.0 within.0.1)
@@ -204,7 +234,8 @@ mutual
   step_again (attempt body (except n handler) uncleaned) inside depth rest is within none =
       try_handler (blocks_at depth) body n handler rest
       (block_again false body depth (λ inside' depth' n' rest'. steps_again body inside' depth' n' rest') is.1 within.0.0 within.0.1)
-      (block_again false handler depth (λ inside' depth' n' rest'. steps_again handler inside' depth' n' rest') is.2 within.1.0 within.1.1) none
+      (block_again false handler depth (λ inside' depth' n' rest'. steps_again handler inside' depth' n' rest') is.2 within.1.0 within.1.1)
+          none
   step_again (attempt body unhandled (finally clean)) inside depth rest is within none =
       try_cleanup (blocks_at depth) body clean rest
       (block_again false body depth (λ inside' depth' n' rest'. steps_again body inside' depth' n' rest') is.1 within.0.0 within.0.1)
@@ -213,11 +244,13 @@ mutual
 
 -- ---- a whole job
 
-one_job : (name : List ℕ) (body : Steps) → blocks_at 32 (shapes_in (steps_pieces body [])) ≡ Some (body, []) → job_at (shapes_in (job_pieces (record { name = name; steps = body }))) ≡ Some (record { name = name; steps = body })
+one_job : (name : List ℕ) (body : Steps) → blocks_at 32 (shapes_in (steps_pieces body [])) ≡ Some (body, []) →
+    job_at (shapes_in (job_pieces (record { name = name; steps = body }))) ≡ Some (record { name = name; steps = body })
 unfolding keyword_of
 one_job name body reads = rw reads refl
 
 -- a job is read again from its tokens
 pub job_again : (job : Tree) → AreSteps false job.steps → AreWithin 31 job.steps → job_at (shapes_in (job_pieces job)) ≡ Some job
 job_again job are within =
-    one_job job.name job.steps (block_again false job.steps 32 (λ inside depth n rest. steps_again job.steps inside depth n rest) are (omega arith) within [])
+    one_job job.name job.steps (block_again false job.steps 32 (λ inside depth n rest. steps_again job.steps inside depth n rest) are
+        (omega arith) within [])

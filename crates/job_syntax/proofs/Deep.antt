@@ -26,7 +26,8 @@ none_too_deep depth (t ∷ ts) none = by_test (none_too_deep behind ts) (nat_le 
     behind : ℕ
     behind = depth_behind depth (mark_in t.shape)
 
-    by_test : (depth_fault behind ts ≡ None → NoneTooDeep behind (shapes_of ts)) → (b : Bool) → nat_le behind 32 ≡ b → cond b (depth_fault behind ts) (Some t.at) ≡ None → (behind ≤ 32) × NoneTooDeep behind (shapes_of ts)
+    by_test : (depth_fault behind ts ≡ None → NoneTooDeep behind (shapes_of ts)) → (b : Bool) → nat_le behind 32 ≡ b →
+        cond b (depth_fault behind ts) (Some t.at) ≡ None → (behind ≤ 32) × NoneTooDeep behind (shapes_of ts)
     by_test others true is none' = (leb-true behind 32 is, others none')
     by_test others false is none' = absurd cc
 
@@ -42,24 +43,30 @@ depth_by_shapes d xs ys e none = no_fault d ys (subst (NoneTooDeep d) e (none_to
 
 -- ---- construct by construct
 
-past_flag : (depth : ℕ) (k : Keyword) (b : Bool) (rest : List Piece) → NoneTooDeep depth (shapes_in (flag_pieces k b rest)) → NoneTooDeep depth (shapes_in rest)
+past_flag : (depth : ℕ) (k : Keyword) (b : Bool) (rest : List Piece) → NoneTooDeep depth (shapes_in (flag_pieces k b rest)) →
+    NoneTooDeep depth (shapes_in rest)
 past_flag depth k false rest none = none
 past_flag depth k true rest none = none.1
 
-past_deadline : (depth : ℕ) (d : Deadline) (rest : List Piece) → NoneTooDeep depth (shapes_in (deadline_pieces d rest)) → NoneTooDeep depth (shapes_in rest)
+past_deadline : (depth : ℕ) (d : Deadline) (rest : List Piece) → NoneTooDeep depth (shapes_in (deadline_pieces d rest)) →
+    NoneTooDeep depth (shapes_in rest)
 past_deadline depth Never rest none = none
 past_deadline depth (After n) rest none = none.1.1
 past_deadline depth (At n) rest none = none.1.1
 
-past_over : (depth : ℕ) (o : Option ℕ) (rest : List Piece) → NoneTooDeep depth (shapes_in (over_pieces o rest)) → NoneTooDeep depth (shapes_in rest)
+past_over : (depth : ℕ) (o : Option ℕ) (rest : List Piece) → NoneTooDeep depth (shapes_in (over_pieces o rest)) →
+    NoneTooDeep depth (shapes_in rest)
 past_over depth None rest none = none
 past_over depth (Some n) rest none = none.1.1
 
 -- the steps of a block in which so many blocks are open and so many more may stand in one another
 abbrev StepsWithin : Steps → List Piece → Type 0
-StepsWithin steps rest = (depth more : ℕ) → depth + more ≡ 32 → NoneTooDeep depth (shapes_in (steps_pieces steps rest)) → AreWithin more steps × NoneTooDeep (depth - 1) (shapes_in rest)
+StepsWithin steps rest = (depth more : ℕ) → depth + more ≡ 32 → NoneTooDeep depth (shapes_in (steps_pieces steps rest)) →
+    AreWithin more steps × NoneTooDeep (depth - 1) (shapes_in rest)
 
-block_within : (depth more : ℕ) (body : Steps) (rest : List Piece) → StepsWithin body rest → depth + more ≡ 32 → NoneTooDeep depth (shapes_in (opens ∷ steps_pieces body rest)) → ((0 < more) × AreWithin (more - 1) body) × NoneTooDeep depth (shapes_in rest)
+block_within : (depth more : ℕ) (body : Steps) (rest : List Piece) → StepsWithin body rest → depth + more ≡ 32 →
+    NoneTooDeep depth (shapes_in (opens ∷ steps_pieces body rest)) → ((0 < more) × AreWithin (more - 1) body)
+    × NoneTooDeep depth (shapes_in rest)
 block_within depth more body rest within e none =
     let le : suc depth ≤ 32 = none.0 in
     let inner = within (suc depth) (more - 1) (omega (arith, e, le)) none.1 in
@@ -67,14 +74,16 @@ block_within depth more body rest within e none =
     ((omega (arith, e, le), inner.0), subst (λ (n : ℕ). NoneTooDeep n (shapes_in rest)) same inner.1)
 
 mutual
-  steps_within : (steps : Steps) (rest : List Piece) (depth more : ℕ) → depth + more ≡ 32 → NoneTooDeep depth (shapes_in (steps_pieces steps rest)) → AreWithin more steps × NoneTooDeep (depth - 1) (shapes_in rest)
+  steps_within : (steps : Steps) (rest : List Piece) (depth more : ℕ) → depth + more ≡ 32 →
+      NoneTooDeep depth (shapes_in (steps_pieces steps rest)) → AreWithin more steps × NoneTooDeep (depth - 1) (shapes_in rest)
   steps_within stop rest depth more e none = (tt, none.1)
   steps_within (step s ss) rest depth more e none =
       let one = step_within s (steps_pieces ss rest) depth more e none in
       let others = steps_within ss rest depth more e one.1 in
       ((one.0, others.0), others.1)
 
-  step_within : (s : Step) (rest : List Piece) (depth more : ℕ) → depth + more ≡ 32 → NoneTooDeep depth (shapes_in (step_pieces s rest)) → IsWithin more s × NoneTooDeep depth (shapes_in rest)
+  step_within : (s : Step) (rest : List Piece) (depth more : ℕ) → depth + more ≡ 32 → NoneTooDeep depth (shapes_in (step_pieces s rest)) →
+      IsWithin more s × NoneTooDeep depth (shapes_in rest)
   step_within (sleep n) rest depth more e none = (tt, none.1.1.1)
   step_within checkpoint rest depth more e none = (tt, none.1.1)
   step_within forever rest depth more e none = (tt, none.1.1)
@@ -89,10 +98,13 @@ mutual
       let block = opens ∷ steps_pieces body rest in
       let flagged = flag_pieces word.Fail f block in
       let shielded = flag_pieces word.Shield s flagged in
-      block_within depth more body rest (λ depth' more'. steps_within body rest depth' more') e (past_flag depth word.Fail f block (past_flag depth word.Shield s flagged (past_deadline depth d shielded none.1.1)))
-  step_within (nursery n d s body) rest depth more e none = block_within depth more body rest (λ depth' more'. steps_within body rest depth' more') e none.1.1
+      block_within depth more body rest (λ depth' more'. steps_within body rest depth' more') e
+          (past_flag depth word.Fail f block (past_flag depth word.Shield s flagged (past_deadline depth d shielded none.1.1)))
+  step_within (nursery n d s body) rest depth more e none =
+      block_within depth more body rest (λ depth' more'. steps_within body rest depth' more') e none.1.1
   step_within (start n o body) rest depth more e none =
-      block_within depth more body rest (λ depth' more'. steps_within body rest depth' more') e (past_over depth o (opens ∷ steps_pieces body rest) none.1.1)
+      block_within depth more body rest (λ depth' more'. steps_within body rest depth' more') e
+          (past_over depth o (opens ∷ steps_pieces body rest) none.1.1)
   step_within (attempt body h c) rest depth more e none =
       let after = handler_pieces h (cleanup_pieces c rest) in
       let one = block_within depth more body after (λ depth' more'. steps_within body after depth' more') e none.1 in
@@ -100,16 +112,21 @@ mutual
       let cleaned = cleanup_within c rest depth more e handled.1 in
       ((one.0, handled.0, cleaned.0), cleaned.1)
 
-  handler_within : (h : Handled) (rest : List Piece) (depth more : ℕ) → depth + more ≡ 32 → NoneTooDeep depth (shapes_in (handler_pieces h rest)) → IsHandlerWithin more h × NoneTooDeep depth (shapes_in rest)
+  handler_within : (h : Handled) (rest : List Piece) (depth more : ℕ) → depth + more ≡ 32 →
+      NoneTooDeep depth (shapes_in (handler_pieces h rest)) → IsHandlerWithin more h × NoneTooDeep depth (shapes_in rest)
   handler_within unhandled rest depth more e none = (tt, none)
-  handler_within (except n body) rest depth more e none = block_within depth more body rest (λ depth' more'. steps_within body rest depth' more') e none.1.1
+  handler_within (except n body) rest depth more e none =
+      block_within depth more body rest (λ depth' more'. steps_within body rest depth' more') e none.1.1
 
-  cleanup_within : (c : Cleaned) (rest : List Piece) (depth more : ℕ) → depth + more ≡ 32 → NoneTooDeep depth (shapes_in (cleanup_pieces c rest)) → IsCleanupWithin more c × NoneTooDeep depth (shapes_in rest)
+  cleanup_within : (c : Cleaned) (rest : List Piece) (depth more : ℕ) → depth + more ≡ 32 →
+      NoneTooDeep depth (shapes_in (cleanup_pieces c rest)) → IsCleanupWithin more c × NoneTooDeep depth (shapes_in rest)
   cleanup_within uncleaned rest depth more e none = (tt, none)
-  cleanup_within (finally body) rest depth more e none = block_within depth more body rest (λ depth' more'. steps_within body rest depth' more') e none.1
+  cleanup_within (finally body) rest depth more e none =
+      block_within depth more body rest (λ depth' more'. steps_within body rest depth' more') e none.1
 
 -- the blocks of a job whose tokens stand nowhere too deep stand at most so many in one another
-pub within_depth : (job : Tree) (tokens : List Token) → shapes_of tokens ≡ shapes_in (job_pieces job) → depth_fault 0 tokens ≡ None → AreWithin 31 job.steps
+pub within_depth : (job : Tree) (tokens : List Token) → shapes_of tokens ≡ shapes_in (job_pieces job) → depth_fault 0 tokens ≡ None →
+    AreWithin 31 job.steps
 within_depth job tokens e none =
     let deep : NoneTooDeep 0 (shapes_in (job_pieces job)) = subst (NoneTooDeep 0) e (none_too_deep 0 tokens none) in
     (steps_within job.steps [] 1 31 (omega arith) deep.1.1.1).0

@@ -22,11 +22,13 @@ abbrev pub AllInRange : Option Keyword → List Shape → Type 0
 AllInRange before [] = Unit {0}
 AllInRange before (s ∷ rest) = (is_in_range before s ≡ true) × AllInRange (keyword_in s) rest
 
-pub all_in_range : (before : Option Keyword) (tokens : List Token) → number_fault before tokens ≡ None → AllInRange before (shapes_of tokens)
+pub all_in_range : (before : Option Keyword) (tokens : List Token) → number_fault before tokens ≡ None →
+    AllInRange before (shapes_of tokens)
 all_in_range before [] none = tt
 all_in_range before (t ∷ ts) none = by_test (all_in_range (keyword_in t.shape) ts) (is_in_range before t.shape) refl none
   where
-    by_test : (number_fault (keyword_in t.shape) ts ≡ None → AllInRange (keyword_in t.shape) (shapes_of ts)) → (b : Bool) → is_in_range before t.shape ≡ b → cond b (number_fault (keyword_in t.shape) ts) (Some t.at) ≡ None
+    by_test : (number_fault (keyword_in t.shape) ts ≡ None → AllInRange (keyword_in t.shape) (shapes_of ts)) → (b : Bool) →
+        is_in_range before t.shape ≡ b → cond b (number_fault (keyword_in t.shape) ts) (Some t.at) ≡ None
         → (is_in_range before t.shape ≡ true) × AllInRange (keyword_in t.shape) (shapes_of ts)
     by_test others true is none' = (is, others none')
     by_test others false is none' = absurd cc
@@ -36,7 +38,8 @@ no_fault before [] all = refl
 no_fault before (t ∷ ts) all = rw all.0 (no_fault (keyword_in t.shape) ts all.1)
 
 -- which numbers are out of their ranges shows in the shapes
-pub numbers_by_shapes : (before : Option Keyword) (xs ys : List Token) → shapes_of xs ≡ shapes_of ys → number_fault before xs ≡ None → number_fault before ys ≡ None
+pub numbers_by_shapes : (before : Option Keyword) (xs ys : List Token) → shapes_of xs ≡ shapes_of ys → number_fault before xs ≡ None →
+    number_fault before ys ≡ None
 numbers_by_shapes before xs ys e none = no_fault before ys (subst (AllInRange before) e (all_in_range before xs none))
 
 -- ---- one number behind its keyword
@@ -97,14 +100,16 @@ over_modest None rest all = (tt, all)
 over_modest (Some n) rest all = (over_fit n all.1.1.0, (None, all.1.1.1))
 
 mutual
-  steps_modest : (steps : Steps) (inside : Bool) (rest : List Piece) → AreSteps inside steps → InRangeBehind (steps_pieces steps rest) → AreModest steps × InRangeBehind rest
+  steps_modest : (steps : Steps) (inside : Bool) (rest : List Piece) → AreSteps inside steps → InRangeBehind (steps_pieces steps rest) →
+      AreModest steps × InRangeBehind rest
   steps_modest stop inside rest are all = (tt, (None, all.1.1))
   steps_modest (step s ss) inside rest are all =
       let one = step_modest s inside (steps_pieces ss rest) are.0 all in
       let others = steps_modest ss inside rest are.1 one.1 in
       ((one.0, others.0), others.1)
 
-  step_modest : (s : Step) (inside : Bool) (rest : List Piece) → IsStep inside s → InRangeBehind (step_pieces s rest) → IsModestStep s × InRangeBehind rest
+  step_modest : (s : Step) (inside : Bool) (rest : List Piece) → IsStep inside s → InRangeBehind (step_pieces s rest) → IsModestStep s
+      × InRangeBehind rest
   step_modest (sleep n) inside rest is all = (sleep_fit n all.1.1.0, (None, all.1.1.1.1))
   step_modest checkpoint inside rest is all = (tt, (None, all.1.1.1))
   step_modest forever inside rest is all = (tt, (None, all.1.1.1))
@@ -136,16 +141,19 @@ mutual
       let cleaned = cleanup_modest c rest is.3 handled.1 in
       ((inner.0, handled.0, cleaned.0), cleaned.1)
 
-  handler_modest : (h : Handled) (rest : List Piece) → IsHandler h → InRangeBehind (handler_pieces h rest) → IsModestHandler h × InRangeBehind rest
+  handler_modest : (h : Handled) (rest : List Piece) → IsHandler h → InRangeBehind (handler_pieces h rest) → IsModestHandler h
+      × InRangeBehind rest
   handler_modest unhandled rest is all = (tt, all)
   handler_modest (except n body) rest is all = steps_modest body false rest is (None, all.1.1.1.1)
 
-  cleanup_modest : (c : Cleaned) (rest : List Piece) → IsCleanup c → InRangeBehind (cleanup_pieces c rest) → IsModestCleanup c × InRangeBehind rest
+  cleanup_modest : (c : Cleaned) (rest : List Piece) → IsCleanup c → InRangeBehind (cleanup_pieces c rest) → IsModestCleanup c
+      × InRangeBehind rest
   cleanup_modest uncleaned rest is all = (tt, all)
   cleanup_modest (finally body) rest is all = steps_modest body false rest is (None, all.1.1.1)
 
 -- the numbers of a job none of whose tokens is out of its range are in their ranges
-pub modest_numbers : (job : Tree) (tokens : List Token) → AreSteps false job.steps → shapes_of tokens ≡ shapes_in (job_pieces job) → number_fault None tokens ≡ None → AreModest job.steps
+pub modest_numbers : (job : Tree) (tokens : List Token) → AreSteps false job.steps → shapes_of tokens ≡ shapes_in (job_pieces job) →
+    number_fault None tokens ≡ None → AreModest job.steps
 modest_numbers job tokens are e none =
     let all : AllInRange None (shapes_in (job_pieces job)) = subst (AllInRange None) e (all_in_range None tokens none) in
     (steps_modest job.steps false [] are (None, all.1.1.1)).0

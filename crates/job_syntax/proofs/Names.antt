@@ -11,12 +11,14 @@ use Rattle.job_syntax.specs.Syntax.{Fits, IsText, role_of, roles_at, or_nothing,
 use Rattle.job_syntax.proofs.Grammar.{Left, goes}
 
 -- the roles found along the tokens of what fits are those of its pieces
-pub roles_at-in : (ss : List Symbol) (tokens : List Token) (ps : List Piece) → Fits ss ps → shapes_of tokens ≡ shapes_in ps → roles_at ss tokens ≡ roles_in ps
+pub roles_at-in : (ss : List Symbol) (tokens : List Token) (ps : List Piece) → Fits ss ps → shapes_of tokens ≡ shapes_in ps →
+    roles_at ss tokens ≡ roles_in ps
 roles_at-in ss [] [] fits e = refl
 roles_at-in ss [] (p ∷ ps) fits e = absurd cc
 roles_at-in ss (t ∷ ts) [] fits e = absurd cc
 roles_at-in [] (t ∷ ts) (p ∷ ps) fits e = absurd cc
-roles_at-in (s ∷ ss) (t ∷ ts) (p ∷ ps) fits e = by_rest (λ more. roles_at-in (more ++ ss) ts ps) (next s t.shape) (subst (λ (x : Shape). Left (next s x) ss ps) (sym head) left.0)
+roles_at-in (s ∷ ss) (t ∷ ts) (p ∷ ps) fits e =
+    by_rest (λ more. roles_at-in (more ++ ss) ts ps) (next s t.shape) (subst (λ (x : Shape). Left (next s x) ss ps) (sym head) left.0)
   where
     left : Left (next s p.shape) ss ps × (p.role ≡ role_of s)
     left = goes s ss (p ∷ ps) fits
@@ -27,7 +29,8 @@ roles_at-in (s ∷ ss) (t ∷ ts) (p ∷ ps) fits e = by_rest (λ more. roles_at
     tail : shapes_of ts ≡ shapes_in ps
     tail = cc
 
-    by_rest : ((more : List Symbol) → Fits (more ++ ss) ps → shapes_of ts ≡ shapes_in ps → roles_at (more ++ ss) ts ≡ roles_in ps) → (r : Rest) → Left r ss ps → role_of s ∷ or_nothing r (λ more. roles_at (more ++ ss) ts) ≡ p.role ∷ roles_in ps
+    by_rest : ((more : List Symbol) → Fits (more ++ ss) ps → shapes_of ts ≡ shapes_in ps → roles_at (more ++ ss) ts ≡ roles_in ps) →
+        (r : Rest) → Left r ss ps → role_of s ∷ or_nothing r (λ more. roles_at (more ++ ss) ts) ≡ p.role ∷ roles_in ps
     by_rest others None fit = absurd fit
     by_rest others (Some more) fit = let same = others more fit tail in λ i. sym left.1 i ∷ same i
 
@@ -36,14 +39,17 @@ pub job_fits : (job : Tree) → AreSteps false job.steps → Fits whole_job (job
 job_fits job are = ([], (job, are, refl), refl)
 
 -- the roles found along the tokens of a job are those of its pieces
-pub roles_of_job : (job : Tree) (tokens : List Token) → AreSteps false job.steps → shapes_of tokens ≡ shapes_in (job_pieces job) → roles_at whole_job tokens ≡ roles_in (job_pieces job)
+pub roles_of_job : (job : Tree) (tokens : List Token) → AreSteps false job.steps → shapes_of tokens ≡ shapes_in (job_pieces job) →
+    roles_at whole_job tokens ≡ roles_in (job_pieces job)
 roles_of_job job tokens are e = roles_at-in whole_job tokens (job_pieces job) (job_fits job are) e
 
 -- what fits a whole job are the tokens of one
-pub job_of_text : (shapes : List Shape) → IsText whole_job shapes → (job : Tree) × AreSteps false job.steps × (shapes ≡ shapes_in (job_pieces job))
+pub job_of_text : (shapes : List Shape) → IsText whole_job shapes → (job : Tree) × AreSteps false job.steps
+    × (shapes ≡ shapes_in (job_pieces job))
 job_of_text shapes (ps, (rest, (job, are, e), none), same) =
     let all : ps ≡ job_pieces job = e ∙ ap (job_onto job) none in
     (job, are, sym same ∙ ap shapes_in all)
 
-pub text_of_job : (shapes : List Shape) (job : Tree) → AreSteps false job.steps → shapes ≡ shapes_in (job_pieces job) → IsText whole_job shapes
+pub text_of_job : (shapes : List Shape) (job : Tree) → AreSteps false job.steps → shapes ≡ shapes_in (job_pieces job) →
+    IsText whole_job shapes
 text_of_job shapes job are same = (job_pieces job, job_fits job are, sym same)

@@ -21,24 +21,31 @@ in_front-stop : (front : List Step) → in_front front tree.stop ≡ steps_of fr
 in_front-stop [] = refl
 in_front-stop (s ∷ ss) = ap (tree.step (step_of s)) (in_front-stop ss)
 
-in_front-push : (front : List Step) (s : Step) (others : tree.Steps) → in_front front (tree.step (step_of s) others) ≡ in_front (front ++ s ∷ []) others
+in_front-push : (front : List Step) (s : Step) (others : tree.Steps) →
+    in_front front (tree.step (step_of s) others) ≡ in_front (front ++ s ∷ []) others
 in_front-push [] s others = refl
 in_front-push (f ∷ front) s others = ap (tree.step (step_of f)) (in_front-push front s others)
 
-regroup : (front : List Step) (s : Step) (read : Read tree.Steps) → with_front front (read >>= λ x. Some (tree.step (step_of s) x.0, x.1)) ≡ with_front (front ++ s ∷ []) read
+regroup : (front : List Step) (s : Step) (read : Read tree.Steps) →
+    with_front front (read >>= λ x. Some (tree.step (step_of s) x.0, x.1)) ≡ with_front (front ++ s ∷ []) read
 regroup front s None = refl
 regroup front s (Some read) = ap (λ (steps : tree.Steps). Some (steps, read.1)) (in_front-push front s read.0)
 
 -- at the closing mark
-pub ends : (blocks : Blocks) → (front : List Step) (count i : ℕ) (rest after : List Shape) (total : Read tree.Steps) → i < count → mark_at mark.Close rest ≡ Some after → with_front front (steps_with blocks (count - i) rest) ≡ total → total ≡ Some (steps_of front, after)
+pub ends : (blocks : Blocks) → (front : List Step) (count i : ℕ) (rest after : List Shape) (total : Read tree.Steps) → i < count →
+    mark_at mark.Close rest ≡ Some after → with_front front (steps_with blocks (count - i) rest) ≡ total →
+    total ≡ Some (steps_of front, after)
 unfolding steps_with
 ends blocks front count i rest after total lt closed so_far =
     let k : count - i ≡ suc (count - (i + 1)) = omega arith in
-    let one : with_front front (steps_with blocks (count - i) rest) ≡ Some (steps_of front, after) = rw (k, closed) (ap (λ (steps : tree.Steps). Some (steps, after)) (in_front-stop front)) in
+    let one : with_front front (steps_with blocks (count - i) rest) ≡ Some (steps_of front, after) =
+        rw (k, closed) (ap (λ (steps : tree.Steps). Some (steps, after)) (in_front-stop front)) in
     sym so_far ∙ one
 
 -- at what is no step
-pub fails : (blocks : Blocks) → (front : List Step) (count i : ℕ) (rest : List Shape) (total : Read tree.Steps) → i < count → mark_at mark.Close rest ≡ None → step_at blocks rest ≡ None → with_front front (steps_with blocks (count - i) rest) ≡ total → total ≡ None
+pub fails : (blocks : Blocks) → (front : List Step) (count i : ℕ) (rest : List Shape) (total : Read tree.Steps) → i < count →
+    mark_at mark.Close rest ≡ None → step_at blocks rest ≡ None → with_front front (steps_with blocks (count - i) rest) ≡ total →
+    total ≡ None
 unfolding steps_with
 fails blocks front count i rest total lt going none so_far =
     let k : count - i ≡ suc (count - (i + 1)) = omega arith in
@@ -46,16 +53,21 @@ fails blocks front count i rest total lt going none so_far =
     sym so_far ∙ one
 
 -- at a step
-pub goes_on : (blocks : Blocks) → (front : List Step) (count i : ℕ) (rest : List Shape) (s : Step) (after : List Shape) (total : Read tree.Steps) → i < count → mark_at mark.Close rest ≡ None → step_at blocks rest ≡ Some (step_of s, after)
-    → with_front front (steps_with blocks (count - i) rest) ≡ total → with_front (front ++ s ∷ []) (steps_with blocks (count - (i + 1)) after) ≡ total
+pub goes_on : (blocks : Blocks) → (front : List Step) (count i : ℕ) (rest : List Shape) (s : Step) (after : List Shape)
+    (total : Read tree.Steps) → i < count → mark_at mark.Close rest ≡ None → step_at blocks rest ≡ Some (step_of s, after)
+    → with_front front (steps_with blocks (count - i) rest) ≡ total →
+        with_front (front ++ s ∷ []) (steps_with blocks (count - (i + 1)) after) ≡ total
 unfolding steps_with
 goes_on blocks front count i rest s after total lt going found so_far =
     let k : count - i ≡ suc (count - (i + 1)) = omega arith in
-    let one : with_front front (steps_with blocks (count - i) rest) ≡ with_front (front ++ s ∷ []) (steps_with blocks (count - (i + 1)) after) = rw (k, going, found) (regroup front s (steps_with blocks (count - (i + 1)) after)) in
+    let one : with_front front (steps_with blocks (count - i) rest)
+        ≡ with_front (front ++ s ∷ []) (steps_with blocks (count - (i + 1)) after) =
+        rw (k, going, found) (regroup front s (steps_with blocks (count - (i + 1)) after)) in
     sym one ∙ so_far
 
 -- where no further step may come
-pub is_over : (blocks : Blocks) → (front : List Step) (count i : ℕ) (rest : List Shape) (total : Read tree.Steps) → count ≤ i → with_front front (steps_with blocks (count - i) rest) ≡ total → total ≡ None
+pub is_over : (blocks : Blocks) → (front : List Step) (count i : ℕ) (rest : List Shape) (total : Read tree.Steps) → count ≤ i →
+    with_front front (steps_with blocks (count - i) rest) ≡ total → total ≡ None
 unfolding steps_with
 is_over blocks front count i rest total le so_far =
     let k : count - i ≡ 0 = omega arith in
@@ -67,7 +79,8 @@ pub no_block : (depth : ℕ) (shapes : List Shape) → depth ≡ 0 → blocks_at
 unfolding blocks_at
 no_block depth shapes e = rw e refl
 
-pub one_level : (depth n : ℕ) (shapes : List Shape) → (depth ≡ 0 → ⊥) → length shapes ≡ n → blocks_at depth shapes ≡ steps_with (blocks_at (depth - 1)) n shapes
+pub one_level : (depth n : ℕ) (shapes : List Shape) → (depth ≡ 0 → ⊥) → length shapes ≡ n →
+    blocks_at depth shapes ≡ steps_with (blocks_at (depth - 1)) n shapes
 unfolding blocks_at
 one_level zero n shapes some len = absurd (some refl)
 one_level (suc depth) n shapes some len = let e : suc depth - 1 ≡ depth = omega arith in rw (e, len) refl

@@ -26,7 +26,8 @@ abbrev mutual
   IsWithin depth (scope name deadline shield fail body) = (0 < depth) × AreWithin (depth - 1) body
   IsWithin depth (nursery name deadline shield body) = (0 < depth) × AreWithin (depth - 1) body
   IsWithin depth (start name over body) = (0 < depth) × AreWithin (depth - 1) body
-  IsWithin depth (attempt body handler cleanup) = ((0 < depth) × AreWithin (depth - 1) body) × IsHandlerWithin depth handler × IsCleanupWithin depth cleanup
+  IsWithin depth (attempt body handler cleanup) = ((0 < depth) × AreWithin (depth - 1) body) × IsHandlerWithin depth handler
+      × IsCleanupWithin depth cleanup
 
   pub IsHandlerWithin : ℕ → Handled → Type 0
   IsHandlerWithin depth unhandled = Unit {0}
@@ -50,4 +51,5 @@ depth_behind depth (Some mark.Semicolon) = depth
 -- the first `{` behind which more blocks are open than may be, if so many are open already
 abbrev pub depth_fault : ℕ → List Token → Option ℕ
 depth_fault depth [] = None
-depth_fault depth (t ∷ ts) = if nat_le (depth_behind depth (mark_in t.shape)) most_deep then depth_fault (depth_behind depth (mark_in t.shape)) ts else Some t.at
+depth_fault depth (t ∷ ts) = if nat_le (depth_behind depth (mark_in t.shape)) most_deep then depth_fault
+    (depth_behind depth (mark_in t.shape)) ts else Some t.at

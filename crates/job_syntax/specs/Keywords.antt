@@ -36,7 +36,8 @@ among (k ∷ ks) word = if bytes_eq (spelling k) word then Some k else among ks 
 
 -- all keywords
 abbrev pub keywords : List Keyword
-keywords = Job ∷ Sleep ∷ Checkpoint ∷ Forever ∷ Pace ∷ Find ∷ Head ∷ Longest ∷ Need ∷ Raise ∷ Cancel ∷ Scope ∷ After ∷ At ∷ Shield ∷ Fail ∷ Nursery ∷ Start ∷ Over ∷ Try ∷ Except ∷ Finally ∷ Repeat ∷ []
+keywords = Job ∷ Sleep ∷ Checkpoint ∷ Forever ∷ Pace ∷ Find ∷ Head ∷ Longest ∷ Need ∷ Raise ∷ Cancel ∷ Scope ∷ After ∷ At ∷ Shield ∷ Fail
+    ∷ Nursery ∷ Start ∷ Over ∷ Try ∷ Except ∷ Finally ∷ Repeat ∷ []
 
 -- the keyword that a word is, where it is one
 unfoldable pub keyword_of : List ℕ → Option Keyword

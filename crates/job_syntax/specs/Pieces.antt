@@ -86,10 +86,12 @@ abbrev mutual
   step_pieces (raise name) rest = keyword word.Raise ∷ named role.Raised name ∷ ends ∷ rest
   step_pieces (cancel name) rest = keyword word.Cancel ∷ named role.Target name ∷ ends ∷ rest
   step_pieces (scope name deadline shield fail body) rest =
-      keyword word.Scope ∷ named role.Given name ∷ deadline_pieces deadline (flag_pieces word.Shield shield (flag_pieces word.Fail fail (opens ∷ steps_pieces body rest)))
+      keyword word.Scope ∷ named role.Given name ∷ deadline_pieces deadline
+          (flag_pieces word.Shield shield (flag_pieces word.Fail fail (opens ∷ steps_pieces body rest)))
   step_pieces (nursery name deadline shield body) rest = keyword word.Nursery ∷ named role.Given name ∷ opens ∷ steps_pieces body rest
   step_pieces (start name over body) rest = keyword word.Start ∷ named role.Given name ∷ over_pieces over (opens ∷ steps_pieces body rest)
-  step_pieces (attempt body handler cleanup) rest = keyword word.Try ∷ opens ∷ steps_pieces body (handler_pieces handler (cleanup_pieces cleanup rest))
+  step_pieces (attempt body handler cleanup) rest =
+      keyword word.Try ∷ opens ∷ steps_pieces body (handler_pieces handler (cleanup_pieces cleanup rest))
 
   pub handler_pieces : Handled → List Piece → List Piece
   handler_pieces unhandled rest = rest

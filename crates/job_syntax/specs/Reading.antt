@@ -82,10 +82,12 @@ body_at blocks shapes = mark_at mark.Open shapes >>= blocks
 
 abbrev pub handler_at : Blocks → List Shape → Read Handled
 handler_at blocks shapes =
-    or_else (behind_word word.Except shapes) (λ rest. word_at rest >>= λ n. body_at blocks n.1 >>= λ b. Some (except n.0 b.0, b.1)) (Some (unhandled, shapes))
+    or_else (behind_word word.Except shapes) (λ rest. word_at rest >>= λ n. body_at blocks n.1 >>= λ b. Some (except n.0 b.0, b.1))
+        (Some (unhandled, shapes))
 
 abbrev pub cleanup_at : Blocks → List Shape → Read Cleaned
-cleanup_at blocks shapes = or_else (behind_word word.Finally shapes) (λ rest. body_at blocks rest >>= λ b. Some (finally b.0, b.1)) (Some (uncleaned, shapes))
+cleanup_at blocks shapes = or_else (behind_word word.Finally shapes) (λ rest. body_at blocks rest >>= λ b. Some (finally b.0, b.1))
+    (Some (uncleaned, shapes))
 
 -- a scope behind its keyword
 abbrev pub scope_at : Blocks → List Shape → Read Step
@@ -153,8 +155,10 @@ is_job _ = false
 
 -- a job's name, between its keyword and its `{`
 abbrev pub head_at : List Shape → Read (List ℕ)
-head_at shapes = keyword_at shapes >>= λ k. (if is_job k.0 then word_at k.1 else None) >>= λ w. mark_at mark.Open w.1 >>= λ rest. Some (w.0, rest)
+head_at shapes = keyword_at shapes >>= λ k. (if is_job k.0 then word_at k.1 else None) >>= λ w. mark_at mark.Open w.1 >>= λ rest.
+    Some (w.0, rest)
 
 -- a whole job, whose blocks stand at most 32 deep
 abbrev pub job_at : List Shape → Option Tree
-job_at shapes = head_at shapes >>= λ name. blocks_at most_deep name.1 >>= λ steps. if length steps.1 == 0 then Some (record { name = name.0; steps = steps.0 }) else None
+job_at shapes = head_at shapes >>= λ name. blocks_at most_deep name.1 >>= λ steps.
+    if length steps.1 == 0 then Some (record { name = name.0; steps = steps.0 }) else None

@@ -20,13 +20,15 @@ IsBlock inside ps rest = (steps : Steps) × AreSteps inside steps × (ps ≡ ste
 -- what follows the block of a `try`, and the rest of the block round it
 abbrev pub IsTail : Bool → List Piece → List Piece → Type 0
 IsTail inside ps rest =
-    (handler : Handled) × (cleanup : Cleaned) × (steps : Steps) × HasTail handler cleanup × IsHandler handler × IsCleanup cleanup × AreSteps inside steps
+    (handler : Handled) × (cleanup : Cleaned) × (steps : Steps) × HasTail handler cleanup × IsHandler handler × IsCleanup cleanup
+        × AreSteps inside steps
     × (ps ≡ handler_pieces handler (cleanup_pieces cleanup (steps_pieces steps rest)))
 
 -- what follows a handler, and the rest of the block round it
 abbrev pub IsCleanupAndBlock : Bool → List Piece → List Piece → Type 0
 IsCleanupAndBlock inside ps rest =
-    (cleanup : Cleaned) × (steps : Steps) × IsCleanup cleanup × AreSteps inside steps × (ps ≡ cleanup_pieces cleanup (steps_pieces steps rest))
+    (cleanup : Cleaned) × (steps : Steps) × IsCleanup cleanup × AreSteps inside steps
+        × (ps ≡ cleanup_pieces cleanup (steps_pieces steps rest))
 
 abbrev pub IsName : Role → List Piece → List Piece → Type 0
 IsName role ps rest = (bytes : List ℕ) × (ps ≡ named role bytes ∷ rest)
@@ -46,8 +48,10 @@ Stands symbol.Scope ps rest =
 Stands symbol.Shield ps rest =
     (shield : Bool) × (fail : Bool) × (body : Steps) × AreSteps false body
     × (ps ≡ flag_pieces word.Shield shield (flag_pieces word.Fail fail (opens ∷ steps_pieces body rest)))
-Stands symbol.Fail ps rest = (fail : Bool) × (body : Steps) × AreSteps false body × (ps ≡ flag_pieces word.Fail fail (opens ∷ steps_pieces body rest))
-Stands symbol.Over ps rest = (over : Option ℕ) × (body : Steps) × AreSteps false body × (ps ≡ over_pieces over (opens ∷ steps_pieces body rest))
+Stands symbol.Fail ps rest = (fail : Bool) × (body : Steps) × AreSteps false body
+    × (ps ≡ flag_pieces word.Fail fail (opens ∷ steps_pieces body rest))
+Stands symbol.Over ps rest = (over : Option ℕ) × (body : Steps) × AreSteps false body
+    × (ps ≡ over_pieces over (opens ∷ steps_pieces body rest))
 Stands symbol.Given ps rest = IsName role.Given ps rest
 Stands symbol.Raised ps rest = IsName role.Raised ps rest
 Stands symbol.Handled ps rest = IsName role.Handled ps rest

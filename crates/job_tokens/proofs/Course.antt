@@ -9,12 +9,15 @@ use Rattle.job_tokens.specs.Lexing.{behind_blanks, token_at, Lexes}
 abbrev pub LexesFrom : ℕ → List ℕ → List Token → Option ℕ → Type 0
 LexesFrom end bytes [] None = bytes ≡ []
 LexesFrom end bytes [] (Some at) = (token_at bytes ≡ None) × (0 < length bytes) × (at + length bytes ≡ end)
-LexesFrom end bytes (t ∷ ts) fault = (rest : List ℕ) × (token_at bytes ≡ Some (t.shape, rest)) × (t.at + length bytes ≡ end) × Lexes end rest ts fault
+LexesFrom end bytes (t ∷ ts) fault = (rest : List ℕ) × (token_at bytes ≡ Some (t.shape, rest)) × (t.at + length bytes ≡ end)
+    × Lexes end rest ts fault
 
-pub from_blanks : (end : ℕ) (bytes rest : List ℕ) (ts : List Token) (fault : Option ℕ) → rest ≡ behind_blanks bytes → LexesFrom end rest ts fault → Lexes end bytes ts fault
+pub from_blanks : (end : ℕ) (bytes rest : List ℕ) (ts : List Token) (fault : Option ℕ) → rest ≡ behind_blanks bytes →
+    LexesFrom end rest ts fault → Lexes end bytes ts fault
 from_blanks end bytes rest [] None e h = sym e ∙ h
 from_blanks end bytes rest [] (Some at) e h = subst (λ (r : List ℕ). (token_at r ≡ None) × (0 < length r) × (at + length r ≡ end)) e h
-from_blanks end bytes rest (t ∷ ts) fault e h = subst (λ (r : List ℕ). (after : List ℕ) × (token_at r ≡ Some (t.shape, after)) × (t.at + length r ≡ end) × Lexes end after ts fault) e h
+from_blanks end bytes rest (t ∷ ts) fault e h =
+    subst (λ (r : List ℕ). (after : List ℕ) × (token_at r ≡ Some (t.shape, after)) × (t.at + length r ≡ end) × Lexes end after ts fault) e h
 
 -- what is left to read, behind the blanks, completes the tokens so far
 pub record LexesOn (end : ℕ) (bytes : List ℕ) (front : List Token) (rest : List ℕ) : Type 0 where
@@ -23,19 +26,24 @@ pub record LexesOn (end : ℕ) (bytes : List ℕ) (front : List Token) (rest : L
 pub none_yet : (end : ℕ) (bytes rest : List ℕ) → rest ≡ behind_blanks bytes → LexesOn end bytes [] rest
 none_yet end bytes rest e = record { on = λ ts fault h. from_blanks end bytes rest ts fault e h }
 
-pub one_more : (end : ℕ) (bytes : List ℕ) (front : List Token) (rest after next : List ℕ) (t : Token) → token_at rest ≡ Some (t.shape, after) → t.at + length rest ≡ end → next ≡ behind_blanks after
+pub one_more : (end : ℕ) (bytes : List ℕ) (front : List Token) (rest after next : List ℕ) (t : Token) →
+    token_at rest ≡ Some (t.shape, after) → t.at + length rest ≡ end → next ≡ behind_blanks after
     → LexesOn end bytes front rest → LexesOn end bytes (front ++ t ∷ []) next
 one_more end bytes front rest after next t found place e before = record {
-  on = λ ts fault h. subst (λ (all : List Token). Lexes end bytes all fault) (sym (append_assoc front (t ∷ []) ts)) (before.on (t ∷ ts) fault (after, found, place, from_blanks end after next ts fault e h));
+  on = λ ts fault h. subst (λ (all : List Token). Lexes end bytes all fault) (sym (append_assoc front (t ∷ []) ts))
+      (before.on (t ∷ ts) fault (after, found, place, from_blanks end after next ts fault e h));
 }
 
 -- where no token can be read
-pub stops : (end : ℕ) (bytes : List ℕ) (front : List Token) (rest : List ℕ) → token_at rest ≡ None → 0 < length rest → length rest ≤ end → LexesOn end bytes front rest → Lexes end bytes front (Some (end - length rest))
+pub stops : (end : ℕ) (bytes : List ℕ) (front : List Token) (rest : List ℕ) → token_at rest ≡ None → 0 < length rest → length rest ≤ end →
+    LexesOn end bytes front rest → Lexes end bytes front (Some (end - length rest))
 stops end bytes front rest none some within before =
-    subst (λ (all : List Token). Lexes end bytes all (Some (end - length rest))) (append-nil front) (before.on [] (Some (end - length rest)) (none, some, omega arith))
+    subst (λ (all : List Token). Lexes end bytes all (Some (end - length rest))) (append-nil front)
+        (before.on [] (Some (end - length rest)) (none, some, omega arith))
 
 -- where nothing is left
-pub is_done : (end : ℕ) (bytes : List ℕ) (front : List Token) (rest : List ℕ) → length rest ≡ 0 → LexesOn end bytes front rest → Lexes end bytes front None
+pub is_done : (end : ℕ) (bytes : List ℕ) (front : List Token) (rest : List ℕ) → length rest ≡ 0 → LexesOn end bytes front rest →
+    Lexes end bytes front None
 is_done end bytes front rest empty before =
     subst (λ (all : List Token). Lexes end bytes all None) (append-nil front) (before.on [] None (nil_from_length rest empty))
 
@@ -55,7 +63,8 @@ nothing_there bytes x e found = let none : token_at bytes ≡ None = ap token_at
 abbrev Same : List Token → List Token → Option ℕ → Option ℕ → Type 0
 Same ts us f g = (ts ≡ us) × (f ≡ g)
 
-pub Lexes-unique : (end : ℕ) (bytes : List ℕ) (ts us : List Token) (f g : Option ℕ) → Lexes end bytes ts f → Lexes end bytes us g → (ts ≡ us) × (f ≡ g)
+pub Lexes-unique : (end : ℕ) (bytes : List ℕ) (ts us : List Token) (f g : Option ℕ) → Lexes end bytes ts f → Lexes end bytes us g →
+    (ts ≡ us) × (f ≡ g)
 Lexes-unique end bytes [] [] None None p q = (refl, refl)
 Lexes-unique end bytes [] [] None (Some b) p q = absurd (omega (arith, ap (length {A = ℕ}) p, q.1))
 Lexes-unique end bytes [] [] (Some a) None p q = absurd (omega (arith, ap (length {A = ℕ}) q, p.1))

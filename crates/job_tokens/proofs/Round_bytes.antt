@@ -30,7 +30,8 @@ either_way true = inl refl
 either_way false = inr refl
 
 -- a run that passes, and others behind it that begin with none that does
-pub prefix_len-run : (p : ℕ → Bool) (run rest : List ℕ) → list_all p run ≡ true → prefix_len p rest ≡ 0 → prefix_len p (run ++ rest) ≡ length run
+pub prefix_len-run : (p : ℕ → Bool) (run rest : List ℕ) → list_all p run ≡ true → prefix_len p rest ≡ 0 →
+    prefix_len p (run ++ rest) ≡ length run
 prefix_len-run p [] rest all stops = stops
 prefix_len-run p (b ∷ run) rest all stops =
     let parts = and_parts (p b) (list_all p run) all in
@@ -42,15 +43,18 @@ pub taken_passes : (p : ℕ → Bool) (bytes : List ℕ) → list_all p (take (p
 taken_passes p [] = refl
 taken_passes p (b ∷ bytes) = by_test (taken_passes p bytes) (p b) refl
   where
-    by_test : list_all p (take (prefix_len p bytes) bytes) ≡ true → (t : Bool) → p b ≡ t → list_all p (take (cond t (1 + prefix_len p bytes) 0) (b ∷ bytes)) ≡ true
-    by_test others true is = let k : 1 + prefix_len p bytes ≡ suc (prefix_len p bytes) = omega arith in rw k (and_whole (p b) (list_all p (take (prefix_len p bytes) bytes)) is others)
+    by_test : list_all p (take (prefix_len p bytes) bytes) ≡ true → (t : Bool) → p b ≡ t →
+        list_all p (take (cond t (1 + prefix_len p bytes) 0) (b ∷ bytes)) ≡ true
+    by_test others true is = let k : 1 + prefix_len p bytes ≡ suc (prefix_len p bytes) =
+        omega arith in rw k (and_whole (p b) (list_all p (take (prefix_len p bytes) bytes)) is others)
     by_test others false is = refl
 
 pub left_stops : (p : ℕ → Bool) (bytes : List ℕ) → prefix_len p (drop (prefix_len p bytes) bytes) ≡ 0
 left_stops p [] = refl
 left_stops p (b ∷ bytes) = by_test (left_stops p bytes) (p b) refl
   where
-    by_test : prefix_len p (drop (prefix_len p bytes) bytes) ≡ 0 → (t : Bool) → p b ≡ t → prefix_len p (drop (cond t (1 + prefix_len p bytes) 0) (b ∷ bytes)) ≡ 0
+    by_test : prefix_len p (drop (prefix_len p bytes) bytes) ≡ 0 → (t : Bool) → p b ≡ t →
+        prefix_len p (drop (cond t (1 + prefix_len p bytes) 0) (b ∷ bytes)) ≡ 0
     by_test others true is = let k : 1 + prefix_len p bytes ≡ suc (prefix_len p bytes) = omega arith in rw k others
     by_test others false is = rw is refl
 
@@ -60,5 +64,6 @@ stops_sooner p q [] fewer stops = refl
 stops_sooner p q (b ∷ bytes) fewer stops = by_test (q b) refl
   where
     by_test : (t : Bool) → q b ≡ t → cond t (1 + prefix_len q bytes) 0 ≡ 0
-    by_test true is = let e : cond true (1 + prefix_len p bytes) 0 ≡ 0 = sym (ap (λ (x : Bool). cond x (1 + prefix_len p bytes) 0) (fewer b is)) ∙ stops in absurd (omega (arith, e))
+    by_test true is = let e : cond true (1 + prefix_len p bytes) 0 ≡ 0 =
+        sym (ap (λ (x : Bool). cond x (1 + prefix_len p bytes) 0) (fewer b is)) ∙ stops in absurd (omega (arith, e))
     by_test false is = refl

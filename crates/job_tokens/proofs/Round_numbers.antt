@@ -34,7 +34,8 @@ one_digit n lt = record { all = and_whole (is_digit (48 + n)) true (is_digit-byt
 one_more_digit : (n : ℕ) (ds : List ℕ) → 10 ≤ n → AreDigitsOf (n / 10) ds → AreDigitsOf n (ds ++ (48 + n % 10) ∷ [])
 unfolding value_after
 one_more_digit n ds ge are = record {
-  all = list_all-append is_digit ds ((48 + n % 10) ∷ []) ∙ and_whole (list_all is_digit ds) (is_digit (48 + n % 10) && true) are.all (and_whole (is_digit (48 + n % 10)) true (is_digit-byte (n % 10) (omega arith)) refl);
+  all = list_all-append is_digit ds ((48 + n % 10) ∷ []) ∙ and_whole (list_all is_digit ds) (is_digit (48 + n % 10) && true) are.all
+      (and_whole (is_digit (48 + n % 10)) true (is_digit-byte (n % 10) (omega arith)) refl);
   value = value_after-append 0 ds ((48 + n % 10) ∷ []) ∙ omega (arith, are.value);
 }
 
@@ -71,7 +72,8 @@ stops_goes_on [] stops = refl
 stops_goes_on (b ∷ rest) stops = by_test (is_word_byte b) refl
   where
     by_test : (t : Bool) → is_word_byte b ≡ t → is_word_byte b ≡ false
-    by_test true is = let e : cond true (1 + prefix_len is_word_byte rest) 0 ≡ 0 = sym (ap (λ (x : Bool). cond x (1 + prefix_len is_word_byte rest) 0) is) ∙ stops in absurd (omega (arith, e))
+    by_test true is = let e : cond true (1 + prefix_len is_word_byte rest) 0 ≡ 0 =
+        sym (ap (λ (x : Bool). cond x (1 + prefix_len is_word_byte rest) 0) is) ∙ stops in absurd (omega (arith, e))
     by_test false is = is
 
 or_first : (a b c : Bool) → b ≡ true → ((a || b) || c) ≡ true
@@ -82,8 +84,11 @@ or_first false false c is = absurd cc
 pub digit_in_word : (b : ℕ) → is_digit b ≡ true → is_word_byte b ≡ true
 digit_in_word b is = or_first (is_letter b) (is_digit b) (eqb b 95) is
 
-pub number_at-again : (n : ℕ) (rest : List ℕ) → n ≤ GREATEST_NUMBER → prefix_len is_word_byte rest ≡ 0 → number_at (decimal n ++ rest) ≡ Some (shape.Number (Some n), rest)
+pub number_at-again : (n : ℕ) (rest : List ℕ) → n ≤ GREATEST_NUMBER → prefix_len is_word_byte rest ≡ 0 →
+    number_at (decimal n ++ rest) ≡ Some (shape.Number (Some n), rest)
 number_at-again n rest le stops =
     let are = digits_of_number n (omega arith) in
-    let len : prefix_len is_digit (decimal n ++ rest) ≡ length (decimal n) = prefix_len-run is_digit (decimal n) rest are.all (stops_sooner is_word_byte is_digit rest digit_in_word stops) in
-    rw (len, take_at (decimal n) rest (length (decimal n)) refl, drop_at (decimal n) rest (length (decimal n)) refl, stops_goes_on rest stops, number_of-decimal n le) refl
+    let len : prefix_len is_digit (decimal n ++ rest) ≡ length (decimal n) =
+        prefix_len-run is_digit (decimal n) rest are.all (stops_sooner is_word_byte is_digit rest digit_in_word stops) in
+    rw (len, take_at (decimal n) rest (length (decimal n)) refl, drop_at (decimal n) rest (length (decimal n)) refl,
+        stops_goes_on rest stops, number_of-decimal n le) refl

@@ -42,9 +42,11 @@ blank_cases P b p32 p9 p10 p13 is = first (either_way (eqb b 32)) (either_way (e
     at n e p = subst P (sym (eqb-true b n e)) p
 
     last : (eqb b 32 ≡ false) → (eqb b 9 ≡ false) → (eqb b 10 ≡ false) → P b
-    last e f g = at 13 (sym (ap (λ (x : Bool). (x || eqb b 9) || (eqb b 10 || eqb b 13)) e ∙ ap (λ (x : Bool). (false || x) || (eqb b 10 || eqb b 13)) f ∙ ap (λ (x : Bool). (false || false) || (x || eqb b 13)) g) ∙ is) p13
+    last e f g = at 13 (sym (ap (λ (x : Bool). (x || eqb b 9) || (eqb b 10 || eqb b 13)) e
+        ∙ ap (λ (x : Bool). (false || x) || (eqb b 10 || eqb b 13)) f ∙ ap (λ (x : Bool). (false || false) || (x || eqb b 13)) g) ∙ is) p13
 
-    first : ((eqb b 32 ≡ true) ⊎ (eqb b 32 ≡ false)) → ((eqb b 9 ≡ true) ⊎ (eqb b 9 ≡ false)) → ((eqb b 10 ≡ true) ⊎ (eqb b 10 ≡ false)) → P b
+    first : ((eqb b 32 ≡ true) ⊎ (eqb b 32 ≡ false)) → ((eqb b 9 ≡ true) ⊎ (eqb b 9 ≡ false)) → ((eqb b 10 ≡ true) ⊎ (eqb b 10 ≡ false)) →
+        P b
     first (inl e) f g = at 32 e p32
     first (inr e) (inl f) g = at 9 f p9
     first (inr e) (inr f) (inl g) = at 10 g p10
@@ -57,7 +59,8 @@ word_byte_not_blank : (b : ℕ) → is_word_byte b ≡ true → is_blank b ≡ f
 word_byte_not_blank b is = by_test (either_way (is_blank b))
   where
     by_test : (is_blank b ≡ true) ⊎ (is_blank b ≡ false) → is_blank b ≡ false
-    by_test (inl blank) = absurd (true_not_false (is_word_byte b) is (blank_cases (λ x. is_word_byte x ≡ false) b refl refl refl refl blank))
+    by_test (inl blank) = absurd (true_not_false (is_word_byte b) is
+        (blank_cases (λ x. is_word_byte x ≡ false) b refl refl refl refl blank))
     by_test (inr none) = none
 
 pub letter_in_word : (b : ℕ) → is_letter b ≡ true → is_word_byte b ≡ true
@@ -78,7 +81,8 @@ no_blanks (b ∷ bytes) begins = rw begins refl
 
 one_blank : (bytes : List ℕ) → BeginsAToken bytes → behind_blanks (32 ∷ bytes) ≡ bytes
 one_blank [] begins = absurd begins
-one_blank (b ∷ bytes) begins = let k : 1 + prefix_len is_blank (b ∷ bytes) ≡ 1 = ap (λ (x : Bool). 1 + cond x (1 + prefix_len is_blank bytes) 0) begins in ap (λ (n : ℕ). drop n (32 ∷ b ∷ bytes)) k
+one_blank (b ∷ bytes) begins = let k : 1 + prefix_len is_blank (b ∷ bytes) ≡ 1 =
+    ap (λ (x : Bool). 1 + cond x (1 + prefix_len is_blank bytes) 0) begins in ap (λ (n : ℕ). drop n (32 ∷ b ∷ bytes)) k
 
 behind_gap : (x y : Bool) (bytes : List ℕ) → BeginsAToken bytes → behind_blanks (gap x y ++ bytes) ≡ bytes
 behind_gap true true bytes begins = one_blank bytes begins
@@ -92,7 +96,8 @@ mark_begins mark.Close = refl
 mark_begins mark.Semicolon = refl
 
 -- digits that begin so
-digits_begin : (ds rest : List ℕ) → 0 < length ds → list_all is_digit ds ≡ true → (b : ℕ) × (others : List ℕ) × (ds ≡ b ∷ others) × (is_digit b ≡ true)
+digits_begin : (ds rest : List ℕ) → 0 < length ds → list_all is_digit ds ≡ true → (b : ℕ) × (others : List ℕ) × (ds ≡ b ∷ others)
+    × (is_digit b ≡ true)
 digits_begin [] rest some all = absurd (omega arith)
 digits_begin (b ∷ ds) rest some all = (b, ds, refl, (and_parts (is_digit b) (list_all is_digit ds) all).0)
 
@@ -121,13 +126,17 @@ not_letter b is =
 
 number_begins : (b : ℕ) (rest : List ℕ) → is_digit b ≡ true → token_at (b ∷ rest) ≡ number_at (b ∷ rest)
 number_begins b rest is =
-    ap (λ (x : Bool). cond x (word_at (b ∷ rest)) (token_unless_word b rest)) (not_letter b is) ∙ cond-true (is_digit b) (number_at (b ∷ rest)) (token_unless_number b rest) is
+    ap (λ (x : Bool). cond x (word_at (b ∷ rest)) (token_unless_word b rest)) (not_letter b is)
+        ∙ cond-true (is_digit b) (number_at (b ∷ rest)) (token_unless_number b rest) is
 
-number_again : (n : ℕ) (rest : List ℕ) → n ≤ GREATEST_NUMBER → prefix_len is_word_byte rest ≡ 0 → token_at (decimal n ++ rest) ≡ Some (shape.Number (Some n), rest)
+number_again : (n : ℕ) (rest : List ℕ) → n ≤ GREATEST_NUMBER → prefix_len is_word_byte rest ≡ 0 →
+    token_at (decimal n ++ rest) ≡ Some (shape.Number (Some n), rest)
 number_again n rest le stops =
     let are = digits_of_number n (omega arith) in
     let first = digits_begin (decimal n) rest (decimal_nonempty n (omega arith)) are.all in
-    let begins : token_at (decimal n ++ rest) ≡ number_at (decimal n ++ rest) = subst (λ (ds : List ℕ). token_at (ds ++ rest) ≡ number_at (ds ++ rest)) (sym first.2) (number_begins first.0 (first.1 ++ rest) first.3) in
+    let begins : token_at (decimal n ++ rest) ≡ number_at (decimal n ++ rest) =
+        subst (λ (ds : List ℕ). token_at (ds ++ rest) ≡ number_at (ds ++ rest)) (sym first.2)
+        (number_begins first.0 (first.1 ++ rest) first.3) in
     begins ∙ number_at-again n rest le stops
 
 mark_again : (m : Mark) (rest : List ℕ) → token_at (mark_byte m ∷ rest) ≡ Some (shape.Mark m, rest)
@@ -143,7 +152,8 @@ token_again : (s : Shape) (rest : List ℕ) → IsWritable s → StopsWord (is_w
 token_again (shape.Word word) rest is stops = word_again word rest is stops
 token_again (shape.Number None) rest is stops = absurd is
 token_again (shape.Number (Some n)) rest le stops = number_again n rest le stops
-token_again (shape.Text text) rest is stops = string_again text rest is.0 (leb-true (length text) 64 (and_parts (leb 1 (length text)) (leb (length text) 64) is.0).1) is.1
+token_again (shape.Text text) rest is stops =
+    string_again text rest is.0 (leb-true (length text) 64 (and_parts (leb 1 (length text)) (leb (length text) 64) is.0).1) is.1
 token_again (shape.Mark m) rest is stops = mark_again m rest
 
 -- ---- all tokens
@@ -164,16 +174,22 @@ canon_stops true (shape.Mark m ∷ ss) = mark_stops m (canon_behind false ss)
 abbrev LexesAs : ℕ → List ℕ → List Shape → Type 0
 LexesAs end bytes ss = (ts : List Token) × Lexes end bytes ts None × (shapes_of ts ≡ ss)
 
-pub canon_lexes : (end : ℕ) (before : Bool) (ss : List Shape) → AreWritable ss → length (canon_behind before ss) ≤ end → LexesAs end (canon_behind before ss) ss
+pub canon_lexes : (end : ℕ) (before : Bool) (ss : List Shape) → AreWritable ss → length (canon_behind before ss) ≤ end →
+    LexesAs end (canon_behind before ss) ss
 canon_lexes end before [] are le = ([], refl, refl)
 canon_lexes end before (s ∷ ss) are le =
     let rest = canon_behind (is_wordlike s) ss in
     let bytes = token s ++ rest in
-    let all : (gap before (is_wordlike s) ++ token s) ++ rest ≡ gap before (is_wordlike s) ++ bytes = append_assoc (gap before (is_wordlike s)) (token s) rest in
-    let len : length (gap before (is_wordlike s)) + length bytes ≤ end = omega (arith, le, ap (length {A = ℕ}) all, length-append (gap before (is_wordlike s)) bytes) in
+    let all : (gap before (is_wordlike s) ++ token s) ++ rest ≡ gap before (is_wordlike s) ++ bytes =
+        append_assoc (gap before (is_wordlike s)) (token s) rest in
+    let len : length (gap before (is_wordlike s)) + length bytes ≤ end =
+        omega (arith, le, ap (length {A = ℕ}) all, length-append (gap before (is_wordlike s)) bytes) in
     let bound : length rest ≤ end = omega (arith, len, length-append (token s) rest) in
     let others = canon_lexes end (is_wordlike s) ss are.1 bound in
-    let behind : behind_blanks ((gap before (is_wordlike s) ++ token s) ++ rest) ≡ bytes = ap behind_blanks all ∙ behind_gap before (is_wordlike s) bytes (token_begins s rest are.0) in
-    let found : token_at (behind_blanks ((gap before (is_wordlike s) ++ token s) ++ rest)) ≡ Some (s, rest) = ap token_at behind ∙ token_again s rest are.0 (canon_stops (is_wordlike s) ss) in
-    let place : end - length bytes + length (behind_blanks ((gap before (is_wordlike s) ++ token s) ++ rest)) ≡ end = omega (arith, ap (length {A = ℕ}) behind, len) in
+    let behind : behind_blanks ((gap before (is_wordlike s) ++ token s) ++ rest) ≡ bytes =
+        ap behind_blanks all ∙ behind_gap before (is_wordlike s) bytes (token_begins s rest are.0) in
+    let found : token_at (behind_blanks ((gap before (is_wordlike s) ++ token s) ++ rest)) ≡ Some (s, rest) =
+        ap token_at behind ∙ token_again s rest are.0 (canon_stops (is_wordlike s) ss) in
+    let place : end - length bytes + length (behind_blanks ((gap before (is_wordlike s) ++ token s) ++ rest)) ≡ end =
+        omega (arith, ap (length {A = ℕ}) behind, len) in
     (record { at = end - length bytes; shape = s } ∷ others.0, (rest, found, place, others.1), ap (λ (x : List Shape). s ∷ x) others.2)

@@ -9,7 +9,8 @@ use Rattle.job_tokens.specs.declared.token.Shape.TheVariants as shape
 use Rattle.job_tokens.specs.Lexing.{Read, word_at, number_at, string_at, token_at}
 use Rattle.job_tokens.proofs.Round_bytes.{and_parts, prefix_len-run}
 
-word_at-again : (word rest : List ℕ) → is_word word ≡ true → prefix_len is_word_byte rest ≡ 0 → word_at (word ++ rest) ≡ Some (shape.Word word, rest)
+word_at-again : (word rest : List ℕ) → is_word word ≡ true → prefix_len is_word_byte rest ≡ 0 →
+    word_at (word ++ rest) ≡ Some (shape.Word word, rest)
 word_at-again word rest is stops =
     let parts = and_parts (starts_word word && list_all is_word_byte word) (leb (length word) 32) is in
     let all = and_parts (starts_word word) (list_all is_word_byte word) parts.0 in
@@ -19,7 +20,8 @@ word_at-again word rest is stops =
 -- what a token is that begins with no letter and no digit
 abbrev pub token_unless_number : ℕ → List ℕ → Read
 token_unless_number b rest =
-    cond (eqb b 34) (string_at rest) (cond (eqb b 123) (Some (shape.Mark mark.Open, rest)) (cond (eqb b 125) (Some (shape.Mark mark.Close, rest)) (cond (eqb b 59) (Some (shape.Mark mark.Semicolon, rest)) None)))
+    cond (eqb b 34) (string_at rest) (cond (eqb b 123) (Some (shape.Mark mark.Open, rest))
+        (cond (eqb b 125) (Some (shape.Mark mark.Close, rest)) (cond (eqb b 59) (Some (shape.Mark mark.Semicolon, rest)) None)))
 
 -- what a token is that begins with no letter
 abbrev pub token_unless_word : ℕ → List ℕ → Read
@@ -28,7 +30,8 @@ token_unless_word b rest = cond (is_digit b) (number_at (b ∷ rest)) (token_unl
 begins_word : (b : ℕ) (rest : List ℕ) → is_letter b ≡ true → token_at (b ∷ rest) ≡ word_at (b ∷ rest)
 begins_word b rest letter = cond-true (is_letter b) (word_at (b ∷ rest)) (token_unless_word b rest) letter
 
-pub word_again : (word rest : List ℕ) → is_word word ≡ true → prefix_len is_word_byte rest ≡ 0 → token_at (word ++ rest) ≡ Some (shape.Word word, rest)
+pub word_again : (word rest : List ℕ) → is_word word ≡ true → prefix_len is_word_byte rest ≡ 0 →
+    token_at (word ++ rest) ≡ Some (shape.Word word, rest)
 word_again [] rest is stops = absurd cc
 word_again (b ∷ word) rest is stops =
     let parts = and_parts (starts_word (b ∷ word) && list_all is_word_byte (b ∷ word)) (leb (length (b ∷ word)) 32) is in

@@ -50,8 +50,10 @@ quote_shorter (b ∷ bytes) rest e = by_test (chosen (eqb b 34) (Some bytes) Non
     by_test (inl (t, e)) = let s : bytes ≡ rest = cc in omega (arith, ap (length {A = ℕ}) s)
     by_test (inr (f, e)) = absurd cc
 
-empty_string : (bytes after : List ℕ) (p : List ℕ × List ℕ) → behind_quote bytes ≡ Some after → found_units ([], after) ≡ found_units p → IsString bytes p.0 p.1
-empty_string bytes after p q e = string_is bytes ([], after) p e (record { small = tt; shorter = omega (arith, quote_shorter bytes after q) })
+empty_string : (bytes after : List ℕ) (p : List ℕ × List ℕ) → behind_quote bytes ≡ Some after → found_units ([], after) ≡ found_units p →
+    IsString bytes p.0 p.1
+empty_string bytes after p q e =
+    string_is bytes ([], after) p e (record { small = tt; shorter = omega (arith, quote_shorter bytes after q) })
 
 read_string : (n : ℕ) (bytes : List ℕ) (p : List ℕ × List ℕ) → units n bytes ≡ found_units p → IsString bytes p.0 p.1
 unfolding units
@@ -62,17 +64,21 @@ read_string zero bytes p e = by_quote (behind_quote bytes) refl e
     by_quote (Some after) q e = empty_string bytes after p q e
 read_string (suc n) bytes p e = by_quote (λ rest x. read_string n rest x) (behind_quote bytes) refl e
   where
-    by_rest : ((rest : List ℕ) (x : List ℕ × List ℕ) → units n rest ≡ found_units x → IsString rest x.0 x.1) → (b : ℕ) (after : List ℕ) → IsUnit bytes b after → (u : Units_read) → units n after ≡ u → with_unit b u ≡ found_units p → IsString bytes p.0 p.1
+    by_rest : ((rest : List ℕ) (x : List ℕ × List ℕ) → units n rest ≡ found_units x → IsString rest x.0 x.1) → (b : ℕ) (after : List ℕ) →
+        IsUnit bytes b after → (u : Units_read) → units n after ≡ u → with_unit b u ≡ found_units p → IsString bytes p.0 p.1
     by_rest others b after is None u e = absurd (no_units p e)
     by_rest others b after is (Some x) u e =
         let rest = others after x u in
-        string_is bytes (b ∷ x.0, x.1) p e (record { small = (is.small, rest.small); shorter = omega (arith, is.shorter, rest.shorter, length-append (unit b) (flat_map unit x.0)) })
+        string_is bytes (b ∷ x.0, x.1) p e (record { small = (is.small, rest.small); shorter =
+            omega (arith, is.shorter, rest.shorter, length-append (unit b) (flat_map unit x.0)) })
 
-    by_unit : ((rest : List ℕ) (x : List ℕ × List ℕ) → units n rest ≡ found_units x → IsString rest x.0 x.1) → behind_quote bytes ≡ None → (u : Unit_read) → unit_at bytes ≡ u → unit_then u (units n) ≡ found_units p → IsString bytes p.0 p.1
+    by_unit : ((rest : List ℕ) (x : List ℕ × List ℕ) → units n rest ≡ found_units x → IsString rest x.0 x.1) → behind_quote bytes ≡ None →
+        (u : Unit_read) → unit_at bytes ≡ u → unit_then u (units n) ≡ found_units p → IsString bytes p.0 p.1
     by_unit others q None u e = absurd (no_units p e)
     by_unit others q (Some x) u e = by_rest others x.0 x.1 (read_unit bytes x.0 x.1 q u) (units n x.1) refl e
 
-    by_quote : ((rest : List ℕ) (x : List ℕ × List ℕ) → units n rest ≡ found_units x → IsString rest x.0 x.1) → (q : Option (List ℕ)) → behind_quote bytes ≡ q → unless_ended q (unit_then (unit_at bytes) (units n)) ≡ found_units p → IsString bytes p.0 p.1
+    by_quote : ((rest : List ℕ) (x : List ℕ × List ℕ) → units n rest ≡ found_units x → IsString rest x.0 x.1) → (q : Option (List ℕ)) →
+        behind_quote bytes ≡ q → unless_ended q (unit_then (unit_at bytes) (units n)) ≡ found_units p → IsString bytes p.0 p.1
     by_quote others None q e = by_unit others q (unit_at bytes) refl e
     by_quote others (Some after) q e = empty_string bytes after p q e
 
@@ -92,23 +98,27 @@ value_after-lt n (d ∷ ds) all =
     let up = mul_up (10 * n + (d - 48) + 1) (10 * (n + 1)) (10 ^ length ds) (omega arith) in
     rw (pow-suc 10 (length ds)) (omega (arith, others, up))
 
-digits_shorter : (ds : List ℕ) (n : ℕ) → 0 < length ds → list_all is_digit ds ≡ true → number_of ds ≡ Some n → (n ≤ GREATEST_NUMBER) × (length (decimal n) ≤ length ds)
+digits_shorter : (ds : List ℕ) (n : ℕ) → 0 < length ds → list_all is_digit ds ≡ true → number_of ds ≡ Some n → (n ≤ GREATEST_NUMBER)
+    × (length (decimal n) ≤ length ds)
 digits_shorter ds n some all e = by_zero (chosen (has_leading_zero ds) None (value_within ds) (Some n) e)
   where
     none_some : (x : ℕ) → None ≡ Some x → ⊥
     none_some x e = cc
 
     bounded : value_after 0 ds ≤ GREATEST_NUMBER → value_after 0 ds ≡ n → (n ≤ GREATEST_NUMBER) × (length (decimal n) ≤ length ds)
-    bounded le is = (omega (arith, is), length-decimal-le (length ds) n some (omega (arith, is, value_after-lt 0 ds all)) (omega (arith, is)))
+    bounded le is = (omega (arith, is), length-decimal-le (length ds) n some (omega (arith, is, value_after-lt 0 ds all))
+        (omega (arith, is)))
 
     same_number : (a b : ℕ) → Some a ≡ Some b → a ≡ b
     same_number a b e = cc
 
-    by_range : (leb (value_after 0 ds) GREATEST_NUMBER ≡ true) × (Some (value_after 0 ds) ≡ Some n) ⊎ (leb (value_after 0 ds) GREATEST_NUMBER ≡ false) × (None ≡ Some n) → (n ≤ GREATEST_NUMBER) × (length (decimal n) ≤ length ds)
+    by_range : (leb (value_after 0 ds) GREATEST_NUMBER ≡ true) × (Some (value_after 0 ds) ≡ Some n)
+        ⊎ (leb (value_after 0 ds) GREATEST_NUMBER ≡ false) × (None ≡ Some n) → (n ≤ GREATEST_NUMBER) × (length (decimal n) ≤ length ds)
     by_range (inl (t, e)) = bounded (leb-true (value_after 0 ds) GREATEST_NUMBER t) (same_number (value_after 0 ds) n e)
     by_range (inr (f, e)) = absurd (none_some n e)
 
-    by_zero : (has_leading_zero ds ≡ true) × (None ≡ Some n) ⊎ (has_leading_zero ds ≡ false) × (value_within ds ≡ Some n) → (n ≤ GREATEST_NUMBER) × (length (decimal n) ≤ length ds)
+    by_zero : (has_leading_zero ds ≡ true) × (None ≡ Some n) ⊎ (has_leading_zero ds ≡ false) × (value_within ds ≡ Some n) →
+        (n ≤ GREATEST_NUMBER) × (length (decimal n) ≤ length ds)
     by_zero (inl (t, e)) = absurd (none_some n e)
     by_zero (inr (f, e)) = by_range (chosen (leb (value_after 0 ds) GREATEST_NUMBER) (Some (value_after 0 ds)) None (Some n) e)
 
@@ -147,7 +157,8 @@ token_is bytes p q e is = subst (λ (x : Shape × List ℕ). IsToken bytes x.0 x
 begins_word_byte : (b : ℕ) (bytes : List ℕ) → is_word_byte b ≡ true → 0 < prefix_len is_word_byte (b ∷ bytes)
 begins_word_byte b bytes is = rw is (omega arith)
 
-read_word : (b : ℕ) (bytes : List ℕ) (p : Shape × List ℕ) → is_letter b ≡ true → word_at (b ∷ bytes) ≡ found_token p → IsToken (b ∷ bytes) p.0 p.1
+read_word : (b : ℕ) (bytes : List ℕ) (p : Shape × List ℕ) → is_letter b ≡ true → word_at (b ∷ bytes) ≡ found_token p →
+    IsToken (b ∷ bytes) p.0 p.1
 read_word b bytes p letter e = by_word (chosen (is_word front) (found_token (shape.Word front, rest)) None (found_token p) e)
   where
     front : List ℕ
@@ -156,10 +167,12 @@ read_word b bytes p letter e = by_word (chosen (is_word front) (found_token (sha
     rest : List ℕ
     rest = drop (prefix_len is_word_byte (b ∷ bytes)) (b ∷ bytes)
 
-    by_word : (is_word front ≡ true) × (found_token (shape.Word front, rest) ≡ found_token p) ⊎ (is_word front ≡ false) × (None ≡ found_token p) → IsToken (b ∷ bytes) p.0 p.1
+    by_word : (is_word front ≡ true) × (found_token (shape.Word front, rest) ≡ found_token p) ⊎ (is_word front ≡ false)
+        × (None ≡ found_token p) → IsToken (b ∷ bytes) p.0 p.1
     by_word (inl (t, e)) = token_is (b ∷ bytes) (shape.Word front, rest) p e (record {
       spelled = t;
-      shorter = omega (arith, length-take (prefix_len is_word_byte (b ∷ bytes)) (b ∷ bytes), length-drop (prefix_len is_word_byte (b ∷ bytes)) (b ∷ bytes));
+      shorter = omega (arith, length-take (prefix_len is_word_byte (b ∷ bytes)) (b ∷ bytes),
+          length-drop (prefix_len is_word_byte (b ∷ bytes)) (b ∷ bytes));
       apart = (left_stops is_word_byte (b ∷ bytes), begins_word_byte b bytes (letter_in_word b letter));
     })
     by_word (inr (f, e)) = absurd (no_token p e)
@@ -168,11 +181,14 @@ goes_on_stops : (rest : List ℕ) → goes_on rest ≡ false → prefix_len is_w
 goes_on_stops [] e = refl
 goes_on_stops (b ∷ rest) e = rw e refl
 
-number_shorter : (front rest bytes : List ℕ) (o : Option ℕ) → 0 < length front → list_all is_digit front ≡ true → length front + length rest ≤ length bytes → number_of front ≡ o → IsSpelled (shape.Number o) × (length (token (shape.Number o)) + length rest ≤ length bytes)
+number_shorter : (front rest bytes : List ℕ) (o : Option ℕ) → 0 < length front → list_all is_digit front ≡ true →
+    length front + length rest ≤ length bytes → number_of front ≡ o → IsSpelled (shape.Number o)
+    × (length (token (shape.Number o)) + length rest ≤ length bytes)
 number_shorter front rest bytes None some all len e = (tt, omega (arith, len))
 number_shorter front rest bytes (Some n) some all len e = let d = digits_shorter front n some all e in (d.0, omega (arith, len, d.1))
 
-read_number : (b : ℕ) (bytes : List ℕ) (p : Shape × List ℕ) → is_digit b ≡ true → number_at (b ∷ bytes) ≡ found_token p → IsToken (b ∷ bytes) p.0 p.1
+read_number : (b : ℕ) (bytes : List ℕ) (p : Shape × List ℕ) → is_digit b ≡ true → number_at (b ∷ bytes) ≡ found_token p →
+    IsToken (b ∷ bytes) p.0 p.1
 read_number b bytes p digit e = by_end (chosen (goes_on rest) None (found_token (shape.Number (number_of front), rest)) (found_token p) e)
   where
     n : ℕ
@@ -190,9 +206,11 @@ read_number b bytes p digit e = by_end (chosen (goes_on rest) None (found_token 
         omega (arith, one, length-take (prefix_len is_digit (b ∷ bytes)) (b ∷ bytes))
 
     len : length front + length rest ≤ length (b ∷ bytes)
-    len = omega (arith, length-take (prefix_len is_digit (b ∷ bytes)) (b ∷ bytes), length-drop (prefix_len is_digit (b ∷ bytes)) (b ∷ bytes))
+    len = omega (arith, length-take (prefix_len is_digit (b ∷ bytes)) (b ∷ bytes),
+        length-drop (prefix_len is_digit (b ∷ bytes)) (b ∷ bytes))
 
-    by_end : (goes_on rest ≡ true) × (None ≡ found_token p) ⊎ (goes_on rest ≡ false) × (found_token (shape.Number (number_of front), rest) ≡ found_token p) → IsToken (b ∷ bytes) p.0 p.1
+    by_end : (goes_on rest ≡ true) × (None ≡ found_token p) ⊎ (goes_on rest ≡ false)
+        × (found_token (shape.Number (number_of front), rest) ≡ found_token p) → IsToken (b ∷ bytes) p.0 p.1
     by_end (inl (t, e)) = absurd (no_token p e)
     by_end (inr (f, e)) =
         let d = number_shorter front rest (b ∷ bytes) (number_of front) some (taken_passes is_digit (b ∷ bytes)) len refl in
@@ -212,7 +230,8 @@ read_text bytes p e = by_units (units 64 bytes) refl e
         is : IsString bytes x.0 x.1
         is = read_string 64 bytes x u
 
-        by_text : (is_text x.0 ≡ true) × (found_token (shape.Text x.0, x.1) ≡ found_token p) ⊎ (is_text x.0 ≡ false) × (None ≡ found_token p) → IsToken (34 ∷ bytes) p.0 p.1
+        by_text : (is_text x.0 ≡ true) × (found_token (shape.Text x.0, x.1) ≡ found_token p) ⊎ (is_text x.0 ≡ false)
+            × (None ≡ found_token p) → IsToken (34 ∷ bytes) p.0 p.1
         by_text (inl (t, e)) = token_is (34 ∷ bytes) (shape.Text x.0, x.1) p e (record {
           spelled = (t, is.small);
           shorter = omega (arith, is.shorter, length-append (flat_map unit x.0) (34 ∷ []));
@@ -220,7 +239,8 @@ read_text bytes p e = by_units (units 64 bytes) refl e
         })
         by_text (inr (f, e)) = absurd (no_token p e)
 
-read_mark : (b : ℕ) (bytes : List ℕ) (p : Shape × List ℕ) (s : Shape) → is_wordlike s ≡ false → IsSpelled s → length (token s) ≡ 1 → found_token (s, bytes) ≡ found_token p → IsToken (b ∷ bytes) p.0 p.1
+read_mark : (b : ℕ) (bytes : List ℕ) (p : Shape × List ℕ) (s : Shape) → is_wordlike s ≡ false → IsSpelled s → length (token s) ≡ 1 →
+    found_token (s, bytes) ≡ found_token p → IsToken (b ∷ bytes) p.0 p.1
 read_mark b bytes p s plain spelled one e = token_is (b ∷ bytes) (s, bytes) p e (record {
   spelled = spelled;
   shorter = omega (arith, one);
@@ -232,27 +252,42 @@ pub read_token : (bytes : List ℕ) (p : Shape × List ℕ) → token_at bytes �
 read_token [] p e = absurd (no_token p e)
 read_token (b ∷ bytes) p e = by_letter (chosen (is_letter b) (word_at (b ∷ bytes)) (token_unless_word b bytes) (found_token p) e)
   where
-    by_end : (eqb b 59 ≡ true) × (found_token (shape.Mark mark.Semicolon, bytes) ≡ found_token p) ⊎ (eqb b 59 ≡ false) × (None ≡ found_token p) → IsToken (b ∷ bytes) p.0 p.1
+    by_end : (eqb b 59 ≡ true) × (found_token (shape.Mark mark.Semicolon, bytes) ≡ found_token p) ⊎ (eqb b 59 ≡ false)
+        × (None ≡ found_token p) → IsToken (b ∷ bytes) p.0 p.1
     by_end (inl (t, e)) = read_mark b bytes p (shape.Mark mark.Semicolon) refl tt refl e
     by_end (inr (f, e)) = absurd (no_token p e)
 
-    by_close : (eqb b 125 ≡ true) × (found_token (shape.Mark mark.Close, bytes) ≡ found_token p) ⊎ (eqb b 125 ≡ false) × (cond (eqb b 59) (found_token (shape.Mark mark.Semicolon, bytes)) None ≡ found_token p) → IsToken (b ∷ bytes) p.0 p.1
+    by_close : (eqb b 125 ≡ true) × (found_token (shape.Mark mark.Close, bytes) ≡ found_token p) ⊎ (eqb b 125 ≡ false)
+        × (cond (eqb b 59) (found_token (shape.Mark mark.Semicolon, bytes)) None ≡ found_token p) → IsToken (b ∷ bytes) p.0 p.1
     by_close (inl (t, e)) = read_mark b bytes p (shape.Mark mark.Close) refl tt refl e
     by_close (inr (f, e)) = by_end (chosen (eqb b 59) (found_token (shape.Mark mark.Semicolon, bytes)) None (found_token p) e)
 
-    by_open : (eqb b 123 ≡ true) × (found_token (shape.Mark mark.Open, bytes) ≡ found_token p) ⊎ (eqb b 123 ≡ false) × (cond (eqb b 125) (found_token (shape.Mark mark.Close, bytes)) (cond (eqb b 59) (found_token (shape.Mark mark.Semicolon, bytes)) None) ≡ found_token p) → IsToken (b ∷ bytes) p.0 p.1
+    by_open : (eqb b 123 ≡ true) × (found_token (shape.Mark mark.Open, bytes) ≡ found_token p) ⊎ (eqb b 123 ≡ false)
+        × (cond (eqb b 125) (found_token (shape.Mark mark.Close, bytes))
+        (cond (eqb b 59) (found_token (shape.Mark mark.Semicolon, bytes)) None) ≡ found_token p) → IsToken (b ∷ bytes) p.0 p.1
     by_open (inl (t, e)) = read_mark b bytes p (shape.Mark mark.Open) refl tt refl e
-    by_open (inr (f, e)) = by_close (chosen (eqb b 125) (found_token (shape.Mark mark.Close, bytes)) (cond (eqb b 59) (found_token (shape.Mark mark.Semicolon, bytes)) None) (found_token p) e)
+    by_open (inr (f, e)) = by_close (chosen (eqb b 125) (found_token (shape.Mark mark.Close, bytes))
+        (cond (eqb b 59) (found_token (shape.Mark mark.Semicolon, bytes)) None) (found_token p) e)
 
-    by_quote : (eqb b 34 ≡ true) × (string_at bytes ≡ found_token p) ⊎ (eqb b 34 ≡ false) × (cond (eqb b 123) (found_token (shape.Mark mark.Open, bytes)) (cond (eqb b 125) (found_token (shape.Mark mark.Close, bytes)) (cond (eqb b 59) (found_token (shape.Mark mark.Semicolon, bytes)) None)) ≡ found_token p) → IsToken (b ∷ bytes) p.0 p.1
+    by_quote : (eqb b 34 ≡ true) × (string_at bytes ≡ found_token p) ⊎ (eqb b 34 ≡ false)
+        × (cond (eqb b 123) (found_token (shape.Mark mark.Open, bytes))
+        (cond (eqb b 125) (found_token (shape.Mark mark.Close, bytes))
+        (cond (eqb b 59) (found_token (shape.Mark mark.Semicolon, bytes)) None)) ≡ found_token p) → IsToken (b ∷ bytes) p.0 p.1
     by_quote (inl (t, e)) = subst (λ (x : ℕ). IsToken (x ∷ bytes) p.0 p.1) (sym (eqb-true b 34 t)) (read_text bytes p e)
-    by_quote (inr (f, e)) = by_open (chosen (eqb b 123) (found_token (shape.Mark mark.Open, bytes)) (cond (eqb b 125) (found_token (shape.Mark mark.Close, bytes)) (cond (eqb b 59) (found_token (shape.Mark mark.Semicolon, bytes)) None)) (found_token p) e)
+    by_quote (inr (f, e)) = by_open (chosen (eqb b 123) (found_token (shape.Mark mark.Open, bytes))
+        (cond (eqb b 125) (found_token (shape.Mark mark.Close, bytes))
+        (cond (eqb b 59) (found_token (shape.Mark mark.Semicolon, bytes)) None)) (found_token p) e)
 
-    by_digit : (is_digit b ≡ true) × (number_at (b ∷ bytes) ≡ found_token p) ⊎ (is_digit b ≡ false) × (token_unless_number b bytes ≡ found_token p) → IsToken (b ∷ bytes) p.0 p.1
+    by_digit : (is_digit b ≡ true) × (number_at (b ∷ bytes) ≡ found_token p) ⊎ (is_digit b ≡ false)
+        × (token_unless_number b bytes ≡ found_token p) → IsToken (b ∷ bytes) p.0 p.1
     by_digit (inl (t, e)) = read_number b bytes p t e
-    by_digit (inr (f, e)) = by_quote (chosen (eqb b 34) (string_at bytes) (cond (eqb b 123) (found_token (shape.Mark mark.Open, bytes)) (cond (eqb b 125) (found_token (shape.Mark mark.Close, bytes)) (cond (eqb b 59) (found_token (shape.Mark mark.Semicolon, bytes)) None))) (found_token p) e)
+    by_digit (inr (f, e)) = by_quote (chosen (eqb b 34) (string_at bytes)
+        (cond (eqb b 123) (found_token (shape.Mark mark.Open, bytes))
+        (cond (eqb b 125) (found_token (shape.Mark mark.Close, bytes))
+        (cond (eqb b 59) (found_token (shape.Mark mark.Semicolon, bytes)) None))) (found_token p) e)
 
-    by_letter : (is_letter b ≡ true) × (word_at (b ∷ bytes) ≡ found_token p) ⊎ (is_letter b ≡ false) × (token_unless_word b bytes ≡ found_token p) → IsToken (b ∷ bytes) p.0 p.1
+    by_letter : (is_letter b ≡ true) × (word_at (b ∷ bytes) ≡ found_token p) ⊎ (is_letter b ≡ false)
+        × (token_unless_word b bytes ≡ found_token p) → IsToken (b ∷ bytes) p.0 p.1
     by_letter (inl (t, e)) = read_word b bytes p t e
     by_letter (inr (f, e)) = by_digit (chosen (is_digit b) (number_at (b ∷ bytes)) (token_unless_number b bytes) (found_token p) e)
 
@@ -264,7 +299,8 @@ IsFree true bytes = prefix_len is_word_byte bytes ≡ 0
 IsFree false bytes = Unit {0}
 
 -- between two words or numbers stands a blank
-blank_between : (before : Bool) (s : Shape) (bytes rest : List ℕ) → IsFree before bytes → IsApart (is_wordlike s) (behind_blanks bytes) rest → length (gap before (is_wordlike s)) + length (behind_blanks bytes) ≤ length bytes
+blank_between : (before : Bool) (s : Shape) (bytes rest : List ℕ) → IsFree before bytes →
+    IsApart (is_wordlike s) (behind_blanks bytes) rest → length (gap before (is_wordlike s)) + length (behind_blanks bytes) ≤ length bytes
 blank_between before s bytes rest free apart = by_gap before (is_wordlike s) free apart
   where
     len : length (behind_blanks bytes) ≡ length bytes - prefix_len is_blank bytes
@@ -273,11 +309,13 @@ blank_between before s bytes rest free apart = by_gap before (is_wordlike s) fre
     no_blank : prefix_len is_blank bytes ≡ 0 → behind_blanks bytes ≡ bytes
     no_blank e = ap (λ (n : ℕ). drop n bytes) e
 
-    some : prefix_len is_word_byte bytes ≡ 0 → 0 < prefix_len is_word_byte (behind_blanks bytes) → (n : ℕ) → prefix_len is_blank bytes ≡ n → 1 + length (behind_blanks bytes) ≤ length bytes
+    some : prefix_len is_word_byte bytes ≡ 0 → 0 < prefix_len is_word_byte (behind_blanks bytes) → (n : ℕ) → prefix_len is_blank bytes ≡ n →
+        1 + length (behind_blanks bytes) ≤ length bytes
     some free begins zero e = absurd (omega (arith, free, begins, ap (prefix_len is_word_byte) (no_blank e)))
     some free begins (suc n) e = omega (arith, len, e, prefix_len-le-length is_blank bytes)
 
-    by_gap : (x y : Bool) → IsFree x bytes → IsApart y (behind_blanks bytes) rest → length (gap x y) + length (behind_blanks bytes) ≤ length bytes
+    by_gap : (x y : Bool) → IsFree x bytes → IsApart y (behind_blanks bytes) rest →
+        length (gap x y) + length (behind_blanks bytes) ≤ length bytes
     by_gap true true free apart = some free apart.1 (prefix_len is_blank bytes) refl
     by_gap true false free apart = omega (arith, len)
     by_gap false true free apart = omega (arith, len)
@@ -288,7 +326,8 @@ free_behind true bytes rest apart = apart.0
 free_behind false bytes rest apart = tt
 
 -- no text of the same tokens is shorter than the canonical one
-pub canon_shortest : (end : ℕ) (before : Bool) (bytes : List ℕ) (ts : List Token) → IsFree before bytes → Lexes end bytes ts None → length (canon_behind before (shapes_of ts)) ≤ length bytes
+pub canon_shortest : (end : ℕ) (before : Bool) (bytes : List ℕ) (ts : List Token) → IsFree before bytes → Lexes end bytes ts None →
+    length (canon_behind before (shapes_of ts)) ≤ length bytes
 canon_shortest end before bytes [] free lexed = omega arith
 canon_shortest end before bytes (t ∷ ts) free (rest, found, place, others) =
     let is = read_token (behind_blanks bytes) (t.shape, rest) found in
@@ -308,4 +347,5 @@ AreSpelled (t ∷ ts) = IsSpelled t.shape × AreSpelled ts
 
 pub tokens_spelled : (end : ℕ) (bytes : List ℕ) (ts : List Token) (fault : Option ℕ) → Lexes end bytes ts fault → AreSpelled ts
 tokens_spelled end bytes [] fault lexed = tt
-tokens_spelled end bytes (t ∷ ts) fault (rest, found, place, others) = ((read_token (behind_blanks bytes) (t.shape, rest) found).spelled, tokens_spelled end rest ts fault others)
+tokens_spelled end bytes (t ∷ ts) fault (rest, found, place, others) =
+    ((read_token (behind_blanks bytes) (t.shape, rest) found).spelled, tokens_spelled end rest ts fault others)

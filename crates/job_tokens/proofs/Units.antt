@@ -14,17 +14,21 @@ regroup front b None = refl
 regroup front b (Some read) = ap (λ (bytes : List ℕ). Some (bytes, read.1)) (simp append_assoc)
 
 -- at the closing quote
-pub ends : (front : List ℕ) (n : ℕ) (rest after : List ℕ) (total : Units_read) → behind_quote rest ≡ Some after → with_front front (units n rest) ≡ total → total ≡ Some (front, after)
+pub ends : (front : List ℕ) (n : ℕ) (rest after : List ℕ) (total : Units_read) → behind_quote rest ≡ Some after →
+    with_front front (units n rest) ≡ total → total ≡ Some (front, after)
 unfolding units
 ends front zero rest after total quote so_far =
-    let one : with_front front (units zero rest) ≡ Some (front, after) = rw quote (ap (λ (bytes : List ℕ). Some (bytes, after)) (append-nil front)) in
+    let one : with_front front (units zero rest) ≡ Some (front, after) =
+        rw quote (ap (λ (bytes : List ℕ). Some (bytes, after)) (append-nil front)) in
     sym so_far ∙ one
 ends front (suc n) rest after total quote so_far =
-    let one : with_front front (units (suc n) rest) ≡ Some (front, after) = rw quote (ap (λ (bytes : List ℕ). Some (bytes, after)) (append-nil front)) in
+    let one : with_front front (units (suc n) rest) ≡ Some (front, after) =
+        rw quote (ap (λ (bytes : List ℕ). Some (bytes, after)) (append-nil front)) in
     sym so_far ∙ one
 
 -- at what is no unit
-pub fails : (front : List ℕ) (n : ℕ) (rest : List ℕ) (total : Units_read) → behind_quote rest ≡ None → unit_at rest ≡ None → with_front front (units n rest) ≡ total → total ≡ None
+pub fails : (front : List ℕ) (n : ℕ) (rest : List ℕ) (total : Units_read) → behind_quote rest ≡ None → unit_at rest ≡ None →
+    with_front front (units n rest) ≡ total → total ≡ None
 unfolding units
 fails front zero rest total unquoted none so_far =
     let one : with_front front (units zero rest) ≡ None = rw unquoted refl in
@@ -34,17 +38,20 @@ fails front (suc n) rest total unquoted none so_far =
     sym so_far ∙ one
 
 -- where no further unit may come
-pub is_full : (front : List ℕ) (n : ℕ) (rest : List ℕ) (total : Units_read) → n ≡ 0 → behind_quote rest ≡ None → with_front front (units n rest) ≡ total → total ≡ None
+pub is_full : (front : List ℕ) (n : ℕ) (rest : List ℕ) (total : Units_read) → n ≡ 0 → behind_quote rest ≡ None →
+    with_front front (units n rest) ≡ total → total ≡ None
 unfolding units
 is_full front n rest total zero_left unquoted so_far =
     let one : with_front front (units n rest) ≡ None = rw (zero_left, unquoted) refl in
     sym so_far ∙ one
 
 -- at a unit
-pub goes_on : (front : List ℕ) (most i : ℕ) (rest : List ℕ) (b : ℕ) (after : List ℕ) (total : Units_read) → i < most → behind_quote rest ≡ None → unit_at rest ≡ Some (b, after)
+pub goes_on : (front : List ℕ) (most i : ℕ) (rest : List ℕ) (b : ℕ) (after : List ℕ) (total : Units_read) → i < most →
+    behind_quote rest ≡ None → unit_at rest ≡ Some (b, after)
     → with_front front (units (most - i) rest) ≡ total → with_front (front ++ b ∷ []) (units (most - (i + 1)) after) ≡ total
 unfolding units
 goes_on front most i rest b after total lt unquoted unit so_far =
     let k : most - i ≡ suc (most - (i + 1)) = omega arith in
-    let one : with_front front (units (most - i) rest) ≡ with_front (front ++ b ∷ []) (units (most - (i + 1)) after) = rw (k, unquoted, unit) (regroup front b (units (most - (i + 1)) after)) in
+    let one : with_front front (units (most - i) rest) ≡ with_front (front ++ b ∷ []) (units (most - (i + 1)) after) =
+        rw (k, unquoted, unit) (regroup front b (units (most - (i + 1)) after)) in
     sym one ∙ so_far

@@ -41,9 +41,11 @@ Parts = ((ℕ × ℕ) × (List ℕ × List ℕ)) × ((Deadline × Bool) × (Bool
 abbrev pub mark_code : Coded Mark
 mark_code =
     code_by Parts
-    (coded× (coded× (coded× coded_ℕ coded_ℕ) (coded× (coded_list coded_ℕ) (coded_list coded_ℕ))) (coded× (coded× deadline_code coded_bool) (coded× coded_bool (coded_option coded_ℕ))))
+    (coded× (coded× (coded× coded_ℕ coded_ℕ) (coded× (coded_list coded_ℕ) (coded_list coded_ℕ)))
+        (coded× (coded× deadline_code coded_bool) (coded× coded_bool (coded_option coded_ℕ))))
     (λ m. (((m.kind, m.number), (m.first, m.second)), ((m.deadline, m.flag), (m.other, m.over))))
-    (λ p. record { kind = p.0.0.0; number = p.0.0.1; first = p.0.1.0; second = p.0.1.1; deadline = p.1.0.0; flag = p.1.0.1; other = p.1.1.0; over = p.1.1.1 })
+    (λ p. record { kind = p.0.0.0; number = p.0.0.1; first = p.0.1.0; second = p.0.1.1; deadline = p.1.0.0; flag = p.1.0.1; other =
+        p.1.1.0; over = p.1.1.1 })
     (λ _. refl)
 
 abbrev plain : ℕ → ℕ → List ℕ → List ℕ → Mark
@@ -79,13 +81,17 @@ abbrev mutual
   marks_in (raise name) rest = plain 9 0 name [] ∷ rest
   marks_in (cancel name) rest = plain 10 0 name [] ∷ rest
   marks_in (scope name deadline shield fail body) rest =
-      record { kind = 11; number = 0; first = name; second = []; deadline = deadline; flag = shield; other = fail; over = None } ∷ marks_of body rest
+      record { kind = 11; number = 0; first = name; second = []; deadline = deadline; flag = shield; other = fail; over = None }
+          ∷ marks_of body rest
   marks_in (nursery name deadline shield body) rest =
-      record { kind = 12; number = 0; first = name; second = []; deadline = deadline; flag = shield; other = false; over = None } ∷ marks_of body rest
+      record { kind = 12; number = 0; first = name; second = []; deadline = deadline; flag = shield; other = false; over = None }
+          ∷ marks_of body rest
   marks_in (start name over body) rest =
-      record { kind = 13; number = 0; first = name; second = []; deadline = Never; flag = false; other = false; over = over } ∷ marks_of body rest
+      record { kind = 13; number = 0; first = name; second = []; deadline = Never; flag = false; other = false; over = over }
+          ∷ marks_of body rest
   marks_in (attempt body handler cleanup) rest =
-      record { kind = 14; number = 0; first = handler_name handler; second = []; deadline = Never; flag = has_handler handler; other = has_cleanup cleanup; over = None }
+      record { kind = 14; number = 0; first = handler_name handler; second = []; deadline = Never; flag = has_handler handler; other =
+          has_cleanup cleanup; over = None }
       ∷ marks_of body (handler_marks handler (cleanup_marks cleanup rest))
 
   handler_marks : Handled → List Mark → List Mark
@@ -166,15 +172,19 @@ mutual
   read_step (nursery name deadline shield body) rest = ap (put_block (nursery name deadline shield)) (read_block body rest)
   read_step (start name over body) rest = ap (put_block (start name over)) (read_block body rest)
   read_step (attempt body handler cleanup) rest =
-      ap (put_attempt (handler_name handler) (has_handler handler) (has_cleanup cleanup)) (read_block body (handler_marks handler (cleanup_marks cleanup rest)))
+      ap (put_attempt (handler_name handler) (has_handler handler) (has_cleanup cleanup))
+          (read_block body (handler_marks handler (cleanup_marks cleanup rest)))
       ∙ read_handler handler (cleanup_marks cleanup rest) (attempt body) (has_cleanup cleanup)
       ∙ read_cleanup cleanup rest (attempt body handler)
 
-  pub read_handler : (h : Handled) (rest : List Mark) (make : Handled → Cleaned → Step) (with_cleanup : Bool) → put_handled make (handler_name h) (has_handler h) with_cleanup (read_marks (handler_marks h rest)) ≡ put_cleaned (make h) with_cleanup (read_marks rest)
+  pub read_handler : (h : Handled) (rest : List Mark) (make : Handled → Cleaned → Step) (with_cleanup : Bool) →
+      put_handled make (handler_name h) (has_handler h) with_cleanup (read_marks (handler_marks h rest))
+      ≡ put_cleaned (make h) with_cleanup (read_marks rest)
   read_handler unhandled rest make with_cleanup = refl
   read_handler (except name body) rest make with_cleanup = ap (put_handled make name true with_cleanup) (read_block body rest)
 
-  pub read_cleanup : (c : Cleaned) (rest : List Mark) (make : Cleaned → Step) → put_cleaned make (has_cleanup c) (read_marks (cleanup_marks c rest)) ≡ put (make c) (read_marks rest)
+  pub read_cleanup : (c : Cleaned) (rest : List Mark) (make : Cleaned → Step) →
+      put_cleaned make (has_cleanup c) (read_marks (cleanup_marks c rest)) ≡ put (make c) (read_marks rest)
   read_cleanup uncleaned rest make = refl
   read_cleanup (finally body) rest make = ap (put_cleaned make true) (read_block body rest)
 
@@ -185,7 +195,8 @@ first_block (ss ∷ others) = ss
 -- the code of a block
 abbrev pub steps_code : Coded Steps
 steps_code =
-    code_by (List Mark) (coded_list mark_code) (λ ss. marks_of ss []) (λ ms. first_block (read_marks ms)) (λ ss. ap first_block (read_block ss []))
+    code_by (List Mark) (coded_list mark_code) (λ ss. marks_of ss []) (λ ms. first_block (read_marks ms))
+        (λ ss. ap first_block (read_block ss []))
 
 -- the code of a job
 abbrev pub tree_code : Coded Tree

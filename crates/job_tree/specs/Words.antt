@@ -40,7 +40,8 @@ pub record IsKept (room : ℕ) (test : List ℕ → Bool) (bytes : List ℕ) (le
   pub passes : IsTrue (test (take len bytes))
 
 -- What is kept in a room comes back from its bytes.
-pub kept_again : {R : Type 0} (make : List ℕ → ℕ → R) (room : ℕ) (test : List ℕ → Bool) (bytes : List ℕ) (len : ℕ) → IsKept room test bytes len → make (in_room room (take len bytes)) (length (take len bytes)) ≡ make bytes len
+pub kept_again : {R : Type 0} (make : List ℕ → ℕ → R) (room : ℕ) (test : List ℕ → Bool) (bytes : List ℕ) (len : ℕ) →
+    IsKept room test bytes len → make (in_room room (take len bytes)) (length (take len bytes)) ≡ make bytes len
 kept_again make room test bytes len kept =
     let n : length (take len bytes) ≡ len = length-take-le len bytes (omega (arith, kept.room_is, kept.within)) in
     rw (← kept.zeros, n) refl

@@ -35,7 +35,8 @@ occurs-rest b bs needle k occurs =
     let fits = occurs.fits in
     record {
       fits = omega arith;
-      reads = λ j less. let place : suc k + j ≡ suc (k + j) = omega arith in sym (ap (λ n. get_or (b ∷ bs) n 0) place) ∙ occurs.reads j less;
+      reads = λ j less. let place : suc k + j ≡ suc (k + j) = omega arith in sym (ap (λ n. get_or (b ∷ bs) n 0) place)
+          ∙ occurs.reads j less;
     }
 
 occurs-more : (b : ℕ) (bs needle : List ℕ) (k : ℕ) → OccursAt bs needle k → OccursAt (b ∷ bs) needle (suc k)
@@ -51,17 +52,21 @@ pub contains-occurs : (needle bytes : List ℕ) (k : ℕ) → OccursAt bytes nee
 contains-occurs needle [] zero occurs = starts-true [] needle occurs
 contains-occurs needle [] (suc k) occurs = let fits = occurs.fits in absurd (omega arith)
 contains-occurs needle (b ∷ bs) zero occurs = rw (starts-true (b ∷ bs) needle occurs) refl
-contains-occurs needle (b ∷ bs) (suc k) occurs = or_true (starts_with nat_eq (b ∷ bs) needle) (contains needle bs) (contains-occurs needle bs k (occurs-rest b bs needle k occurs))
+contains-occurs needle (b ∷ bs) (suc k) occurs =
+    or_true (starts_with nat_eq (b ∷ bs) needle) (contains needle bs) (contains-occurs needle bs k (occurs-rest b bs needle k occurs))
 
 -- bytes with no occurrence do not
 pub contains-nowhere : (needle bytes : List ℕ) → ((k : ℕ) → OccursAt bytes needle k → ⊥) → contains needle bytes ≡ false
 contains-nowhere needle [] none =
-    ⊎_elim (λ (starts : starts_with nat_eq [] needle ≡ true). absurd (none 0 (starts-occurs [] needle starts))) (λ no_is. no_is) (cases_Bool (starts_with nat_eq [] needle))
+    ⊎_elim (λ (starts : starts_with nat_eq [] needle ≡ true). absurd (none 0 (starts-occurs [] needle starts))) (λ no_is. no_is)
+        (cases_Bool (starts_with nat_eq [] needle))
 contains-nowhere needle (b ∷ bs) none =
     let rest = contains-nowhere needle bs (λ k occurs. none (suc k) (occurs-more b bs needle k occurs)) in
-    ⊎_elim (λ (starts : starts_with nat_eq (b ∷ bs) needle ≡ true). absurd (none 0 (starts-occurs (b ∷ bs) needle starts))) (λ no_is. rw no_is rest) (cases_Bool (starts_with nat_eq (b ∷ bs) needle))
+    ⊎_elim (λ (starts : starts_with nat_eq (b ∷ bs) needle ≡ true). absurd (none 0 (starts-occurs (b ∷ bs) needle starts)))
+        (λ no_is. rw no_is rest) (cases_Bool (starts_with nat_eq (b ∷ bs) needle))
 
 -- what a search answers
 pub contains-found : (bytes needle : List ℕ) (found : Option ℕ) → FindsNeedle bytes needle 0 found → is_some found ≡ contains needle bytes
-contains-found bytes needle None missed = sym (contains-nowhere needle bytes (λ k occurs. missed k (omega arith) (let fits = occurs.fits in omega arith) occurs))
+contains-found bytes needle None missed =
+    sym (contains-nowhere needle bytes (λ k occurs. missed k (omega arith) (let fits = occurs.fits in omega arith) occurs))
 contains-found bytes needle (Some k) found = sym (contains-occurs needle bytes k found.1)

@@ -41,7 +41,8 @@ lines_from-count at (b ∷ c ∷ bs) =
     omega (arith, one, lines, rest))
     (λ (no_is : eqb b 10 ≡ false).
     let none : newlines (b ∷ c ∷ bs) ≡ 0 + newlines (c ∷ bs) = first ∙ ap (λ t. cond t 1 0 + newlines (c ∷ bs)) no_is in
-    let lines : length (lines_from at (b ∷ c ∷ bs)) ≡ length (lines_from (at + 1) (c ∷ bs)) = rw no_is (length-begun_at at (lines_from (at + 1) (c ∷ bs)) some) in
+    let lines : length (lines_from at (b ∷ c ∷ bs)) ≡ length (lines_from (at + 1) (c ∷ bs)) =
+        rw no_is (length-begun_at at (lines_from (at + 1) (c ∷ bs)) some) in
     omega (arith, none, lines, rest))
     (cases_Bool (eqb b 10))
 
@@ -68,7 +69,8 @@ pub count-open : (at : ℕ) (xs : List ℕ) → 0 < length xs → get_or xs (len
 count-open at xs some other = omega (arith, lines_from-count at xs, open_end-other xs some other)
 
 -- the newlines before a place, and those of a range from there on
-pub newlines-more : (bytes : List ℕ) (at len : ℕ) → newlines (take at bytes) + newlines (slice_range bytes at (at + len)) ≡ newlines (take (at + len) bytes)
+pub newlines-more : (bytes : List ℕ) (at len : ℕ) → newlines (take at bytes) + newlines (slice_range bytes at (at + len))
+    ≡ newlines (take (at + len) bytes)
 newlines-more bytes at len =
     let size : at + len - at ≡ len = omega arith in
     ap (λ n. newlines (take at bytes) + newlines (take n (drop at bytes))) size
@@ -76,7 +78,8 @@ newlines-more bytes at len =
     ∙ ap newlines (sym (take-add at len bytes))
 
 -- the newlines before a place, and those from there on
-pub newlines-rest : (bytes : List ℕ) (at : ℕ) → newlines (take at bytes) + newlines (take (length bytes - at) (drop at bytes)) ≡ newlines bytes
+pub newlines-rest : (bytes : List ℕ) (at : ℕ) → newlines (take at bytes) + newlines (take (length bytes - at) (drop at bytes))
+    ≡ newlines bytes
 newlines-rest bytes at =
     ap (λ ys. newlines (take at bytes) + newlines ys) (take_rest bytes at) ∙ sum_by-take-drop (λ b. cond (eqb b 10) 1 0) bytes at
 

@@ -19,11 +19,14 @@ pub filter-dropped : {X : Type 0} (p : X → Bool) (x : X) (xs : List X) → p x
 filter-dropped p x xs fails = rw fails refl
 
 -- a line that is shown goes behind the lines shown before
-pub shown_more : (lines : List Line) (line : Line) (rest : List Span) → map span_of lines ++ (span_of line ∷ rest) ≡ map span_of (lines ++ line ∷ []) ++ rest
-shown_more lines line rest = sym (ap (λ ls. ls ++ rest) (map_push span_of lines line) ∙ append_assoc (map span_of lines) (span_of line ∷ []) rest)
+pub shown_more : (lines : List Line) (line : Line) (rest : List Span) →
+    map span_of lines ++ (span_of line ∷ rest) ≡ map span_of (lines ++ line ∷ []) ++ rest
+shown_more lines line rest = sym (ap (λ ls. ls ++ rest) (map_push span_of lines line)
+    ∙ append_assoc (map span_of lines) (span_of line ∷ []) rest)
 
 -- a line of the buffer is shown where its own bytes contain the string
-pub stands_in-line : (buffer needle : List ℕ) (line : Line) (test : Bool) → IsLineOf buffer line → contains needle (line_text line) ≡ test → stands_in buffer needle (span_of line) ≡ test
+pub stands_in-line : (buffer needle : List ℕ) (line : Line) (test : Bool) → IsLineOf buffer line → contains needle (line_text line) ≡ test →
+    stands_in buffer needle (span_of line) ≡ test
 stands_in-line buffer needle line test placed is = ap (contains needle) (sym placed.text) ∙ is
 
 pub append-nil : {X : Type 0} (xs : List X) → xs ++ [] ≡ xs

@@ -35,8 +35,10 @@ longest-next : (l m : Span) (ms : List Span) → l.len < m.len → longest_among
 longest-next l m ms longer = rw (lt-ltb l.len m.len longer) refl
 
 -- the first longer line takes the place of the line before
-pub longest-longer : (l : Span) (ls : List Span) (m : Span) (ms : List Span) → from_longer l.len ls ≡ m ∷ ms → longest_among (l ∷ ls) ≡ longest_among (m ∷ ms)
-longest-longer l ls m ms is = longest-from l ls ∙ ap (λ xs. longest_among (l ∷ xs)) is ∙ longest-next l m ms (from_longer-head l.len ls m ms is)
+pub longest-longer : (l : Span) (ls : List Span) (m : Span) (ms : List Span) → from_longer l.len ls ≡ m ∷ ms →
+    longest_among (l ∷ ls) ≡ longest_among (m ∷ ms)
+longest-longer l ls m ms is = longest-from l ls ∙ ap (λ xs. longest_among (l ∷ xs)) is
+    ∙ longest-next l m ms (from_longer-head l.len ls m ms is)
 
 -- where no line is longer it is the longest
 pub longest-last : (l : Span) (ls : List Span) → from_longer l.len ls ≡ [] → longest_among (l ∷ ls) ≡ l ∷ []

@@ -17,13 +17,15 @@ abbrev pub LiesIn : ℕ → ℕ → Span → Type 0
 LiesIn from to l = (from ≤ l.at) × (l.at + l.len ≤ to)
 
 begun-lies : (at count : ℕ) (ls : List Span) → All (LiesIn (at + 1) (at + 1 + count)) ls → All (LiesIn at (at + 1 + count)) (begun_at at ls)
-begun-lies at count [] lie = All-cons (LiesIn at (at + 1 + count)) (span at 1) [] (omega arith, omega arith) (All-nil (LiesIn at (at + 1 + count)))
+begun-lies at count [] lie = All-cons (LiesIn at (at + 1 + count)) (span at 1) [] (omega arith, omega arith)
+    (All-nil (LiesIn at (at + 1 + count)))
 begun-lies at count (l ∷ ls) lie =
     let head = All-head (LiesIn (at + 1) (at + 1 + count)) l ls lie in
     let low = head.0 in
     let high = head.1 in
     All-cons (LiesIn at (at + 1 + count)) (span at (l.len + 1)) ls (omega arith, omega arith)
-    (All-weaker (LiesIn (at + 1) (at + 1 + count)) (LiesIn at (at + 1 + count)) (λ m lies. let low = lies.0 in (omega arith, lies.1)) ls (All-tail (LiesIn (at + 1) (at + 1 + count)) l ls lie))
+    (All-weaker (LiesIn (at + 1) (at + 1 + count)) (LiesIn at (at + 1 + count)) (λ m lies. let low = lies.0 in (omega arith, lies.1)) ls
+        (All-tail (LiesIn (at + 1) (at + 1 + count)) l ls lie))
 
 -- the lines of bytes lie where the bytes stand
 pub lines_from-lie : (at : ℕ) (xs : List ℕ) → All (LiesIn at (at + length xs)) (lines_from at xs)
@@ -35,7 +37,8 @@ lines_from-lie at (b ∷ bs) =
     (⊎_elim
     (λ (yes_is : eqb b 10 ≡ true). rw yes_is
     (All-cons (LiesIn at (at + 1 + length bs)) (span at 0) (lines_from (at + 1) bs) (omega arith, omega arith)
-    (All-weaker (LiesIn (at + 1) (at + 1 + length bs)) (LiesIn at (at + 1 + length bs)) (λ m lies. let low = lies.0 in (omega arith, lies.1)) (lines_from (at + 1) bs) rest)))
+    (All-weaker (LiesIn (at + 1) (at + 1 + length bs)) (LiesIn at (at + 1 + length bs))
+        (λ m lies. let low = lies.0 in (omega arith, lies.1)) (lines_from (at + 1) bs) rest)))
     (λ (no_is : eqb b 10 ≡ false). rw no_is (begun-lies at (length bs) (lines_from (at + 1) bs) rest))
     (cases_Bool (eqb b 10)))
 
@@ -53,7 +56,8 @@ filter-none p (l ∷ ls) none =
 abbrev pub StandsAt : List ℕ → List ℕ → ℕ → Type 0
 StandsAt buffer needle p = (j : ℕ) → j < length needle → get_or buffer (p + j) 0 ≡ get_or needle j 0
 
-occurs-stands : (buffer needle : List ℕ) (a c k : ℕ) → c ≤ length buffer → 0 < length needle → OccursAt (slice_range buffer a c) needle k → (a + k + length needle ≤ c) × StandsAt buffer needle (a + k)
+occurs-stands : (buffer needle : List ℕ) (a c k : ℕ) → c ≤ length buffer → 0 < length needle → OccursAt (slice_range buffer a c) needle k →
+    (a + k + length needle ≤ c) × StandsAt buffer needle (a + k)
 occurs-stands buffer needle a c k within some occurs =
     let fits = occurs.fits in
     let long = length-slice_range buffer a c within in (
@@ -63,7 +67,8 @@ occurs-stands buffer needle a c k within some occurs =
           sym (ap (λ n. get_or buffer n 0) sum) ∙ sym (get_or-slice_range buffer a c (k + j) (omega arith)) ∙ occurs.reads j less,
     )
 
-stands-occurs : (buffer needle : List ℕ) (a c p : ℕ) → c ≤ length buffer → a ≤ p → p + length needle ≤ c → StandsAt buffer needle p → OccursAt (slice_range buffer a c) needle (p - a)
+stands-occurs : (buffer needle : List ℕ) (a c p : ℕ) → c ≤ length buffer → a ≤ p → p + length needle ≤ c → StandsAt buffer needle p →
+    OccursAt (slice_range buffer a c) needle (p - a)
 stands-occurs buffer needle a c p within low high stands =
     let long = length-slice_range buffer a c within in
     record {
@@ -74,7 +79,9 @@ stands-occurs buffer needle a c p within low high stands =
     }
 
 -- no line of a range contains a string that stands nowhere in it
-none_stand : (buffer needle : List ℕ) (from to : ℕ) → from ≤ to → to ≤ length buffer → 0 < length needle → ((p : ℕ) → from ≤ p → p + length needle ≤ to → StandsAt buffer needle p → ⊥) → filter (stands_in buffer needle) (lines_of buffer (range from to)) ≡ []
+none_stand : (buffer needle : List ℕ) (from to : ℕ) → from ≤ to → to ≤ length buffer → 0 < length needle →
+    ((p : ℕ) → from ≤ p → p + length needle ≤ to → StandsAt buffer needle p → ⊥) →
+    filter (stands_in buffer needle) (lines_of buffer (range from to)) ≡ []
 none_stand buffer needle from to ordered within some nowhere =
     filter-none (stands_in buffer needle) (lines_of buffer (range from to))
     (All-weaker (LiesIn from to) (λ l. stands_in buffer needle l ≡ false)
@@ -88,7 +95,9 @@ none_stand buffer needle from to ordered within some nowhere =
     (lines_of buffer (range from to)) (lines_of-lie buffer from to ordered within))
 
 -- where a search misses no line is shown
-pub missed-none : (lines : Lines) (needle : List ℕ) → 0 < length needle → FindsNeedle (bytes_of (source_of lines) (range_left lines)) needle 0 None → filter (stands_in (source_of lines) needle) (lines_left lines) ≡ []
+pub missed-none : (lines : Lines) (needle : List ℕ) → 0 < length needle →
+    FindsNeedle (bytes_of (source_of lines) (range_left lines)) needle 0 None →
+    filter (stands_in (source_of lines) needle) (lines_left lines) ≡ []
 missed-none lines needle some missed =
     let b = source_of lines in
     let from = (range_left lines).from in
@@ -98,9 +107,11 @@ missed-none lines needle some missed =
     (λ p low high stands. missed (p - from) (omega arith) (omega arith) (stands-occurs b needle from to p lines.within low high stands))
 
 -- where a search finds, the next line that is shown is the one that holds the place
-pub found-next : (before after : Lines) (needle : List ℕ) (place : ℕ) (line : Line) → 0 < length needle → ((j : ℕ) → j < length needle → get_or needle j 0 ≢ 10)
+pub found-next : (before after : Lines) (needle : List ℕ) (place : ℕ) (line : Line) → 0 < length needle →
+    ((j : ℕ) → j < length needle → get_or needle j 0 ≢ 10)
     → FindsNeedle (bytes_of (source_of before) (range_left before)) needle 0 (Some place) → GoesToLine before place line after
-    → filter (stands_in (source_of before) needle) (lines_left before) ≡ span_of line ∷ filter (stands_in (source_of before) needle) (lines_left after)
+    → filter (stands_in (source_of before) needle) (lines_left before) ≡ span_of line
+        ∷ filter (stands_in (source_of before) needle) (lines_left after)
 found-next before after needle place line some no_newline found goes =
     let b = source_of before in
     let from = (range_left before).from in
@@ -116,7 +127,8 @@ found-next before after needle place line some no_newline found goes =
     let fits = here.0 in
     let earlier : filter (stands_in b needle) (lines_of b (range from l.at)) ≡ [] =
     none_stand b needle from l.at behind (omega arith) some
-    (λ p low high stands. found.0.before (p - from) (omega arith) (omega arith) (stands-occurs b needle from to p before.within low (omega arith) stands)) in
+    (λ p low high stands. found.0.before (p - from) (omega arith) (omega arith)
+        (stands-occurs b needle from to p before.within low (omega arith) stands)) in
     let reaches : from + place + length needle ≤ l.at + l.len =
     ⊎_elim (λ (at_end : l.at + l.len ≡ to). omega arith)
     (λ (newline : get_or b (l.at + l.len) 0 ≡ 10).
@@ -129,6 +141,8 @@ found-next before after needle place line some no_newline found goes =
     (cases_lt (l.at + l.len) (from + place + length needle)))
     goes.ends in
     let shown : stands_in b needle l ≡ true =
-    contains-occurs needle (text_of b l) (from + place - l.at) (stands-occurs b needle l.at (l.at + l.len) (from + place) (omega arith) starts reaches here.1) in
+    contains-occurs needle (text_of b l) (from + place - l.at) (stands-occurs b needle l.at (l.at + l.len) (from + place) (omega arith)
+        starts reaches here.1) in
     ap (filter (stands_in b needle)) goes.passed ∙ filter-append (stands_in b needle) (lines_of b (range from l.at)) (l ∷ lines_left after)
-    ∙ ap (λ ls. ls ++ filter (stands_in b needle) (l ∷ lines_left after)) earlier ∙ filter-passed (stands_in b needle) l (lines_left after) shown
+    ∙ ap (λ ls. ls ++ filter (stands_in b needle) (l ∷ lines_left after)) earlier
+        ∙ filter-passed (stands_in b needle) l (lines_left after) shown

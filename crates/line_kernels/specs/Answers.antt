@@ -21,7 +21,8 @@ abbrev pub IsAnswer : Kernel → Part → Answer → Type 0
 IsAnswer (Find needle) part (Lines lines) = AreLinesAt (buffer_of part) (found_in (buffer_of part) needle.now (range_of part)) lines
 IsAnswer (Head count) part (Lines lines) = AreLinesAt (buffer_of part) (head_of (buffer_of part) count (range_of part)) lines
 IsAnswer Longest part (Lines lines) = AreLinesAt (buffer_of part) (longest_in (buffer_of part) (range_of part)) lines
-IsAnswer (Need needle) part (Lines lines) = MatchOption (needed_in (buffer_of part) needle.now (range_of part)) ⊥ (λ l. AreLinesAt (buffer_of part) (l ∷ []) lines)
+IsAnswer (Need needle) part (Lines lines) =
+    MatchOption (needed_in (buffer_of part) needle.now (range_of part)) ⊥ (λ l. AreLinesAt (buffer_of part) (l ∷ []) lines)
 IsAnswer (Need needle) part Missing = needed_in (buffer_of part) needle.now (range_of part) ≡ None
 IsAnswer Count part (answers.Count lines) = lines ≡ count_in (buffer_of part) (range_of part)
 IsAnswer _ part _ = ⊥

@@ -18,9 +18,11 @@ use Rattle.nursery_app.specs.Hinting.{syntax_hint, twice_hint, IsSyntaxHint, IsT
 use Rattle.nursery_app.specs.Explaining.{headed, shown_byte, is_newline, last_of, width_before, before, behind, most_before, most_behind}
 
 -- what the grammar asks for behind the tokens is what it asks for in the text
-pub expects : (text body : List ℕ) (tokens given : List Token) (fault : Option ℕ) (r : Result (Option Symbol) AllocError) → body ≡ drop 11 text → Lexes (length text) body tokens fault → given ≡ tokens
+pub expects : (text body : List ℕ) (tokens given : List Token) (fault : Option ℕ) (r : Result (Option Symbol) AllocError) →
+    body ≡ drop 11 text → Lexes (length text) body tokens fault → given ≡ tokens
     → IfOk r (λ symbol. symbol ≡ expected_in whole_job given) → IfOk r (IsExpected text)
-expects text body tokens given fault (Ok s) is lexes same found = (tokens, fault, subst (λ (b : List ℕ). Lexes (length text) b tokens fault) is lexes, found ∙ ap (expected_in whole_job) same)
+expects text body tokens given fault (Ok s) is lexes same found =
+    (tokens, fault, subst (λ (b : List ℕ). Lexes (length text) b tokens fault) is lexes, found ∙ ap (expected_in whole_job) same)
 expects text body tokens given fault (Err e) is lexes same found = found
 
 -- the first bytes, cut at a place that may lie behind the end
@@ -30,14 +32,17 @@ cut_front bytes front n m is min_is = is ∙ ap (λ (x : ℕ). take x bytes) min
 pub cut_back : (bytes back : List ℕ) (n m : ℕ) → back ≡ drop m bytes → m ≡ min n (length bytes) → back ≡ drop n bytes
 cut_back bytes back n m is min_is = is ∙ ap (λ (x : ℕ). drop x bytes) min_is ∙ drop_min n bytes
 
-pub width_is : (text : List ℕ) (at column shown : ℕ) → column ≡ column_of text at → shown ≡ min (column - 1) most_before → shown ≡ width_before text at
+pub width_is : (text : List ℕ) (at column shown : ℕ) → column ≡ column_of text at → shown ≡ min (column - 1) most_before →
+    shown ≡ width_before text at
 width_is text at column shown column_is is = is ∙ ap (λ (x : ℕ). min (x - 1) most_before) column_is
 
-pub before_is : (text front last : List ℕ) (at shown : ℕ) → front ≡ take at text → shown ≡ width_before text at → last ≡ last_of shown front → map shown_byte last ≡ before text at
+pub before_is : (text front last : List ℕ) (at shown : ℕ) → front ≡ take at text → shown ≡ width_before text at →
+    last ≡ last_of shown front → map shown_byte last ≡ before text at
 before_is text front last at shown front_is width is =
     ap (map shown_byte) (is ∙ ap (λ (x : ℕ). last_of x front) width ∙ ap (last_of (width_before text at)) front_is)
 
-pub behind_is : (text rest first line : List ℕ) (at : ℕ) → rest ≡ drop at text → first ≡ take most_behind rest → line ≡ before_first is_newline first → map shown_byte line ≡ behind text at
+pub behind_is : (text rest first line : List ℕ) (at : ℕ) → rest ≡ drop at text → first ≡ take most_behind rest →
+    line ≡ before_first is_newline first → map shown_byte line ≡ behind text at
 behind_is text rest first line at rest_is first_is is =
     ap (map shown_byte) (is ∙ ap (before_first is_newline) (first_is ∙ ap (take most_behind) rest_is))
 
@@ -51,9 +56,11 @@ get_drop (b ∷ bs) (suc at) = get_drop bs at
 pub first_at : (text rest : List ℕ) (at : ℕ) → rest ≡ drop at text → slice_get rest 0 ≡ slice_get text at
 first_at text rest at is = ap (λ (x : List ℕ). slice_get x 0) is ∙ get_drop text at
 
-pub headed_same : (job sentence wanted : List ℕ) (line line' column column' : ℕ) → line ≡ line' → column ≡ column' → sentence ≡ wanted → headed job line column sentence ≡ headed job line' column' wanted
+pub headed_same : (job sentence wanted : List ℕ) (line line' column column' : ℕ) → line ≡ line' → column ≡ column' → sentence ≡ wanted →
+    headed job line column sentence ≡ headed job line' column' wanted
 headed_same job sentence wanted line line' column column' line_is column_is is =
-    ap (λ (x : ℕ). headed job x column sentence) line_is ∙ ap (λ (x : ℕ). headed job line' x sentence) column_is ∙ ap (headed job line' column') is
+    ap (λ (x : ℕ). headed job x column sentence) line_is ∙ ap (λ (x : ℕ). headed job line' x sentence) column_is
+        ∙ ap (headed job line' column') is
 
 -- three pieces, one behind the other
 pub three_pieces : (old a b c h1 h2 h3 : List ℕ) → h1 ≡ old ++ a → h2 ≡ h1 ++ b → h3 ≡ h2 ++ c → h3 ≡ old ++ ((a ++ b) ++ c)
@@ -62,16 +69,21 @@ three_pieces old a b c h1 h2 h3 is1 is2 is3 =
     is3 ∙ ap (λ (x : List ℕ). x ++ c) two ∙ append_assoc old (a ++ b) c
 
 -- one piece behind the other
-pub pieces : (head front back newline spaces caret h0 h1 h2 h3 h4 h5 : List ℕ) → h0 ≡ head → h1 ≡ h0 ++ front → h2 ≡ h1 ++ back → h3 ≡ h2 ++ newline → h4 ≡ h3 ++ spaces → h5 ≡ h4 ++ caret
+pub pieces : (head front back newline spaces caret h0 h1 h2 h3 h4 h5 : List ℕ) → h0 ≡ head → h1 ≡ h0 ++ front → h2 ≡ h1 ++ back →
+    h3 ≡ h2 ++ newline → h4 ≡ h3 ++ spaces → h5 ≡ h4 ++ caret
     → h5 ≡ head ++ ((((front ++ back) ++ newline) ++ spaces) ++ caret)
 pieces head front back newline spaces caret h0 h1 h2 h3 h4 h5 is0 is1 is2 is3 is4 is5 =
-    let two : h2 ≡ head ++ (front ++ back) = is2 ∙ ap (λ (x : List ℕ). x ++ back) (is1 ∙ ap (λ (x : List ℕ). x ++ front) is0) ∙ append_assoc head front back in
-    let three : h3 ≡ head ++ ((front ++ back) ++ newline) = is3 ∙ ap (λ (x : List ℕ). x ++ newline) two ∙ append_assoc head (front ++ back) newline in
-    let four : h4 ≡ head ++ (((front ++ back) ++ newline) ++ spaces) = is4 ∙ ap (λ (x : List ℕ). x ++ spaces) three ∙ append_assoc head ((front ++ back) ++ newline) spaces in
+    let two : h2 ≡ head ++ (front ++ back) = is2 ∙ ap (λ (x : List ℕ). x ++ back) (is1 ∙ ap (λ (x : List ℕ). x ++ front) is0)
+        ∙ append_assoc head front back in
+    let three : h3 ≡ head ++ ((front ++ back) ++ newline) = is3 ∙ ap (λ (x : List ℕ). x ++ newline) two
+        ∙ append_assoc head (front ++ back) newline in
+    let four : h4 ≡ head ++ (((front ++ back) ++ newline) ++ spaces) =
+        is4 ∙ ap (λ (x : List ℕ). x ++ spaces) three ∙ append_assoc head ((front ++ back) ++ newline) spaces in
     is5 ∙ ap (λ (x : List ℕ). x ++ caret) four ∙ append_assoc head (((front ++ back) ++ newline) ++ spaces) caret
 
 -- what helps where a text goes on wrongly, or gives a name twice
-pub helps : (text body : List ℕ) (tokens given : List Token) (fault : Option ℕ) (at : ℕ) (shape : Option Shape) (h : Option Hint) → body ≡ drop 11 text → Lexes (length text) body tokens fault
+pub helps : (text body : List ℕ) (tokens given : List Token) (fault : Option ℕ) (at : ℕ) (shape : Option Shape) (h : Option Hint) →
+    body ≡ drop 11 text → Lexes (length text) body tokens fault
     → given ≡ tokens → shape ≡ shape_at at given → h ≡ syntax_hint given shape → IsSyntaxHint text at h
 helps text body tokens given fault at shape h is lexes same shape_is h_is = (
   tokens,
@@ -80,7 +92,8 @@ helps text body tokens given fault at shape h is lexes same shape_is h_is = (
   h_is ∙ ap (syntax_hint given) shape_is ∙ ap (λ (ts : List Token). syntax_hint ts (shape_at at ts)) same,
 )
 
-pub helps_twice : (text body : List ℕ) (tokens given : List Token) (roles shown : List Role) (fault stop : Option ℕ) (at : ℕ) (shape : Option Shape) (h : Option Hint) → body ≡ drop 11 text → Lexes (length text) body tokens fault
+pub helps_twice : (text body : List ℕ) (tokens given : List Token) (roles shown : List Role) (fault stop : Option ℕ) (at : ℕ)
+    (shape : Option Shape) (h : Option Hint) → body ≡ drop 11 text → Lexes (length text) body tokens fault
     → given ≡ tokens → shown ≡ roles → stop ≡ fault_at (length text) whole_job given → (stop ≡ None → roles ≡ roles_at whole_job given)
     → shape ≡ shape_at at given → h ≡ twice_hint given shown shape → IsTwiceHint text at h
 helps_twice text body tokens given roles shown fault stop at shape h is lexes same shown_is stop_is roles_are shape_is h_is = (
@@ -89,5 +102,6 @@ helps_twice text body tokens given roles shown fault stop at shape h is lexes sa
   roles,
   subst (λ (b : List ℕ). Lexes (length text) b tokens fault) is lexes,
   (λ whole. roles_are (stop_is ∙ ap (fault_at (length text) whole_job) same ∙ whole) ∙ ap (roles_at whole_job) same),
-  h_is ∙ ap (twice_hint given shown) shape_is ∙ ap (λ (ts : List Token). twice_hint ts shown (shape_at at ts)) same ∙ ap (λ (rs : List Role). twice_hint tokens rs (shape_at at tokens)) shown_is,
+  h_is ∙ ap (twice_hint given shown) shape_is ∙ ap (λ (ts : List Token). twice_hint ts shown (shape_at at ts)) same
+      ∙ ap (λ (rs : List Role). twice_hint tokens rs (shape_at at tokens)) shown_is,
 )

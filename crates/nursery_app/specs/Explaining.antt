@@ -53,7 +53,8 @@ meant_line bytes = codes "did you mean `" ++ map shown_byte bytes ++ codes "`?\n
 
 -- something, and a place as `JOB:LINE:COLUMN`
 abbrev pub place_line : List ℕ → List ℕ → List ℕ → ℕ → List ℕ
-place_line what job text at = what ++ job ++ codes ":" ++ decimal (line_of text at) ++ codes ":" ++ decimal (column_of text at) ++ codes "\n"
+place_line what job text at = what ++ job ++ codes ":" ++ decimal (line_of text at) ++ codes ":" ++ decimal (column_of text at)
+    ++ codes "\n"
 
 -- the line that tells a hint
 abbrev pub hint_line : List ℕ → List ℕ → Hint → List ℕ
@@ -73,4 +74,5 @@ hint_of job text (Some h) = hint_line job text h
 abbrev pub Tells : List ℕ → List ℕ → JobFault → List ℕ → Type 0
 Tells job text fault message =
     (symbol : Option Symbol) × (help : Option Hint) × IsAsked fault.kind text symbol × IsHint fault.kind text fault.at help
-    × (message ≡ headed job (line_of text fault.at) (column_of text fault.at) (sentence_of fault.kind (slice_get text fault.at) symbol) ++ pointed text fault.at ++ hint_of job text help)
+    × (message ≡ headed job (line_of text fault.at) (column_of text fault.at) (sentence_of fault.kind (slice_get text fault.at) symbol)
+        ++ pointed text fault.at ++ hint_of job text help)

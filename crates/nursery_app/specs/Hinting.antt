@@ -36,7 +36,8 @@ syntax_hint tokens None = slice_get (open_in [] tokens) 0 >>= λ at. Some (hint.
 syntax_hint tokens (Some shape) = meant_by (expected_in whole_job tokens) shape
 
 abbrev pub IsSyntaxHint : List ℕ → ℕ → Option Hint → Type 0
-IsSyntaxHint text at h = (tokens : List Token) × (fault : Option ℕ) × HasTokens text tokens fault × (h ≡ syntax_hint tokens (shape_at at tokens))
+IsSyntaxHint text at h = (tokens : List Token) × (fault : Option ℕ) × HasTokens text tokens fault
+    × (h ≡ syntax_hint tokens (shape_at at tokens))
 
 -- the place at which the name at a place was first given
 abbrev pub twice_hint : List Token → List Role → Option Shape → Option Hint
@@ -45,7 +46,8 @@ twice_hint tokens roles shape = shape >>= λ s. word_in s >>= λ name. first_giv
 abbrev pub IsTwiceHint : List ℕ → ℕ → Option Hint → Type 0
 IsTwiceHint text at h =
     (tokens : List Token) × (fault : Option ℕ) × (roles : List Role) × HasTokens text tokens fault
-    × (fault_at (length text) whole_job tokens ≡ None → roles ≡ roles_at whole_job tokens) × (h ≡ twice_hint tokens roles (shape_at at tokens))
+    × (fault_at (length text) whole_job tokens ≡ None → roles ≡ roles_at whole_job tokens)
+        × (h ≡ twice_hint tokens roles (shape_at at tokens))
 
 -- what helps with a refusal of that kind at a place, where something does
 abbrev pub IsHint : JobKind → List ℕ → ℕ → Option Hint → Type 0

@@ -43,7 +43,8 @@ sentence_of TooLong byte asked = codes "the job text has more than 65536 bytes"
 sentence_of NotAscii byte asked = codes "this byte is not ASCII"
 sentence_of Version byte asked = codes "a job text begins with the line `trio-job 1`, ended by a newline alone"
 sentence_of Token byte asked = token_sentence byte
-sentence_of Number byte asked = codes "a number out of its range: `over` takes 1 to 64, `pace` 1 to 1000000, others 0 to 1000000000; no leading zero"
+sentence_of Number byte asked =
+    codes "a number out of its range: `over` takes 1 to 64, `pace` 1 to 1000000, others 0 to 1000000000; no leading zero"
 sentence_of Syntax byte asked = expected_sentence asked
 sentence_of Depth byte asked = codes "more than 32 blocks stand in one another"
 sentence_of Twice byte asked = codes "this name was given before: jobs, scopes, nurseries and starts need names of their own"

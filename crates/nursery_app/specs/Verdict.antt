@@ -16,7 +16,8 @@ use Rattle.nursery_app.specs.declared.verdict.ServeFault.TheVariants.{Send, NoMe
 
 -- the line for a refused job, as `refused J6 Syntax at 27`
 abbrev pub refusal_line : JobFault → List ℕ
-refusal_line fault = codes "refused J" ++ decimal (number_of fault.kind) ++ codes " " ++ name_of fault.kind ++ codes " at " ++ decimal fault.at ++ codes "\n"
+refusal_line fault = codes "refused J" ++ decimal (number_of fault.kind) ++ codes " " ++ name_of fault.kind ++ codes " at "
+    ++ decimal fault.at ++ codes "\n"
 
 -- the line for a job that ends later than the limit
 abbrev pub limit_line : ℕ → List ℕ
@@ -46,7 +47,8 @@ IsSent text input limit before after verdict = (bytes : List ℕ) × IsVerdict t
 -- The writer failed behind the first `sent` of the verdict's bytes; or memory was refused, and nothing was sent.
 abbrev pub IsServeFault : List ℕ → List ℕ → ℕ → Option (List ℕ) → Option (List ℕ) → ServeFault → Type 0
 IsServeFault text input limit before after (Send sent) =
-    (verdict : Verdict) × (bytes : List ℕ) × IsVerdict text input limit verdict bytes × (sent < length bytes) × Appends before after (take sent bytes)
+    (verdict : Verdict) × (bytes : List ℕ) × IsVerdict text input limit verdict bytes × (sent < length bytes)
+        × Appends before after (take sent bytes)
 IsServeFault text input limit before after NoMemory = after ≡ before
 
 -- the count of a writer's failures rises by one where a sending stops, and else stays
@@ -72,7 +74,9 @@ pub record IsRefusalOf (fault : JobFault) (verdict : Verdict) (bytes : List ℕ)
 
 -- the verdict on a job that was read
 abbrev pub IsRunVerdict : Tree → List ℕ → ℕ → Verdict → List ℕ → Type 0
-IsRunVerdict job input limit Done bytes = (meaning_end job input ≤ limit) × (bytes ≡ meaning_report job input) × IsNone (meaning job input).exc
-IsRunVerdict job input limit Raised bytes = (meaning_end job input ≤ limit) × (bytes ≡ meaning_report job input) × IsSome (meaning job input).exc
+IsRunVerdict job input limit Done bytes = (meaning_end job input ≤ limit) × (bytes ≡ meaning_report job input)
+    × IsNone (meaning job input).exc
+IsRunVerdict job input limit Raised bytes = (meaning_end job input ≤ limit) × (bytes ≡ meaning_report job input)
+    × IsSome (meaning job input).exc
 IsRunVerdict job input limit (JobRefused fault) bytes = ⊥
 IsRunVerdict job input limit Limit bytes = (limit < meaning_end job input) × (bytes ≡ limit_line limit)

@@ -22,14 +22,17 @@ is_held None h = absurd (cc)
 is_held (Some m) h = refl
 
 -- what is true of the nursery is true of its members
-pub of_members : (o : Option Members) (m : Members) (P : Nursery → Type 0) → o ≡ Some m → IsSomeAnd (option_map nursery_of o) P → P (nursery_of m)
+pub of_members : (o : Option Members) (m : Members) (P : Nursery → Type 0) → o ≡ Some m → IsSomeAnd (option_map nursery_of o) P →
+    P (nursery_of m)
 of_members o m P e h = rw e at h
 
-pub from_members : (o : Option Members) (m : Members) (P : Nursery → Type 0) → o ≡ Some m → P (nursery_of m) → IsSomeAnd (option_map nursery_of o) P
+pub from_members : (o : Option Members) (m : Members) (P : Nursery → Type 0) → o ≡ Some m → P (nursery_of m) →
+    IsSomeAnd (option_map nursery_of o) P
 from_members o m P e p = rw e p
 
 -- a slot of the store changed
-pub Updates-slot : (old new : NurseryBook) (key : ℕ) (slot : Option Members) → Slots old.nurseries new.nurseries key slot → Updates old new key (option_map nursery_of slot)
+pub Updates-slot : (old new : NurseryBook) (key : ℕ) (slot : Option Members) → Slots old.nurseries new.nurseries key slot →
+    Updates old new key (option_map nursery_of slot)
 Updates-slot old new key slot updates =
     record {
       changed = ap (option_map nursery_of) updates.changed;
@@ -40,16 +43,20 @@ some_value : {T : Type 0} (o : Option T) (x : T) → o ≡ Some x → IsSome o
 some_value o x e = rw e refl
 
 -- the members of a nursery were written
-pub Changes-write : (old new : NurseryBook) (key : ℕ) (m m' : Members) (change : Nursery → Nursery) → get old.nurseries key ≡ Some m → new.nurseries ≡ with_value old.nurseries key m' → nursery_of m' ≡ change (nursery_of m) → Changes old new key change
+pub Changes-write : (old new : NurseryBook) (key : ℕ) (m m' : Members) (change : Nursery → Nursery) → get old.nurseries key ≡ Some m →
+    new.nurseries ≡ with_value old.nurseries key m' → nursery_of m' ≡ change (nursery_of m) → Changes old new key change
 Changes-write old new key m m' change at written same =
-    let slots : Slots old.nurseries new.nurseries key (Some m') = rw written (Updates-with_value old.nurseries key m' (some_value (get old.nurseries key) m at)) in
+    let slots : Slots old.nurseries new.nurseries key (Some m') =
+        rw written (Updates-with_value old.nurseries key m' (some_value (get old.nurseries key) m at)) in
     from_members (get old.nurseries key) m (λ n. Updates old new key (Some (change n))) at
     (rw (← same) (Updates-slot old new key (Some m') slots))
 
 -- the same nursery was written
-pub Same-write : (old new : NurseryBook) (key : ℕ) (m m' : Members) → get old.nurseries key ≡ Some m → new.nurseries ≡ with_value old.nurseries key m' → nursery_of m' ≡ nursery_of m → SameNurseries old new
+pub Same-write : (old new : NurseryBook) (key : ℕ) (m m' : Members) → get old.nurseries key ≡ Some m →
+    new.nurseries ≡ with_value old.nurseries key m' → nursery_of m' ≡ nursery_of m → SameNurseries old new
 Same-write old new key m m' at written same other =
-    let slots : Slots old.nurseries new.nurseries key (Some m') = rw written (Updates-with_value old.nurseries key m' (some_value (get old.nurseries key) m at)) in
+    let slots : Slots old.nurseries new.nurseries key (Some m') =
+        rw written (Updates-with_value old.nurseries key m' (some_value (get old.nurseries key) m at)) in
     elim (cases_eq other key) [
       | inl e ↦
           ap (nursery_at new) e ∙ ap (option_map nursery_of) slots.changed ∙ ap Some same

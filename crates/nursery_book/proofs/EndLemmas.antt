@@ -12,7 +12,8 @@ use Rattle.nursery_book.specs.declared.ending.MemberEnd.{MemberEnd}
 use Rattle.nursery_book.specs.declared.ending.MemberEnd.TheVariants.{Running, Ended}
 
 -- one member's exception, and those of more members
-held_first : (e : MemberEnd) (es : List MemberEnd) → excs_of (excs_held es) ≡ parts_of (excs_in (map end_of es)) → excs_of (option_to_list (exc_held e) ++ excs_held es) ≡ parts_of (with_exc (end_of e) (excs_in (map end_of es)))
+held_first : (e : MemberEnd) (es : List MemberEnd) → excs_of (excs_held es) ≡ parts_of (excs_in (map end_of es)) →
+    excs_of (option_to_list (exc_held e) ++ excs_held es) ≡ parts_of (with_exc (end_of e) (excs_in (map end_of es)))
 held_first Running es same = same
 held_first (Ended None) es same = same
 held_first (Ended (Some exc)) es same = ap (part (exc_of exc)) same
@@ -28,7 +29,8 @@ held_all [] = refl
 held_all (e ∷ es) = ap excs_of (held_next e es) ∙ held_first e es (held_all es)
 
 -- the exceptions that the code holds are those that the nursery raises
-pub held_raised : (body : MemberEnd) (es : List MemberEnd) → excs_of (option_to_list (exc_held body) ++ excs_held es) ≡ parts_of (with_exc (end_of body) (excs_in (map end_of es)))
+pub held_raised : (body : MemberEnd) (es : List MemberEnd) →
+    excs_of (option_to_list (exc_held body) ++ excs_held es) ≡ parts_of (with_exc (end_of body) (excs_in (map end_of es)))
 held_raised body es = held_first body es (held_all es)
 
 -- whether every child ended

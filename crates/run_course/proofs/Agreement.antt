@@ -76,7 +76,8 @@ module _ (k f : Table) (whole : Result) (qs : List Started) (o : OnCourse k f wh
   pub agrees_in : (q : Started) → In q qs → AgreesIn v k q.left
   agrees_in q i = agrees_each v k q.left (deadline_left q i)
 
-  sleeps_until : (u n since : ℕ) (x y : Tick) → v < u → u ≤ since + n → upto u y ≡ u → upto (suc v) x ≡ upto (suc v) y → suc v ≤ max since (upto (since + n) x)
+  sleeps_until : (u n since : ℕ) (x y : Tick) → v < u → u ≤ since + n → upto u y ≡ u → upto (suc v) x ≡ upto (suc v) y →
+      suc v ≤ max since (upto (since + n) x)
   sleeps_until u n since None None m p g j = omega arith
   sleeps_until u n since None (Some y) m p g j = omega arith
   sleeps_until u n since (Some x) None m p g j = omega arith
@@ -91,7 +92,8 @@ module _ (k f : Table) (whole : Result) (qs : List Started) (o : OnCourse k f wh
   -- One tick further: no sleeper goes on before it, and who waits goes on no earlier than a child that has not ended,
   -- whose serial number is greater.
   pub further :
-      (u bound : ℕ) → v < u → Blocked f qs u → ((q : Started) → In q qs → q.serial < bound) → (n : ℕ) (q : Started) → In q qs → live q.rest.stopped ≡ true → bound ≤ q.serial + n →
+      (u bound : ℕ) → v < u → Blocked f qs u → ((q : Started) → In q qs → q.serial < bound) → (n : ℕ) (q : Started) → In q qs →
+          live q.rest.stopped ≡ true → bound ≤ q.serial + n →
       suc v ≤ resumes k q
   further u m h b small zero q i a z = let w : q.serial < m = small q i in absurd (omega arith)
   further u m h b small (suc n) q i a z =
@@ -105,7 +107,8 @@ module _ (k f : Table) (whole : Result) (qs : List Started) (o : OnCourse k f wh
       subst (λ (r : Result). suc v ≤ r.end) kid.same d)
     where
       by_stop : (s : Stopped) → live s ≡ true → StaysUntil f qs u q s →
-          ((children : List ℕ) (c : Unended qs q children) → suc v ≤ (q.told c.number).end) → suc v ≤ goes_on q.told s (stack_at k q.places) q.stop
+          ((children : List ℕ) (c : Unended qs q children) → suc v ≤ (q.told c.number).end) →
+              suc v ≤ goes_on q.told s (stack_at k q.places) q.stop
       by_stop to_begin l p go = absurd p
       by_stop (asking kernel purpose) l p go = absurd p
       by_stop (asleep n since) l p go =
@@ -117,7 +120,8 @@ module _ (k f : Table) (whole : Result) (qs : List Started) (o : OnCourse k f wh
 
 -- nothing that was not made happens before the tick to which the clock jumps
 pub climb :
-    (k f : Table) (whole : Result) (qs : List Started) → OnCourse k f whole qs → (t bound : ℕ) → ((q : Started) → In q qs → q.serial < bound) → AllFrom k qs t → (u : ℕ) → Blocked f qs u →
+    (k f : Table) (whole : Result) (qs : List Started) → OnCourse k f whole qs → (t bound : ℕ) →
+        ((q : Started) → In q qs → q.serial < bound) → AllFrom k qs t → (u : ℕ) → Blocked f qs u →
     (n v : ℕ) → v ≡ t + n → v ≤ u → AllFrom k qs v
 climb k f whole qs o t m small a u b zero v e h = subst (AllFrom k qs) (omega arith) a
 climb k f whole qs o t m small a u b (suc n) v e h = λ q i l.
@@ -128,6 +132,7 @@ climb k f whole qs o t m small a u b (suc n) v e h = λ q i l.
 
 -- so where the clock jumps
 pub jumps :
-    (k f : Table) (whole : Result) (qs : List Started) → OnCourse k f whole qs → (t bound : ℕ) → ((q : Started) → In q qs → q.serial < bound) → AllFrom k qs t → (u : ℕ) → t ≤ u → Blocked f qs u →
+    (k f : Table) (whole : Result) (qs : List Started) → OnCourse k f whole qs → (t bound : ℕ) →
+        ((q : Started) → In q qs → q.serial < bound) → AllFrom k qs t → (u : ℕ) → t ≤ u → Blocked f qs u →
     AllFrom k qs u
 jumps k f whole qs o t m small a u h b = climb k f whole qs o t m small a u b (u - t) u (omega arith) (omega arith)

@@ -26,7 +26,8 @@ no_deadline_left l (entry t e rest) h = no_deadline_left l rest h
 no_deadline_left l (sign m t rest) h = no_deadline_left l rest h
 no_deadline_left l (entered m t d rest) h = by_test (same_label l m) h (no_deadline_left l rest)
   where
-    by_test : (b : Bool) → (if b then 1 else 0) + times_entered l rest ≡ 0 → (times_entered l rest ≡ 0 → deadline_of l rest ≡ None) → either (deadline_if b d) (deadline_of l rest) ≡ None
+    by_test : (b : Bool) → (if b then 1 else 0) + times_entered l rest ≡ 0 → (times_entered l rest ≡ 0 → deadline_of l rest ≡ None) →
+        either (deadline_if b d) (deadline_of l rest) ≡ None
     by_test true k more = absurd (omega arith)
     by_test false k more = more (omega arith)
 no_deadline_left l (task m s u e own rest) h =
@@ -38,17 +39,21 @@ deadline_entered_once l d nil h n = absurd h
 deadline_entered_once l d (entry t e rest) h n = deadline_entered_once l d rest h n
 deadline_entered_once l d (sign m t rest) h n = deadline_entered_once l d rest h n
 deadline_entered_once l d (entered m t x rest) (inl e) n =
-    ap (λ (b : Bool). either (deadline_if b x) (deadline_of l rest)) (subst (λ (y : Label). same_label l y ≡ true) e.0 (same_label_itself l)) ∙ ap (λ (y : Tick). Some y) (sym e.1)
-deadline_entered_once l d (entered m t x rest) (inr h) n = by_test (same_label l m) n (entered_times l d rest h) (deadline_entered_once l d rest h)
+    ap (λ (b : Bool). either (deadline_if b x) (deadline_of l rest))
+        (subst (λ (y : Label). same_label l y ≡ true) e.0 (same_label_itself l)) ∙ ap (λ (y : Tick). Some y) (sym e.1)
+deadline_entered_once l d (entered m t x rest) (inr h) n =
+    by_test (same_label l m) n (entered_times l d rest h) (deadline_entered_once l d rest h)
   where
-    by_test : (b : Bool) → (if b then 1 else 0) + times_entered l rest ≤ 1 → 1 ≤ times_entered l rest → (times_entered l rest ≤ 1 → deadline_of l rest ≡ Some d) → either (deadline_if b x) (deadline_of l rest) ≡ Some d
+    by_test : (b : Bool) → (if b then 1 else 0) + times_entered l rest ≤ 1 → 1 ≤ times_entered l rest →
+        (times_entered l rest ≤ 1 → deadline_of l rest ≡ Some d) → either (deadline_if b x) (deadline_of l rest) ≡ Some d
     by_test true k some more = absurd (omega arith)
     by_test false k some more = more (omega arith)
 deadline_entered_once l d (task m s u e own rest) (inl h) n =
     ap (λ (o : Option Tick). either o (deadline_of l rest)) (deadline_entered_once l d own h (omega arith))
 deadline_entered_once l d (task m s u e own rest) (inr h) n =
     let some : 1 ≤ times_entered l rest = entered_times l d rest h in
-    ap (λ (o : Option Tick). either o (deadline_of l rest)) (no_deadline_left l own (omega arith)) ∙ deadline_entered_once l d rest h (omega arith)
+    ap (λ (o : Option Tick). either o (deadline_of l rest)) (no_deadline_left l own (omega arith))
+        ∙ deadline_entered_once l d rest h (omega arith)
 
 -- the root signs for nobody
 signed_root : (r : Result) → signed [] r ≡ r
@@ -60,9 +65,11 @@ signed_root r = ap (λ (a : Log). record r { log = a }) (ap (λ (a : Log). follo
     none (Some e) = refl
 
 -- what is left of the root is all of following the table
-root_comes : (k : Table) (job : Tree) (input : List ℕ) (told : Telling) → rest_comes_to (by_table k) told (rest_at_start job.steps) (root_here job input) [] 0 ≡ follow k job input
+root_comes : (k : Table) (job : Tree) (input : List ℕ) (told : Telling) →
+    rest_comes_to (by_table k) told (rest_at_start job.steps) (root_here job input) [] 0 ≡ follow k job input
 unfolding follow
-root_comes k job input told = finish_begin (by_table k) told job.steps (root_here job input) [] 0 ∙ signed_root (root_walk (by_table k) job input)
+root_comes k job input told = finish_begin (by_table k) told job.steps (root_here job input) [] 0
+    ∙ signed_root (root_walk (by_table k) job input)
 
 module _ (k f : Table) (job : Tree) (input : List ℕ) (names : GivesNamesOnce job) (nurseries : StartsInNurseries job)
     (settled : IsSettled k job input) where
@@ -77,10 +84,12 @@ module _ (k f : Table) (job : Tree) (input : List ℕ) (names : GivesNamesOnce j
   once_left l = enters_once l whole.log (job_gives_once (by_table k) job input names)
 
   has_from : (l : Label) (d : Tick) → EnteredIn l d whole.log → k l ≡ from_by d (least_sign l whole.log)
-  has_from l d h = settled l ∙ ap (λ (o : Option Tick). entered_from o (least_sign l whole.log)) (deadline_entered_once l d whole.log h (once_left l))
+  has_from l d h = settled l ∙ ap (λ (o : Option Tick). entered_from o (least_sign l whole.log))
+      (deadline_entered_once l d whole.log h (once_left l))
 
   fits_root : Fits k (root_task k job input)
-  fits_root = record { comes = λ told h. root_comes k job input told; lefts = λ told h. ap (λ (r : Result). r.log) (root_comes k job input told) }
+  fits_root = record { comes = λ told h. root_comes k job input told; lefts =
+      λ told h. ap (λ (r : Result). r.log) (root_comes k job input told) }
 
   of_root : (P : Started → Type 0) → P (root_task k job input) → (q : Started) → In q tasks → P q
   of_root P h q (inl e) = subst P (sym e) h

@@ -29,24 +29,29 @@ eqb_more a b h = grind (arith, nat_tests)
 -- ---- what is told of the children
 
 -- of earlier children the same is told
-pub old_told : (k : Table) (t : ℕ) (told : Telling) (n : ℕ) (bs : List Begun) → NumberedFrom n bs → (i : ℕ) → i < n → told_new k t told bs i ≡ told i
+pub old_told : (k : Table) (t : ℕ) (told : Telling) (n : ℕ) (bs : List Begun) → NumberedFrom n bs → (i : ℕ) → i < n →
+    told_new k t told bs i ≡ told i
 unfolding told_new
 old_told k t told n [] p i h = refl
 old_told k t told n (b ∷ bs) p i h =
     let z : b.number ≡ n = p.0 in
-    ap (λ (c : Bool). cond c (begun_comes_to k t b) (told_new k t told bs i)) (eqb_less i b.number (omega arith)) ∙ old_told k t told (suc n) bs p.1 i (omega arith)
+    ap (λ (c : Bool). cond c (begun_comes_to k t b) (told_new k t told bs i)) (eqb_less i b.number (omega arith))
+        ∙ old_told k t told (suc n) bs p.1 i (omega arith)
 
 -- of the first of new children its own
-pub first_told : (k : Table) (t : ℕ) (told : Telling) (b : Begun) (bs : List Begun) (i : ℕ) → i ≡ b.number → told_new k t told (b ∷ bs) i ≡ begun_comes_to k t b
+pub first_told : (k : Table) (t : ℕ) (told : Telling) (b : Begun) (bs : List Begun) (i : ℕ) → i ≡ b.number →
+    told_new k t told (b ∷ bs) i ≡ begun_comes_to k t b
 unfolding told_new
 first_told k t told b bs i h = ap (λ (c : Bool). cond c (begun_comes_to k t b) (told_new k t told bs i)) (eqb_same i b.number h)
 
 -- and of those behind the first what is told of them
-pub later_told : (k : Table) (t : ℕ) (told : Telling) (b : Begun) (bs : List Begun) (i : ℕ) → b.number < i → told_new k t told (b ∷ bs) i ≡ told_new k t told bs i
+pub later_told : (k : Table) (t : ℕ) (told : Telling) (b : Begun) (bs : List Begun) (i : ℕ) → b.number < i →
+    told_new k t told (b ∷ bs) i ≡ told_new k t told bs i
 unfolding told_new
 later_told k t told b bs i h = ap (λ (c : Bool). cond c (begun_comes_to k t b) (told_new k t told bs i)) (eqb_more i b.number h)
 
-all_told : (k : Table) (t : ℕ) (e d : Telling) (n : ℕ) (bs : List Begun) → NumberedFrom n bs → ((i : ℕ) → n ≤ i → i < n + length bs → d i ≡ told_new k t e bs i) → AllTold t k d bs
+all_told : (k : Table) (t : ℕ) (e d : Telling) (n : ℕ) (bs : List Begun) → NumberedFrom n bs →
+    ((i : ℕ) → n ≤ i → i < n + length bs → d i ≡ told_new k t e bs i) → AllTold t k d bs
 all_told k t e d n [] p h = tt
 all_told k t e d n (b ∷ bs) p h =
     let z : b.number ≡ n = p.0 in (
@@ -124,14 +129,16 @@ module _ (k : Table) (t : ℕ) (told : Telling) where
   fill_entered n m (enters y u c ∷ es) bs p q x i l d h = inr (fill_entered n m es bs p q x i l d h)
   fill_entered n m (starts j y u ∷ es) [] p q x i l d h = absurd p
   fill_entered n m (starts j y u ∷ es) (b ∷ bs) p q x (inl e) l d h =
-      let same : x.left ≡ (told j).log = ap (λ (z : Started). z.left) e ∙ ap (λ (r : Result). r.log) (sym (ap told (p.0 ∙ sym p.1) ∙ q.0)) in
+      let same : x.left ≡ (told j).log = ap (λ (z : Started). z.left) e
+          ∙ ap (λ (r : Result). r.log) (sym (ap told (p.0 ∙ sym p.1) ∙ q.0)) in
       inl (subst (λ (a : Log). EnteredIn l d a) same h)
   fill_entered n m (starts j y u ∷ es) (b ∷ bs) p q x (inr i) l d h = inr (fill_entered (suc n) (suc m) es bs p.3 q.1 x i l d h)
 
 -- ---- the task that had its turn
 
 module _ (k f : Table) (t m : ℕ) (wake : Wake) (q : Started) (o : Move) (s : Stopped)
-    (w : TurnsOver q.stop t q.here f wake q.rest q.places q.count o) (stopped : o.stopped ≡ Some s) (fit : Fits k q) (near : AgreesOn t k f q.places) (deadlines : AgreesIn t k q.left)
+    (w : TurnsOver q.stop t q.here f wake q.rest q.places q.count o) (stopped : o.stopped ≡ Some s) (fit : Fits k q)
+        (near : AgreesOn t k f q.places) (deadlines : AgreesIn t k q.left)
     (come : (told : Telling) → Tells q told → WakesBy k told q.here q.stop t wake q.rest.stopped q.places) where
   abbrev left_before : Telling → Result
   left_before told = rest_comes_to (by_table k) told q.rest q.here (stack_at k q.places) q.stop
@@ -153,7 +160,8 @@ module _ (k f : Table) (t m : ℕ) (wake : Wake) (q : Started) (o : Move) (s : S
   pub tells_itself : Tells (turned k t m q o s) (turned k t m q o s).told
   tells_itself = λ i h. refl
 
-  turn_keeps : (told : Telling) → Tells (turned k t m q o s) told → left_before told ≡ record (left_after told) { log = followed_by (fill told o.made) (left_after told).log }
+  turn_keeps : (told : Telling) → Tells (turned k t m q o s) told →
+      left_before told ≡ record (left_after told) { log = followed_by (fill told o.made) (left_after told).log }
   turn_keeps told h =
       keeps_to t f wake q o s w stopped k told near
       (subst (λ (a : Log). AgreesIn t k a) (sym (fit.lefts told (tells_before told h))) deadlines)
@@ -163,7 +171,8 @@ module _ (k f : Table) (t m : ℕ) (wake : Wake) (q : Started) (o : Move) (s : S
   pub left_is : (told : Telling) → Tells (turned k t m q o s) told → q.left ≡ followed_by (fill told o.made) (left_after told).log
   left_is told h = sym (fit.lefts told (tells_before told h)) ∙ ap (λ (r : Result). r.log) (turn_keeps told h)
 
-  made_more : (told : Telling) → followed_by (fill told (q.made ++ o.made)) (left_after told).log ≡ followed_by (fill told q.made) (followed_by (fill told o.made) (left_after told).log)
+  made_more : (told : Telling) → followed_by (fill told (q.made ++ o.made)) (left_after told).log
+      ≡ followed_by (fill told q.made) (followed_by (fill told o.made) (left_after told).log)
   made_more told =
       ap (λ (a : Log). followed_by a (left_after told).log) (fill_append told q.made o.made)
       ∙ followed_assoc (fill told q.made) (fill told o.made) (left_after told).log
@@ -183,23 +192,29 @@ module _ (k f : Table) (t m : ℕ) (wake : Wake) (q : Started) (o : Move) (s : S
   }
 
   -- the first signs are the same, with the new children
-  pub least_turned : (c : ℕ) (l : Label) → all_least c l (turned k t m q o s ∷ children_from k t m o.begun) ≡ min (upto c (made_sign l q.made)) (upto c (least_sign l q.left))
+  pub least_turned : (c : ℕ) (l : Label) → all_least c l (turned k t m q o s ∷ children_from k t m o.begun)
+      ≡ min (upto c (made_sign l q.made)) (upto c (least_sign l q.left))
   unfolding all_least
   least_turned c l =
       let d : Telling = (turned k t m q o s).told in
       let x : upto c (least_sign l q.left) ≡ min (upto c (least_sign l (fill d o.made))) (upto c (least_sign l (left_after d).log)) =
       ap (λ (a : Log). upto c (least_sign l a)) (left_is d tells_itself) ∙ least_join c l (fill d o.made) (left_after d).log in
-      let y : upto c (least_sign l (fill d o.made)) ≡ min (upto c (made_sign l o.made)) (all_least c l (children_from k t m o.begun)) = fill_least k t d c l q.count m o.made o.begun w.starts (tells_begun d tells_itself) in
-      let v : upto c (made_sign l (q.made ++ o.made)) ≡ min (upto c (made_sign l q.made)) (upto c (made_sign l o.made)) = first_join c l q.made o.made in
+      let y : upto c (least_sign l (fill d o.made)) ≡ min (upto c (made_sign l o.made)) (all_least c l (children_from k t m o.begun)) =
+          fill_least k t d c l q.count m o.made o.begun w.starts (tells_begun d tells_itself) in
+      let v : upto c (made_sign l (q.made ++ o.made)) ≡ min (upto c (made_sign l q.made)) (upto c (made_sign l o.made)) =
+          first_join c l q.made o.made in
       omega arith
 
   -- and so is how often a label is entered
-  pub times_turned : (l : Label) → all_times l (turned k t m q o s ∷ children_from k t m o.begun) ≡ times_made l q.made + times_entered l q.left
+  pub times_turned : (l : Label) → all_times l (turned k t m q o s ∷ children_from k t m o.begun)
+      ≡ times_made l q.made + times_entered l q.left
   unfolding all_times
   times_turned l =
       let d : Telling = (turned k t m q o s).told in
-      let x : times_entered l q.left ≡ times_entered l (fill d o.made) + times_entered l (left_after d).log = ap (λ (a : Log). times_entered l a) (left_is d tells_itself) ∙ left_join l (fill d o.made) (left_after d).log in
-      let y : times_entered l (fill d o.made) ≡ times_made l o.made + all_times l (children_from k t m o.begun) = fill_times k t d l q.count m o.made o.begun w.starts (tells_begun d tells_itself) in
+      let x : times_entered l q.left ≡ times_entered l (fill d o.made) + times_entered l (left_after d).log =
+          ap (λ (a : Log). times_entered l a) (left_is d tells_itself) ∙ left_join l (fill d o.made) (left_after d).log in
+      let y : times_entered l (fill d o.made) ≡ times_made l o.made + all_times l (children_from k t m o.begun) =
+          fill_times k t d l q.count m o.made o.begun w.starts (tells_begun d tells_itself) in
       let v : times_made l (q.made ++ o.made) ≡ times_made l q.made + times_made l o.made = times_join l q.made o.made in
       omega arith
 
@@ -209,7 +224,8 @@ unfolding children_from
 fits_begun k t m [] q i = absurd i
 fits_begun k t m (b ∷ bs) q (inl e) = subst (λ (x : Started). Fits k x) (sym e) (fits_first b)
   where
-    open_child : (b : Begun) (told : Telling) → rest_comes_to (by_table k) told (rest_at_start b.body) b.here (stack_at k b.places) t ≡ begun_comes_to k t b
+    open_child : (b : Begun) (told : Telling) → rest_comes_to (by_table k) told (rest_at_start b.body) b.here (stack_at k b.places) t
+        ≡ begun_comes_to k t b
     open_child b told = finish_begin (by_table k) told b.body b.here (stack_at k b.places) t
         ∙ sym (finish_begin (by_table k) none_told b.body b.here (stack_at k b.places) t)
 

@@ -63,7 +63,8 @@ ends_joined body r q h k le = record {
       (let a : latest r.end r.members ≤ latest q.end r.members = latest_later r.end q.end r.members le in
       let b : latest q.end r.members ≤ latest (latest q.end r.members) q.members = latest_ends (latest q.end r.members) q.members in
       let c : q.end ≤ latest q.end r.members = latest_ends q.end r.members in
-      let d : latest q.end q.members ≤ latest (latest q.end r.members) q.members = latest_later q.end (latest q.end r.members) q.members c in
+      let d : latest q.end q.members ≤ latest (latest q.end r.members) q.members =
+          latest_later q.end (latest q.end r.members) q.members c in
       let e : latest q.end (r.members ++ q.members) ≡ latest (latest q.end r.members) q.members = latest_append q.end r.members q.members in
       inside_followed (latest q.end (r.members ++ q.members)) r.log q.log
       (inside_later (latest r.end r.members) _ r.log (omega arith) h.inside)
@@ -71,7 +72,8 @@ ends_joined body r q h k le = record {
   closed = λ e. (λ i. h.closed e i ++ k.closed e i);
 }
 
-ends_then : (body : Bool) (r : Result) (go : ℕ → Result) → Ends body r → ((u : ℕ) → Ends body (go u)) → ((u : ℕ) → Late u (go u)) → Ends body (and_then r go)
+ends_then : (body : Bool) (r : Result) (go : ℕ → Result) → Ends body r → ((u : ℕ) → Ends body (go u)) → ((u : ℕ) → Late u (go u)) →
+    Ends body (and_then r go)
 unfolding and_then
 ends_then body r go h k l = by_exc r.exc
   where
@@ -93,7 +95,8 @@ ends_sleeping body st n t = by_sight (sight st)
     by_sight None = ends_done body (t + n)
     by_sight (Some from) = by_now (nat_le from t) (nat_le from (t + n))
       where
-        by_now : (now due : Bool) → Ends body (if now then raised_at cancelled t else (if due then raised_at cancelled from else done_at (t + n)))
+        by_now : (now due : Bool) → Ends body (if now then raised_at cancelled t else
+            (if due then raised_at cancelled from else done_at (t + n)))
         by_now true due = ends_raised body cancelled t
         by_now false true = ends_raised body cancelled from
         by_now false false = ends_done body (t + n)
@@ -127,16 +130,19 @@ ends_cancelling body o t = record { inside = inside_sign t o t; closed = λ e. r
 inside_closed : (r : Result) → Ends false r → Inside r.end r.log
 inside_closed r h = subst (λ (ms : List Member). Inside (latest r.end ms) r.log) (h.closed refl) h.inside
 
-ends_block : (body : Bool) (m : Mode) (kind : Kind) (label : Label) (t : ℕ) (d : Tick) (shield : Bool) (st : Stack) (inside : Tick → Result) →
+ends_block : (body : Bool) (m : Mode) (kind : Kind) (label : Label) (t : ℕ) (d : Tick) (shield : Bool) (st : Stack)
+    (inside : Tick → Result) →
     ((f : Tick) → Ends false (inside f)) → Ends body (block m kind label t d shield st inside)
 unfolding block
 ends_block body m kind label t d shield st inside h =
     let f : Tick = from_of m label d inside in
-    record { inside = inside_followed (inside f).end (inside f).log (entry (inside f).end _ nil) (inside_closed (inside f) (h f)) tt; closed = λ e. refl }
+    record { inside = inside_followed (inside f).end (inside f).log (entry (inside f).end _ nil) (inside_closed (inside f) (h f)) tt;
+        closed = λ e. refl }
 
 ends_signed : (body : Bool) (st : Stack) (r : Result) → Ends body r → Ends body (signed st r)
 unfolding signed
-ends_signed body st r h = record { inside = inside_followed (latest r.end r.members) r.log _ h.inside (inside_sign_if (latest r.end r.members) r.exc (home_of st) r.end); closed = h.closed }
+ends_signed body st r h = record { inside = inside_followed (latest r.end r.members) r.log _ h.inside
+    (inside_sign_if (latest r.end r.members) r.exc (home_of st) r.end); closed = h.closed }
 
 ends_gathered : (body : Bool) (label : Label) (r : Result) → Ends true r → Ends body (gathered label r)
 unfolding gathered
@@ -153,7 +159,8 @@ ends_each (suc k) go t e h =
     let b : (go k).end ≡ t = e k in
     ends_joined true (each k go t) (go k) (ends_each k go t e h) (h k) (omega arith)
 
-ends_handled : (body : Bool) (wanted : Wanted) (r : Result) (go : ℕ → Result) → Ends body r → ((u : ℕ) → Ends body (go u)) → ((u : ℕ) → Late u (go u)) → Ends body (handled wanted r go)
+ends_handled : (body : Bool) (wanted : Wanted) (r : Result) (go : ℕ → Result) → Ends body r → ((u : ℕ) → Ends body (go u)) →
+    ((u : ℕ) → Late u (go u)) → Ends body (handled wanted r go)
 unfolding handled
 ends_handled body wanted r go h k l = by_exc r.exc
   where
@@ -168,7 +175,8 @@ ends_handled body wanted r go h k l = by_exc r.exc
     by_exc None = h
     by_exc (Some e) = by_match (keep wanted e) (drop wanted e)
 
-ends_cleaned : (body : Bool) (r : Result) (go : ℕ → Result) → Ends body r → ((u : ℕ) → Ends body (go u)) → ((u : ℕ) → Late u (go u)) → Ends body (cleaned r go)
+ends_cleaned : (body : Bool) (r : Result) (go : ℕ → Result) → Ends body r → ((u : ℕ) → Ends body (go u)) → ((u : ℕ) → Late u (go u)) →
+    Ends body (cleaned r go)
 unfolding cleaned
 ends_cleaned body r go h k l =
     let both : Ends body (joined r (go r.end)) = ends_joined body r (go r.end) h (k r.end) (l r.end).ends in
@@ -183,7 +191,8 @@ mutual
 
   ends : (m : Mode) (body : Bool) (b : Steps) (here : Here) (st : Stack) (t : ℕ) → StartsIn body b → Ends body (walk m b here st t)
   ends m body stop here st t p = ends_done body t
-  ends m body (step s ss) here st t p = ends_then body _ _ (ends_step m body s here st t p.0) (λ u. ends m body ss here st u p.1) (λ u. late m ss here st u)
+  ends m body (step s ss) here st t p =
+      ends_then body _ _ (ends_step m body s here st t p.0) (λ u. ends m body ss here st u p.1) (λ u. late m ss here st u)
 
   ends_step : (m : Mode) (body : Bool) (s : Step) (here : Here) (st : Stack) (t : ℕ) → StartsAt body s → Ends body (walk_step m s here st t)
   ends_step m body (sleep n) here st t p = ends_sleeping body st _ t
@@ -206,14 +215,19 @@ mutual
   ends_step m body (attempt b handler cleanup) here st t p =
       ends_cleanup m body cleanup here st _ p.2 (ends_handler m body handler here st _ p.1 (ends_in body _ (ends m false b here st t p.0)))
 
-  ends_handler : (m : Mode) (body : Bool) (x : Handled) (here : Here) (st : Stack) (r : Result) → HandlerStarts x → Ends body r → Ends body (walk_handler m x here st r)
+  ends_handler : (m : Mode) (body : Bool) (x : Handled) (here : Here) (st : Stack) (r : Result) → HandlerStarts x → Ends body r →
+      Ends body (walk_handler m x here st r)
   ends_handler m body unhandled here st r p h = h
-  ends_handler m body (except name b) here st r p h = ends_handled body _ r _ h (λ u. ends_in body _ (ends m false b here st u p)) (λ u. late m b here st u)
+  ends_handler m body (except name b) here st r p h =
+      ends_handled body _ r _ h (λ u. ends_in body _ (ends m false b here st u p)) (λ u. late m b here st u)
 
-  ends_cleanup : (m : Mode) (body : Bool) (x : Cleaned) (here : Here) (st : Stack) (r : Result) → CleanupStarts x → Ends body r → Ends body (walk_cleanup m x here st r)
+  ends_cleanup : (m : Mode) (body : Bool) (x : Cleaned) (here : Here) (st : Stack) (r : Result) → CleanupStarts x → Ends body r →
+      Ends body (walk_cleanup m x here st r)
   ends_cleanup m body uncleaned here st r p h = h
-  ends_cleanup m body (finally b) here st r p h = ends_cleaned body r _ h (λ u. ends_in body _ (ends m false b here st u p)) (λ u. late m b here st u)
+  ends_cleanup m body (finally b) here st r p h =
+      ends_cleaned body r _ h (λ u. ends_in body _ (ends m false b here st u p)) (λ u. late m b here st u)
 
 -- each task of a job's walk ends by the end of the root
-pub ends_by_root : (m : Mode) (b : Steps) (here : Here) (st : Stack) (t : ℕ) → StartsIn false b → Inside (walk m b here st t).end (walk m b here st t).log
+pub ends_by_root : (m : Mode) (b : Steps) (here : Here) (st : Stack) (t : ℕ) → StartsIn false b →
+    Inside (walk m b here st t).end (walk m b here st t).log
 ends_by_root m b here st t p = inside_closed _ (ends m false b here st t p)

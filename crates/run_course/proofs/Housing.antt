@@ -43,7 +43,8 @@ child_below n i home (in_handler rest cleanup ∷ fs) ps b h = child_below n i h
 child_below n i home (in_cleanup outcome ∷ fs) ps b h = child_below n i home fs ps b h
 
 -- the children of a stopped task are below its count
-stop_below : (n i : ℕ) (home : List Place) (s : Stopped) (fs : List Frame) (ps : List Place) → KidsAfter n (Some s) fs → HasChildAfter i home (Some s) fs ps → i < n
+stop_below : (n i : ℕ) (home : List Place) (s : Stopped) (fs : List Frame) (ps : List Place) → KidsAfter n (Some s) fs →
+    HasChildAfter i home (Some s) fs ps → i < n
 stop_below n i home to_begin fs ps b (inr h) = child_below n i home fs ps b h
 stop_below n i home (asking kernel purpose) fs ps b (inr h) = child_below n i home fs ps b h
 stop_below n i home (asleep m since) fs ps b (inr h) = child_below n i home fs ps b h
@@ -73,7 +74,8 @@ wakes_live f qs t q (settles x) (at_end u e) h = absurd h
 
 -- and none for which it waited is live
 none_waited : (f : Table) (qs : List Started) (t : ℕ) (q : Started) (w : Wake) (s : Stopped) (ps : List Place) → MayWake f qs t q w s →
-    (i : ℕ) (home : List Place) → WaitsFor i home (Some s) ps → (c : Started) → In c qs → c.serial ≡ q.child i → live c.rest.stopped ≡ true → ⊥
+    (i : ℕ) (home : List Place) → WaitsFor i home (Some s) ps → (c : Started) → In c qs → c.serial ≡ q.child i →
+        live c.rest.stopped ≡ true → ⊥
 none_waited f qs t q (settles x) (awaiting children ended e) (p ∷ ps) h i home a c among serial l =
     let y : c.rest.stopped ≡ at_end (h.ends i).end (h.ends i).exc = h.over i a.0 c among serial in
     let z : live c.rest.stopped ≡ false = ap live y in
@@ -139,20 +141,24 @@ module _ (k f : Table) (t m : ℕ) (q : Started) (ys : List Started) (wake : Wak
   here_stopped P h = subst P stopped h
 
   -- who is home before the turn is so after it
-  home_stays : (serial : ℕ) (home : List Place) → (x : Started) → In x (q ∷ ys) → x.serial ≡ serial → live x.rest.stopped ≡ true → Home (q ∷ ys) serial home → Home after_turn serial home
+  home_stays : (serial : ℕ) (home : List Place) → (x : Started) → In x (q ∷ ys) → x.serial ≡ serial → live x.rest.stopped ≡ true →
+      Home (q ∷ ys) serial home → Home after_turn serial home
   home_stays serial home x i e l h = by_starter h.among
     where
-      of_turned : (number : ℕ) → q.serial < serial → serial ≡ q.child number → HasChildAfter number home (Some q.rest.stopped) q.rest.frames q.places → Home after_turn serial home
+      of_turned : (number : ℕ) → q.serial < serial → serial ≡ q.child number →
+          HasChildAfter number home (Some q.rest.stopped) q.rest.frames q.places → Home after_turn serial home
       of_turned number earlier same has = record {
         starter = q';
         among = inl refl;
         earlier = earlier;
         number = number;
-        same = same ∙ sym (old_child q.count q.child m number (stop_below q.count number home q.rest.stopped q.rest.frames q.places (all q (inl refl)).kids has));
+        same = same ∙ sym (old_child q.count q.child m number (stop_below q.count number home q.rest.stopped q.rest.frames q.places
+            (all q (inl refl)).kids has));
         has = here_stopped (λ (z : Option Stopped). HasChildAfter number home z o.frames o.places) (by_wait has);
       }
         where
-          by_wait : HasChildAfter number home (Some q.rest.stopped) q.rest.frames q.places → HasChildAfter number home o.stopped o.frames o.places
+          by_wait : HasChildAfter number home (Some q.rest.stopped) q.rest.frames q.places →
+              HasChildAfter number home o.stopped o.frames o.places
           by_wait (inl a) = absurd (none_waited f (q ∷ ys) t q wake q.rest.stopped q.places may number home a x i (e ∙ same) l)
           by_wait (inr a) = goes.stays number home a
 
@@ -160,14 +166,16 @@ module _ (k f : Table) (t m : ℕ) (q : Started) (ys : List Started) (wake : Wak
       by_starter (inl z) =
           of_turned h.number (subst (λ (v : Started). v.serial < serial) z h.earlier) (h.same ∙ ap (λ (v : Started). v.child h.number) z)
           (subst (λ (v : Started). HasChildAfter h.number home (Some v.rest.stopped) v.rest.frames v.places) z h.has)
-      by_starter (inr j) = record { starter = h.starter; among = inr (in_second h.starter new ys j); earlier = h.earlier; number = h.number; same = h.same; has = h.has }
+      by_starter (inr j) = record { starter = h.starter; among = inr (in_second h.starter new ys j); earlier = h.earlier; number =
+          h.number; same = h.same; has = h.has }
 
   -- the task that had its turn
   turned_housed : IsHoused after_turn q'
   turned_housed = record {
     placed = here_stopped (λ (z : Option Stopped). PlacedAfter z o.frames o.places) goes.placed;
     kids = here_stopped (λ (z : Option Stopped). KidsAfter (q.count + length o.begun) z o.frames) (goes.kids (all q (inl refl)).kids);
-    own = each_known (λ l. EntersIn l (q.made ++ o.made) ⊎ Known l (labels_of (home_of q'))) (known_after (labels_of q.places) o.made) own_after o.places goes.places;
+    own = each_known (λ l. EntersIn l (q.made ++ o.made) ⊎ Known l (labels_of (home_of q'))) (known_after (labels_of q.places) o.made)
+        own_after o.places goes.places;
     home = λ l. at_home ((all q (inl refl)).home before);
   }
     where
@@ -175,25 +183,33 @@ module _ (k f : Table) (t m : ℕ) (q : Started) (ys : List Started) (wake : Wak
       before = wakes_live f (q ∷ ys) t q wake q.rest.stopped may
 
       same_home : home_of q' ≡ home_of q
-      same_home = here_stopped (λ (z : Option Stopped). home_after z o.frames o.places ≡ home_after (Some q.rest.stopped) q.rest.frames q.places) goes.at_home
+      same_home = here_stopped (λ (z : Option Stopped). home_after z o.frames o.places
+          ≡ home_after (Some q.rest.stopped) q.rest.frames q.places) goes.at_home
 
-      of_old : (l : Label) → EntersIn l q.made ⊎ Known l (labels_of (home_of q)) → EntersIn l (q.made ++ o.made) ⊎ Known l (labels_of (home_of q'))
+      of_old : (l : Label) → EntersIn l q.made ⊎ Known l (labels_of (home_of q)) → EntersIn l (q.made ++ o.made)
+          ⊎ Known l (labels_of (home_of q'))
       of_old l (inl h) = inl (enters_before l q.made o.made h)
       of_old l (inr h) = inr (subst (λ (ps : List Place). Known l (labels_of ps)) (sym same_home) h)
 
-      own_after : (l : Label) → Known l (known_after (labels_of q.places) o.made) → EntersIn l (q.made ++ o.made) ⊎ Known l (labels_of (home_of q'))
+      own_after : (l : Label) → Known l (known_after (labels_of q.places) o.made) → EntersIn l (q.made ++ o.made)
+          ⊎ Known l (labels_of (home_of q'))
       own_after l h = by_time (known_of (labels_of q.places) o.made l h)
         where
-          by_time : Known l (labels_of q.places) ⊎ ((d : Tick) × EntersWith l d o.made) → EntersIn l (q.made ++ o.made) ⊎ Known l (labels_of (home_of q'))
-          by_time (inl k) = of_old l (at_place (λ n. EntersIn n q.made ⊎ Known n (labels_of (home_of q))) l q.places (all q (inl refl)).own k)
+          by_time : Known l (labels_of q.places) ⊎ ((d : Tick) × EntersWith l d o.made) → EntersIn l (q.made ++ o.made)
+              ⊎ Known l (labels_of (home_of q'))
+          by_time (inl k) = of_old l (at_place (λ n. EntersIn n q.made ⊎ Known n (labels_of (home_of q))) l q.places (all q (inl refl)).own
+              k)
           by_time (inr k) = inl (enters_behind l q.made o.made (enters_too l k.0 o.made k.1))
 
-      at_home : ((q.serial ≡ 0) × (home_of q ≡ [])) ⊎ Home (q ∷ ys) q.serial (home_of q) → ((q.serial ≡ 0) × (home_of q' ≡ [])) ⊎ Home after_turn q.serial (home_of q')
+      at_home : ((q.serial ≡ 0) × (home_of q ≡ [])) ⊎ Home (q ∷ ys) q.serial (home_of q) → ((q.serial ≡ 0) × (home_of q' ≡ []))
+          ⊎ Home after_turn q.serial (home_of q')
       at_home (inl e) = inl (e.0, same_home ∙ e.1)
-      at_home (inr h) = inr (subst (λ (ps : List Place). Home after_turn q.serial ps) (sym same_home) (home_stays q.serial _ q (inl refl) refl before h))
+      at_home (inr h) = inr (subst (λ (ps : List Place). Home after_turn q.serial ps) (sym same_home)
+          (home_stays q.serial _ q (inl refl) refl before h))
 
   -- the children that it began
-  begun_housed : (i n j : ℕ) (es : List Event) (bs : List Begun) → Starts n es bs → n ≡ q.count + j → i ≡ m + j → BegunIn (known_after (labels_of q.places) o.made) bs →
+  begun_housed : (i n j : ℕ) (es : List Event) (bs : List Begun) → Starts n es bs → n ≡ q.count + j → i ≡ m + j →
+      BegunIn (known_after (labels_of q.places) o.made) bs →
       AllHoused bs o.stopped o.frames o.places → (x : Started) → In x (children_from k t i bs) → IsHoused after_turn x
   unfolding children_from
   begun_housed i n j es [] a e g b h x z = absurd z
@@ -206,7 +222,8 @@ module _ (k f : Table) (t m : ℕ) (q : Started) (ys : List Started) (wake : Wak
   begun_housed i n j (starts v l u ∷ es) (c ∷ bs) a e g b h x (inl z) = subst (λ (y : Started). IsHoused after_turn y) (sym z) (record {
     placed = (b.1, tt);
     kids = tt;
-    own = each_known (λ l. EntersIn l [] ⊎ Known l (labels_of c.places)) (labels_of c.places) (λ l h. inr h) c.places (all_themselves c.places);
+    own = each_known (λ l. EntersIn l [] ⊎ Known l (labels_of c.places)) (labels_of c.places) (λ l h. inr h) c.places
+        (all_themselves c.places);
     home = λ live. inr (record {
       starter = q';
       among = inl refl;
@@ -245,15 +262,18 @@ module _ (k f : Table) (t m : ℕ) (q : Started) (ys : List Started) (wake : Wak
 
 -- ---- a run
 
-housed_moved : (qs rs : List Started) → SameTasks qs rs → ((x : Started) → In x qs → IsHoused qs x) → (x : Started) → In x rs → IsHoused rs x
+housed_moved : (qs rs : List Started) → SameTasks qs rs → ((x : Started) → In x qs → IsHoused qs x) → (x : Started) → In x rs →
+    IsHoused rs x
 housed_moved qs rs same all x i = record { placed = h.placed; kids = h.kids; own = h.own; home = λ l. moved (h.home l) }
   where
     h : IsHoused qs x
     h = all x (same.back x i)
 
-    moved : ((x.serial ≡ 0) × (home_of x ≡ [])) ⊎ Home qs x.serial (home_of x) → ((x.serial ≡ 0) × (home_of x ≡ [])) ⊎ Home rs x.serial (home_of x)
+    moved : ((x.serial ≡ 0) × (home_of x ≡ [])) ⊎ Home qs x.serial (home_of x) → ((x.serial ≡ 0) × (home_of x ≡ []))
+        ⊎ Home rs x.serial (home_of x)
     moved (inl e) = inl e
-    moved (inr g) = inr (record { starter = g.starter; among = same.forth g.starter g.among; earlier = g.earlier; number = g.number; same = g.same; has = g.has })
+    moved (inr g) = inr (record { starter = g.starter; among = same.forth g.starter g.among; earlier = g.earlier; number = g.number; same =
+        g.same; has = g.has })
 
 -- serial numbers are below the number of tasks started
 serials_below : (k : Table) (job : Tree) (input : List ℕ) (f : Table) (t m : ℕ) (qs : List Started) → Reached k job input f t m qs →
@@ -275,7 +295,8 @@ serials_below k job input f t m qs (jump g v u n qs' r le blocked) x i = serials
 -- each task of a run is housed
 pub tasks_are_housed : TasksAreHoused
 tasks_are_housed k job input inside f t m _ (begun f') q (inl e) =
-    subst (λ (x : Started). IsHoused (root_task k job input ∷ []) x) (sym e) (record { placed = (inside, tt); kids = tt; own = tt; home = λ l. inl (refl, refl) })
+    subst (λ (x : Started). IsHoused (root_task k job input ∷ []) x) (sym e)
+        (record { placed = (inside, tt); kids = tt; own = tt; home = λ l. inl (refl, refl) })
 tasks_are_housed k job input inside f t m _ (begun f') q (inr i) = absurd i
 tasks_are_housed k job input inside f t m _ (turn g u n p qs others wake o s r at may goes stopped) q i =
     housed_after k g u n p others wake o s
@@ -286,7 +307,8 @@ tasks_are_housed k job input inside f t m qs (jump g v u n qs' r le blocked) q i
 -- ---- who is in a scope or nursery
 
 -- the home of a child is among the places of the task that has it
-home_among : (i : ℕ) (l : Label) (home : List Place) (fs : List Frame) (ps : List Place) → HasChild i home fs ps → Known l (labels_of home) → Known l (labels_of ps)
+home_among : (i : ℕ) (l : Label) (home : List Place) (fs : List Frame) (ps : List Place) → HasChild i home fs ps →
+    Known l (labels_of home) → Known l (labels_of ps)
 home_among i l home [] ps h k = absurd h
 home_among i l home (steps_left ss ∷ fs) ps h k = home_among i l home fs ps h k
 home_among i l home (in_scope fail ∷ fs) [] h k = absurd h
@@ -298,7 +320,8 @@ home_among i l home (in_try handler cleanup ∷ fs) ps h k = home_among i l home
 home_among i l home (in_handler rest cleanup ∷ fs) ps h k = home_among i l home fs ps h k
 home_among i l home (in_cleanup outcome ∷ fs) ps h k = home_among i l home fs ps h k
 
-home_within : (i : ℕ) (l : Label) (home : List Place) (s : Stopped) (fs : List Frame) (ps : List Place) → HasChildAfter i home (Some s) fs ps →
+home_within : (i : ℕ) (l : Label) (home : List Place) (s : Stopped) (fs : List Frame) (ps : List Place) →
+    HasChildAfter i home (Some s) fs ps →
     Known l (labels_of home) → Known l (labels_of ps)
 home_within i l home to_begin fs ps (inl h) k = absurd h
 home_within i l home to_begin fs ps (inr h) k = home_among i l home fs ps h k
@@ -314,7 +337,8 @@ home_within i l home (at_end u e) fs ps (inl h) k = absurd h
 home_within i l home (at_end u e) fs ps (inr h) k = home_among i l home fs ps h k
 
 -- who has a child has not ended
-has_live : (i : ℕ) (home : List Place) (s : Stopped) (fs : List Frame) (ps : List Place) → PlacedStop s fs ps → HasChildAfter i home (Some s) fs ps → live s ≡ true
+has_live : (i : ℕ) (home : List Place) (s : Stopped) (fs : List Frame) (ps : List Place) → PlacedStop s fs ps →
+    HasChildAfter i home (Some s) fs ps → live s ≡ true
 has_live i home to_begin fs ps p h = refl
 has_live i home (asking kernel purpose) fs ps p h = refl
 has_live i home (asleep n since) fs ps p h = refl
@@ -323,7 +347,8 @@ has_live i home (at_end u e) fs ps p (inl h) = absurd h
 has_live i home (at_end u e) fs ps p (inr h) = absurd (subst (λ (gs : List Frame). HasChild i home gs ps) p h)
 
 -- a label that is entered at most once is entered by one task
-one_enters : (l : Label) (qs : List Started) → made_times l qs ≤ 1 → (x y : Started) → In x qs → In y qs → 1 ≤ times_made l x.made → 1 ≤ times_made l y.made → x ≡ y
+one_enters : (l : Label) (qs : List Started) → made_times l qs ≤ 1 → (x y : Started) → In x qs → In y qs → 1 ≤ times_made l x.made →
+    1 ≤ times_made l y.made → x ≡ y
 unfolding made_times
 one_enters l [] n x y i j a b = absurd i
 one_enters l (z ∷ zs) n x y (inl e) (inl g) a b = e ∙ sym g
@@ -340,15 +365,19 @@ one_enters l (z ∷ zs) n x y (inr i) (inr j) a b = one_enters l zs (omega arith
 module _ (qs : List Started) (all : (x : Started) → In x qs → IsHoused qs x) (once : (l : Label) → made_times l qs ≤ 1)
     (l : Label) (q : Started) (i : In q qs) (h : EntersIn l q.made) where
   -- a label round a live task is round the task that entered it
-  in_force : (n : ℕ) (x : Started) → In x qs → x.serial < n → live x.rest.stopped ≡ true → Known l (labels_of x.places) → Known l (labels_of q.places)
+  in_force : (n : ℕ) (x : Started) → In x qs → x.serial < n → live x.rest.stopped ≡ true → Known l (labels_of x.places) →
+      Known l (labels_of q.places)
   in_force zero x j lt a k = absurd (omega arith)
   in_force (suc n) x j lt a k =
-      by_own (λ y b c d. in_force n y b c d) (at_place (λ m. EntersIn m x.made ⊎ Known m (labels_of (home_of x))) l x.places (all x j).own k)
+      by_own (λ y b c d. in_force n y b c d) (at_place (λ m. EntersIn m x.made ⊎ Known m (labels_of (home_of x))) l x.places (all x j).own
+          k)
     where
       Earlier : Type 0
-      Earlier = (y : Started) → In y qs → y.serial < n → live y.rest.stopped ≡ true → Known l (labels_of y.places) → Known l (labels_of q.places)
+      Earlier = (y : Started) → In y qs → y.serial < n → live y.rest.stopped ≡ true → Known l (labels_of y.places) →
+          Known l (labels_of q.places)
 
-      by_home : Earlier → Known l (labels_of (home_of x)) → ((x.serial ≡ 0) × (home_of x ≡ [])) ⊎ Home qs x.serial (home_of x) → Known l (labels_of q.places)
+      by_home : Earlier → Known l (labels_of (home_of x)) → ((x.serial ≡ 0) × (home_of x ≡ [])) ⊎ Home qs x.serial (home_of x) →
+          Known l (labels_of q.places)
       by_home up g (inl e) = absurd (subst (λ (ps : List Place). Known l (labels_of ps)) e.1 g)
       by_home up g (inr y) =
           let lower : y.starter.serial < x.serial = y.earlier in

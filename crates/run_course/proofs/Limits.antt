@@ -10,47 +10,58 @@ use Rattle.run_course.proofs.Agreement.{told_tells, ends_at}
 use Rattle.run_course.proofs.Ends.{Inside, inside_first}
 
 -- a child that was started ends by the end of its starter
-inside_child : (e : ℕ) (told : Telling) (i : ℕ) (es : List Event) → Inside e (fill told es) → StartsChild i es → ((told i).end ≤ e) × Inside (told i).end (told i).log
+inside_child : (e : ℕ) (told : Telling) (i : ℕ) (es : List Event) → Inside e (fill told es) → StartsChild i es → ((told i).end ≤ e)
+    × Inside (told i).end (told i).log
 inside_child e told i [] h s = absurd s
 inside_child e told i (noted t x ∷ es) h s = inside_child e told i es h s
 inside_child e told i (signs l t ∷ es) h s = inside_child e told i es h s
 inside_child e told i (enters l t d ∷ es) h s = inside_child e told i es h s
-inside_child e told i (starts j l t ∷ es) h (inl p) = subst (λ (n : ℕ). ((told n).end ≤ e) × Inside (told n).end (told n).log) (sym p) (h.0, h.1)
+inside_child e told i (starts j l t ∷ es) h (inl p) =
+    subst (λ (n : ℕ). ((told n).end ≤ e) × Inside (told n).end (told n).log) (sym p) (h.0, h.1)
 inside_child e told i (starts j l t ∷ es) h (inr s) = inside_child e told i es h.2 s
 
 module _ (k f : Table) (whole : Result) (qs : List Started) (o : OnCourse k f whole qs) where
   -- what a task made stands first in the log of what it comes to
-  log_of : (q : Started) → In q qs → followed_by (fill q.told q.made) (rest_comes_to (by_table k) q.told q.rest q.here (stack_at k q.places) q.stop).log ≡ q.fate.log
+  log_of : (q : Started) → In q qs → followed_by (fill q.told q.made)
+      (rest_comes_to (by_table k) q.told q.rest q.here (stack_at k q.places) q.stop).log ≡ q.fate.log
   log_of q i = ap (λ (r : Result). r.log) ((o.fits q i).comes q.told (told_tells q))
 
   -- each task ends by the end of the whole, where each of the whole's does
-  pub ends_by_whole : Inside whole.end whole.log → (n : ℕ) (q : Started) → In q qs → q.serial < n → (q.fate.end ≤ whole.end) × Inside q.fate.end q.fate.log
+  pub ends_by_whole : Inside whole.end whole.log → (n : ℕ) (q : Started) → In q qs → q.serial < n → (q.fate.end ≤ whole.end)
+      × Inside q.fate.end q.fate.log
   ends_by_whole h zero q i l = absurd (omega arith)
-  ends_by_whole h (suc n) q i l = by_parent (o.parents q i) (λ p. let x : p.starter.serial < q.serial = p.earlier in ends_by_whole h n p.starter p.among (omega arith))
+  ends_by_whole h (suc n) q i l =
+      by_parent (o.parents q i) (λ p. let x : p.starter.serial < q.serial = p.earlier in ends_by_whole h n p.starter p.among (omega arith))
     where
-      of_starter : (p : Parent qs q) → (p.starter.fate.end ≤ whole.end) × Inside p.starter.fate.end p.starter.fate.log → (q.fate.end ≤ whole.end) × Inside q.fate.end q.fate.log
+      of_starter : (p : Parent qs q) → (p.starter.fate.end ≤ whole.end) × Inside p.starter.fate.end p.starter.fate.log →
+          (q.fate.end ≤ whole.end) × Inside q.fate.end q.fate.log
       of_starter p s =
           let a : Inside p.starter.fate.end (fill p.starter.told p.starter.made) =
-          inside_first p.starter.fate.end (fill p.starter.told p.starter.made) _ (subst (λ (x : Log). Inside p.starter.fate.end x) (sym (log_of p.starter p.among)) s.1) in
+          inside_first p.starter.fate.end (fill p.starter.told p.starter.made) _
+              (subst (λ (x : Log). Inside p.starter.fate.end x) (sym (log_of p.starter p.among)) s.1) in
           let b = inside_child p.starter.fate.end p.starter.told p.number p.starter.made a p.started in
           let c : (p.starter.told p.number).end ≤ p.starter.fate.end = b.0 in
           let d : p.starter.fate.end ≤ whole.end = s.0 in
           let e : q.fate.end ≡ (p.starter.told p.number).end = ap (λ (r : Result). r.end) p.same in
           (omega arith, subst (λ (r : Result). Inside r.end r.log) (sym p.same) b.1)
 
-      by_parent : (q.fate ≡ whole) ⊎ Parent qs q → ((p : Parent qs q) → (p.starter.fate.end ≤ whole.end) × Inside p.starter.fate.end p.starter.fate.log) → (q.fate.end ≤ whole.end) × Inside q.fate.end q.fate.log
-      by_parent (inl e) up = let x : q.fate.end ≡ whole.end = ap (λ (r : Result). r.end) e in (omega arith, subst (λ (r : Result). Inside r.end r.log) (sym e) h)
+      by_parent : (q.fate ≡ whole) ⊎ Parent qs q → ((p : Parent qs q) → (p.starter.fate.end ≤ whole.end)
+          × Inside p.starter.fate.end p.starter.fate.log) → (q.fate.end ≤ whole.end) × Inside q.fate.end q.fate.log
+      by_parent (inl e) up = let x : q.fate.end ≡ whole.end = ap (λ (r : Result). r.end) e in
+          (omega arith, subst (λ (r : Result). Inside r.end r.log) (sym e) h)
       by_parent (inr p) up = of_starter p (up p)
 
   -- while a task has not ended, the whole does not end before the present tick
-  pub not_before : Inside whole.end whole.log → (t : ℕ) → AllFrom k qs t → (q : Started) → In q qs → live q.rest.stopped ≡ true → t ≤ whole.end
+  pub not_before : Inside whole.end whole.log → (t : ℕ) → AllFrom k qs t → (q : Started) → In q qs → live q.rest.stopped ≡ true →
+      t ≤ whole.end
   not_before h t from q i l =
       let a : t ≤ q.fate.end = ends_at k q t (o.fits q i) (o.shape q i) l (from q i l) in
       let b : q.fate.end ≤ whole.end = (ends_by_whole h (suc q.serial) q i (omega arith)).0 in
       omega arith
 
   -- a blocked run has a sleeper: who waits does so for a child that has not ended
-  pub has_sleeper : (u bound : ℕ) → Blocked f qs u → ((q : Started) → In q qs → q.serial < bound) → (n : ℕ) (q : Started) → In q qs → live q.rest.stopped ≡ true → bound ≤ q.serial + n → Sleeps qs
+  pub has_sleeper : (u bound : ℕ) → Blocked f qs u → ((q : Started) → In q qs → q.serial < bound) → (n : ℕ) (q : Started) → In q qs →
+      live q.rest.stopped ≡ true → bound ≤ q.serial + n → Sleeps qs
   has_sleeper u m b small zero q i a z = let w : q.serial < m = small q i in absurd (omega arith)
   has_sleeper u m b small (suc n) q i a z =
       by_stop q.rest.stopped refl a (b q i)

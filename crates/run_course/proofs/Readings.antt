@@ -46,11 +46,13 @@ in_either x (y ∷ xs) ys (inr i) = behind (in_either x xs ys i)
 -- ---- events
 
 -- the first sign among two parts
-pub first_join : (c : ℕ) (l : Label) (xs ys : List Event) → upto c (made_sign l (xs ++ ys)) ≡ min (upto c (made_sign l xs)) (upto c (made_sign l ys))
+pub first_join : (c : ℕ) (l : Label) (xs ys : List Event) → upto c (made_sign l (xs ++ ys))
+    ≡ min (upto c (made_sign l xs)) (upto c (made_sign l ys))
 first_join c l [] ys = let h : upto c (made_sign l ys) ≤ c = upto_most c (made_sign l ys) in omega arith
 first_join c l (noted t e ∷ xs) ys = first_join c l xs ys
 first_join c l (signs m t ∷ xs) ys =
-    omega (arith, upto_earlier c (tick_if (same_label l m) t) (made_sign l (xs ++ ys)), upto_earlier c (tick_if (same_label l m) t) (made_sign l xs), first_join c l xs ys)
+    omega (arith, upto_earlier c (tick_if (same_label l m) t) (made_sign l (xs ++ ys)),
+        upto_earlier c (tick_if (same_label l m) t) (made_sign l xs), first_join c l xs ys)
 first_join c l (enters m t d ∷ xs) ys = first_join c l xs ys
 first_join c l (starts i m t ∷ xs) ys = first_join c l xs ys
 
@@ -173,7 +175,8 @@ enters_once l d (starts i m t ∷ es) h n = enters_once l d es h n
 -- ---- logs
 
 -- the first sign of two parts of a log, and how often they enter a label
-pub least_join : (c : ℕ) (l : Label) (a b : Log) → upto c (least_sign l (followed_by a b)) ≡ min (upto c (least_sign l a)) (upto c (least_sign l b))
+pub least_join : (c : ℕ) (l : Label) (a b : Log) → upto c (least_sign l (followed_by a b))
+    ≡ min (upto c (least_sign l a)) (upto c (least_sign l b))
 least_join c l a b = ap (upto c) (least_followed l a b) ∙ upto_earlier c (least_sign l a) (least_sign l b)
 
 pub left_join : (l : Label) (a b : Log) → times_entered l (followed_by a b) ≡ times_entered l a + times_entered l b
@@ -243,11 +246,13 @@ made_few l (q ∷ qs) = omega (arith, made_few l qs)
 pub made_counted : (l : Label) (q : Started) (qs : List Started) → In q qs → times_made l q.made ≤ made_times l qs
 unfolding made_times
 made_counted l q [] i = absurd i
-made_counted l q (x ∷ qs) (inl e) = let z : times_made l q.made ≡ times_made l x.made = ap (λ (y : Started). times_made l y.made) e in omega arith
+made_counted l q (x ∷ qs) (inl e) = let z : times_made l q.made ≡ times_made l x.made =
+    ap (λ (y : Started). times_made l y.made) e in omega arith
 made_counted l q (x ∷ qs) (inr i) = omega (arith, made_counted l q qs i)
 
 -- a label that a task has left to enter was entered by none, where it is entered once at most
-pub left_fresh : (l : Label) (q : Started) (qs : List Started) → In q qs → 1 ≤ times_entered l q.left → all_times l qs ≤ 1 → made_times l qs ≡ 0
+pub left_fresh : (l : Label) (q : Started) (qs : List Started) → In q qs → 1 ≤ times_entered l q.left → all_times l qs ≤ 1 →
+    made_times l qs ≡ 0
 unfolding all_times made_times
 left_fresh l q [] i c h = absurd i
 left_fresh l q (x ∷ qs) (inl e) c h =
@@ -261,5 +266,6 @@ left_fresh l q (x ∷ qs) (inr i) c h =
   where
     more : (l : Label) (q : Started) (ys : List Started) → In q ys → 1 ≤ times_entered l q.left → 1 ≤ all_times l ys
     more l q [] i c = absurd i
-    more l q (y ∷ ys) (inl e) c = let z : times_entered l q.left ≡ times_entered l y.left = ap (λ (v : Started). times_entered l v.left) e in omega arith
+    more l q (y ∷ ys) (inl e) c = let z : times_entered l q.left ≡ times_entered l y.left =
+        ap (λ (v : Started). times_entered l v.left) e in omega arith
     more l q (y ∷ ys) (inr i) c = omega (arith, more l q ys i c)

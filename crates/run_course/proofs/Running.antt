@@ -68,7 +68,8 @@ kept_turn k f whole t m q qs others wake o s h at may w e = record {
     come = woken k f whole (q ∷ others) course t from q (inl refl) wake may
 
     small_after : (x : Started) → In x ((turned k t m q o s ∷ children_from k t m o.begun) ++ others) → x.serial < m + length o.begun
-    small_after x (inl e) = let a : x.serial ≡ q.serial = ap (λ (z : Started). z.serial) e in let b : q.serial < m = small q (inl refl) in omega arith
+    small_after x (inl e) = let a : x.serial ≡ q.serial = ap (λ (z : Started). z.serial) e in let b : q.serial < m =
+        small q (inl refl) in omega arith
     small_after x (inr i) = by_place (in_either x (children_from k t m o.begun) others i)
       where
         by_place : In x (children_from k t m o.begun) ⊎ In x others → x.serial < m + length o.begun
@@ -112,7 +113,8 @@ runs_are_the_meaning job input names nurseries f t m qs r rows rowed a b taken d
     let h : Kept k f (follow k job input) t m qs = kept k job input names nurseries (table_is_settled job input names) r in
     let e : follow k job input ≡ meaning job input = following_is_meaning job input names in (
       records_over k f (follow k job input) qs h.course rows rowed job a b taken d ∙ ap (λ (v : Result). records_of (root_log job v)) e,
-      froms_of_over k f (follow k job input) qs h.course rows rowed job taken d ∙ ap (λ (v : Result). froms_by k (all_entered (root_log job v))) e,
+      froms_of_over k f (follow k job input) qs h.course rows rowed job taken d
+          ∙ ap (λ (v : Result). froms_by k (all_entered (root_log job v))) e,
       ends_over k f (follow k job input) qs h.course rows rowed ∙ ap (λ (v : Result). v.end) e,
     )
 
@@ -145,12 +147,14 @@ weights_front : {q : Started} {qs others : List Started} → Front q qs others �
 weights_front (is_front q qs) = refl
 weights_front (behind_one q x qs others at) = omega (arith, weights_front at)
 
-ends_run : (k : Table) {job : Tree} {input : List ℕ} {f : Table} {t m : ℕ} {qs : List Started} → (r : Reached k job input f t m qs) → turns_taken r + all_weights qs ≤ 2 * size_of job.steps + 1
+ends_run : (k : Table) {job : Tree} {input : List ℕ} {f : Table} {t m : ℕ} {qs : List Started} → (r : Reached k job input f t m qs) →
+    turns_taken r + all_weights qs ≤ 2 * size_of job.steps + 1
 ends_run k (begun f) = omega arith
 ends_run k (turn f t m q qs others wake o s r at may goes stopped) =
     let a : all_weights qs ≡ rest_weight q.rest + all_weights others = weights_front at in
     let b : all_weights (children_from k t m o.begun) ≡ weight_of_begun o.begun = weights_begun k t m o.begun in
-    let c : all_weights (children_from k t m o.begun ++ others) ≡ all_weights (children_from k t m o.begun) + all_weights others = weights_join (children_from k t m o.begun) others in
+    let c : all_weights (children_from k t m o.begun ++ others) ≡ all_weights (children_from k t m o.begun) + all_weights others =
+        weights_join (children_from k t m o.begun) others in
     let d : rest_weight (record { stopped = s; frames = o.frames }) + weight_of_begun o.begun < rest_weight q.rest =
     lighter t f wake q o s goes stopped in
     let e : turns_taken r + all_weights qs ≤ _ = ends_run k r in

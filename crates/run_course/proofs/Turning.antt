@@ -26,12 +26,14 @@ use Rattle.run_course.proofs.Commit.{old_told, first_told, later_told, tells_beg
 -- ---- the new children
 
 -- children that did nothing yet made nothing
-begun_least : (k : Table) (t c : ℕ) (l : Label) (m : ℕ) (bs : List Begun) (ys : List Started) → made_least c l ys ≤ c → made_least c l (children_from k t m bs ++ ys) ≡ made_least c l ys
+begun_least : (k : Table) (t c : ℕ) (l : Label) (m : ℕ) (bs : List Begun) (ys : List Started) → made_least c l ys ≤ c →
+    made_least c l (children_from k t m bs ++ ys) ≡ made_least c l ys
 unfolding made_least children_from
 begun_least k t c l m [] ys h = refl
 begun_least k t c l m (b ∷ bs) ys h = omega (arith, begun_least k t c l (suc m) bs ys h)
 
-begun_times : (k : Table) (t : ℕ) (l : Label) (m : ℕ) (bs : List Begun) (ys : List Started) → made_times l (children_from k t m bs ++ ys) ≡ made_times l ys
+begun_times : (k : Table) (t : ℕ) (l : Label) (m : ℕ) (bs : List Begun) (ys : List Started) →
+    made_times l (children_from k t m bs ++ ys) ≡ made_times l ys
 unfolding made_times times_made children_from
 begun_times k t l m [] ys = refl
 begun_times k t l m (b ∷ bs) ys = omega (arith, begun_times k t l (suc m) bs ys)
@@ -117,7 +119,8 @@ record NewKid (k : Table) (t : ℕ) (told : Telling) (n m : ℕ) (bs : List Begu
   serial : kid.serial ≡ m + (i - n)
   same : kid.fate ≡ told_new k t told bs i
 
-new_kid : (k : Table) (t : ℕ) (told : Telling) (n m : ℕ) (bs : List Begun) → NumberedFrom n bs → (i : ℕ) → n ≤ i → i < n + length bs → NewKid k t told n m bs i
+new_kid : (k : Table) (t : ℕ) (told : Telling) (n m : ℕ) (bs : List Begun) → NumberedFrom n bs → (i : ℕ) → n ≤ i → i < n + length bs →
+    NewKid k t told n m bs i
 unfolding children_from
 new_kid k t told n m [] p i h j = absurd (omega arith)
 new_kid k t told n m (b ∷ bs) p i h j = by_case (split i n h) (λ g. new_kid k t told (suc n) (suc m) bs p.1 i g (omega arith))
@@ -177,7 +180,8 @@ module _ (k f : Table) (whole : Result) (q : Started) (ys : List Started) (cours
       by_place (inr j) = course.fits x (inr j)
 
   shape_after : (x : Started) → In x after_turn → PlacedStop x.rest.stopped x.rest.frames x.places
-  shape_after x (inl e) = subst (λ (z : Started). PlacedStop z.rest.stopped z.rest.frames z.places) (sym e) (placed_stop t f wake q o s w stopped)
+  shape_after x (inl e) = subst (λ (z : Started). PlacedStop z.rest.stopped z.rest.frames z.places) (sym e)
+      (placed_stop t f wake q o s w stopped)
   shape_after x (inr i) = by_place (in_either x new ys i)
     where
       by_place : In x new ⊎ In x ys → PlacedStop x.rest.stopped x.rest.frames x.places
@@ -188,7 +192,8 @@ module _ (k f : Table) (whole : Result) (q : Started) (ys : List Started) (cours
   unfolding all_least
   signed_after c l =
       let x : upto c (least_sign l whole.log) ≡ all_least c l (q ∷ ys) = course.signed c l in
-      let y : all_least c l (q' ∷ new) ≡ min (upto c (made_sign l q.made)) (upto c (least_sign l q.left)) = least_turned k f t m wake q o s w stopped fit near deadlines come c l in
+      let y : all_least c l (q' ∷ new) ≡ min (upto c (made_sign l q.made)) (upto c (least_sign l q.left)) =
+          least_turned k f t m wake q o s w stopped fit near deadlines come c l in
       let z : all_least c l after_turn ≡ min (all_least c l (q' ∷ new)) (all_least c l ys) = all_least_join c l (q' ∷ new) ys in
       x ∙ sym (z ∙ ap (λ (v : ℕ). min v (all_least c l ys)) y)
 
@@ -196,12 +201,14 @@ module _ (k f : Table) (whole : Result) (q : Started) (ys : List Started) (cours
   unfolding all_times
   once_after l =
       let x : all_times l (q ∷ ys) ≤ 1 = course.once l in
-      let y : all_times l (q' ∷ new) ≡ times_made l q.made + times_entered l q.left = times_turned k f t m wake q o s w stopped fit near deadlines come l in
+      let y : all_times l (q' ∷ new) ≡ times_made l q.made + times_entered l q.left =
+          times_turned k f t m wake q o s w stopped fit near deadlines come l in
       let z : all_times l after_turn ≡ all_times l (q' ∷ new) + all_times l ys = all_times_join l (q' ∷ new) ys in
       subst (λ (v : ℕ). v ≤ 1) (sym (z ∙ ap (λ (v : ℕ). v + all_times l ys) y)) x
 
   made_once : (l : Label) → made_times l after_turn ≤ 1
-  made_once l = let x : made_times l after_turn ≤ all_times l after_turn = made_few l after_turn in let y : all_times l after_turn ≤ 1 = once_after l in omega arith
+  made_once l = let x : made_times l after_turn ≤ all_times l after_turn = made_few l after_turn in let y : all_times l after_turn ≤ 1 =
+      once_after l in omega arith
 
   times_after : (l : Label) → made_times l after_turn ≡ (times_made l q.made + times_made l o.made) + made_times l ys
   unfolding made_times
@@ -209,10 +216,12 @@ module _ (k f : Table) (whole : Result) (q : Started) (ys : List Started) (cours
       let x : times_made l (q.made ++ o.made) ≡ times_made l q.made + times_made l o.made = times_join l q.made o.made in
       omega (arith, begun_times k t l m o.begun ys)
 
-  least_after : (c : ℕ) (l : Label) → made_least c l after_turn ≡ min (min (upto c (made_sign l q.made)) (upto c (made_sign l o.made))) (made_least c l ys)
+  least_after : (c : ℕ) (l : Label) → made_least c l after_turn
+      ≡ min (min (upto c (made_sign l q.made)) (upto c (made_sign l o.made))) (made_least c l ys)
   unfolding made_least
   least_after c l =
-      let x : upto c (made_sign l (q.made ++ o.made)) ≡ min (upto c (made_sign l q.made)) (upto c (made_sign l o.made)) = first_join c l q.made o.made in
+      let x : upto c (made_sign l (q.made ++ o.made)) ≡ min (upto c (made_sign l q.made)) (upto c (made_sign l o.made)) =
+          first_join c l q.made o.made in
       omega (arith, begun_least k t c l m o.begun ys (made_low c l ys))
 
   -- a place's label was entered
@@ -244,10 +253,12 @@ module _ (k f : Table) (whole : Result) (q : Started) (ys : List Started) (cours
   d' = q'.told
 
   rest_is : q.left ≡ followed_by (fill d' o.made) q'.left
-  rest_is = left_is k f t m wake q o s w stopped fit near deadlines come d' (tells_itself k f t m wake q o s w stopped fit near deadlines come)
+  rest_is = left_is k f t m wake q o s w stopped fit near deadlines come d'
+      (tells_itself k f t m wake q o s w stopped fit near deadlines come)
 
   all_begun : AllTold t k d' o.begun
-  all_begun = tells_begun k f t m wake q o s w stopped fit near deadlines come d' (tells_itself k f t m wake q o s w stopped fit near deadlines come)
+  all_begun = tells_begun k f t m wake q o s w stopped fit near deadlines come d'
+      (tells_itself k f t m wake q o s w stopped fit near deadlines come)
 
   in_made : (l : Label) (d : Tick) → EnteredIn l d (fill d' o.made) → EnteredIn l d q.left
   in_made l d j = subst (λ (a : Log). EnteredIn l d a) (sym rest_is) (entered_first l d (fill d' o.made) q'.left j)
@@ -260,7 +271,8 @@ module _ (k f : Table) (whole : Result) (q : Started) (ys : List Started) (cours
   follows_after x (inr i) l d j = by_place (in_either x new ys i)
     where
       by_place : In x new ⊎ In x ys → k l ≡ from_by d (least_sign l whole.log)
-      by_place (inl z) = course.follows q (inl refl) l d (in_made l d (fill_entered k t d' q.count m o.made o.begun w.starts all_begun x z l d j))
+      by_place (inl z) = course.follows q (inl refl) l d (in_made l d
+          (fill_entered k t d' q.count m o.made o.begun w.starts all_begun x z l d j))
       by_place (inr z) = course.follows x (inr z) l d j
 
   -- ---- children
@@ -300,14 +312,16 @@ module _ (k f : Table) (whole : Result) (q : Started) (ys : List Started) (cours
       place c l (inr j) = in_second c (q' ∷ new) ys j
 
       go : Kid (q ∷ ys) q i → Kid after_turn q' i
-      go c = record { kid = c.kid; among = place c.kid c.later c.among; serial = c.serial ∙ sym (old_child q.count q.child m i h); later = c.later; same = c.same ∙ same }
+      go c = record { kid = c.kid; among = place c.kid c.later c.among; serial = c.serial ∙ sym (old_child q.count q.child m i h); later =
+          c.later; same = c.same ∙ same }
 
   later_kid : (i : ℕ) → q.count ≤ i → i < q.count + length o.begun → Kid after_turn q' i
   later_kid i h j =
       let c : NewKid k t q.told q.count m o.begun i = new_kid k t q.told q.count m o.begun numbers i h j in
       let y : c.kid.serial ≡ m + (i - q.count) = c.serial in
       let v : q.serial < m = small q (inl refl) in
-      record { kid = c.kid; among = inr (in_first c.kid new ys c.among); serial = y ∙ sym (later_child q.count q.child m i h); later = omega arith; same = c.same }
+      record { kid = c.kid; among = inr (in_first c.kid new ys c.among); serial = y ∙ sym (later_child q.count q.child m i h); later =
+          omega arith; same = c.same }
 
   kids_turned : (i : ℕ) → i < q'.count → Kid after_turn q' i
   kids_turned i h = by_order (cases_lt i q.count)
@@ -321,7 +335,8 @@ module _ (k f : Table) (whole : Result) (q : Started) (ys : List Started) (cours
     where
       go_in : (c : Started) → c.serial ≡ x.child i → x.serial < c.serial → c.fate ≡ x.told i → In c (q ∷ ys) → Kid after_turn x i
       go_in c n l e (inl z) =
-          record { kid = q'; among = inl refl; serial = sym (ap (λ (v : Started). v.serial) z) ∙ n; later = subst (λ (v : ℕ). x.serial < v) (ap (λ (v : Started). v.serial) z) l; same = sym (ap (λ (v : Started). v.fate) z) ∙ e }
+          record { kid = q'; among = inl refl; serial = sym (ap (λ (v : Started). v.serial) z) ∙ n; later =
+              subst (λ (v : ℕ). x.serial < v) (ap (λ (v : Started). v.serial) z) l; same = sym (ap (λ (v : Started). v.fate) z) ∙ e }
       go_in c n l e (inr z) = record { kid = c; among = in_second c (q' ∷ new) ys z; serial = n; later = l; same = e }
 
       go : Kid (q ∷ ys) x i → Kid after_turn x i
@@ -356,7 +371,8 @@ module _ (k f : Table) (whole : Result) (q : Started) (ys : List Started) (cours
   parent_old : (x : Started) → Parent (q ∷ ys) x → Parent after_turn x
   parent_old x p = by_task p.starter p.among p.earlier p.started p.same
     where
-      by_task : (z : Started) → In z (q ∷ ys) → z.serial < x.serial → StartsChild p.number z.made → x.fate ≡ z.told p.number → Parent after_turn x
+      by_task : (z : Started) → In z (q ∷ ys) → z.serial < x.serial → StartsChild p.number z.made → x.fate ≡ z.told p.number →
+          Parent after_turn x
       by_task z (inl e) l h s =
           let h' : StartsChild p.number q.made = subst (λ (v : Started). StartsChild p.number v.made) e h in
           record {
@@ -365,9 +381,11 @@ module _ (k f : Table) (whole : Result) (q : Started) (ys : List Started) (cours
             earlier = subst (λ (v : Started). v.serial < x.serial) e l;
             number = p.number;
             started = starts_first p.number q.made o.made h';
-            same = s ∙ (ap (λ (v : Started). v.told p.number) e ∙ sym (old_told k t q.told q.count o.begun numbers p.number (course.numbered q (inl refl) p.number h')));
+            same = s ∙ (ap (λ (v : Started). v.told p.number) e
+                ∙ sym (old_told k t q.told q.count o.begun numbers p.number (course.numbered q (inl refl) p.number h')));
           }
-      by_task z (inr j) l h s = record { starter = z; among = in_second z (q' ∷ new) ys j; earlier = l; number = p.number; started = h; same = s }
+      by_task z (inr j) l h s = record { starter = z; among = in_second z (q' ∷ new) ys j; earlier = l; number = p.number; started =
+          h; same = s }
 
   root_or_old : (x : Started) → (x.fate ≡ whole) ⊎ Parent (q ∷ ys) x → (x.fate ≡ whole) ⊎ Parent after_turn x
   root_or_old x (inl e) = inl e
@@ -378,7 +396,8 @@ module _ (k f : Table) (whole : Result) (q : Started) (ys : List Started) (cours
     where
       go : (q.fate ≡ whole) ⊎ Parent after_turn q → (q'.fate ≡ whole) ⊎ Parent after_turn q'
       go (inl e) = inl e
-      go (inr p) = inr (record { starter = p.starter; among = p.among; earlier = p.earlier; number = p.number; started = p.started; same = p.same })
+      go (inr p) = inr (record { starter = p.starter; among = p.among; earlier = p.earlier; number = p.number; started = p.started; same =
+          p.same })
 
   parents_after : (x : Started) → In x after_turn → (x.fate ≡ whole) ⊎ Parent after_turn x
   parents_after x (inl e) = subst (λ (z : Started). (z.fate ≡ whole) ⊎ Parent after_turn z) (sym e) parent_turned
@@ -386,7 +405,8 @@ module _ (k f : Table) (whole : Result) (q : Started) (ys : List Started) (cours
     where
       of_new : NewChild k t m o.begun o.made d' x → Parent after_turn x
       of_new c = let v : q.serial < m = small q (inl refl) in let z : m ≤ x.serial = c.serial in
-          record { starter = q'; among = inl refl; earlier = omega arith; number = c.number; started = starts_second c.number q.made o.made c.started; same = c.same }
+          record { starter = q'; among = inl refl; earlier = omega arith; number = c.number; started =
+              starts_second c.number q.made o.made c.started; same = c.same }
 
       by_place : In x new ⊎ In x ys → (x.fate ≡ whole) ⊎ Parent after_turn x
       by_place (inl z) = inr (of_new (new_child k t d' q.count m o.made o.begun w.starts all_begun x z))
@@ -395,14 +415,16 @@ module _ (k f : Table) (whole : Result) (q : Started) (ys : List Started) (cours
   -- ---- froms
 
   -- of a label that was entered before
-  has_from_old : (l : Label) (d : Tick) → 1 ≤ made_times l (q ∷ ys) → HasFrom k f whole.log (q ∷ ys) l d → HasFrom k g whole.log after_turn l d
+  has_from_old : (l : Label) (d : Tick) → 1 ≤ made_times l (q ∷ ys) → HasFrom k f whole.log (q ∷ ys) l d →
+      HasFrom k g whole.log after_turn l d
   unfolding made_times made_least
   has_from_old l d e p =
       let n : made_times l after_turn ≤ 1 = made_once l in
       let z : times_made l o.made ≡ 0 = omega (arith, times_after l) in
       record {
         settled = p.settled;
-        kept = λ c. lowered_from c f l o.made z ∙ (ap (λ (v : ℕ). min v (suc (upto c (made_sign l o.made)))) (p.kept c) ∙ omega (arith, least_after c l));
+        kept = λ c. lowered_from c f l o.made z ∙ (ap (λ (v : ℕ). min v (suc (upto c (made_sign l o.made)))) (p.kept c)
+            ∙ omega (arith, least_after c l));
       }
 
   -- and of one that the turn entered
@@ -450,7 +472,8 @@ module _ (k f : Table) (whole : Result) (q : Started) (ys : List Started) (cours
     where
       by_task : (x : Started) → In x (q ∷ ys) → EntersWith l e.deadline x.made → Entered after_turn l
       by_task x (inl i) h =
-          record { deadline = e.deadline; by = q'; among = inl refl; made = enters_first l e.deadline q.made o.made (subst (λ (z : Started). EntersWith l e.deadline z.made) i h) }
+          record { deadline = e.deadline; by = q'; among = inl refl; made =
+              enters_first l e.deadline q.made o.made (subst (λ (z : Started). EntersWith l e.deadline z.made) i h) }
       by_task x (inr i) h = record { deadline = e.deadline; by = x; among = in_second x (q' ∷ new) ys i; made = h }
 
   entered_place : (l : Label) (ps : List Place) → EachPlace (Entered (q ∷ ys)) ps → Known l (labels_of ps) → Entered after_turn l
@@ -483,7 +506,8 @@ module _ (k f : Table) (whole : Result) (q : Started) (ys : List Started) (cours
   root_after = by_place course.root.root course.root.among course.root.first course.root.comes
     where
       by_place : (x : Started) → In x (q ∷ ys) → x.serial ≡ 0 → x.fate ≡ whole → Root whole after_turn
-      by_place x (inl e) a b = record { root = q'; among = inl refl; first = sym (ap (λ (z : Started). z.serial) e) ∙ a; comes = sym (ap (λ (z : Started). z.fate) e) ∙ b }
+      by_place x (inl e) a b = record { root = q'; among = inl refl; first = sym (ap (λ (z : Started). z.serial) e) ∙ a; comes =
+          sym (ap (λ (z : Started). z.fate) e) ∙ b }
       by_place x (inr i) a b = record { root = x; among = in_second x (q' ∷ new) ys i; first = a; comes = b }
 
   -- a turn keeps the run on its course

@@ -26,16 +26,22 @@ seen_now t n since (Some from) lt e late = (omega arith, ap (λ (v : ℕ). Some 
     by_test h = grind (arith, nat_tests)
 
 -- what an ended task comes to
-pub ended_fate : (k : Table) (q : Started) → Fits k q → (u : ℕ) (e : Option Exc) → q.rest.stopped ≡ at_end u e → (q.fate.end ≡ u) × (q.fate.exc ≡ e)
+pub ended_fate : (k : Table) (q : Started) → Fits k q → (u : ℕ) (e : Option Exc) → q.rest.stopped ≡ at_end u e → (q.fate.end ≡ u)
+    × (q.fate.exc ≡ e)
 ended_fate k q p u e s = (
-  sym (ap (λ (r : Result). r.end) (p.comes q.told (told_tells q))) ∙ ap (λ (z : Stopped). (task_comes_to (by_table k) q.told q.made (record { stopped = z; frames = q.rest.frames }) q.here (stack_at k q.places) q.stop).end) s,
-  sym (ap (λ (r : Result). r.exc) (p.comes q.told (told_tells q))) ∙ ap (λ (z : Stopped). (task_comes_to (by_table k) q.told q.made (record { stopped = z; frames = q.rest.frames }) q.here (stack_at k q.places) q.stop).exc) s,
+  sym (ap (λ (r : Result). r.end) (p.comes q.told (told_tells q)))
+      ∙ ap (λ (z : Stopped). (task_comes_to (by_table k) q.told q.made (record { stopped = z; frames = q.rest.frames }) q.here
+      (stack_at k q.places) q.stop).end) s,
+  sym (ap (λ (r : Result). r.exc) (p.comes q.told (told_tells q)))
+      ∙ ap (λ (z : Stopped). (task_comes_to (by_table k) q.told q.made (record { stopped = z; frames = q.rest.frames }) q.here
+      (stack_at k q.places) q.stop).exc) s,
 )
 
 same_member : (m n : Member) → m.end ≡ n.end → m.exc ≡ n.exc → m ≡ n
 same_member m n e f = λ i. record { end = e i; exc = f i }
 
-module _ (k f : Table) (whole : Result) (qs : List Started) (o : OnCourse k f whole qs) (t : ℕ) (from : AllFrom k qs t) (q : Started) (i : In q qs) where
+module _ (k f : Table) (whole : Result) (qs : List Started) (o : OnCourse k f whole qs) (t : ℕ) (from : AllFrom k qs t) (q : Started)
+    (i : In q qs) where
   -- what is seen is the same by the table and by the froms that are kept
   same_seen : seen (stack_at k q.places) t ≡ seen (stack_at f q.places) t
   same_seen = seen_near (suc t) (stack_at k q.places) (stack_at f q.places) t
@@ -51,7 +57,8 @@ module _ (k f : Table) (whole : Result) (qs : List Started) (o : OnCourse k f wh
       let z : (c.kid.fate.end ≡ (ends n).end) × (c.kid.fate.exc ≡ (ends n).exc) =
       ended_fate k c.kid (o.fits c.kid c.among) (ends n).end (ends n).exc (e n (inl refl) c.kid c.among c.serial) in
       let y : told n ≡ c.kid.fate = tells n (h n (inl refl)) ∙ sym c.same in
-      let first : _ = same_member (record { end = (told n).end; exc = (told n).exc }) (ends n) (ap (λ (r : Result). r.end) y ∙ z.0) (ap (λ (r : Result). r.exc) y ∙ z.1) in
+      let first : _ = same_member (record { end = (told n).end; exc = (told n).exc }) (ends n) (ap (λ (r : Result). r.end) y ∙ z.0)
+          (ap (λ (r : Result). r.exc) y ∙ z.1) in
       λ j. first j ∷ told_ended told tells ends is (λ m x. h m (inr x)) (λ m x. e m (inr x)) j
 
   over_gives : (children : List ℕ) (ended : ℕ) (e x : Option Exc) → WaitIsOver qs q t children ended e x → (told : Telling) → Tells q told →
@@ -61,7 +68,8 @@ module _ (k f : Table) (whole : Result) (qs : List Started) (o : OnCourse k f wh
       (sym (told_ended told tells h.ends children h.numbers h.over)) h.settled
 
   by_stop : (wake : Wake) (s : Stopped) → (told : Telling) → Tells q told →
-      (live s ≡ true → t ≤ goes_on q.told s (stack_at k q.places) q.stop) → MayWake f qs t q wake s → WakesBy k told q.here q.stop t wake s q.places
+      (live s ≡ true → t ≤ goes_on q.told s (stack_at k q.places) q.stop) → MayWake f qs t q wake s →
+          WakesBy k told q.here q.stop t wake s q.places
   unfolding sleeping
   by_stop begins to_begin told tells late h = h
   by_stop begins (asking kernel purpose) told tells late h = absurd h

@@ -30,7 +30,8 @@ pub data Reached (k : Table) (job : Tree) (input : List ℕ) : Table → ℕ →
   jump : (f : Table) (t u m : ℕ) (qs : List Started) → Reached k job input f t m qs → t ≤ u → Blocked f qs u → Reached k job input f u m qs
 
 -- how many turns a run took so far
-abbrev pub turns_taken : {k : Table} {job : Tree} {input : List ℕ} {f : Table} {t m : ℕ} {qs : List Started} → Reached k job input f t m qs → ℕ
+abbrev pub turns_taken : {k : Table} {job : Tree} {input : List ℕ} {f : Table} {t m : ℕ} {qs : List Started} →
+    Reached k job input f t m qs → ℕ
 turns_taken (begun f) = 0
 turns_taken (turn f t m q qs others wake o s r at may goes stopped) = turns_taken r + 1
 turns_taken (jump f t u m qs r le blocked) = turns_taken r

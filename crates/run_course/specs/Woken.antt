@@ -20,7 +20,8 @@ members_by ends (i ∷ is) = ends i ∷ members_by ends is
 pub record WaitIsOver (qs : List Started) (q : Started) (t : ℕ) (children : List ℕ) (ended : ℕ) (e x : Option Exc) : Type 0 where
   pub ends : ℕ → Member
   pub numbers : (i : ℕ) → IsAmong i children → i < q.count
-  pub over : (i : ℕ) → IsAmong i children → (c : Started) → In c qs → c.serial ≡ q.child i → c.rest.stopped ≡ at_end (ends i).end (ends i).exc
+  pub over : (i : ℕ) → IsAmong i children → (c : Started) → In c qs → c.serial ≡ q.child i →
+      c.rest.stopped ≡ at_end (ends i).end (ends i).exc
   pub settled : SettlesAt t x (members_by ends children) ended e q.places
 
 -- A task may be woken so in tick t: it began in this tick, or asked in it and has the kernel's answer; it is due now and

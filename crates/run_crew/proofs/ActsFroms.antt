@@ -44,7 +44,8 @@ signed_has {t} {label} {s} {m} g l none e = none g.key (g.labelled ∙ ap (λ (x
 pub none_signs : {t : ℕ} {label : Label} {s m : Scoping} → Signs t label s m → (l : Label) → NoneHas l s → NoneHas l m
 none_signs g l none key e = none key (sym (ap (λ (z : Labels). z key) g.labels) ∙ e)
 
-pub none_enters : {label : Label} {d : Tick} {s m : Scoping} → Enters label d s m → (l : Label) → (l ≡ label → ⊥) → NoneHas l s → NoneHas l m
+pub none_enters : {label : Label} {d : Tick} {s m : Scoping} → Enters label d s m → (l : Label) → (l ≡ label → ⊥) → NoneHas l s →
+    NoneHas l m
 none_enters {label} {d} {s} {m} g l differs none key e = by_key (labelled_before g.labelled key l e)
   where
     by_key : ((key ≡ g.scope.id) × (Some label ≡ Some l)) ⊎ ((key ≡ g.scope.id → ⊥) × (s.labels key ≡ Some l)) → ⊥
@@ -54,7 +55,8 @@ none_enters {label} {d} {s} {m} g l differs none key e = by_key (labelled_before
 pub none_leaves : {s m : Scoping} → Leaves s m → (l : Label) → NoneHas l s → NoneHas l m
 none_leaves g l none key e = none key (labelled_left g key l e).1
 
-pub unmoved : {t : ℕ} → (known : Label → Type 0) (f : Table) (l : Label) → {s u : Scoping} {es : List Event} → Acts t s es u → NoneHas l s → known l → AreNew known es →
+pub unmoved : {t : ℕ} → (known : Label → Type 0) (f : Table) (l : Label) → {s u : Scoping} {es : List Event} → Acts t s es u → NoneHas l s →
+    known l → AreNew known es →
     (froms_after f es l ≡ f l) × NoneHas l u
 unmoved known f l (no_act s) none k new = (refl, none)
 unmoved known f l (act_noted s u t e es a) none k new = unmoved known f l a none k new
@@ -76,7 +78,8 @@ alone_of s h key label e [] = tt
 alone_of s h key label e (l ∷ ls) = ((λ f. h.labels l.label key label f e), alone_of s h key label e ls)
 
 -- the labels of places are those of scopes
-known_at : (known : Label → Type 0) (s : Scoping) (f : Table) → HasKnown known s → (st : Stack) (ps : List Place) → AreAt s.labels f st ps → (l : Label) → Known l (labels_of ps) → known l
+known_at : (known : Label → Type 0) (s : Scoping) (f : Table) → HasKnown known s → (st : Stack) (ps : List Place) → AreAt s.labels f st ps →
+    (l : Label) → Known l (labels_of ps) → known l
 known_at known s f h [] [] a l i = absurd i
 known_at known s f h [] (p ∷ ps) a l i = absurd a
 known_at known s f h (x ∷ xs) [] a l i = absurd i
@@ -87,27 +90,33 @@ known_at known s f h (x ∷ xs) (p ∷ ps) a l (inr i) = known_at known s f h xs
 abbrev pub StandsAt : ℕ → Table → List Place → Scoping → Type 0
 StandsAt key f ps s = (st : Stack) × (stack_of s.tree key ≡ Some st) × AreAt s.labels f st ps
 
-pub at_signs : {t : ℕ} {label : Label} {s m : Scoping} → (key : ℕ) (f : Table) (st : Stack) (ps : List Place) → (g : Signs t label s m) → Apart s → stack_of s.tree key ≡ Some st →
-    AreAt s.labels f st ps → (stack_of m.tree key ≡ Some (after_cancel g.key t st)) × AreAt m.labels (lowered f label t) (after_cancel g.key t st) ps
+pub at_signs : {t : ℕ} {label : Label} {s m : Scoping} → (key : ℕ) (f : Table) (st : Stack) (ps : List Place) → (g : Signs t label s m) →
+    Apart s → stack_of s.tree key ≡ Some st →
+    AreAt s.labels f st ps → (stack_of m.tree key ≡ Some (after_cancel g.key t st))
+        × AreAt m.labels (lowered f label t) (after_cancel g.key t st) ps
 at_signs {t} {label} {s} {m} key f st ps g h e a = (
   g.cancels.stacks key ∙ ap (option_map (after_cancel g.key t)) e,
   subst (λ (z : Labels). AreAt z (lowered f label t) (after_cancel g.key t st) ps) (sym g.labels)
       (signed_at s.labels f st ps g.key t label g.labelled (alone_of s h g.key label g.labelled st) a),
 )
 
-pub at_enters : {label : Label} {d : Tick} {s m : Scoping} → (known : Label → Type 0) (key : ℕ) (f : Table) (st : Stack) (ps : List Place) → Enters label d s m → Sound s → HasKnown known s →
-    (known label → ⊥) → stack_of s.tree key ≡ Some st → AreOthers key s.own → AreAt s.labels f st ps → (stack_of m.tree key ≡ Some st) × AreAt m.labels (opened f label d) st ps
+pub at_enters : {label : Label} {d : Tick} {s m : Scoping} → (known : Label → Type 0) (key : ℕ) (f : Table) (st : Stack) (ps : List Place) →
+    Enters label d s m → Sound s → HasKnown known s →
+    (known label → ⊥) → stack_of s.tree key ≡ Some st → AreOthers key s.own → AreAt s.labels f st ps → (stack_of m.tree key ≡ Some st)
+        × AreAt m.labels (opened f label d) st ps
 at_enters {label} {d} {s} {m} known key f st ps g h k new e others a =
     let n = keeps_enters g h e others in
     (n.at, opened_else s.labels m.labels f st ps label d n.labels (λ i. new (known_at known s f k st ps a label i)) a)
 
-pub at_leaves : {s m : Scoping} → (key : ℕ) (f : Table) (st : Stack) (ps : List Place) → Leaves s m → stack_of s.tree key ≡ Some st → AreOthers key s.own → AreAt s.labels f st ps →
+pub at_leaves : {s m : Scoping} → (key : ℕ) (f : Table) (st : Stack) (ps : List Place) → Leaves s m → stack_of s.tree key ≡ Some st →
+    AreOthers key s.own → AreAt s.labels f st ps →
     (stack_of m.tree key ≡ Some st) × AreAt m.labels f st ps
 at_leaves {s} {m} key f st ps g e others a =
     let n = keeps_leaves g e others in
     (n.at, same_labels s.labels m.labels f st ps n.labels a)
 
-pub stays_at : {t : ℕ} → (known : Label → Type 0) (f : Table) (key : ℕ) (st : Stack) (ps : List Place) → {s u : Scoping} {es : List Event} → Acts t s es u → Sound s → Apart s → HasKnown known s →
+pub stays_at : {t : ℕ} → (known : Label → Type 0) (f : Table) (key : ℕ) (st : Stack) (ps : List Place) → {s u : Scoping} {es : List Event} →
+    Acts t s es u → Sound s → Apart s → HasKnown known s →
     AreNew known es → stack_of s.tree key ≡ Some st → AreOthers key s.own → AreAt s.labels f st ps → StandsAt key (froms_after f es) ps u
 stays_at known f key st ps (no_act s) h i k new e others a = (st, e, a)
 stays_at known f key st ps (act_noted s u t x es b) h i k new e others a = stays_at known f key st ps b h i k new e others a

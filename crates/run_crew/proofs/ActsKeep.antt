@@ -76,7 +76,8 @@ all_last P [] y a = All-head P y [] a
 all_last P (x ∷ xs) y a = all_last P xs y (All-tail P x (xs ++ y ∷ []) a)
 
 -- a label after one key's was changed is that one's, or another key's from before
-pub labelled_before : {old new : Labels} {key : ℕ} {o : Option Label} → Updates old new key o → (other : ℕ) (l : Label) → new other ≡ Some l →
+pub labelled_before : {old new : Labels} {key : ℕ} {o : Option Label} → Updates old new key o → (other : ℕ) (l : Label) →
+    new other ≡ Some l →
     ((other ≡ key) × (o ≡ Some l)) ⊎ ((other ≢ key) × (old other ≡ Some l))
 labelled_before {old} {new} {key} {o} u other l e = by_key (same_or other key)
   where
@@ -144,7 +145,8 @@ round_parent {s} h (Some p) k i = by_stack (stack_of s.tree p) refl i
     by_stack (Some st) e j = h.round p st e k j
 
 pub sound_enters : {label : Label} {d : Tick} {s m : Scoping} → Enters label d s m → Sound s → Sound m
-sound_enters {label} {d} {s} {m} g h = record { own = λ key st e. own key st e (same_or key g.scope.id); round = λ key st e k i. round key st e k i (same_or key g.scope.id) }
+sound_enters {label} {d} {s} {m} g h =
+    record { own = λ key st e. own key st e (same_or key g.scope.id); round = λ key st e k i. round key st e k i (same_or key g.scope.id) }
   where
     stack_is : (key : ℕ) (st : Stack) → stack_of m.tree key ≡ Some st → key ≡ g.scope.id → g.level ∷ outer_of s.tree g.parent ≡ st
     stack_is key st e f = one_of _ _ (sym g.stack ∙ (sym (ap (stack_of m.tree) f) ∙ e))
@@ -160,7 +162,8 @@ sound_enters {label} {d} {s} {m} g h = record { own = λ key st e. own key st e 
     inside k (inl e) = is_open m.tree k (g.level ∷ outer_of s.tree g.parent) (ap (stack_of m.tree) (e ∙ g.named) ∙ g.stack)
     inside k (inr i) = still k (round_parent h g.parent k i)
 
-    round : (key : ℕ) (st : Stack) → stack_of m.tree key ≡ Some st → (k : ℕ) → IsKey k st → (key ≡ g.scope.id) ⊎ (key ≢ g.scope.id) → IsOpen m.tree k
+    round : (key : ℕ) (st : Stack) → stack_of m.tree key ≡ Some st → (k : ℕ) → IsKey k st → (key ≡ g.scope.id) ⊎ (key ≢ g.scope.id) →
+        IsOpen m.tree k
     round key st e k i (inl f) = inside k (subst (IsKey k) (sym (stack_is key st e f)) i)
     round key st e k i (inr f) = still k (h.round key st (sym (g.others key f) ∙ e) k i)
 
@@ -176,7 +179,8 @@ sound_leaves {s} {m} g h = record { own = λ key st e. h.own key st (before key 
     round : (key : ℕ) (st : Stack) → stack_of m.tree key ≡ Some st → (k : ℕ) → IsKey k st → IsOpen m.tree k
     round key st e k i =
         let b = before key st e in
-        open_else s.tree m.tree g.scope.id k g.others (among_all g.scope.id k st (g.innermost key st (differs key st e) b) i) (h.round key st b k i)
+        open_else s.tree m.tree g.scope.id k g.others (among_all g.scope.id k st (g.innermost key st (differs key st e) b) i)
+            (h.round key st b k i)
 
 pub sound_acts : {t : ℕ} {s u : Scoping} {es : List Event} → Acts t s es u → Sound s → Sound u
 sound_acts (no_act s) h = h
@@ -197,10 +201,12 @@ labels_at known {s} {m} e h k = (
     before : (key : ℕ) (l : Label) → m.labels key ≡ Some l → s.labels key ≡ Some l
     before key l f = sym (ap (λ (z : Labels). z key) e) ∙ f
 
-pub apart_signs : {t : ℕ} → (known : Label → Type 0) → {label : Label} {s m : Scoping} → Signs t label s m → Apart s → HasKnown known s → Apart m × HasKnown known m
+pub apart_signs : {t : ℕ} → (known : Label → Type 0) → {label : Label} {s m : Scoping} → Signs t label s m → Apart s → HasKnown known s →
+    Apart m × HasKnown known m
 apart_signs known g h k = labels_at known g.labels h k
 
-pub apart_enters : (known : Label → Type 0) → {label : Label} {d : Tick} {s m : Scoping} → Enters label d s m → (known label → ⊥) → Apart s → HasKnown known s →
+pub apart_enters : (known : Label → Type 0) → {label : Label} {d : Tick} {s m : Scoping} → Enters label d s m → (known label → ⊥) →
+    Apart s → HasKnown known s →
     Apart m × HasKnown (λ l. (l ≡ label) ⊎ known l) m
 apart_enters known {label} {d} {s} {m} g new h k = (
   record { labels = λ a b l e f. same a b l (labelled_before g.labelled a l e) (labelled_before g.labelled b l f) },
@@ -224,10 +230,12 @@ apart_enters known {label} {d} {s} {m} g new h k = (
     has key l (inr e) = inr (k key l e.1)
 
 -- of the scopes that are left, each has the label that it had, and is another than the one that was closed
-pub labelled_left : {s m : Scoping} → (g : Leaves s m) → (key : ℕ) (l : Label) → m.labels key ≡ Some l → (key ≢ g.scope.id) × (s.labels key ≡ Some l)
+pub labelled_left : {s m : Scoping} → (g : Leaves s m) → (key : ℕ) (l : Label) → m.labels key ≡ Some l → (key ≢ g.scope.id)
+    × (s.labels key ≡ Some l)
 labelled_left {s} {m} g key l e = by_key (labelled_before g.unlabelled key l e)
   where
-    by_key : ((key ≡ g.scope.id) × (None ≡ Some l)) ⊎ ((key ≢ g.scope.id) × (s.labels key ≡ Some l)) → (key ≢ g.scope.id) × (s.labels key ≡ Some l)
+    by_key : ((key ≡ g.scope.id) × (None ≡ Some l)) ⊎ ((key ≢ g.scope.id) × (s.labels key ≡ Some l)) → (key ≢ g.scope.id)
+        × (s.labels key ≡ Some l)
     by_key (inl f) = absurd (not_both refl f.1)
     by_key (inr f) = f
 
@@ -238,12 +246,14 @@ apart_leaves known {s} {m} g h k = (
 )
 
 -- what was known with one label more, or was entered later
-pub known_one : (known : Label → Type 0) (label l : Label) (es : List Event) → KnownWith (λ m. (m ≡ label) ⊎ known m) es l → known l ⊎ Known l (label ∷ entered_made es)
+pub known_one : (known : Label → Type 0) (label l : Label) (es : List Event) → KnownWith (λ m. (m ≡ label) ⊎ known m) es l → known l
+    ⊎ Known l (label ∷ entered_made es)
 known_one known label l es (inl (inl e)) = inr (inl e)
 known_one known label l es (inl (inr k)) = inl k
 known_one known label l es (inr i) = inr (inr i)
 
-pub apart_acts : {t : ℕ} → (known : Label → Type 0) → {s u : Scoping} {es : List Event} → Acts t s es u → Apart s → HasKnown known s → AreNew known es →
+pub apart_acts : {t : ℕ} → (known : Label → Type 0) → {s u : Scoping} {es : List Event} → Acts t s es u → Apart s → HasKnown known s →
+    AreNew known es →
     Apart u × HasKnown (KnownWith known es) u
 apart_acts known (no_act s) h k new = (h, λ key l e. inl (k key l e))
 apart_acts known (act_noted s u t e es a) h k new = apart_acts known a h k new
@@ -256,7 +266,8 @@ apart_acts known (act_enters s m u l t d es g a) h k new =
 apart_acts known (act_leaves s m u es g a) h k new = let n = apart_leaves known g h k in apart_acts known a n.0 n.1 new
 
 -- Stacks stay sound and labels apart, and each label of a scope was known or was entered.
-pub acts_keep : {t : ℕ} → (known : Label → Type 0) → {s u : Scoping} {es : List Event} → Acts t s es u → Sound s → Apart s → HasKnown known s → AreNew known es →
+pub acts_keep : {t : ℕ} → (known : Label → Type 0) → {s u : Scoping} {es : List Event} → Acts t s es u → Sound s → Apart s →
+    HasKnown known s → AreNew known es →
     Sound u × Apart u × HasKnown (KnownWith known es) u
 acts_keep known a sound h k new = let n = apart_acts known a h k new in (sound_acts a sound, n.0, n.1)
 

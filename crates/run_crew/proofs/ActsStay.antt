@@ -55,20 +55,23 @@ levels_both (x ∷ a) (y ∷ b) (z ∷ c) e f = (f.0 ∙ e.0, f.1 ∙ e.1, level
 labels_both : (labels more most : Labels) (a b : Stack) → SameLevels a b → SameOn labels more a → SameOn more most b → SameOn labels most a
 labels_both labels more most [] b e f g = tt
 labels_both labels more most (x ∷ a) [] e f g = absurd e
-labels_both labels more most (x ∷ a) (y ∷ b) e f g = (f.0 ∙ (sym (ap more e.0) ∙ (g.0 ∙ ap most e.0)), labels_both labels more most a b e.2 f.1 g.1)
+labels_both labels more most (x ∷ a) (y ∷ b) e f g =
+    (f.0 ∙ (sym (ap more e.0) ∙ (g.0 ∙ ap most e.0)), labels_both labels more most a b e.2 f.1 g.1)
 
 same_on : (labels more : Labels) (st : Stack) → more ≡ labels → SameOn labels more st
 same_on labels more [] e = tt
 same_on labels more (l ∷ ls) e = (sym (ap (λ (f : Labels). f l.label) e), same_on labels more ls e)
 
 -- where no scope of a stack has the key whose label changes
-same_but : {labels more : Labels} {key : ℕ} {o : Option Label} → Updates labels more key o → (st : Stack) → ((k : ℕ) → IsKey k st → k ≢ key) → SameOn labels more st
+same_but : {labels more : Labels} {key : ℕ} {o : Option Label} → Updates labels more key o → (st : Stack) →
+    ((k : ℕ) → IsKey k st → k ≢ key) → SameOn labels more st
 same_but u [] differs = tt
 same_but u (l ∷ ls) differs = (sym (u.others l.label (differs l.label (inl refl))), same_but u ls (λ k i. differs k (inr i)))
 
 -- ---- a scope of another task stays
 
-pub stays_signs : {t : ℕ} {label : Label} {s m : Scoping} {key : ℕ} {st : Stack} → Signs t label s m → stack_of s.tree key ≡ Some st → AreOthers key s.own → Stays key st s m
+pub stays_signs : {t : ℕ} {label : Label} {s m : Scoping} {key : ℕ} {st : Stack} → Signs t label s m → stack_of s.tree key ≡ Some st →
+    AreOthers key s.own → Stays key st s m
 stays_signs {t} {label} {s} {m} {key} {st} g e others =
     record {
       after = after_cancel g.key t st;
@@ -84,7 +87,8 @@ pub record Keeps (key : ℕ) (st : Stack) (s m : Scoping) : Type 0 where
   pub labels : SameOn s.labels m.labels st
   pub others : AreOthers key m.own
 
-pub keeps_enters : {label : Label} {d : Tick} {s m : Scoping} {key : ℕ} {st : Stack} → Enters label d s m → Sound s → stack_of s.tree key ≡ Some st → AreOthers key s.own → Keeps key st s m
+pub keeps_enters : {label : Label} {d : Tick} {s m : Scoping} {key : ℕ} {st : Stack} → Enters label d s m → Sound s →
+    stack_of s.tree key ≡ Some st → AreOthers key s.own → Keeps key st s m
 keeps_enters {label} {d} {s} {m} {key} {st} g h e others =
     record {
       at = g.others key differs ∙ e;
@@ -95,7 +99,8 @@ keeps_enters {label} {d} {s} {m} {key} {st} g h e others =
     differs : key ≢ g.scope.id
     differs = open_differs s.tree g.scope.id key g.fresh (is_open s.tree key st e)
 
-pub keeps_leaves : {s m : Scoping} {key : ℕ} {st : Stack} → Leaves s m → stack_of s.tree key ≡ Some st → AreOthers key s.own → Keeps key st s m
+pub keeps_leaves : {s m : Scoping} {key : ℕ} {st : Stack} → Leaves s m → stack_of s.tree key ≡ Some st → AreOthers key s.own →
+    Keeps key st s m
 keeps_leaves {s} {m} {key} {st} g e others =
     record {
       at = g.others key differs ∙ e;
@@ -122,13 +127,17 @@ stays_both {key} {st} {s} {m} {u} n o =
       others = o.others;
     }
 
-pub stays : {t : ℕ} {s u : Scoping} {es : List Event} {key : ℕ} {st : Stack} → Acts t s es u → Sound s → stack_of s.tree key ≡ Some st → AreOthers key s.own → Stays key st s u
-stays {st = st} (no_act s) h e others = record { after = st; at = e; levels = same_levels st; labels = same_on s.labels s.labels st refl; others = others }
+pub stays : {t : ℕ} {s u : Scoping} {es : List Event} {key : ℕ} {st : Stack} → Acts t s es u → Sound s → stack_of s.tree key ≡ Some st →
+    AreOthers key s.own → Stays key st s u
+stays {st = st} (no_act s) h e others =
+    record { after = st; at = e; levels = same_levels st; labels = same_on s.labels s.labels st refl; others = others }
 stays (act_noted s u t e es a) h f others = stays a h f others
 stays (act_starts s u i l t es a) h f others = stays a h f others
 stays (act_signs s m u l es g a) h e others = let n = stays_signs g e others in stays_both n (stays a (sound_signs g h) n.at n.others)
-stays (act_enters s m u l t d es g a) h e others = let n = stays_kept (keeps_enters g h e others) in stays_both n (stays a (sound_enters g h) n.at n.others)
-stays (act_leaves s m u es g a) h e others = let n = stays_kept (keeps_leaves g e others) in stays_both n (stays a (sound_leaves g h) n.at n.others)
+stays (act_enters s m u l t d es g a) h e others = let n = stays_kept (keeps_enters g h e others) in
+    stays_both n (stays a (sound_enters g h) n.at n.others)
+stays (act_leaves s m u es g a) h e others = let n = stays_kept (keeps_leaves g e others) in
+    stays_both n (stays a (sound_leaves g h) n.at n.others)
 
 -- ---- and no other scope is one of another task
 
@@ -147,7 +156,8 @@ else_signs {t} {label} {s} {m} {key} g i =
 pub else_enters : {label : Label} {d : Tick} {s m : Scoping} {key : ℕ} → Enters label d s m → IsElse key m → IsElse key s
 else_enters {label} {d} {s} {m} {key} g i =
     let split : AreOthers key (s.own ++ g.scope ∷ []) = subst (AreOthers key) g.opened i.1 in
-    (subst IsSome (g.others key (λ f. all_last (λ (o : Own). o.id ≢ key) s.own g.scope split (sym f))) i.0, all_first (λ (o : Own). o.id ≢ key) s.own g.scope split)
+    (subst IsSome (g.others key (λ f. all_last (λ (o : Own). o.id ≢ key) s.own g.scope split (sym f))) i.0,
+        all_first (λ (o : Own). o.id ≢ key) s.own g.scope split)
 
 pub else_leaves : {s m : Scoping} {key : ℕ} → Leaves s m → IsElse key m → IsElse key s
 else_leaves {s} {m} {key} g i =
@@ -163,5 +173,6 @@ else_acts (act_enters s m u l t d es g a) i = else_enters g (else_acts a i)
 else_acts (act_leaves s m u es g a) i = else_leaves g (else_acts a i)
 
 -- a scope that is open in the end and none of the task's was so before
-pub only : {t : ℕ} {s u : Scoping} {es : List Event} {key : ℕ} {st : Stack} → Acts t s es u → stack_of u.tree key ≡ Some st → AreOthers key u.own → IsOpen s.tree key × AreOthers key s.own
+pub only : {t : ℕ} {s u : Scoping} {es : List Event} {key : ℕ} {st : Stack} → Acts t s es u → stack_of u.tree key ≡ Some st →
+    AreOthers key u.own → IsOpen s.tree key × AreOthers key s.own
 only {t} {s} {u} {es} {key} {st} a e others = else_acts a (is_open u.tree key st e, others)

@@ -64,7 +64,8 @@ no_numbers p id = []
 
 -- ---- the root
 
-root_follows : (k : Table) (job : Job) (input : List ℕ) (crew : Crew) (root : Task) → IsModest job → StartsInNurseries job → GivesNamesOnce job → IsRootTask job input root →
+root_follows : (k : Table) (job : Job) (input : List ℕ) (crew : Crew) (root : Task) → IsModest job → StartsInNurseries job →
+    GivesNamesOnce job → IsRootTask job input root →
     Follows crew no_froms input 0 (λ s. root_task k job input) no_numbers None 0 root
 root_follows k job input crew root modest starting names r =
     record {
@@ -87,16 +88,21 @@ root_follows k job input crew root modest starting names r =
           record {
             modest = subst AreModestFrames (sym (r.frames (λ id. []))) (modest.numbers, tt);
             starts = subst StartsFit (sym (r.frames (λ id. []))) (starting, tt);
-            home = subst (λ (o : Option ℕ). ForSome o (IsOpen crew.world.scopes)) (sym no_home) (λ x e. absurd (let f : None ≡ Some x = e in cc));
-            scope = subst (λ (o : Option ℕ). ForSome o (IsOpen crew.world.scopes)) (sym no_scope) (λ x e. absurd (let f : None ≡ Some x = e in cc));
+            home = subst (λ (o : Option ℕ). ForSome o (IsOpen crew.world.scopes)) (sym no_home)
+                (λ x e. absurd (let f : None ≡ Some x = e in cc));
+            scope = subst (λ (o : Option ℕ). ForSome o (IsOpen crew.world.scopes)) (sym no_scope)
+                (λ x e. absurd (let f : None ≡ Some x = e in cc));
             first = subst (OwnFirst crew.world.scopes (home_scope root)) (sym r.own) refl;
-            froms = subst (λ (os : List Own). All (λ (o : Own). o.at < length root.froms.items) os) (sym r.own) (All-nil (λ (o : Own). o.at < length root.froms.items));
+            froms = subst (λ (os : List Own). All (λ (o : Own). o.at < length root.froms.items) os) (sym r.own)
+                (All-nil (λ (o : Own). o.at < length root.froms.items));
             opened =
-                subst (λ (bs : List Block). Opened (label_at crew.world) crew.world.book bs root.own.items (waits_of root.halt)) (sym blocks)
+                subst (λ (bs : List Block). Opened (label_at crew.world) crew.world.book bs root.own.items (waits_of root.halt))
+                    (sym blocks)
                 (subst (λ (os : List Own). Opened (label_at crew.world) crew.world.book [] os (waits_of root.halt)) (sym r.own)
                 (subst (λ (w : Option ℕ). Opened (label_at crew.world) crew.world.book [] [] w) (sym waits) tt));
           };
-      notes = record { shown = ap (map entry_of) r.entries; slices = subst (All (IsSlice input)) (sym r.entries) (All-nil (IsSlice input)) };
+      notes = record { shown = ap (map entry_of) r.entries; slices =
+          subst (All (IsSlice input)) (sym r.entries) (All-nil (IsSlice input)) };
       tracks =
           record {
             labels = ap (map (λ (x : ScopeFrom). x.label)) r.froms;
@@ -106,7 +112,8 @@ root_follows k job input crew root modest starting names r =
             left = λ i x e past. absurd (let f : None ≡ Some x = sym (ap (λ (xs : List ScopeFrom). slice_get xs i) r.froms) ∙ e in cc);
           };
       home = subst (HasHome crew (λ s. root_task k job input) no_numbers 0) (sym r.home) refl;
-      nurseries = λ id h. absurd (by_none id (subst (λ (w : Option ℕ). HasNurseryOf id [] w) waits (subst (λ (bs : List Block). HasNurseryOf id bs (waits_of root.halt)) blocks h)));
+      nurseries = λ id h. absurd (by_none id (subst (λ (w : Option ℕ). HasNurseryOf id [] w) waits
+          (subst (λ (bs : List Block). HasNurseryOf id bs (waits_of root.halt)) blocks h)));
     }
   where
     here : here_of root ≡ root_here job input
@@ -145,8 +152,10 @@ pub record BeginsAs (k : Table) (job : Job) (input : List ℕ) (crew : Crew) : T
   pub is : IsCrew k job input 0 1 None crew
   pub at : is.course.at 0 ≡ root_task k job input
 
-pub crew_begins : (k : Table) (job : Job) (input : List ℕ) (crew : Crew) (root : Task) → IsModest job → StartsInNurseries job → GivesNamesOnce job → length input ≤ MOST_INPUT →
-    IsNewWorld crew.world → IsRootTask job input root → crew.task 0 ≡ Some root → ((p : ℕ) → crew.task (suc p) ≡ None) → ((p : ℕ) → crew.gone p ≡ None) → crew.start 0 ≡ 0 →
+pub crew_begins : (k : Table) (job : Job) (input : List ℕ) (crew : Crew) (root : Task) → IsModest job → StartsInNurseries job →
+    GivesNamesOnce job → length input ≤ MOST_INPUT →
+    IsNewWorld crew.world → IsRootTask job input root → crew.task 0 ≡ Some root → ((p : ℕ) → crew.task (suc p) ≡ None) →
+        ((p : ℕ) → crew.gone p ≡ None) → crew.start 0 ≡ 0 →
     crew.children 0 ≡ [] → crew.turns ≡ 0 → BeginsAs k job input crew
 unfolding begun_course
 crew_begins k job input crew root modest starting names small world r first others gone start children turns =
@@ -183,10 +192,12 @@ crew_begins k job input crew root modest starting names small world r first othe
     ended : (s : ℕ) → s < 1 → crew.task s ≡ None → (g : Gone) × (crew.gone s ≡ Some g) × HasEnded no_froms input 0 (root_task k job input) g
     ended s lt e = absurd (let f : s ≡ 0 = omega (arith, lt) in let g : Some root ≡ None = sym first ∙ ap crew.task (sym f) ∙ e in cc)
 
-    follows : (s : ℕ) (task : Task) → crew.task s ≡ Some task → Follows crew no_froms input 0 (λ s. root_task k job input) no_numbers None s task
+    follows : (s : ℕ) (task : Task) → crew.task s ≡ Some task → Follows crew no_froms input 0 (λ s. root_task k job input) no_numbers None s
+        task
     follows zero task e =
         let f : Some root ≡ Some task = sym first ∙ e in let g : root ≡ task = cc in
-        subst (Follows crew no_froms input 0 (λ s. root_task k job input) no_numbers None 0) g (root_follows k job input crew root modest starting names r)
+        subst (Follows crew no_froms input 0 (λ s. root_task k job input) no_numbers None 0) g
+            (root_follows k job input crew root modest starting names r)
     follows (suc s) task e = absurd (let f : None ≡ Some task = sym (others s) ∙ e in cc)
 
     none_open : (key : ℕ) → IsOpen crew.world.scopes key → ⊥
@@ -195,8 +206,10 @@ crew_begins k job input crew root modest starting names small world r first othe
         by_stack : IsSome {T = Stack} None → ⊥
         by_stack e = absurd cc
 
-pub crew_begun : (k : Table) (job : Job) (input : List ℕ) (crew : Crew) (root : Task) → IsModest job → StartsInNurseries job → GivesNamesOnce job → length input ≤ MOST_INPUT →
-    IsNewWorld crew.world → IsRootTask job input root → crew.task 0 ≡ Some root → ((p : ℕ) → crew.task (suc p) ≡ None) → ((p : ℕ) → crew.gone p ≡ None) → crew.start 0 ≡ 0 →
+pub crew_begun : (k : Table) (job : Job) (input : List ℕ) (crew : Crew) (root : Task) → IsModest job → StartsInNurseries job →
+    GivesNamesOnce job → length input ≤ MOST_INPUT →
+    IsNewWorld crew.world → IsRootTask job input root → crew.task 0 ≡ Some root → ((p : ℕ) → crew.task (suc p) ≡ None) →
+        ((p : ℕ) → crew.gone p ≡ None) → crew.start 0 ≡ 0 →
     crew.children 0 ≡ [] → crew.turns ≡ 0 → IsCrew k job input 0 1 None crew
 crew_begun k job input crew root modest starting names small world r first others gone start children turns =
     (crew_begins k job input crew root modest starting names small world r first others gone start children turns).is

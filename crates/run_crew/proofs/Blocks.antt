@@ -60,11 +60,13 @@ among_at (y ∷ xs) (suc i) x e = inr (among_at xs i x e)
 -- ---- a crew that stays
 
 -- a task that has not ended is live
-pub task_lives : (k : Table) (job : Job) (input : List ℕ) (t m : ℕ) (crew : Crew) → (c : IsCrew k job input t m None crew) → (s : ℕ) (task : Task) → crew.task s ≡ Some task →
+pub task_lives : (k : Table) (job : Job) (input : List ℕ) (t m : ℕ) (crew : Crew) → (c : IsCrew k job input t m None crew) →
+    (s : ℕ) (task : Task) → crew.task s ≡ Some task →
     live (c.course.at s).rest.stopped ≡ true
 task_lives k job input t m crew c s task e = (c.follows s task e).lives (λ f. not_both refl f)
 
-pub crew_blocked : (k : Table) (job : Job) (input : List ℕ) (t m : ℕ) (crew : Crew) → (c : IsCrew k job input t m None crew) → (u : ℕ) → AllStay crew u →
+pub crew_blocked : (k : Table) (job : Job) (input : List ℕ) (t m : ℕ) (crew : Crew) → (c : IsCrew k job input t m None crew) → (u : ℕ) →
+    AllStay crew u →
     Blocked c.course.froms c.course.tasks u
 crew_blocked k job input t m crew c u stay q i =
     subst (λ (x : Started). StaysUntil c.course.froms c.course.tasks u x x.rest.stopped) (sym (c.course.one q i).0)
@@ -83,7 +85,8 @@ crew_blocked k job input t m crew c u stay q i =
     book = crew.world.book
 
     -- who waits does so for a child that runs
-    waits : (s : ℕ) (task : Task) (id since v : ℕ) (children : List ℕ) (exc : Option Exc) → crew.task s ≡ Some task → waits_of task.halt ≡ Some id → c.numbers s id ≡ children →
+    waits : (s : ℕ) (task : Task) (id since v : ℕ) (children : List ℕ) (exc : Option Exc) → crew.task s ≡ Some task →
+        waits_of task.halt ≡ Some id → c.numbers s id ≡ children →
         HasNursery book id (λ n. n.body ≡ Some exc) → HasNursery book id (λ n. is_settled n ≡ false) → Unended qs (at s) children
     waits s task id since v children exc lives awaits numbers body open_one =
         record {
@@ -99,7 +102,8 @@ crew_blocked k job input t m crew c u stay q i =
         place : (i : ℕ) × (slice_get n.0.children i ≡ Some None)
         place =
             running_at n.0.children
-            (unsettled_children n.0 exc (gives book id n.0 (λ n. n.body ≡ Some exc) n.1 body) (gives book id n.0 (λ n. is_settled n ≡ false) n.1 open_one))
+            (unsettled_children n.0 exc (gives book id n.0 (λ n. n.body ≡ Some exc) n.1 body)
+                (gives book id n.0 (λ n. is_settled n ≡ false) n.1 open_one))
 
         number : (x : ℕ) × (slice_get (c.numbers s id) place.0 ≡ Some x)
         number =
@@ -115,18 +119,22 @@ crew_blocked k job input t m crew c u stay q i =
 
         alive : (x : Started) → In x qs → x.serial ≡ (at s).child number.0 → live x.rest.stopped ≡ true
         alive x j e =
-            ap (λ (y : Started). live y.rest.stopped) ((c.course.one x j).0 ∙ ap at e) ∙ task_lives k job input t m crew c ((at s).child number.0) runs.0 runs.1
+            ap (λ (y : Started). live y.rest.stopped) ((c.course.one x j).0 ∙ ap at e)
+                ∙ task_lives k job input t m crew c ((at s).child number.0) runs.0 runs.1
 
-    by_halt : (s : ℕ) (task : Task) → crew.task s ≡ Some task → (halt : Halt) (stopped : Stopped) → task.halt ≡ halt → IsHalt (c.numbers s) book halt stopped →
+    by_halt : (s : ℕ) (task : Task) → crew.task s ≡ Some task → (halt : Halt) (stopped : Stopped) → task.halt ≡ halt →
+        IsHalt (c.numbers s) book halt stopped →
         StaysTo crew.world u (scope_of task) halt → StaysUntil f qs u (at s) stopped
     by_halt s task lives ToBegin to_begin e h to = absurd to
     by_halt s task lives (Asked kernel purpose) (asking asked p) e h to = absurd to
     by_halt s task lives (Asleep ticks since) (asleep n v) e h to = (
       (let a : u ≤ since + ticks = to.0 in let b = h.0 in let d = h.1 in omega (arith, a, b, d)),
       ap (upto u)
-          (sym (sight_at (label_at crew.world) f (outer_of crew.world.scopes (scope_of task)) (at s).places (c.follows s task lives).stands.places)) ∙ to.1,
+          (sym (sight_at (label_at crew.world) f (outer_of crew.world.scopes (scope_of task)) (at s).places
+              (c.follows s task lives).stands.places)) ∙ to.1,
     )
-    by_halt s task lives (Awaits id since) (awaiting children v exc) e h to = waits s task id since v children exc lives (ap waits_of e) h.0 h.2 to
+    by_halt s task lives (Awaits id since) (awaiting children v exc) e h to =
+        waits s task id since v children exc lives (ap waits_of e) h.0 h.2 to
     by_halt s task lives Over (at_end v x) e h to = absurd to
     by_halt s task lives _ _ e h to = absurd h
 
@@ -135,13 +143,15 @@ crew_blocked k job input t m crew c u stay q i =
     by_task s lt (Some task) e = by_halt s task e task.halt (at s).rest.stopped refl (c.follows s task e).halt (stay s task e)
 
 -- while a task has not ended, one sleeps
-pub crew_sleeps : (k : Table) (job : Job) (input : List ℕ) (t m : ℕ) (crew : Crew) → IsSettled k job input → GivesNamesOnce job → StartsInNurseries job →
+pub crew_sleeps : (k : Table) (job : Job) (input : List ℕ) (t m : ℕ) (crew : Crew) → IsSettled k job input → GivesNamesOnce job →
+    StartsInNurseries job →
     (c : IsCrew k job input t m None crew) → (u : ℕ) → AllStay crew u → (s : ℕ) (task : Task) → crew.task s ≡ Some task → HasSleeper crew
 crew_sleeps k job input t m crew settled names starting c u stay s task lives = by_task (crew.task x.serial) refl
   where
     z : Sleeps c.course.tasks
     z =
-        blocked_runs_sleep k job input names starting settled c.course.froms t m c.course.tasks c.course.reached u (crew_blocked k job input t m crew c u stay) (c.course.at s)
+        blocked_runs_sleep k job input names starting settled c.course.froms t m c.course.tasks c.course.reached u
+            (crew_blocked k job input t m crew c u stay) (c.course.at s)
         (c.course.has s (below_of c s task lives)).0 (task_lives k job input t m crew c s task lives)
 
     x : Started
@@ -150,7 +160,8 @@ crew_sleeps k job input t m crew settled names starting c u stay s task lives = 
     stopped : (c.course.at x.serial).rest.stopped ≡ asleep z.ticks z.since
     stopped = ap (λ (y : Started). y.rest.stopped) (sym (c.course.one x z.among).0) ∙ z.stopped
 
-    by_halt : (halt : Halt) → IsHalt (c.numbers x.serial) crew.world.book halt (asleep z.ticks z.since) → (n : ℕ) × (v : ℕ) × (halt ≡ Asleep n v)
+    by_halt : (halt : Halt) → IsHalt (c.numbers x.serial) crew.world.book halt (asleep z.ticks z.since) → (n : ℕ) × (v : ℕ)
+        × (halt ≡ Asleep n v)
     by_halt ToBegin h = absurd h
     by_halt (Asked kernel purpose) h = absurd h
     by_halt (Asleep ticks since) h = (ticks, since, refl)
@@ -170,24 +181,30 @@ crew_sleeps k job input t m crew settled names starting c u stay s task lives = 
 -- ---- how long a crew goes on
 
 -- while a task has not ended, the job does not end before the tick
-pub crew_in_time : (job : Job) (input : List ℕ) (t m : ℕ) (crew : Crew) → GivesNamesOnce job → StartsInNurseries job → IsCrew (meaning_table job input) job input t m None crew →
+pub crew_in_time : (job : Job) (input : List ℕ) (t m : ℕ) (crew : Crew) → GivesNamesOnce job → StartsInNurseries job →
+    IsCrew (meaning_table job input) job input t m None crew →
     (s : ℕ) (task : Task) → crew.task s ≡ Some task → t ≤ meaning_end job input
 crew_in_time job input t m crew names starting c s task lives =
     limits_are_exact job input names starting c.course.froms t m c.course.tasks c.course.reached (c.course.at s)
     (c.course.has s (below_of c s task lives)).0 (task_lives (meaning_table job input) job input t m crew c s task lives)
 
 -- a crew has so many turns at most
-pub crew_turns : (k : Table) (job : Job) (input : List ℕ) (t m : ℕ) (leaving : Option ℕ) (crew : Crew) → IsCrew k job input t m leaving crew → crew.turns ≤ 2 * size_of job.steps + 1
+pub crew_turns : (k : Table) (job : Job) (input : List ℕ) (t m : ℕ) (leaving : Option ℕ) (crew : Crew) →
+    IsCrew k job input t m leaving crew → crew.turns ≤ 2 * size_of job.steps + 1
 crew_turns k job input t m leaving crew c =
-    let a = runs_end k job input c.course.froms t m c.course.tasks c.course.reached in let b : turns_taken c.course.reached ≡ crew.turns = c.counted in omega (arith, a, b)
+    let a = runs_end k job input c.course.froms t m c.course.tasks c.course.reached in let b : turns_taken c.course.reached ≡ crew.turns =
+        c.counted in omega (arith, a, b)
 
 -- ---- the root is the last to end
 
-none_below : (k : Table) (job : Job) (input : List ℕ) (t m : ℕ) (crew : Crew) → IsCrew k job input t m None crew → crew.task 0 ≡ None → (n p : ℕ) → p < n → crew.task p ≡ None
+none_below : (k : Table) (job : Job) (input : List ℕ) (t m : ℕ) (crew : Crew) → IsCrew k job input t m None crew → crew.task 0 ≡ None →
+    (n p : ℕ) → p < n → crew.task p ≡ None
 none_below k job input t m crew c none zero p lt = absurd (omega (arith, lt))
-none_below k job input t m crew c none (suc n) p lt = by_task (crew.task p) refl (λ z below. none_below k job input t m crew c none n z below)
+none_below k job input t m crew c none (suc n) p lt =
+    by_task (crew.task p) refl (λ z below. none_below k job input t m crew c none n z below)
   where
-    by_home : (task : Task) → crew.task p ≡ Some task → (home : Option Home) → HasHome crew c.course.at c.numbers p home → ((z : ℕ) → z < n → crew.task z ≡ None) → ⊥
+    by_home : (task : Task) → crew.task p ≡ Some task → (home : Option Home) → HasHome crew c.course.at c.numbers p home →
+        ((z : ℕ) → z < n → crew.task z ≡ None) → ⊥
     by_home task e None h none_before = not_both none (ap crew.task (sym h) ∙ e)
     by_home task e (Some home) h none_before =
         not_both (none_before h.parent (let a : h.parent < p = h.earlier in omega (arith, a, lt))) h.lives
@@ -196,5 +213,6 @@ none_below k job input t m crew c none (suc n) p lt = by_task (crew.task p) refl
     by_task None e none_before = e
     by_task (Some task) e none_before = absurd (by_home task e task.home (c.follows p task e).home none_before)
 
-pub root_last : (k : Table) (job : Job) (input : List ℕ) (t m : ℕ) (crew : Crew) → IsCrew k job input t m None crew → crew.task 0 ≡ None → (p : ℕ) → crew.task p ≡ None
+pub root_last : (k : Table) (job : Job) (input : List ℕ) (t m : ℕ) (crew : Crew) → IsCrew k job input t m None crew → crew.task 0 ≡ None →
+    (p : ℕ) → crew.task p ≡ None
 root_last k job input t m crew c none p = none_below k job input t m crew c none (suc p) p (omega arith)

@@ -105,7 +105,8 @@ stack_is tree key h = by_stack (stack_of tree key) refl h
     by_stack None e s = absurd (let f : false ≡ true = s in cc)
     by_stack (Some st) e s = ap (λ (x : Option Stack). Some (unwrap_or x [])) (sym e)
 
-pub own_stack : (tree : Tree) → IsChain tree → IsApart tree → (home : Option ℕ) (own : List Own) → OwnFirst tree home own → ForSome (last_or home (ids own)) (IsOpen tree) →
+pub own_stack : (tree : Tree) → IsChain tree → IsApart tree → (home : Option ℕ) (own : List Own) → OwnFirst tree home own →
+    ForSome (last_or home (ids own)) (IsOpen tree) →
     (n : ℕ) (o : Own) → slice_get own n ≡ Some o → OwnStack tree home own o n
 own_stack tree chain apart home own first opened n o e =
     record {
@@ -141,7 +142,8 @@ own_stack tree chain apart home own first opened n o e =
     at = keys_at whole (keys_in split.behind) o.id (keys_in split.before ++ keys_of (outer_of tree home)) keys
 
     inner : (i : ℕ) (x : Own) → n < i → slice_get own i ≡ Some x → IsAmong x.id (keys_of (at.level ∷ at.behind)) → ⊥
-    inner i x lt f within = all_not x.id (at.level ∷ at.behind) (all_behind (λ (l : Level ℕ). l.label ≢ x.id) up.behind (at.level ∷ at.behind) others) within
+    inner i x lt f within = all_not x.id (at.level ∷ at.behind) (all_behind (λ (l : Level ℕ). l.label ≢ x.id) up.behind
+        (at.level ∷ at.behind) others) within
       where
         later : (j : ℕ) × (slice_get split.behind j ≡ Some x)
         later =
@@ -155,7 +157,8 @@ own_stack tree chain apart home own first opened n o e =
         others =
             subst (λ (k : ℕ). All (λ (l : Level ℕ). l.label ≢ k) (up.behind ++ at.level ∷ at.behind)) up.named
             (apart last.0 whole is_whole up.before up.level (up.behind ++ at.level ∷ at.behind)
-            (at.is ∙ ap (λ (st : Stack). st ++ at.level ∷ at.behind) up.is ∙ append_assoc up.before (up.level ∷ up.behind) (at.level ∷ at.behind)))
+            (at.is ∙ ap (λ (st : Stack). st ++ at.level ∷ at.behind) up.is
+                ∙ append_assoc up.before (up.level ∷ up.behind) (at.level ∷ at.behind)))
 
         all_not : (key : ℕ) (st : Stack) → All (λ (l : Level ℕ). l.label ≢ key) st → IsAmong key (keys_of st) → ⊥
         all_not key [] a i = i
@@ -174,7 +177,8 @@ pub record NurseryOwn (book : NurseryBook) (bs : List Block) (own : List Own) (w
 
 -- of a nursery further in
 later_own : (book : NurseryBook) (b : Block) (bs : List Block) (o : Own) (own : List Own) (waits : Option ℕ) (id : ℕ) (n : Nursery) →
-    (RunsIn book bs 0 waits → RunsIn book (b ∷ bs) 0 waits) → ((i : ℕ) → RunsIn book bs i waits → RunsIn book (b ∷ bs) (suc i) waits) → NurseryOwn book bs own waits id n →
+    (RunsIn book bs 0 waits → RunsIn book (b ∷ bs) 0 waits) → ((i : ℕ) → RunsIn book bs i waits → RunsIn book (b ∷ bs) (suc i) waits) →
+        NurseryOwn book bs own waits id n →
     NurseryOwn book (b ∷ bs) (o ∷ own) waits id n
 later_own book b bs o own waits id n first later h =
     record { place = suc h.place; scope = h.scope; at = h.at; is = h.is; runs = runs }
@@ -183,7 +187,8 @@ later_own book b bs o own waits id n first later h =
     runs r zero le = first (h.runs r 0 (omega arith))
     runs r (suc i) le = later i (h.runs r i (omega (arith, le)))
 
-pub nursery_own : (labels : Labels) (book : NurseryBook) (bs : List Block) (own : List Own) (waits : Option ℕ) (id : ℕ) (n : Nursery) → Opened labels book bs own waits →
+pub nursery_own : (labels : Labels) (book : NurseryBook) (bs : List Block) (own : List Own) (waits : Option ℕ) (id : ℕ) (n : Nursery) →
+    Opened labels book bs own waits →
     HasNurseryOf id bs waits → nursery_at book id ≡ Some n → NurseryOwn book bs own waits id n
 nursery_own labels book [] own waits id n h (inl has) e = absurd has
 nursery_own labels book [] [] None id n h (inr w) e = absurd (let f : None ≡ Some id = w in cc)
@@ -192,7 +197,8 @@ nursery_own labels book [] (o ∷ own) None id n h (inr w) e = absurd h
 nursery_own labels book [] (o ∷ own) (Some key) id n h (inr w) e =
     let same : key ≡ id = (let f : Some key ≡ Some id = w in cc) in
     let at : nursery_at book key ≡ Some n = ap (nursery_at book) same ∙ e in
-    record { place = 0; scope = o; at = refl; is = (gives book key n _ at h.1).0.scope; runs = λ r i le. puts book key n (λ m. AnyRuns m.children) at r }
+    record { place = 0; scope = o; at = refl; is = (gives book key n _ at h.1).0.scope; runs =
+        λ r i le. puts book key n (λ m. AnyRuns m.children) at r }
 nursery_own labels book (b ∷ bs) [] waits id n h has e = absurd h
 nursery_own labels book (a_scope ∷ bs) (o ∷ own) waits id n h has e =
     later_own book a_scope bs o own waits id n (λ r. r) (λ i r. r) (nursery_own labels book bs own waits id n h.2 has e)
@@ -223,18 +229,23 @@ bytes_few buffer from to =
 
 -- ---- a scope of a task round those of another
 
-module _ (k : Table) (job : Job) (input : List ℕ) (t m : ℕ) (leaving : Option ℕ) (crew : Crew) (c : IsCrew k job input t m leaving crew) (sound : IsSound crew.world.scopes) where
+module _ (k : Table) (job : Job) (input : List ℕ) (t m : ℕ) (leaving : Option ℕ) (crew : Crew) (c : IsCrew k job input t m leaving crew)
+    (sound : IsSound crew.world.scopes) where
   -- the stack of one of a task's scopes
-  stack_by : (s : ℕ) (task : Task) → crew.task s ≡ Some task → (n : ℕ) (o : Own) → slice_get task.own.items n ≡ Some o → OwnStack crew.world.scopes (home_scope task) task.own.items o n
+  stack_by : (s : ℕ) (task : Task) → crew.task s ≡ Some task → (n : ℕ) (o : Own) → slice_get task.own.items n ≡ Some o →
+      OwnStack crew.world.scopes (home_scope task) task.own.items o n
   stack_by s task e n o at =
-      let f = (c.follows s task e).goes in own_stack crew.world.scopes sound.chain sound.apart (home_scope task) task.own.items f.first f.scope n o at
+      let f = (c.follows s task e).goes in own_stack crew.world.scopes sound.chain sound.apart (home_scope task) task.own.items f.first
+          f.scope n o at
 
-  opened_by : (s : ℕ) (task : Task) → crew.task s ≡ Some task → (n : ℕ) (o : Own) → slice_get task.own.items n ≡ Some o → OpenedBy crew o.id s
+  opened_by : (s : ℕ) (task : Task) → crew.task s ≡ Some task → (n : ℕ) (o : Own) → slice_get task.own.items n ≡ Some o →
+      OpenedBy crew o.id s
   opened_by s task e n o at = record { task = task; lives = e; place = n; scope = o; own = at; is = refl }
 
   -- a key in the stack of a task's scope that is none of the task's is round its home
   beyond : (s : ℕ) (task : Task) (e : crew.task s ≡ Some task) (n : ℕ) (o : Own) (at : slice_get task.own.items n ≡ Some o) (key : ℕ) →
-      (let w = stack_by s task e n o at in IsAmong key (keys_of (w.level ∷ w.behind))) → (OpenedBy crew key s → ⊥) → IsAmong key (keys_of (outer_of crew.world.scopes (home_scope task)))
+      (let w = stack_by s task e n o at in IsAmong key (keys_of (w.level ∷ w.behind))) → (OpenedBy crew key s → ⊥) →
+          IsAmong key (keys_of (outer_of crew.world.scopes (home_scope task)))
   beyond s task e n o at key i never = by_first i
     where
       w : OwnStack crew.world.scopes (home_scope task) task.own.items o n
@@ -243,16 +254,20 @@ module _ (k : Table) (job : Job) (input : List ℕ) (t m : ℕ) (leaving : Optio
       mine : IsAmong key (keys_in w.split.before) → ⊥
       mine j =
           let f = own_among w.split.before key j in
-          never (subst (λ (x : ℕ). OpenedBy crew x s) f.is (opened_by s task e f.place f.scope (subst (λ (os : List Own). slice_get os f.place ≡ Some f.scope) (sym w.split.is) (got_first w.split.before (o ∷ w.split.behind) f.place f.scope f.at))))
+          never (subst (λ (x : ℕ). OpenedBy crew x s) f.is (opened_by s task e f.place f.scope
+              (subst (λ (os : List Own). slice_get os f.place ≡ Some f.scope) (sym w.split.is)
+              (got_first w.split.before (o ∷ w.split.behind) f.place f.scope f.at))))
 
-      by_part : IsAmong key (keys_in w.split.before) ⊎ IsAmong key (keys_of (outer_of crew.world.scopes (home_scope task))) → IsAmong key (keys_of (outer_of crew.world.scopes (home_scope task)))
+      by_part : IsAmong key (keys_in w.split.before) ⊎ IsAmong key (keys_of (outer_of crew.world.scopes (home_scope task))) →
+          IsAmong key (keys_of (outer_of crew.world.scopes (home_scope task)))
       by_part (inl j) = absurd (mine j)
       by_part (inr j) = j
 
       by_first : IsAmong key (keys_of (w.level ∷ w.behind)) → IsAmong key (keys_of (outer_of crew.world.scopes (home_scope task)))
       by_first (inl f) = absurd (never (subst (λ (x : ℕ). OpenedBy crew x s) (sym w.named ∙ sym f) (opened_by s task e n o at)))
       by_first (inr j) =
-          by_part (among_either key (keys_in w.split.before) (keys_of (outer_of crew.world.scopes (home_scope task))) (subst (λ (ks : List ℕ). IsAmong key ks) w.keys j))
+          by_part (among_either key (keys_in w.split.before) (keys_of (outer_of crew.world.scopes (home_scope task)))
+              (subst (λ (ks : List ℕ). IsAmong key ks) w.keys j))
 
   module _ (s : ℕ) (mine : Task) (lives : crew.task s ≡ Some mine) (i : ℕ) (o : Own) (at : slice_get mine.own.items i ≡ Some o) where
     -- it is none of another's
@@ -260,9 +275,11 @@ module _ (k : Table) (job : Job) (input : List ℕ) (t m : ℕ) (leaving : Optio
     of_another u differs h = differs (c.apart o.id u s h (opened_by s mine lives i o at))
 
     -- the task is the parent: the child runs in the scope, or in one inside it
-    in_mine : (parent : ℕ) (starter : Task) (there : crew.task parent ≡ Some starter) → parent ≡ s → (n : ℕ) (scope : Own) (e : slice_get starter.own.items n ≡ Some scope) →
+    in_mine : (parent : ℕ) (starter : Task) (there : crew.task parent ≡ Some starter) → parent ≡ s →
+        (n : ℕ) (scope : Own) (e : slice_get starter.own.items n ≡ Some scope) →
         (let w = stack_by parent starter there n scope e in IsAmong o.id (keys_of (w.level ∷ w.behind))) →
-        ((j : ℕ) → j ≤ n → RunsIn crew.world.book (blocks_of starter.frames.items) j (waits_of starter.halt)) → RunsIn crew.world.book (blocks_of mine.frames.items) i (waits_of mine.halt)
+        ((j : ℕ) → j ≤ n → RunsIn crew.world.book (blocks_of starter.frames.items) j (waits_of starter.halt)) →
+            RunsIn crew.world.book (blocks_of mine.frames.items) i (waits_of mine.halt)
     in_mine parent starter there is n scope e among runs = by_order (nat_lt n i) refl
       where
         same : starter ≡ mine
@@ -274,29 +291,38 @@ module _ (k : Table) (job : Job) (input : List ℕ) (t m : ℕ) (leaving : Optio
         by_order : (b : Bool) → nat_lt n i ≡ b → RunsIn crew.world.book (blocks_of mine.frames.items) i (waits_of mine.halt)
         by_order true f =
             absurd (w.inner i o (grind (arith, nat_tests)) (subst (λ (x : Task). slice_get x.own.items i ≡ Some o) (sym same) at) among)
-        by_order false f = subst (λ (x : Task). RunsIn crew.world.book (blocks_of x.frames.items) i (waits_of x.halt)) same (runs i (grind (arith, nat_tests)))
+        by_order false f = subst (λ (x : Task). RunsIn crew.world.book (blocks_of x.frames.items) i (waits_of x.halt)) same
+            (runs i (grind (arith, nat_tests)))
 
-    runs_round : (n u : ℕ) (task : Task) → u < n → u ≢ s → crew.task u ≡ Some task → IsAmong o.id (keys_of (outer_of crew.world.scopes (home_scope task))) →
+    runs_round : (n u : ℕ) (task : Task) → u < n → u ≢ s → crew.task u ≡ Some task →
+        IsAmong o.id (keys_of (outer_of crew.world.scopes (home_scope task))) →
         RunsIn crew.world.book (blocks_of mine.frames.items) i (waits_of mine.halt)
     runs_round zero u task lt differs e among = absurd (omega (arith, lt))
-    runs_round (suc n) u task lt differs e among = by_home task.home refl (λ p starter less other there further. runs_round n p starter less other there further)
+    runs_round (suc n) u task lt differs e among =
+        by_home task.home refl (λ p starter less other there further. runs_round n p starter less other there further)
       where
         by_home : (h : Option Home) → task.home ≡ h →
-            ((p : ℕ) (starter : Task) → p < n → p ≢ s → crew.task p ≡ Some starter → IsAmong o.id (keys_of (outer_of crew.world.scopes (home_scope starter))) →
+            ((p : ℕ) (starter : Task) → p < n → p ≢ s → crew.task p ≡ Some starter →
+                IsAmong o.id (keys_of (outer_of crew.world.scopes (home_scope starter))) →
             RunsIn crew.world.book (blocks_of mine.frames.items) i (waits_of mine.halt)) →
             RunsIn crew.world.book (blocks_of mine.frames.items) i (waits_of mine.halt)
-        by_home None f further = absurd (subst (λ (h : Option Home). IsAmong o.id (keys_of (outer_of crew.world.scopes (option_map (λ (x : Home). x.scope) h)))) f among)
+        by_home None f further = absurd (subst (λ (h : Option Home).
+            IsAmong o.id (keys_of (outer_of crew.world.scopes (option_map (λ (x : Home). x.scope) h)))) f among)
         by_home (Some home) f further = by_parent (l.parent == s) refl
           where
             l : LivesIn crew c.course.at c.numbers u home
             l = subst (λ (h : Option Home). HasHome crew c.course.at c.numbers u h) f (c.follows u task e).home
 
-            nursery : (n : Nursery) × (nursery_at crew.world.book home.nursery ≡ Some n) × ((n.scope ≡ home.scope) × (slice_get n.children home.place ≡ Some None))
-            nursery = finds crew.world.book home.nursery (λ n. (n.scope ≡ home.scope) × (slice_get n.children home.place ≡ Some None)) l.runs
+            nursery : (n : Nursery) × (nursery_at crew.world.book home.nursery ≡ Some n)
+                × ((n.scope ≡ home.scope) × (slice_get n.children home.place ≡ Some None))
+            nursery = finds crew.world.book home.nursery (λ n. (n.scope ≡ home.scope) × (slice_get n.children home.place ≡ Some None))
+                l.runs
 
-            own : NurseryOwn crew.world.book (blocks_of l.starter.frames.items) l.starter.own.items (waits_of l.starter.halt) home.nursery nursery.0
+            own : NurseryOwn crew.world.book (blocks_of l.starter.frames.items) l.starter.own.items (waits_of l.starter.halt) home.nursery
+                nursery.0
             own =
-                nursery_own (label_at crew.world) crew.world.book (blocks_of l.starter.frames.items) l.starter.own.items (waits_of l.starter.halt) home.nursery nursery.0
+                nursery_own (label_at crew.world) crew.world.book (blocks_of l.starter.frames.items) l.starter.own.items
+                    (waits_of l.starter.halt) home.nursery nursery.0
                 (c.follows l.parent l.starter l.lives).goes.opened l.owned nursery.1
 
             w : OwnStack crew.world.scopes (home_scope l.starter) l.starter.own.items own.scope own.place
@@ -313,7 +339,8 @@ module _ (k : Table) (job : Job) (input : List ℕ) (t m : ℕ) (leaving : Optio
 
             by_parent : (b : Bool) → (l.parent == s) ≡ b → RunsIn crew.world.book (blocks_of mine.frames.items) i (waits_of mine.halt)
             by_parent true g =
-                in_mine l.parent l.starter l.lives (eqb-true l.parent s g) own.place own.scope own.at there (own.runs (one_runs nursery.0.children home.place nursery.2.1))
+                in_mine l.parent l.starter l.lives (eqb-true l.parent s g) own.place own.scope own.at there
+                    (own.runs (one_runs nursery.0.children home.place nursery.2.1))
             by_parent false g =
                 let other : l.parent ≢ s = λ h. absurd (let x : true ≡ false = sym (eq-eqb l.parent s h) ∙ g in cc) in
                 further l.parent l.starter (let h = l.earlier in omega (arith, h, lt)) other l.lives
@@ -331,7 +358,8 @@ module _ (k : Table) (job : Job) (input : List ℕ) (t m : ℕ) (leaving : Optio
 
       no_other : (own : List Own) (n : ℕ) (x : Own) → slice_get own n ≡ Some x → x.id ≡ key → AreOthers key own → ⊥
       no_other [] n x f is a = absurd (let g : None ≡ Some x = f in cc)
-      no_other (y ∷ own) zero x f is a = All-head (λ (z : Own). z.id ≢ key) y own a (let g : Some y ≡ Some x = f in ap (λ (z : Option Own). id_of z key) g ∙ is)
+      no_other (y ∷ own) zero x f is a =
+          All-head (λ (z : Own). z.id ≢ key) y own a (let g : Some y ≡ Some x = f in ap (λ (z : Option Own). id_of z key) g ∙ is)
         where
           id_of : Option Own → ℕ → ℕ
           id_of None d = d
@@ -341,14 +369,16 @@ module _ (k : Table) (job : Job) (input : List ℕ) (t m : ℕ) (leaving : Optio
       differs : by.0 ≢ s
       differs f =
           let same : by.1.task ≡ mine = one_of by.1.task mine (sym by.1.lives ∙ ap crew.task f ∙ lives) in
-          no_other mine.own.items by.1.place by.1.scope (subst (λ (x : Task). slice_get x.own.items by.1.place ≡ Some by.1.scope) same by.1.own) by.1.is others
+          no_other mine.own.items by.1.place by.1.scope (subst (λ (x : Task). slice_get x.own.items by.1.place ≡ Some by.1.scope) same
+              by.1.own) by.1.is others
 
       w : OwnStack crew.world.scopes (home_scope by.1.task) by.1.task.own.items by.1.scope by.1.place
       w = stack_by by.0 by.1.task by.1.lives by.1.place by.1.scope by.1.own
 
       among : IsAmong o.id (keys_of (w.level ∷ w.behind))
       among =
-          subst (λ (x : Stack). IsAmong o.id (keys_of x)) (one_of st (w.level ∷ w.behind) (sym e ∙ ap (stack_of crew.world.scopes) (sym by.1.is) ∙ w.at)) (key_among o.id st within)
+          subst (λ (x : Stack). IsAmong o.id (keys_of x)) (one_of st (w.level ∷ w.behind)
+              (sym e ∙ ap (stack_of crew.world.scopes) (sym by.1.is) ∙ w.at)) (key_among o.id st within)
 
   -- each task has all that a turn asks of it
   pub crew_fits : (s : ℕ) (task : Task) → crew.task s ≡ Some task → Fits task.frames.items task crew.world (waits_of task.halt)

@@ -26,13 +26,16 @@ use Rattle.run_crew.proofs.Parts.{own_or}
 -- ---- the mover
 
 -- what the mover does to scopes
-abbrev pub ActsOf : {k : Table} {job : Job} {input : List ℕ} {t m s : ℕ} {old new : Crew} {before after : Task} {stop : Stop} → (c : IsCrew k job input t m None old) →
+abbrev pub ActsOf : {k : Table} {job : Job} {input : List ℕ} {t m s : ℕ} {old new : Crew} {before after : Task} {stop : Stop} →
+    (c : IsCrew k job input t m None old) →
     Turning k job input t m s old new c.numbers before after stop c.course → Type 0
 ActsOf {old = old} {new = new} {before = before} {after = after} c T =
     Acted (IsEntered c.course.at) old.world.tick (scoping_of before old.world) (scoping_of after new.world) T.move.made
 
-pub acted : {k : Table} {job : Job} {input : List ℕ} {t m s : ℕ} {old new : Crew} {before after : Task} {stop : Stop} → (c : IsCrew k job input t m None old) →
-    (T : Turning k job input t m s old new c.numbers before after stop c.course) → IsSettled k job input → GivesNamesOnce job → StartsInNurseries job → ActsOf c T
+pub acted : {k : Table} {job : Job} {input : List ℕ} {t m s : ℕ} {old new : Crew} {before after : Task} {stop : Stop} →
+    (c : IsCrew k job input t m None old) →
+    (T : Turning k job input t m s old new c.numbers before after stop c.course) → IsSettled k job input → GivesNamesOnce job →
+        StartsInNurseries job → ActsOf c T
 acted c T settled names nurseries =
     record {
       acts = T.took.acts;
@@ -46,11 +49,14 @@ acted c T settled names nurseries =
 -- ---- another task
 
 -- none of its scopes is the mover's
-pub else_own : {k : Table} {job : Job} {input : List ℕ} {t m s : ℕ} {old new : Crew} {before after : Task} {stop : Stop} → (c : IsCrew k job input t m None old) →
-    Turning k job input t m s old new c.numbers before after stop c.course → (u : ℕ) (task : Task) → u ≢ s → old.task u ≡ Some task → AreElse task.own.items before.own.items
+pub else_own : {k : Table} {job : Job} {input : List ℕ} {t m s : ℕ} {old new : Crew} {before after : Task} {stop : Stop} →
+    (c : IsCrew k job input t m None old) →
+    Turning k job input t m s old new c.numbers before after stop c.course → (u : ℕ) (task : Task) → u ≢ s → old.task u ≡ Some task →
+        AreElse task.own.items before.own.items
 else_own {s = s} {old = old} {before = before} c T u task differs is o i got = by_own (own_or o.id before.own.items)
   where
-    by_own : AreOthers o.id before.own.items ⊎ ((j : ℕ) × (x : Own) × (slice_get before.own.items j ≡ Some x) × (x.id ≡ o.id)) → AreOthers o.id before.own.items
+    by_own : AreOthers o.id before.own.items ⊎ ((j : ℕ) × (x : Own) × (slice_get before.own.items j ≡ Some x) × (x.id ≡ o.id)) →
+        AreOthers o.id before.own.items
     by_own (inl a) = a
     by_own (inr x) =
         let mine : OpenedBy old o.id s = record { task = before; lives = T.task; place = x.0; scope = x.1; own = x.2; is = x.3 } in
@@ -58,14 +64,19 @@ else_own {s = s} {old = old} {before = before} c T u task differs is o i got = b
         absurd (differs (sym (c.apart o.id s u mine theirs)))
 
 -- each of its scopes is open
-pub own_open : {k : Table} {job : Job} {input : List ℕ} {t m : ℕ} {old : Crew} → (c : IsCrew k job input t m None old) → (u : ℕ) (task : Task) → old.task u ≡ Some task →
+pub own_open : {k : Table} {job : Job} {input : List ℕ} {t m : ℕ} {old : Crew} → (c : IsCrew k job input t m None old) →
+    (u : ℕ) (task : Task) → old.task u ≡ Some task →
     (o : Own) (i : ℕ) → slice_get task.own.items i ≡ Some o → IsOpen old.world.scopes o.id
 own_open {old = old} c u task is o i got = let x = (c.follows u task is).tracks.kept o i got in is_open old.world.scopes o.id x.0 x.2
 
 -- each of its nurseries stays
-pub nursery_same : {k : Table} {job : Job} {input : List ℕ} {t m s : ℕ} {old new : Crew} {before after : Task} {stop : Stop} → (c : IsCrew k job input t m None old) →
+pub nursery_same : {k : Table} {job : Job} {input : List ℕ} {t m s : ℕ} {old new : Crew} {before after : Task} {stop : Stop} →
+    (c : IsCrew k job input t m None old) →
     Turning k job input t m s old new c.numbers before after stop c.course → (u : ℕ) (task : Task) → u ≢ s → old.task u ≡ Some task →
-    (id : ℕ) → HasNurseryOf id (blocks_of task.frames.items) (waits_of task.halt) → nursery_at new.world.book id ≡ nursery_at old.world.book id
+    (id : ℕ) → HasNurseryOf id (blocks_of task.frames.items) (waits_of task.halt) →
+        nursery_at new.world.book id ≡ nursery_at old.world.book id
 nursery_same {old = old} {new = new} {before = before} c T u task differs is id has =
-    nurseries_stay (label_at old.world) old.world.book new.world.book (blocks_of before.frames.items) (blocks_of task.frames.items) before.own.items task.own.items (waits_of before.halt)
-    (waits_of task.halt) old.world.scopes T.fits.opened T.took.others (c.follows u task is).goes.opened (else_own c T u task differs is) (own_open c u task is) id has
+    nurseries_stay (label_at old.world) old.world.book new.world.book (blocks_of before.frames.items) (blocks_of task.frames.items)
+        before.own.items task.own.items (waits_of before.halt)
+    (waits_of task.halt) old.world.scopes T.fits.opened T.took.others (c.follows u task is).goes.opened (else_own c T u task differs is)
+        (own_open c u task is) id has

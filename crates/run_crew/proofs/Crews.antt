@@ -31,7 +31,8 @@ use Rattle.run_crew.proofs.Found.{finds}
 -- ---- a task and its home, apart
 
 -- what ties a task to one of the definitions, but for its home
-pub record Stood (crew : Crew) (f : Table) (input : List ℕ) (t : ℕ) (at : ℕ → Started) (leaving : Option ℕ) (s : ℕ) (task : Task) (n : Numbers) (q : Started) : Type 0
+pub record Stood (crew : Crew) (f : Table) (input : List ℕ) (t : ℕ) (at : ℕ → Started) (leaving : Option ℕ) (s : ℕ) (task : Task)
+    (n : Numbers) (q : Started) : Type 0
   where
     pub here : here_of task ≡ q.here
     pub input_is : q.here.input ≡ input
@@ -47,8 +48,10 @@ pub record Stood (crew : Crew) (f : Table) (input : List ℕ) (t : ℕ) (at : �
         (id : ℕ) → HasNurseryOf id (blocks_of task.frames.items) (waits_of task.halt) →
         HasNursery crew.world.book id (λ n0. HasMembers crew at t n q id n0)
 
-stood_follows : (crew : Crew) (f : Table) (input : List ℕ) (t : ℕ) (at : ℕ → Started) (numbers : ℕ → Numbers) (leaving : Option ℕ) (s : ℕ) (task : Task) →
-    Stood crew f input t at leaving s task (numbers s) (at s) → HasHome crew at numbers s task.home → Follows crew f input t at numbers leaving s task
+stood_follows : (crew : Crew) (f : Table) (input : List ℕ) (t : ℕ) (at : ℕ → Started) (numbers : ℕ → Numbers) (leaving : Option ℕ) (s : ℕ)
+    (task : Task) →
+    Stood crew f input t at leaving s task (numbers s) (at s) → HasHome crew at numbers s task.home →
+        Follows crew f input t at numbers leaving s task
 stood_follows crew f input t at numbers leaving s task h home =
     record {
       here = h.here;
@@ -66,17 +69,20 @@ stood_follows crew f input t at numbers leaving s task h home =
     }
 
 -- with the numbers and the task that these are
-pub follows_by : (crew : Crew) (f : Table) (input : List ℕ) (t : ℕ) (at : ℕ → Started) (numbers : ℕ → Numbers) (leaving : Option ℕ) (s : ℕ) (task : Task) (n : Numbers)
+pub follows_by : (crew : Crew) (f : Table) (input : List ℕ) (t : ℕ) (at : ℕ → Started) (numbers : ℕ → Numbers) (leaving : Option ℕ) (s : ℕ)
+    (task : Task) (n : Numbers)
     (q : Started) → numbers s ≡ n → at s ≡ q → Stood crew f input t at leaving s task n q → HasHome crew at numbers s task.home →
     Follows crew f input t at numbers leaving s task
 follows_by crew f input t at numbers leaving s task n q e g h home =
     stood_follows crew f input t at numbers leaving s task
-    (subst (λ (z : Numbers). Stood crew f input t at leaving s task z (at s)) (sym e) (subst (λ (z : Started). Stood crew f input t at leaving s task n z) (sym g) h))
+    (subst (λ (z : Numbers). Stood crew f input t at leaving s task z (at s)) (sym e)
+        (subst (λ (z : Started). Stood crew f input t at leaving s task n z) (sym g) h))
     home
 
 -- ---- a crew
 
-module _ (k : Table) (job : Job) (input : List ℕ) (t m : ℕ) (leaving : Option ℕ) (crew : Crew) (c : IsCrew k job input t m leaving crew) where
+module _ (k : Table) (job : Job) (input : List ℕ) (t m : ℕ) (leaving : Option ℕ) (crew : Crew) (c : IsCrew k job input t m leaving crew)
+    where
   -- no task has a later serial number than those given
   pub gone_below : (s : ℕ) (g : Gone) → crew.gone s ≡ Some g → s < m
   gone_below s g e = by_order (cases_lt s m)
@@ -86,22 +92,27 @@ module _ (k : Table) (job : Job) (input : List ℕ) (t m : ℕ) (leaving : Optio
       by_order (inr h) = absurd (not_both (c.unborn s h).1 e)
 
   -- the scope of a task's nursery is one that the task opened
-  pub owner : (s : ℕ) (a : Task) → crew.task s ≡ Some a → (id : ℕ) (n : Nursery) → HasNurseryOf id (blocks_of a.frames.items) (waits_of a.halt) →
+  pub owner : (s : ℕ) (a : Task) → crew.task s ≡ Some a → (id : ℕ) (n : Nursery) →
+      HasNurseryOf id (blocks_of a.frames.items) (waits_of a.halt) →
       nursery_at crew.world.book id ≡ Some n → OpenedBy crew n.scope s
   owner s a e id n has at = by_own (own_or n.scope a.own.items)
     where
-      by_own : AreOthers n.scope a.own.items ⊎ ((i : ℕ) × (o : Own) × (slice_get a.own.items i ≡ Some o) × (o.id ≡ n.scope)) → OpenedBy crew n.scope s
+      by_own : AreOthers n.scope a.own.items ⊎ ((i : ℕ) × (o : Own) × (slice_get a.own.items i ≡ Some o) × (o.id ≡ n.scope)) →
+          OpenedBy crew n.scope s
       by_own (inl others) =
-          absurd (has_scope (label_at crew.world) crew.world.book (blocks_of a.frames.items) a.own.items (waits_of a.halt) id n (c.follows s a e).goes.opened has at others)
+          absurd (has_scope (label_at crew.world) crew.world.book (blocks_of a.frames.items) a.own.items (waits_of a.halt) id n
+              (c.follows s a e).goes.opened has at others)
       by_own (inr h) = record { task = a; lives = e; place = h.0; scope = h.1; own = h.2; is = h.3 }
 
   -- so no two tasks have the same nursery
-  pub one_nursery : (s u : ℕ) (a b : Task) → crew.task s ≡ Some a → crew.task u ≡ Some b → (id : ℕ) (n : Nursery) → HasNurseryOf id (blocks_of a.frames.items) (waits_of a.halt) →
+  pub one_nursery : (s u : ℕ) (a b : Task) → crew.task s ≡ Some a → crew.task u ≡ Some b → (id : ℕ) (n : Nursery) →
+      HasNurseryOf id (blocks_of a.frames.items) (waits_of a.halt) →
       HasNurseryOf id (blocks_of b.frames.items) (waits_of b.halt) → nursery_at crew.world.book id ≡ Some n → s ≡ u
   one_nursery s u a b e f id n has too at = c.apart n.scope s u (owner s a e id n has at) (owner u b f id n too at)
 
   -- and the task whose nursery is another's home is the earlier
-  pub home_earlier : (p : ℕ) (a : Task) → crew.task p ≡ Some a → (id place : ℕ) → home_of a ≡ Some (id, place) → (u : ℕ) (b : Task) → crew.task u ≡ Some b →
+  pub home_earlier : (p : ℕ) (a : Task) → crew.task p ≡ Some a → (id place : ℕ) → home_of a ≡ Some (id, place) → (u : ℕ) (b : Task) →
+      crew.task u ≡ Some b →
       HasNurseryOf id (blocks_of b.frames.items) (waits_of b.halt) → u < p
   home_earlier p a e id place at u b f has = by_home a.home refl (c.follows p a e).home
     where

@@ -61,7 +61,8 @@ record LivesAt (at : ℕ → Started) (qs : List Started) (s : ℕ) : Type 0 whe
   pub lives : live (at s).rest.stopped ≡ true
 
 -- so many of some tasks have not ended at most
-few_live : (at : ℕ → Started) (numbers : List ℕ) (qs : List Started) → AreDistinct numbers → ((s : ℕ) → In s numbers → LivesAt at qs s) → length numbers ≤ all_weights qs
+few_live : (at : ℕ → Started) (numbers : List ℕ) (qs : List Started) → AreDistinct numbers → ((s : ℕ) → In s numbers → LivesAt at qs s) →
+    length numbers ≤ all_weights qs
 few_live at [] qs distinct lives = omega arith
 few_live at (s ∷ ss) qs distinct lives =
     let weight = front_weighs a.front in
@@ -80,7 +81,8 @@ few_live at (s ∷ ss) qs distinct lives =
     other u i e (inr h) = h
 
     behind : (u : ℕ) → In u ss → LivesAt at a.others u
-    behind u i = let l = lives u (inr i) in record { among = other u i l.serial (a.rest (at u) l.among); serial = l.serial; lives = l.lives }
+    behind u i = let l = lives u (inr i) in record { among = other u i l.serial (a.rest (at u) l.among); serial = l.serial; lives =
+        l.lives }
 
 -- so many of a crew have not ended at most
 pub crew_few : (k : Table) (job : Job) (input : List ℕ) (t m : ℕ) (crew : Crew) → IsCrew k job input t m None crew →

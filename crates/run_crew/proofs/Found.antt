@@ -50,7 +50,8 @@ split_at (y ∷ xs) x (suc n) e =
     let s = split_at xs x n e in record { before = y ∷ s.before; behind = s.behind; is = ap (λ zs. y ∷ zs) s.is; long = ap suc s.long }
 
 -- what stands at a later place is behind it
-pub later_behind : {A : Type 0} (before behind : List A) (x y : A) (i : ℕ) → length before < i → slice_get (before ++ x ∷ behind) i ≡ Some y → (j : ℕ) × (slice_get behind j ≡ Some y)
+pub later_behind : {A : Type 0} (before behind : List A) (x y : A) (i : ℕ) → length before < i →
+    slice_get (before ++ x ∷ behind) i ≡ Some y → (j : ℕ) × (slice_get behind j ≡ Some y)
 later_behind [] behind x y zero lt e = absurd (omega (arith, lt))
 later_behind [] behind x y (suc i) lt e = (i, e)
 later_behind (z ∷ before) behind x y zero lt e = absurd (omega (arith, lt))
@@ -58,7 +59,8 @@ later_behind (z ∷ before) behind x y (suc i) lt e = later_behind before behind
 
 -- ---- at a key of a book
 
-pub finds : (book : NurseryBook) (id : ℕ) (P : Nursery → Type 0) → HasNursery book id P → (n : Nursery) × (nursery_at book id ≡ Some n) × P n
+pub finds : (book : NurseryBook) (id : ℕ) (P : Nursery → Type 0) → HasNursery book id P → (n : Nursery) × (nursery_at book id ≡ Some n)
+    × P n
 finds book id P h = by_nursery (nursery_at book id) h
   where
     by_nursery : (o : Option Nursery) → IsSomeAnd o P → (n : Nursery) × (o ≡ Some n) × P n
@@ -88,7 +90,8 @@ keys_at [] [] k ms e = absurd (let f : [] ≡ k ∷ ms = e in cc)
 keys_at [] (x ∷ ks) k ms e = absurd (let f : [] ≡ x ∷ (ks ++ k ∷ ms) = e in cc)
 keys_at (l ∷ ls) [] k ms e =
     let f : l.label ∷ keys_of ls ≡ k ∷ ms = e in
-    record { before = []; level = l; behind = ls; is = refl; named = (let g : l.label ≡ k = cc in g); inner = refl; outer = (let g : keys_of ls ≡ ms = cc in g) }
+    record { before = []; level = l; behind = ls; is = refl; named = (let g : l.label ≡ k = cc in g); inner = refl; outer =
+        (let g : keys_of ls ≡ ms = cc in g) }
 keys_at (l ∷ ls) (x ∷ ks) k ms e =
     let f : l.label ∷ keys_of ls ≡ x ∷ (ks ++ k ∷ ms) = e in
     let first : l.label ≡ x = cc in let more : keys_of ls ≡ ks ++ k ∷ ms = cc in

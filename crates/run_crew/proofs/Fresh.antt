@@ -23,7 +23,8 @@ use Rattle.run_crew.proofs.LabelsApart.{known_enters, two_counted}
 -- ---- how often a label is entered
 
 -- events that enter each label once at most, and none that is known
-pub new_of : (known : Label → Type 0) (es : List Event) → ((l : Label) → times_made l es ≤ 1) → ((l : Label) → known l → EntersIn l es → ⊥) → AreNew known es
+pub new_of : (known : Label → Type 0) (es : List Event) → ((l : Label) → times_made l es ≤ 1) →
+    ((l : Label) → known l → EntersIn l es → ⊥) → AreNew known es
 unfolding times_made
 new_of known [] once none = tt
 new_of known (noted t e ∷ es) once none = new_of known es once none
@@ -36,7 +37,8 @@ new_of known (enters m t d ∷ es) once none =
         let f = once l in
         let g = enters_counted l es i in
         let h : 1 ≤ times_made l (enters m t d ∷ []) = enters_counted l (enters m t d ∷ []) (inl e) in
-        let j : times_made l (enters m t d ∷ es) ≡ times_made l (enters m t d ∷ []) + times_made l es = times_join l (enters m t d ∷ []) es in
+        let j : times_made l (enters m t d ∷ es) ≡ times_made l (enters m t d ∷ []) + times_made l es =
+            times_join l (enters m t d ∷ []) es in
         absurd (omega (arith, f, g, h, j))
 
     none_after : (l : Label) → (l ≡ m) ⊎ known l → EntersIn l es → ⊥
@@ -46,7 +48,8 @@ new_of known (starts i m t ∷ es) once none = new_of known es once none
 
 -- ---- what a turn enters
 
-pub fresh_after : (k : Table) (job : Job) (input : List ℕ) (t m s : ℕ) (was : Course k job input t m) (o : Move) (stopped : Stopped) → IsSettled k job input → GivesNamesOnce job →
+pub fresh_after : (k : Table) (job : Job) (input : List ℕ) (t m s : ℕ) (was : Course k job input t m) (o : Move) (stopped : Stopped) →
+    IsSettled k job input → GivesNamesOnce job →
     StartsInNurseries job → s < m → (w : WentOn k job input t m s was o stopped) → AreNew (IsEntered was.at) o.made
 fresh_after k job input t m s was o stopped settled names starting less w = new_of (IsEntered was.at) o.made by_times by_known
   where
@@ -67,10 +70,12 @@ fresh_after k job input t m s was o stopped settled names starting less w = new_
     by_times : (l : Label) → times_made l o.made ≤ 1
     by_times l = let f = once l in let g = made_counted l (w.is.at s) w.is.tasks there.0 in let h = joined l in omega (arith, f, g, h)
 
-    by_serial : (l : Label) (p : ℕ) → Known l (entered_made (was.at p).made) → EntersIn l o.made → (b : Bool) → (p == s) ≡ b → (c : Bool) → nat_lt p m ≡ c → ⊥
+    by_serial : (l : Label) (p : ℕ) → Known l (entered_made (was.at p).made) → EntersIn l o.made → (b : Bool) → (p == s) ≡ b → (c : Bool) →
+        nat_lt p m ≡ c → ⊥
     by_serial l p known i true e c f =
         let is : p ≡ s = eqb-true p s e in
-        let had = enters_counted l (was.at s).made (known_enters l (was.at s).made (subst (λ (n : ℕ). Known l (entered_made (was.at n).made)) is known)) in
+        let had = enters_counted l (was.at s).made (known_enters l (was.at s).made
+            (subst (λ (n : ℕ). Known l (entered_made (was.at n).made)) is known)) in
         let new = enters_counted l o.made i in
         let most = once l in let g = made_counted l (w.is.at s) w.is.tasks there.0 in let h = joined l in
         absurd (omega (arith, had, new, most, g, h))

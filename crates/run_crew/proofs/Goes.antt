@@ -41,7 +41,8 @@ apart_front q _ _ (behind_one q' x qs' others' at) a =
     let same = front_same q' qs' others' at in
     (by_either inner.0 (same.back q' (inl refl)), (λ y i e. a.0 y (same.back y (inr i)) e, inner.1))
   where
-    by_either : ((y : Started) → In y others' → y.serial ≢ q'.serial) → In q' qs' → (y : Started) → In y (x ∷ others') → y.serial ≢ q'.serial
+    by_either : ((y : Started) → In y others' → y.serial ≢ q'.serial) → In q' qs' → (y : Started) → In y (x ∷ others') →
+        y.serial ≢ q'.serial
     by_either inner there y (inl e) f = a.0 q' there (sym f ∙ ap (λ (z : Started). z.serial) e)
     by_either inner there y (inr i) f = inner y i f
 
@@ -70,12 +71,15 @@ record IsNth (k : Table) (t m : ℕ) (bs : List Begun) (d x : Started) : Type 0 
 in_nth : (k : Table) (t m : ℕ) (bs : List Begun) (d x : Started) → In x (children_from k t m bs) → IsNth k t m bs d x
 unfolding children_from
 in_nth k t m [] d x i = absurd i
-in_nth k t m (b ∷ bs) d x (inl e) = record { place = 0; below = omega arith; serial = ap (λ (y : Started). y.serial) e ∙ omega arith; is = e }
+in_nth k t m (b ∷ bs) d x (inl e) =
+    record { place = 0; below = omega arith; serial = ap (λ (y : Started). y.serial) e ∙ omega arith; is = e }
 in_nth k t m (b ∷ bs) d x (inr i) =
     let h = in_nth k t (suc m) bs d x i in
-    record { place = suc h.place; below = (let e = h.below in omega (arith, e)); serial = (let e = h.serial in omega (arith, e)); is = h.is }
+    record { place = suc h.place; below = (let e = h.below in omega (arith, e)); serial = (let e = h.serial in omega (arith, e)); is =
+        h.is }
 
-nth_at : (k : Table) (t m : ℕ) (bs : List Begun) (i : ℕ) (d : Started) (b : Begun) → slice_get bs i ≡ Some b → nth_child k t m bs i d ≡ child_at k t (m + i) b
+nth_at : (k : Table) (t m : ℕ) (bs : List Begun) (i : ℕ) (d : Started) (b : Begun) → slice_get bs i ≡ Some b →
+    nth_child k t m bs i d ≡ child_at k t (m + i) b
 nth_at k t m [] i d b e = absurd (let f : None ≡ Some b = e in cc)
 nth_at k t m (c ∷ bs) zero d b e =
     let f : Some c ≡ Some b = e in let g : c ≡ b = cc in let n : m ≡ m + 0 = omega arith in
@@ -91,9 +95,11 @@ nth_past k t m (b ∷ bs) (suc i) d le = nth_past k t (suc m) bs i d (omega (ari
 children_apart : (k : Table) (t m : ℕ) (bs : List Begun) → AreApart (children_from k t m bs)
 unfolding children_from
 children_apart k t m [] = tt
-children_apart k t m (b ∷ bs) = (λ x i e. let h = in_nth k t (suc m) bs x x i in let g = h.serial in absurd (omega (arith, e, g)), children_apart k t (suc m) bs)
+children_apart k t m (b ∷ bs) =
+    (λ x i e. let h = in_nth k t (suc m) bs x x i in let g = h.serial in absurd (omega (arith, e, g)), children_apart k t (suc m) bs)
 
-apart_append : (xs ys : List Started) → AreApart xs → AreApart ys → ((x y : Started) → In x xs → In y ys → y.serial ≢ x.serial) → AreApart (xs ++ ys)
+apart_append : (xs ys : List Started) → AreApart xs → AreApart ys → ((x y : Started) → In x xs → In y ys → y.serial ≢ x.serial) →
+    AreApart (xs ++ ys)
 apart_append [] ys a b differ = b
 apart_append (x ∷ xs) ys a b differ = (by_part, apart_append xs ys a.1 b (λ y z i j. differ y z (inr i) j))
   where
@@ -106,14 +112,17 @@ apart_append (x ∷ xs) ys a b differ = (by_part, apart_append xs ys a.1 b (λ y
 
 -- ---- what may wake a task, where the tasks stand in another order
 
-wait_moved : (qs rs : List Started) (q : Started) (t : ℕ) (children : List ℕ) (ended : ℕ) (e x : Option Exc) → ((c : Started) → In c rs → In c qs) →
+wait_moved : (qs rs : List Started) (q : Started) (t : ℕ) (children : List ℕ) (ended : ℕ) (e x : Option Exc) →
+    ((c : Started) → In c rs → In c qs) →
     WaitIsOver qs q t children ended e x → WaitIsOver rs q t children ended e x
 wait_moved qs rs q t children ended e x back h =
     record { ends = h.ends; numbers = h.numbers; over = λ i among c is serial. h.over i among c (back c is) serial; settled = h.settled }
 
 -- or where other froms show the same
-pub ready_by : (f g : Table) (qs rs : List Started) (t : ℕ) (q : Started) (w : Wake) (s : Stopped) → seen (stack_at f q.places) t ≡ seen (stack_at g q.places) t →
-    ((children : List ℕ) (ended : ℕ) (e x : Option Exc) → WaitIsOver qs q t children ended e x → WaitIsOver rs q t children ended e x) → MayWake f qs t q w s → MayWake g rs t q w s
+pub ready_by : (f g : Table) (qs rs : List Started) (t : ℕ) (q : Started) (w : Wake) (s : Stopped) →
+    seen (stack_at f q.places) t ≡ seen (stack_at g q.places) t →
+    ((children : List ℕ) (ended : ℕ) (e x : Option Exc) → WaitIsOver qs q t children ended e x → WaitIsOver rs q t children ended e x) →
+        MayWake f qs t q w s → MayWake g rs t q w s
 ready_by f g qs rs t q begins to_begin same over h = h
 ready_by f g qs rs t q begins (asking k p) same over h = absurd h
 ready_by f g qs rs t q begins (asleep n u) same over h = absurd h
@@ -140,8 +149,10 @@ ready_by f g qs rs t q (settles x) (asleep n u) same over h = absurd h
 ready_by f g qs rs t q (settles x) (awaiting cs u e) same over h = over cs u e x h
 ready_by f g qs rs t q (settles x) (at_end u e) same over h = absurd h
 
-pub may_moved : (f : Table) (qs rs : List Started) (t : ℕ) (q : Started) (w : Wake) (s : Stopped) → ((c : Started) → In c rs → In c qs) → MayWake f qs t q w s → MayWake f rs t q w s
-may_moved f qs rs t q w s back h = ready_by f f qs rs t q w s refl (λ children ended e x over. wait_moved qs rs q t children ended e x back over) h
+pub may_moved : (f : Table) (qs rs : List Started) (t : ℕ) (q : Started) (w : Wake) (s : Stopped) → ((c : Started) → In c rs → In c qs) →
+    MayWake f qs t q w s → MayWake f rs t q w s
+may_moved f qs rs t q w s back h =
+    ready_by f f qs rs t q w s refl (λ children ended e x over. wait_moved qs rs q t children ended e x back over) h
 
 -- and such a wake can come of its stop
 pub may_can : (f : Table) (qs : List Started) (t : ℕ) (q : Started) (w : Wake) (s : Stopped) → MayWake f qs t q w s → CanWake w s
@@ -180,7 +191,8 @@ picked false true turned_now old new = old
 picked false false turned_now old new = new
 
 -- The run with the turn taken, and what it has at each serial number.
-pub record WentOn (k : Table) (job : Job) (input : List ℕ) (t m s : ℕ) (was : Course k job input t m) (o : Move) (stopped : Stopped) : Type 0 where
+pub record WentOn (k : Table) (job : Job) (input : List ℕ) (t m s : ℕ) (was : Course k job input t m) (o : Move) (stopped : Stopped) : Type
+    0 where
   pub is : Course k job input t (m + length o.begun)
   pub counts : turns_taken is.reached ≡ turns_taken was.reached + 1
   pub froms : is.froms ≡ froms_after was.froms o.made
@@ -188,9 +200,11 @@ pub record WentOn (k : Table) (job : Job) (input : List ℕ) (t m s : ℕ) (was 
   pub of_child : (i : ℕ) (b : Begun) → slice_get o.begun i ≡ Some b → is.at (m + i) ≡ child_at k t (m + i) b
   pub of_other : (p : ℕ) → p < m → p ≢ s → is.at p ≡ was.at p
 
-pub went_on : (k : Table) (job : Job) (input : List ℕ) (t m s : ℕ) (was : Course k job input t m) (wake : Wake) (o : Move) (stopped : Stopped) → s < m →
+pub went_on : (k : Table) (job : Job) (input : List ℕ) (t m s : ℕ) (was : Course k job input t m) (wake : Wake) (o : Move)
+    (stopped : Stopped) → s < m →
     MayWake was.froms was.tasks t (was.at s) wake (was.at s).rest.stopped →
-    TurnsOver (was.at s).stop t (was.at s).here was.froms wake (was.at s).rest (was.at s).places (was.at s).count o → o.stopped ≡ Some stopped →
+    TurnsOver (was.at s).stop t (was.at s).here was.froms wake (was.at s).rest (was.at s).places (was.at s).count o →
+        o.stopped ≡ Some stopped →
     WentOn k job input t m s was o stopped
 went_on k job input t m s was wake o stopped less may goes stops =
     record {
@@ -233,12 +247,14 @@ went_on k job input t m s was wake o stopped less may goes stops =
     at_after p = picked (p == s) (nat_lt p m) (turned k t m q o stopped) (was.at p) (nth_child k t m o.begun (p - m) (was.at p))
 
     at_task : at_after s ≡ turned k t m q o stopped
-    at_task = ap (λ (b : Bool). picked b (nat_lt s m) (turned k t m q o stopped) (was.at s) (nth_child k t m o.begun (s - m) (was.at s))) (eq-eqb s s refl)
+    at_task = ap (λ (b : Bool). picked b (nat_lt s m) (turned k t m q o stopped) (was.at s) (nth_child k t m o.begun (s - m) (was.at s)))
+        (eq-eqb s s refl)
 
     at_other : (p : ℕ) → p < m → p ≢ s → at_after p ≡ was.at p
     at_other p lt differs = by_same (p == s) refl (nat_lt p m) refl
       where
-        by_same : (b : Bool) → (p == s) ≡ b → (c : Bool) → nat_lt p m ≡ c → picked b c (turned k t m q o stopped) (was.at p) (nth_child k t m o.begun (p - m) (was.at p)) ≡ was.at p
+        by_same : (b : Bool) → (p == s) ≡ b → (c : Bool) → nat_lt p m ≡ c →
+            picked b c (turned k t m q o stopped) (was.at p) (nth_child k t m o.begun (p - m) (was.at p)) ≡ was.at p
         by_same true e c f = absurd (differs (eqb-true p s e))
         by_same false e true f = refl
         by_same false e false f = absurd (grind (arith, nat_tests))
@@ -247,13 +263,15 @@ went_on k job input t m s was wake o stopped less may goes stops =
     at_born p le = by_same (p == s) refl (nat_lt p m) refl
       where
         by_same : (b : Bool) → (p == s) ≡ b → (c : Bool) → nat_lt p m ≡ c →
-            picked b c (turned k t m q o stopped) (was.at p) (nth_child k t m o.begun (p - m) (was.at p)) ≡ nth_child k t m o.begun (p - m) (was.at p)
+            picked b c (turned k t m q o stopped) (was.at p) (nth_child k t m o.begun (p - m) (was.at p))
+                ≡ nth_child k t m o.begun (p - m) (was.at p)
         by_same true e c f = absurd (let g : p ≡ s = eqb-true p s e in omega (arith, g, le, less))
         by_same false e true f = absurd (grind (arith, nat_tests))
         by_same false e false f = refl
 
     at_child : (i : ℕ) → at_after (m + i) ≡ nth_child k t m o.begun i (was.at (m + i))
-    at_child i = at_born (m + i) (omega arith) ∙ ap (λ (x : ℕ). nth_child k t m o.begun x (was.at (m + i))) (let e : m + i - m ≡ i = omega arith in e)
+    at_child i = at_born (m + i) (omega arith) ∙ ap (λ (x : ℕ). nth_child k t m o.begun x (was.at (m + i)))
+        (let e : m + i - m ≡ i = omega arith in e)
 
     has_old : (p : ℕ) → p < m → p ≢ s → In (was.at p) others
     has_old p lt differs = by_either (same.forth (was.at p) (was.has p lt).0)
@@ -262,7 +280,8 @@ went_on k job input t m s was wake o stopped less may goes stops =
         by_either (inl e) = absurd (differs (sym (was.has p lt).1 ∙ ap (λ (x : Started). x.serial) e ∙ (was.has s less).1))
         by_either (inr i) = i
 
-    has_after : (p : ℕ) → p < m + length o.begun → In (at_after p) ((turned k t m q o stopped ∷ children_from k t m o.begun) ++ others) × ((at_after p).serial ≡ p)
+    has_after : (p : ℕ) → p < m + length o.begun → In (at_after p) ((turned k t m q o stopped ∷ children_from k t m o.begun) ++ others)
+        × ((at_after p).serial ≡ p)
     has_after p lt = by_same (p == s) refl (nat_lt p m) refl
       where
         Has : Started → Type 0
@@ -276,17 +295,21 @@ went_on k job input t m s was wake o stopped less may goes stops =
             let lower : p < m = grind (arith, nat_tests) in
             let differs : p ≢ s = λ g. absurd (let x : true ≡ false = sym (eq-eqb p s g) ∙ e in cc) in
             subst Has (sym (at_other p lower differs))
-            (in_second (was.at p) (turned k t m q o stopped ∷ children_from k t m o.begun) others (has_old p lower differs), (was.has p lower).1)
+            (in_second (was.at p) (turned k t m q o stopped ∷ children_from k t m o.begun) others (has_old p lower differs),
+                (was.has p lower).1)
         by_same false e false f =
             let upper : m ≤ p = grind (arith, nat_tests) in
             let h = nth_in k t m o.begun (p - m) (was.at p) (omega (arith, lt, upper)) in
             subst Has (sym (at_born p upper))
-            (inr (in_first (nth_child k t m o.begun (p - m) (was.at p)) (children_from k t m o.begun) others h.0), (let e = h.1 in omega (arith, e, upper)))
+            (inr (in_first (nth_child k t m o.begun (p - m) (was.at p)) (children_from k t m o.begun) others h.0),
+                (let e = h.1 in omega (arith, e, upper)))
 
-    one_after : (x : Started) → In x ((turned k t m q o stopped ∷ children_from k t m o.begun) ++ others) → (x ≡ at_after x.serial) × (x.serial < m + length o.begun)
+    one_after : (x : Started) → In x ((turned k t m q o stopped ∷ children_from k t m o.begun) ++ others) → (x ≡ at_after x.serial)
+        × (x.serial < m + length o.begun)
     one_after x i = by_part (in_either x (turned k t m q o stopped ∷ children_from k t m o.begun) others i)
       where
-        by_part : In x (turned k t m q o stopped ∷ children_from k t m o.begun) ⊎ In x others → (x ≡ at_after x.serial) × (x.serial < m + length o.begun)
+        by_part : In x (turned k t m q o stopped ∷ children_from k t m o.begun) ⊎ In x others → (x ≡ at_after x.serial)
+            × (x.serial < m + length o.begun)
         by_part (inl (inl e)) =
             let is_s : x.serial ≡ s = ap (λ (y : Started). y.serial) e ∙ (was.has s less).1 in
             (e ∙ sym at_task ∙ ap at_after (sym is_s), omega (arith, is_s, less))
@@ -294,7 +317,8 @@ went_on k job input t m s was wake o stopped less may goes stops =
             let h = in_nth k t m o.begun (was.at x.serial) x j in
             let upper : m ≤ x.serial = (let e = h.serial in omega (arith, e)) in
             let place : h.place ≡ x.serial - m = (let e = h.serial in omega (arith, e)) in
-            (h.is ∙ ap (λ (n : ℕ). nth_child k t m o.begun n (was.at x.serial)) place ∙ sym (at_born x.serial upper), (let e = h.serial in let f = h.below in omega (arith, e, f)))
+            (h.is ∙ ap (λ (n : ℕ). nth_child k t m o.begun n (was.at x.serial)) place
+                ∙ sym (at_born x.serial upper), (let e = h.serial in let f = h.below in omega (arith, e, f)))
         by_part (inr j) =
             let h = was.one x (same.back x (inr j)) in
             let differs : x.serial ≢ s = λ e. absurd (apart.0 x j (e ∙ sym (was.has s less).1)) in
@@ -306,7 +330,8 @@ went_on k job input t m s was wake o stopped less may goes stops =
       where
         later : (x y : Started) → In x (children_from k t m o.begun) → In y others → y.serial ≢ x.serial
         later x y i j e =
-            let h = in_nth k t m o.begun x x i in let g = (was.one y (same.back y (inr j))).1 in let z = h.serial in absurd (omega (arith, e, g, z))
+            let h = in_nth k t m o.begun x x i in let g = (was.one y (same.back y (inr j))).1 in let z =
+                h.serial in absurd (omega (arith, e, g, z))
 
         by_either : (x : Started) → In x (children_from k t m o.begun) ⊎ In x others → x.serial ≢ q.serial
         by_either x (inl i) e =

@@ -98,18 +98,21 @@ begun_stopped k t m [] x i = absurd i
 begun_stopped k t m (b ∷ bs) x (inl e) = subst (StoppedBy t) (sym e) (record { stop = omega arith; body = tt })
 begun_stopped k t m (b ∷ bs) x (inr i) = begun_stopped k t (suc m) bs x i
 
-turn_stopped : (k f : Table) (t m : ℕ) (q : Started) (qs others : List Started) (wake : wakes.Wake) (o : Move) (s : Stopped) → Front q qs others →
+turn_stopped : (k f : Table) (t m : ℕ) (q : Started) (qs others : List Started) (wake : wakes.Wake) (o : Move) (s : Stopped) →
+    Front q qs others →
     TurnsOver q.stop t q.here f wake q.rest q.places q.count o → o.stopped ≡ Some s → ((z : Started) → In z qs → StoppedBy t z) →
     (x : Started) → In x ((turned k t m q o s ∷ children_from k t m o.begun) ++ others) → StoppedBy t x
 turn_stopped k f t m q qs others wake o s at goes e before x (inl g) =
-    subst (StoppedBy t) (sym g) (record { stop = omega arith; body = body_at t (froms_after f o.made) s o.places (stops_at t f wake q o s goes e) })
+    subst (StoppedBy t) (sym g) (record { stop = omega arith; body =
+        body_at t (froms_after f o.made) s o.places (stops_at t f wake q o s goes e) })
 turn_stopped k f t m q qs others wake o s at goes e before x (inr i) = by_place (in_either x (children_from k t m o.begun) others i)
   where
     by_place : In x (children_from k t m o.begun) ⊎ In x others → StoppedBy t x
     by_place (inl j) = begun_stopped k t m o.begun x j
     by_place (inr j) = before x ((front_same q qs others at).back x (inr j))
 
-pub stopped_by : (k : Table) (job : Job) (input : List ℕ) → {f : Table} {t m : ℕ} {qs : List Started} → Reached k job input f t m qs → (q : Started) → In q qs → StoppedBy t q
+pub stopped_by : (k : Table) (job : Job) (input : List ℕ) → {f : Table} {t m : ℕ} {qs : List Started} → Reached k job input f t m qs →
+    (q : Started) → In q qs → StoppedBy t q
 stopped_by k job input (begun f) q (inl e) = subst (StoppedBy 0) (sym e) (record { stop = omega arith; body = tt })
 stopped_by k job input (begun f) q (inr i) = absurd i
 stopped_by k job input (turn f t m q qs others wake o s r at may goes stopped) x i =
@@ -129,7 +132,8 @@ answer_is (Head count) part (answers.Lines lines) label path a = ap (λ (ls : Li
 answer_is Longest part (answers.Lines lines) label path a = ap (λ (ls : List Span). ask.lines ls) a.places
 answer_is (Need needle) part (answers.Lines lines) label path a = by_line (needed_in (buffer_of part) needle.now (range_of part)) a
   where
-    by_line : (o : Option Span) → MatchOption o ⊥ (λ l. AreLinesAt (buffer_of part) (l ∷ []) lines) → ask.lines (map span_of lines) ≡ ask.one_line o
+    by_line : (o : Option Span) → MatchOption o ⊥ (λ l. AreLinesAt (buffer_of part) (l ∷ []) lines) →
+        ask.lines (map span_of lines) ≡ ask.one_line o
     by_line None a = absurd a
     by_line (Some l) a = ap (λ (ls : List Span). ask.lines ls) a.places
 answer_is (Need needle) part answers.Missing label path a = sym (ap ask.one_line a)
@@ -152,7 +156,8 @@ EndsAs at t serial None = ⊥
 EndsAs at t serial (Some None) = Unit {0}
 EndsAs at t serial (Some (Some exc)) = (u : ℕ) × (u ≤ t) × ((at serial).rest.stopped ≡ at_end u exc)
 
-ends_as : (crew : Crew) (at : ℕ → Started) (t id place serial : ℕ) (end : Option End) → IsMember crew at t id place serial end → EndsAs at t serial end
+ends_as : (crew : Crew) (at : ℕ → Started) (t id place serial : ℕ) (end : Option End) → IsMember crew at t id place serial end →
+    EndsAs at t serial end
 ends_as crew at t id place serial None h = h
 ends_as crew at t id place serial (Some None) h = tt
 ends_as crew at t id place serial (Some (Some exc)) h = (h.0.end, h.2, h.3)
@@ -173,7 +178,8 @@ all_ended at t child (i ∷ is) [] long over h = absurd (let f : suc (length is)
 all_ended at t child (i ∷ is) (None ∷ es) long over h = absurd (let f : false ≡ true = over in cc)
 all_ended at t child (i ∷ is) (Some exc ∷ es) long over h = (
   h zero i refl,
-  all_ended at t child is es (let f : suc (length is) ≡ suc (length es) = long in omega arith) over (λ place number e. h (suc place) number e),
+  all_ended at t child is es (let f : suc (length is) ≡ suc (length es) = long in omega arith) over
+      (λ place number e. h (suc place) number e),
 )
 
 same_with : (exc : Option Exc) (es : List Exc) → nursery.with_exc (Some exc) es ≡ with_exc exc es
@@ -185,12 +191,14 @@ module _ (at : ℕ → Started) (t : ℕ) (child : ℕ → ℕ) where
   abbrev ends : ℕ → Member
   ends i = member_of (at (child i)).rest.stopped
 
-  ended_so : (is : List ℕ) (es : List End) → AllEnded at t child is es → (i : ℕ) → IsAmong i is → (at (child i)).rest.stopped ≡ at_end (ends i).end (ends i).exc
+  ended_so : (is : List ℕ) (es : List End) → AllEnded at t child is es → (i : ℕ) → IsAmong i is →
+      (at (child i)).rest.stopped ≡ at_end (ends i).end (ends i).exc
   ended_so [] es h i among = absurd among
   ended_so (j ∷ is) [] h i among = absurd h
   ended_so (j ∷ is) (None ∷ es) h i among = absurd h
   ended_so (j ∷ is) (Some exc ∷ es) h i (inl e) =
-      subst (λ (s : Stopped). s ≡ at_end (member_of s).end (member_of s).exc) (sym (ap (λ (n : ℕ). (at (child n)).rest.stopped) e ∙ h.0.2)) refl
+      subst (λ (s : Stopped). s ≡ at_end (member_of s).end (member_of s).exc) (sym (ap (λ (n : ℕ). (at (child n)).rest.stopped) e ∙ h.0.2))
+          refl
   ended_so (j ∷ is) (Some exc ∷ es) h i (inr among) = ended_so is es h.1 i among
 
   same_excs : (is : List ℕ) (es : List End) → AllEnded at t child is es → excs_in es ≡ excs_of (members_by ends is)
@@ -212,8 +220,10 @@ module _ (at : ℕ → Started) (t : ℕ) (child : ℕ → ℕ) where
       ends_by is es h.1 (max u (ends i).end) (omega arith)
 
 -- what is told of children that have ended is how they ended
-latest_told : (k f : Table) (whole : Result) (qs : List Started) → OnCourse k f whole qs → (q : Started) → In q qs → (ends : ℕ → Member) (is : List ℕ) →
-    ((n : ℕ) → IsAmong n is → n < q.count) → ((n : ℕ) → IsAmong n is → (c : Started) → In c qs → c.serial ≡ q.child n → c.rest.stopped ≡ at_end (ends n).end (ends n).exc) →
+latest_told : (k f : Table) (whole : Result) (qs : List Started) → OnCourse k f whole qs → (q : Started) → In q qs →
+    (ends : ℕ → Member) (is : List ℕ) →
+    ((n : ℕ) → IsAmong n is → n < q.count) → ((n : ℕ) → IsAmong n is → (c : Started) → In c qs → c.serial ≡ q.child n →
+        c.rest.stopped ≡ at_end (ends n).end (ends n).exc) →
     (u : ℕ) → latest u (told_members q.told is) ≡ latest u (members_by ends is)
 latest_told k f whole qs o q i ends [] below over u = refl
 latest_told k f whole qs o q i ends (n ∷ is) below over u =
@@ -232,7 +242,8 @@ record Awaited (labels : Labels) (book : NurseryBook) (own : List Own) (id : ℕ
   pub is : own ≡ before ++ scope ∷ []
   pub has : HasNursery book id (λ n. IsMine labels scope n × IsSome n.body)
 
-awaited : (labels : Labels) (book : NurseryBook) (bs : List Block) (own : List Own) (id : ℕ) → Opened labels book bs own (Some id) → Awaited labels book own id
+awaited : (labels : Labels) (book : NurseryBook) (bs : List Block) (own : List Own) (id : ℕ) → Opened labels book bs own (Some id) →
+    Awaited labels book own id
 awaited labels book [] [] id h = absurd h
 awaited labels book [] (o ∷ own) id h = record { before = []; scope = o; is = ap (λ (os : List Own). o ∷ os) h.0; has = h.1 }
 awaited labels book (b ∷ bs) [] id h = absurd h
@@ -248,7 +259,8 @@ same_key : (a b : ℕ) (xs ys : List ℕ) → a ∷ xs ≡ b ∷ ys → a ≡ b
 same_key a b xs ys e = cc
 
 -- the innermost place has the label of the innermost scope
-first_label : (labels : Labels) (f : Table) (key : ℕ) (keys : List ℕ) (st : Stack) (ps : List Place) → AreAt labels f st ps → keys_of st ≡ key ∷ keys → (label : Label) → labels key ≡ Some label →
+first_label : (labels : Labels) (f : Table) (key : ℕ) (keys : List ℕ) (st : Stack) (ps : List Place) → AreAt labels f st ps →
+    keys_of st ≡ key ∷ keys → (label : Label) → labels key ≡ Some label →
     (p : Place) × (qs : List Place) × (ps ≡ p ∷ qs) × (p.label ≡ label)
 first_label labels f key keys [] ps a e label g = absurd (let h : [] ≡ key ∷ keys = e in cc)
 first_label labels f key keys (l ∷ ls) [] a e label g = absurd a
@@ -258,7 +270,8 @@ first_label labels f key keys (l ∷ ls) (p ∷ ps) a e label g =
 -- ---- which nurseries are settled
 
 -- the body of a nursery among a task's blocks runs
-block_body : (labels : Labels) (book : NurseryBook) (bs : List Block) (own : List Own) (waits : Option ℕ) (id : ℕ) → Opened labels book bs own waits → HasBlock id bs →
+block_body : (labels : Labels) (book : NurseryBook) (bs : List Block) (own : List Own) (waits : Option ℕ) (id : ℕ) →
+    Opened labels book bs own waits → HasBlock id bs →
     HasNursery book id (λ n. n.body ≡ None)
 block_body labels book [] own waits id h has = absurd has
 block_body labels book (b ∷ bs) [] waits id h has = absurd h
@@ -279,8 +292,10 @@ settled_children n s = by_body (is_some n.body) s
     by_body false e = absurd (let f : false ≡ true = e in cc)
 
 -- a nursery of a task that is settled is the one for which the task waits
-pub settled_waits : (k : Table) (job : Job) (input : List ℕ) (t m : ℕ) (crew : Crew) → IsCrew k job input t m None crew → (s : ℕ) (a : Task) (id : ℕ) → crew.task s ≡ Some a →
-    HasNurseryOf id (blocks_of a.frames.items) (waits_of a.halt) → HasNursery crew.world.book id (λ n. is_settled n ≡ true) → waits_of a.halt ≡ Some id
+pub settled_waits : (k : Table) (job : Job) (input : List ℕ) (t m : ℕ) (crew : Crew) → IsCrew k job input t m None crew →
+    (s : ℕ) (a : Task) (id : ℕ) → crew.task s ≡ Some a →
+    HasNurseryOf id (blocks_of a.frames.items) (waits_of a.halt) → HasNursery crew.world.book id (λ n. is_settled n ≡ true) →
+        waits_of a.halt ≡ Some id
 settled_waits k job input t m crew c s a id e (inl has) over =
     let book = crew.world.book in
     let n = finds book id (λ n. is_settled n ≡ true) over in
@@ -291,7 +306,8 @@ settled_waits k job input t m crew c s a id e (inr waits) over = waits
 
 -- ---- going on
 
-pub may_wake : (k : Table) (job : Job) (input : List ℕ) (t m : ℕ) (crew : Crew) → IsSettled k job input → GivesNamesOnce job → StartsInNurseries job →
+pub may_wake : (k : Table) (job : Job) (input : List ℕ) (t m : ℕ) (crew : Crew) → IsSettled k job input → GivesNamesOnce job →
+    StartsInNurseries job →
     (c : IsCrew k job input t m None crew) → (s : ℕ) (task : Task) → crew.task s ≡ Some task → (wake : Wake) → MayGo crew.world task wake →
     MayWake c.course.froms c.course.tasks t (c.course.at s) (wake_in crew.world.book task.halt wake) (c.course.at s).rest.stopped
 may_wake k job input t m crew settled names starting c s task lives wake may =
@@ -335,11 +351,13 @@ may_wake k job input t m crew settled names starting c s task lives wake may =
     begins_now Begin h e = e
     begins_now _ h e = absurd h
 
-    answers_now : (w : Wake) (kernel : Kernel) (purpose : _) (asked : ask.Kernel) (p : ask.Purpose) → kernel_in kernel ≡ asked → WakesFrom (Asked kernel purpose) task.part book w → q.stop ≡ t →
+    answers_now : (w : Wake) (kernel : Kernel) (purpose : _) (asked : ask.Kernel) (p : ask.Purpose) → kernel_in kernel ≡ asked →
+        WakesFrom (Asked kernel purpose) task.part book w → q.stop ≡ t →
         MayWake f qs t q (wake_in book (Asked kernel purpose) w) (asking asked p)
     answers_now (Answer answer) kernel purpose asked p same h e = (
       e,
-      answer_is kernel task.part answer task.label task.label.indices h ∙ ap (λ (x : ask.Kernel). ask.answer_of x (here_of task)) same ∙ ap (ask.answer_of asked) it.here,
+      answer_is kernel task.part answer task.label task.label.indices h ∙ ap (λ (x : ask.Kernel). ask.answer_of x (here_of task)) same
+          ∙ ap (ask.answer_of asked) it.here,
     )
     answers_now _ kernel purpose asked p same h e = absurd h
 
@@ -347,17 +365,22 @@ may_wake k job input t m crew settled names starting c s task lives wake may =
     same_seen : (b : Bool) → seen stack crew.world.tick ≡ b → seen (stack_at f q.places) t ≡ b
     same_seen b e = sym (seen_at labels f stack q.places t it.stands.places) ∙ ap (λ (v : ℕ). seen stack v) (sym c.tick) ∙ e
 
-    sleeps_now : (w : Wake) (ticks since n u : ℕ) → ticks ≡ n → since ≡ u → WakesFrom (Asleep ticks since) task.part book w → IsTimely crew.world (scope_of task) (Asleep ticks since) w →
+    sleeps_now : (w : Wake) (ticks since n u : ℕ) → ticks ≡ n → since ≡ u → WakesFrom (Asleep ticks since) task.part book w →
+        IsTimely crew.world (scope_of task) (Asleep ticks since) w →
         MayWake f qs t q (wake_in book (Asleep ticks since) w) (asleep n u)
     sleeps_now Due ticks since n u e g h timely =
-        (let a : since + ticks ≡ crew.world.tick = timely.0 in let b : crew.world.tick ≡ t = c.tick in omega (arith, a, b, e, g), same_seen false timely.1)
+        (let a : since + ticks ≡ crew.world.tick = timely.0 in let b : crew.world.tick ≡ t = c.tick in
+            omega (arith, a, b, e, g), same_seen false timely.1)
     sleeps_now Seen ticks since n u e g h timely =
-        (let a : since < crew.world.tick = timely.0 in let b : crew.world.tick ≡ t = c.tick in omega (arith, a, b, g), same_seen true timely.1)
+        (let a : since < crew.world.tick = timely.0 in let b : crew.world.tick ≡ t = c.tick in
+            omega (arith, a, b, g), same_seen true timely.1)
     sleeps_now _ ticks since n u e g h timely = absurd h
 
     -- a nursery that is waited for is over when it is settled
-    over_now : (id since u : ℕ) (children : List ℕ) (exc : Option Exc) → task.halt ≡ Awaits id since → c.numbers s id ≡ children → HasNursery book id (λ n. n.body ≡ Some exc) →
-        t ≤ latest u (told_members q.told children) → u ≤ t → HasNursery book id (λ n. is_settled n ≡ true) → WaitIsOver qs q t children u exc (raised_in (nursery_at book id))
+    over_now : (id since u : ℕ) (children : List ℕ) (exc : Option Exc) → task.halt ≡ Awaits id since → c.numbers s id ≡ children →
+        HasNursery book id (λ n. n.body ≡ Some exc) →
+        t ≤ latest u (told_members q.told children) → u ≤ t → HasNursery book id (λ n. is_settled n ≡ true) →
+            WaitIsOver qs q t children u exc (raised_in (nursery_at book id))
     over_now id since u children exc halt numbers body late ended over =
         record {
           ends = found;
@@ -378,17 +401,21 @@ may_wake k job input t m crew settled names starting c s task lives wake may =
         has_ended : AllEnded c.course.at t q.child children n.0.children
         has_ended =
             subst (λ (is : List ℕ). AllEnded c.course.at t q.child is n.0.children) numbers
-            (all_ended c.course.at t q.child (c.numbers s id) n.0.children n.2.long (settled_children n.0 (gives book id n.0 (λ n. is_settled n ≡ true) n.1 over))
-            (λ place number e. ends_as crew c.course.at t id place (q.child number) (slice_get n.0.children place) (n.2.members place number e).1))
+            (all_ended c.course.at t q.child (c.numbers s id) n.0.children n.2.long
+                (settled_children n.0 (gives book id n.0 (λ n. is_settled n ≡ true) n.1 over))
+            (λ place number e. ends_as crew c.course.at t id place (q.child number) (slice_get n.0.children place)
+                (n.2.members place number e).1))
 
         is_child : (i : ℕ) → IsAmong i children → i < q.count
         is_child i among =
             let g = among_got i (c.numbers s id) (subst (IsAmong i) (sym numbers) among) in
             (n.2.members g.0 i g.1).0
 
-        child_over : (i : ℕ) → IsAmong i children → (x : Started) → In x qs → x.serial ≡ q.child i → x.rest.stopped ≡ at_end (found i).end (found i).exc
+        child_over : (i : ℕ) → IsAmong i children → (x : Started) → In x qs → x.serial ≡ q.child i →
+            x.rest.stopped ≡ at_end (found i).end (found i).exc
         child_over i among x j e =
-            ap (λ (y : Started). y.rest.stopped) ((c.course.one x j).0 ∙ ap c.course.at e) ∙ ended_so c.course.at t q.child children n.0.children has_ended i among
+            ap (λ (y : Started). y.rest.stopped) ((c.course.one x j).0 ∙ ap c.course.at e)
+                ∙ ended_so c.course.at t q.child children n.0.children has_ended i among
 
         ends_now : latest u (members_by found children) ≡ t
         ends_now =
@@ -398,7 +425,8 @@ may_wake k job input t m crew settled names starting c s task lives wake may =
             omega (arith, a, b, late)
 
         last : Awaited labels book task.own.items id
-        last = awaited labels book (blocks_of task.frames.items) task.own.items id (subst (Opened labels book (blocks_of task.frames.items) task.own.items) waits it.goes.opened)
+        last = awaited labels book (blocks_of task.frames.items) task.own.items id
+            (subst (Opened labels book (blocks_of task.frames.items) task.own.items) waits it.goes.opened)
 
         mine : IsMine labels last.scope n.0
         mine = (gives book id n.0 (λ n. IsMine labels last.scope n × IsSome n.body) n.1 last.has).0
@@ -412,25 +440,34 @@ may_wake k job input t m crew settled names starting c s task lives wake may =
         first : (p : Place) × (ps : List Place) × (q.places ≡ p ∷ ps) × (p.label ≡ n.0.label)
         first = first_label labels f last.scope.id (keys_in last.before ++ outer) stack q.places it.stands.places keys n.0.label mine.label
 
-        raises : group_of (by_nursery first.0.label) (parts_of (with_exc exc (excs_of (members_by found children)))) ≡ raised_in (nursery_at book id)
+        raises : group_of (by_nursery first.0.label) (parts_of (with_exc exc (excs_of (members_by found children))))
+            ≡ raised_in (nursery_at book id)
         raises =
             ap (λ (l : Label). group_of (by_nursery l) (parts_of (with_exc exc (excs_of (members_by found children))))) first.3
-            ∙ ap (λ (es : List Exc). group_of (by_nursery n.0.label) (parts_of (with_exc exc es))) (sym (same_excs c.course.at t q.child children n.0.children has_ended))
+            ∙ ap (λ (es : List Exc). group_of (by_nursery n.0.label) (parts_of (with_exc exc es)))
+                (sym (same_excs c.course.at t q.child children n.0.children has_ended))
             ∙ ap (λ (es : List Exc). group_of (by_nursery n.0.label) (parts_of es)) (sym (same_with exc (excs_in n.0.children)))
-            ∙ ap (λ (b : End). group_of (by_nursery n.0.label) (parts_of (nursery.with_exc b (excs_in n.0.children)))) (sym (gives book id n.0 (λ n. n.body ≡ Some exc) n.1 body))
+            ∙ ap (λ (b : End). group_of (by_nursery n.0.label) (parts_of (nursery.with_exc b (excs_in n.0.children))))
+                (sym (gives book id n.0 (λ n. n.body ≡ Some exc) n.1 body))
             ∙ sym (ap raised_in n.1)
 
-    settles_now : (w : Wake) (id since u : ℕ) (children : List ℕ) (exc : Option Exc) → task.halt ≡ Awaits id since → c.numbers s id ≡ children → HasNursery book id (λ n. n.body ≡ Some exc) →
-        t ≤ latest u (told_members q.told children) → u ≤ t → WakesFrom (Awaits id since) task.part book w → MayWake f qs t q (wake_in book (Awaits id since) w) (awaiting children u exc)
-    settles_now Settled id since u children exc halt numbers body late ended h = over_now id since u children exc halt numbers body late ended h
+    settles_now : (w : Wake) (id since u : ℕ) (children : List ℕ) (exc : Option Exc) → task.halt ≡ Awaits id since →
+        c.numbers s id ≡ children → HasNursery book id (λ n. n.body ≡ Some exc) →
+        t ≤ latest u (told_members q.told children) → u ≤ t → WakesFrom (Awaits id since) task.part book w →
+            MayWake f qs t q (wake_in book (Awaits id since) w) (awaiting children u exc)
+    settles_now Settled id since u children exc halt numbers body late ended h =
+        over_now id since u children exc halt numbers body late ended h
     settles_now _ id since u children exc halt numbers body late ended h = absurd h
 
     by_stop : (halt : Halt) (stopped : Stopped) → task.halt ≡ halt → IsHalt (c.numbers s) book halt stopped →
-        (live stopped ≡ true → t ≤ goes_on q.told stopped (stack_at k q.places) q.stop) → BodyBy t stopped → WakesFrom halt task.part book wake → IsTimely crew.world (scope_of task) halt wake →
+        (live stopped ≡ true → t ≤ goes_on q.told stopped (stack_at k q.places) q.stop) → BodyBy t stopped →
+            WakesFrom halt task.part book wake → IsTimely crew.world (scope_of task) halt wake →
         MayWake f qs t q (wake_in book halt wake) stopped
     by_stop ToBegin to_begin e h late body fits timely = begins_now wake fits (now (late refl))
-    by_stop (Asked kernel purpose) (asking asked p) e h late body fits timely = answers_now wake kernel purpose asked p h.0 fits (now (late refl))
+    by_stop (Asked kernel purpose) (asking asked p) e h late body fits timely =
+        answers_now wake kernel purpose asked p h.0 fits (now (late refl))
     by_stop (Asleep ticks since) (asleep n u) e h late body fits timely = sleeps_now wake ticks since n u h.0 h.1 fits timely
-    by_stop (Awaits id since) (awaiting children u exc) e h late body fits timely = settles_now wake id since u children exc e h.0 h.2 (late refl) body fits
+    by_stop (Awaits id since) (awaiting children u exc) e h late body fits timely =
+        settles_now wake id since u children exc e h.0 h.2 (late refl) body fits
     by_stop Over (at_end u x) e h late body fits timely = absurd fits
     by_stop _ _ e h late body fits timely = absurd h

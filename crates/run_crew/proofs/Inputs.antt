@@ -29,16 +29,19 @@ on_append : (input : List ℕ) (bs cs : List Begun) → AllOn input bs → AllOn
 on_append input [] cs h k = k
 on_append input (b ∷ bs) cs h k = (h.0, on_append input bs cs h.1 k)
 
-over_on : (name : List ℕ) (here : Here) (of : ℕ) (body : Steps) (ps : List Place) (first k : ℕ) → AllOn here.input (begun_over name here of body ps first k)
+over_on : (name : List ℕ) (here : Here) (of : ℕ) (body : Steps) (ps : List Place) (first k : ℕ) →
+    AllOn here.input (begun_over name here of body ps first k)
 over_on name here of body ps first zero = tt
-over_on name here of body ps first (suc k) = on_append here.input (begun_over name here of body ps first k) _ (over_on name here of body ps first k) (refl, tt)
+over_on name here of body ps first (suc k) =
+    on_append here.input (begun_over name here of body ps first k) _ (over_on name here of body ps first k) (refl, tt)
 
 asleep_on : (input : List ℕ) (b : Bool) (n t : ℕ) (fs : List Frame) (ps : List Place) → AllOn input (falls_asleep b n t fs ps).begun
 asleep_on input true n t fs ps = tt
 asleep_on input false zero t fs ps = tt
 asleep_on input false (suc n) t fs ps = tt
 
-one_on : (input : List ℕ) (froms : Table) (t : ℕ) (here : Here) (s : Step) (ss : Steps) (fs : List Frame) (ps : List Place) (count : ℕ) → here.input ≡ input →
+one_on : (input : List ℕ) (froms : Table) (t : ℕ) (here : Here) (s : Step) (ss : Steps) (fs : List Frame) (ps : List Place) (count : ℕ) →
+    here.input ≡ input →
     AllOn input (step_on froms t here s ss fs ps count).begun
 one_on input froms t here (sleep n) ss fs ps count e = asleep_on input (seen (stack_at froms ps) t) n t (steps_left ss ∷ fs) ps
 one_on input froms t here checkpoint ss fs ps count e = asleep_on input (seen (stack_at froms ps) t) 0 t (steps_left ss ∷ fs) ps
@@ -63,7 +66,8 @@ block_on froms t here ss fs ps (Some e) count = tt
 block_on froms t here stop fs ps None count = tt
 block_on froms t here (step s ss) fs ps None count = one_on here.input froms t (inside fs here) s ss fs ps count refl
 
-try_on : (input : List ℕ) (handler : Handled) (cleanup : Cleaned) (fs : List Frame) (ps : List Place) (exc : Option Exc) → AllOn input (step_try handler cleanup fs ps exc).begun
+try_on : (input : List ℕ) (handler : Handled) (cleanup : Cleaned) (fs : List Frame) (ps : List Place) (exc : Option Exc) →
+    AllOn input (step_try handler cleanup fs ps exc).begun
 try_on input unhandled uncleaned fs ps exc = tt
 try_on input unhandled (finally body) fs ps exc = tt
 try_on input (except name body) cleanup fs ps None = tt
@@ -89,7 +93,8 @@ step_on_input : (froms : Table) (t : ℕ) (here : Here) (m : Midway) → AllOn h
 unfolding step_of
 step_on_input froms t here m = frame_on froms t here m.frames m.places m.exc m.count
 
-then_on : (input : List ℕ) (s : Option Stopped) (o q : Move) → AllOn input o.begun → AllOn input q.begun → AllOn input (then_move s o q).begun
+then_on : (input : List ℕ) (s : Option Stopped) (o q : Move) → AllOn input o.begun → AllOn input q.begun →
+    AllOn input (then_move s o q).begun
 then_on input None o q h k = on_append input o.begun q.begun h k
 then_on input (Some s) o q h k = h
 
@@ -115,7 +120,8 @@ answer_on input froms t here a (asleep n since) fs ps = tt
 answer_on input froms t here a (awaiting children ended exc) fs ps = tt
 answer_on input froms t here a (at_end u e) fs ps = tt
 
-wake_on : (input : List ℕ) (froms : Table) (t : ℕ) (here : Here) (w : Wake) (s : Stopped) (fs : List Frame) (ps : List Place) → AllOn input (wake_of froms t here w s fs ps).begun
+wake_on : (input : List ℕ) (froms : Table) (t : ℕ) (here : Here) (w : Wake) (s : Stopped) (fs : List Frame) (ps : List Place) →
+    AllOn input (wake_of froms t here w s fs ps).begun
 wake_on input froms t here begins s fs ps = tt
 wake_on input froms t here sees s fs ps = tt
 wake_on input froms t here is_due s fs ps = tt
@@ -130,6 +136,8 @@ unfolding turn_from
 turn_on_input n froms t here w s fs ps count =
     let o = wake_of froms t here w s fs ps in
     then_on here.input o.stopped o
-    (turn_of n (froms_after froms o.made) t here (record { frames = o.frames; places = o.places; exc = o.exc; count = count + length o.begun }))
+    (turn_of n (froms_after froms o.made) t here (record { frames = o.frames; places = o.places; exc = o.exc; count =
+        count + length o.begun }))
     (wake_on here.input froms t here w s fs ps)
-    (steps_on_input n (froms_after froms o.made) t here (record { frames = o.frames; places = o.places; exc = o.exc; count = count + length o.begun }))
+    (steps_on_input n (froms_after froms o.made) t here (record { frames = o.frames; places = o.places; exc = o.exc; count =
+        count + length o.begun }))

@@ -55,14 +55,16 @@ use Rattle.run_crew.proofs.Told.{same_owner, Told, stays, tells, told}
 
 -- one that fits does so where what the task waits for is settled still
 fits_still : (halt : Halt) (part : Part) (old new : NurseryBook) (wake : Wake) →
-    ((id : ℕ) → waits_of halt ≡ Some id → HasNursery old id (λ n. is_settled n ≡ true) → HasNursery new id (λ n. is_settled n ≡ true)) → WakesFrom halt part old wake →
+    ((id : ℕ) → waits_of halt ≡ Some id → HasNursery old id (λ n. is_settled n ≡ true) → HasNursery new id (λ n. is_settled n ≡ true)) →
+        WakesFrom halt part old wake →
     WakesFrom halt part new wake
 fits_still (Awaits id since) part old new Settled over h = over id refl h
 fits_still _ part old new _ over h = h
 
 -- and is timely where the same is seen in the same tick
 timely_still : (old new : World) (scope : Option ℕ) (halt : Halt) (wake : Wake) → new.tick ≡ old.tick →
-    seen (outer_of new.scopes scope) new.tick ≡ seen (outer_of old.scopes scope) old.tick → IsTimely old scope halt wake → IsTimely new scope halt wake
+    seen (outer_of new.scopes scope) new.tick ≡ seen (outer_of old.scopes scope) old.tick → IsTimely old scope halt wake →
+        IsTimely new scope halt wake
 timely_still old new scope (Asleep ticks since) Due tick same h = (h.0 ∙ sym tick, same ∙ h.1)
 timely_still old new scope (Asleep ticks since) Seen tick same h = (subst (λ (v : ℕ). since < v) (sym tick) h.0, same ∙ h.1)
 timely_still old new scope _ _ tick same h = h
@@ -70,15 +72,18 @@ timely_still old new scope _ _ tick same h = h
 -- ---- a turn of another task
 
 -- what a task sees is the same after it
-pub seen_still : {k : Table} {job : Job} {input : List ℕ} {t m s : ℕ} {old new : Crew} {before after : Task} {stop : Stop} → IsSettled k job input → GivesNamesOnce job → StartsInNurseries job →
-    (c : IsCrew k job input t m None old) → (T : Turning k job input t m s old new c.numbers before after stop c.course) → (u : ℕ) → u < m → u ≢ s → (task : Task) → old.task u ≡ Some task →
+pub seen_still : {k : Table} {job : Job} {input : List ℕ} {t m s : ℕ} {old new : Crew} {before after : Task} {stop : Stop} →
+    IsSettled k job input → GivesNamesOnce job → StartsInNurseries job →
+    (c : IsCrew k job input t m None old) → (T : Turning k job input t m s old new c.numbers before after stop c.course) → (u : ℕ) → u < m →
+        u ≢ s → (task : Task) → old.task u ≡ Some task →
     Follows new T.is.froms input t T.is.at (numbers_then c.numbers s m T.took.numbers_after) (leaving_by stop s) u task →
     seen (outer_of new.world.scopes (scope_of task)) t ≡ seen (outer_of old.world.scopes (scope_of task)) t
 seen_still {k} {job} {input} {t} {m} {s} {old} {new} {before} {after} {stop} settled names starting c T u below differs task lives now =
     seen_at (label_at new.world) T.is.froms (outer_of new.world.scopes (scope_of task)) (T.is.at u).places t now.stands.places
     ∙ ap (λ (x : Started). seen (stack_at T.is.froms x.places) t) other
     ∙ sym seen_after ∙ seen_before
-    ∙ sym (seen_at (label_at old.world) c.course.froms (outer_of old.world.scopes (scope_of task)) q.places t (c.follows u task lives).stands.places)
+    ∙ sym (seen_at (label_at old.world) c.course.froms (outer_of old.world.scopes (scope_of task)) q.places t
+        (c.follows u task lives).stands.places)
   where
     q : Started
     q = c.course.at u
@@ -100,21 +105,27 @@ seen_still {k} {job} {input} {t} {m} {s} {old} {new} {before} {after} {stop} set
 
     seen_before : seen (stack_at k q.places) t ≡ seen (stack_at c.course.froms q.places) t
     seen_before =
-        seen_near (suc t) (stack_at k q.places) (stack_at c.course.froms q.places) t (near_places t k c.course.froms q.places (on_before.2 q (c.course.has u below).0)) (omega arith)
+        seen_near (suc t) (stack_at k q.places) (stack_at c.course.froms q.places) t
+            (near_places t k c.course.froms q.places (on_before.2 q (c.course.has u below).0)) (omega arith)
 
     seen_after : seen (stack_at k q.places) t ≡ seen (stack_at T.is.froms q.places) t
     seen_after =
         seen_near (suc t) (stack_at k q.places) (stack_at T.is.froms q.places) t
-        (near_places t k T.is.froms q.places (on_after.2 q (subst (λ (x : Started). In x T.is.tasks) other (T.is.has u less).0))) (omega arith)
+        (near_places t k T.is.froms q.places (on_after.2 q (subst (λ (x : Started). In x T.is.tasks) other (T.is.has u less).0)))
+            (omega arith)
 
 -- who may go on may do so still
-pub still_goes : {k : Table} {job : Job} {input : List ℕ} {t m s : ℕ} {old new : Crew} {before after : Task} {stop : Stop} → IsSettled k job input → GivesNamesOnce job → StartsInNurseries job →
-    (c : IsCrew k job input t m None old) → (T : Turning k job input t m s old new c.numbers before after stop c.course) → (u : ℕ) → u < m → u ≢ s → (task : Task) → old.task u ≡ Some task →
-    Follows new T.is.froms input t T.is.at (numbers_then c.numbers s m T.took.numbers_after) (leaving_by stop s) u task → (wake : Wake) → MayGo old.world task wake → MayGo new.world task wake
+pub still_goes : {k : Table} {job : Job} {input : List ℕ} {t m s : ℕ} {old new : Crew} {before after : Task} {stop : Stop} →
+    IsSettled k job input → GivesNamesOnce job → StartsInNurseries job →
+    (c : IsCrew k job input t m None old) → (T : Turning k job input t m s old new c.numbers before after stop c.course) → (u : ℕ) → u < m →
+        u ≢ s → (task : Task) → old.task u ≡ Some task →
+    Follows new T.is.froms input t T.is.at (numbers_then c.numbers s m T.took.numbers_after) (leaving_by stop s) u task → (wake : Wake) →
+        MayGo old.world task wake → MayGo new.world task wake
 still_goes {t = t} {old = old} {new = new} settled names starting c T u below differs task lives now wake may =
     record {
       fits = fits_still task.halt task.part old.world.book new.world.book wake
-          (λ id e. same_nursery (λ n. is_settled n ≡ true) old.world.book new.world.book id (nursery_same c T u task differs lives id (inr e))) may.fits;
+          (λ id e. same_nursery (λ n. is_settled n ≡ true) old.world.book new.world.book id
+              (nursery_same c T u task differs lives id (inr e))) may.fits;
       timely = timely_still old.world new.world (scope_of task) task.halt wake tick same may.timely;
     }
   where
@@ -123,21 +134,28 @@ still_goes {t = t} {old = old} {new = new} settled names starting c T u below di
 
     same : seen (outer_of new.world.scopes (scope_of task)) new.world.tick ≡ seen (outer_of old.world.scopes (scope_of task)) old.world.tick
     same =
-        ap (λ (v : ℕ). seen (outer_of new.world.scopes (scope_of task)) v) (tick ∙ c.tick) ∙ seen_still settled names starting c T u below differs task lives now
+        ap (λ (v : ℕ). seen (outer_of new.world.scopes (scope_of task)) v) (tick ∙ c.tick)
+            ∙ seen_still settled names starting c T u below differs task lives now
         ∙ ap (λ (v : ℕ). seen (outer_of old.world.scopes (scope_of task)) v) (sym c.tick)
 
 -- and a nursery of a task is as it was
-pub still_waits : {k : Table} {job : Job} {input : List ℕ} {t m s : ℕ} {old new : Crew} {before after : Task} {stop : Stop} → (c : IsCrew k job input t m None old) →
-    Turning k job input t m s old new c.numbers before after stop c.course → (u : ℕ) → u ≢ s → (task : Task) → old.task u ≡ Some task → (P : Nursery → Type 0) → (id : ℕ) →
+pub still_waits : {k : Table} {job : Job} {input : List ℕ} {t m s : ℕ} {old new : Crew} {before after : Task} {stop : Stop} →
+    (c : IsCrew k job input t m None old) →
+    Turning k job input t m s old new c.numbers before after stop c.course → (u : ℕ) → u ≢ s → (task : Task) → old.task u ≡ Some task →
+        (P : Nursery → Type 0) → (id : ℕ) →
     HasNurseryOf id (blocks_of task.frames.items) (waits_of task.halt) → HasNursery old.world.book id P → HasNursery new.world.book id P
-still_waits {old = old} {new = new} c T u differs task lives P id has h = same_nursery P old.world.book new.world.book id (nursery_same c T u task differs lives id has) h
+still_waits {old = old} {new = new} c T u differs task lives P id has h =
+    same_nursery P old.world.book new.world.book id (nursery_same c T u task differs lives id has) h
 
 -- ---- homes after a turn
 
-pub homes_kept : {k : Table} {job : Job} {input : List ℕ} {t m s : ℕ} {old new : Crew} {before after : Task} {stop : Stop} → (c : IsCrew k job input t m None old) →
-    (T : Turning k job input t m s old new c.numbers before after stop c.course) → (parent next : ℕ → ℕ) → ((p : ℕ) → p < m → next p ≡ parent p) →
+pub homes_kept : {k : Table} {job : Job} {input : List ℕ} {t m s : ℕ} {old new : Crew} {before after : Task} {stop : Stop} →
+    (c : IsCrew k job input t m None old) →
+    (T : Turning k job input t m s old new c.numbers before after stop c.course) → (parent next : ℕ → ℕ) →
+        ((p : ℕ) → p < m → next p ≡ parent p) →
     ((i : ℕ) → i < length T.move.begun → next (m + i) ≡ s) → AreHomesOf old parent → AreHomesOf new next
-homes_kept {k} {job} {input} {t} {m} {s} {old} {new} {before} {after} {stop} c T parent next same born homes p x home lives at_home = by_order (cases_lt p m)
+homes_kept {k} {job} {input} {t} {m} {s} {old} {new} {before} {after} {stop} c T parent next same born homes p x home lives at_home =
+    by_order (cases_lt p m)
   where
     -- the home of a task that was there
     old_home : p < m → (task : Task) → old.task p ≡ Some task → task.home ≡ Some home → Keeps new (parent p) home.nursery
@@ -150,13 +168,16 @@ homes_kept {k} {job} {input} {t} {m} {s} {old} {new} {before} {after} {stop} c T
         keeps = homes p task home was at
 
         one : l.parent ≡ parent p
-        one = same_owner k job input t m None old c l.parent (parent p) l.starter keeps.task home.nursery l.lives keeps.lives l.owned keeps.owned
+        one = same_owner k job input t m None old c l.parent (parent p) l.starter keeps.task home.nursery l.lives keeps.lives l.owned
+            keeps.owned
 
         by_parent : (l.parent ≡ s) ⊎ (l.parent ≢ s) → Keeps new (parent p) home.nursery
-        by_parent (inl e) = subst (λ (n : ℕ). Keeps new n home.nursery) (sym e ∙ one) (record { task = after; lives = T.task_after; owned = (mover_owned c T p home l e).1 })
+        by_parent (inl e) = subst (λ (n : ℕ). Keeps new n home.nursery) (sym e ∙ one)
+            (record { task = after; lives = T.task_after; owned = (mover_owned c T p home l e).1 })
         by_parent (inr differs) =
             let low : l.parent < m = (let a : l.parent < p = l.earlier in omega (arith, a, below)) in
-            subst (λ (n : ℕ). Keeps new n home.nursery) one (record { task = l.starter; lives = T.other_after l.parent low differs ∙ l.lives; owned = l.owned })
+            subst (λ (n : ℕ). Keeps new n home.nursery) one (record { task = l.starter; lives = T.other_after l.parent low differs
+                ∙ l.lives; owned = l.owned })
 
     by_old : p < m → Keeps new (parent p) home.nursery
     by_old below = by_mover (same_or p s)
@@ -164,18 +185,22 @@ homes_kept {k} {job} {input} {t} {m} {s} {old} {new} {before} {after} {stop} c T
         by_mover : (p ≡ s) ⊎ (p ≢ s) → Keeps new (parent p) home.nursery
         by_mover (inl e) =
             let is : x ≡ after = one_of x after (sym lives ∙ (ap new.task e ∙ T.task_after)) in
-            old_home below before (ap old.task e ∙ T.task) (sym (ap (λ (z : Task). z.home) T.stays) ∙ ap (λ (z : Task). z.home) (sym is) ∙ at_home)
+            old_home below before (ap old.task e ∙ T.task) (sym (ap (λ (z : Task). z.home) T.stays) ∙ ap (λ (z : Task). z.home) (sym is)
+                ∙ at_home)
         by_mover (inr differs) = old_home below x (sym (T.other_after p below differs) ∙ lives) at_home
 
     -- that of one that was started
     new_home : (i : ℕ) → new.task (m + i) ≡ Some x → Keeps new (next (m + i)) home.nursery
     new_home i e =
         subst (λ (n : ℕ). Keeps new n home.nursery) (sym (born i (below_length T.move.begun i b.0 b.1)))
-        (record { task = after; lives = T.task_after; owned = subst (λ (h : Home). HasNurseryOf h.nursery (blocks_of after.frames.items) (waits_of after.halt)) is b.2.owned })
+        (record { task = after; lives = T.task_after; owned = subst (λ (h : Home).
+            HasNurseryOf h.nursery (blocks_of after.frames.items) (waits_of after.halt)) is b.2.owned })
       where
-        b : (b : _) × (slice_get T.move.begun i ≡ Some b) × IsBegun T.took.numbers_after new.world.book (blocks_of after.frames.items) (waits_of after.halt) x b
+        b : (b : _) × (slice_get T.move.begun i ≡ Some b) × IsBegun T.took.numbers_after new.world.book (blocks_of after.frames.items)
+            (waits_of after.halt) x b
         b =
-            begun_at T.took.numbers_after new.world.book (blocks_of after.frames.items) (waits_of after.halt) T.took.tasks T.move.begun T.took.begun i x
+            begun_at T.took.numbers_after new.world.book (blocks_of after.frames.items) (waits_of after.halt) T.took.tasks T.move.begun
+                T.took.begun i x
             (sym (T.child_after i) ∙ e)
 
         is : b.2.home ≡ home
@@ -189,14 +214,16 @@ homes_kept {k} {job} {input} {t} {m} {s} {old} {new} {before} {after} {stop} c T
 
 -- ---- a task leaves
 
-module _ (k : Table) (job : Job) (input : List ℕ) (t m s : ℕ) (old new : Crew) (task : Task) (exc : Option Exc) (c : IsCrew k job input t m (Some s) old)
+module _ (k : Table) (job : Job) (input : List ℕ) (t m s : ℕ) (old new : Crew) (task : Task) (exc : Option Exc)
+    (c : IsCrew k job input t m (Some s) old)
     (l : Leaving t s old new (c.course.at s) task exc) where
   -- it had no nursery
   no_nursery : (id : ℕ) (x : Task) → old.task s ≡ Some x → HasNurseryOf id (blocks_of x.frames.items) (waits_of x.halt) → ⊥
   no_nursery id x e h =
       by_either
       (subst (λ (w : Option ℕ). HasNurseryOf id [] w) waits
-      (subst (λ (bs : List Block). HasNurseryOf id bs (waits_of task.halt)) blocks (subst (λ (y : Task). HasNurseryOf id (blocks_of y.frames.items) (waits_of y.halt)) is h)))
+      (subst (λ (bs : List Block). HasNurseryOf id bs (waits_of task.halt)) blocks
+          (subst (λ (y : Task). HasNurseryOf id (blocks_of y.frames.items) (waits_of y.halt)) is h)))
     where
       q : Started
       q = c.course.at s
@@ -208,7 +235,8 @@ module _ (k : Table) (job : Job) (input : List ℕ) (t m s : ℕ) (old new : Cre
       blocks = ended_blocks task (c.numbers s) q.places q.rest.stopped t exc it.stands.placed l.ended
 
       waits : waits_of task.halt ≡ None
-      waits = over_halt (c.numbers s) old.world.book task.halt t exc (subst (λ (z : rest.Stopped). IsHalt (c.numbers s) old.world.book task.halt z) l.ended it.halt)
+      waits = over_halt (c.numbers s) old.world.book task.halt t exc
+          (subst (λ (z : rest.Stopped). IsHalt (c.numbers s) old.world.book task.halt z) l.ended it.halt)
 
       is : x ≡ task
       is = one_of x task (sym e ∙ l.was)
@@ -239,19 +267,22 @@ module _ (k : Table) (job : Job) (input : List ℕ) (t m s : ℕ) (old new : Cre
   settled_with (Some x ∷ es) (suc place) e = settled_with es place e
 
   -- a nursery that is settled is so where an end is told
-  still_settled : (id : ℕ) → HasNursery old.world.book id (λ n. is_settled n ≡ true) → HasNursery new.world.book id (λ n. is_settled n ≡ true)
+  still_settled : (id : ℕ) → HasNursery old.world.book id (λ n. is_settled n ≡ true) →
+      HasNursery new.world.book id (λ n. is_settled n ≡ true)
   still_settled id h = by_told task.home (told old.world.book new.world.book task.home exc l.told id n.0 n.1)
     where
       n : (n : Nursery) × (nursery_at old.world.book id ≡ Some n) × (is_settled n ≡ true)
       n = finds old.world.book id (λ n. is_settled n ≡ true) h
 
-      by_body : (b : Bool) (es : List End) (place : ℕ) → (b && list_all is_some es) ≡ true → (b && list_all is_some (slice_set es place (Some exc))) ≡ true
+      by_body : (b : Bool) (es : List End) (place : ℕ) → (b && list_all is_some es) ≡ true →
+          (b && list_all is_some (slice_set es place (Some exc))) ≡ true
       by_body true es place e = settled_with es place e
       by_body false es place e = e
 
       by_told : (home : Option Home) → Told new.world.book exc id n.0 home → HasNursery new.world.book id (λ n. is_settled n ≡ true)
       by_told _ (stays y e z) = puts new.world.book id n.0 (λ n. is_settled n ≡ true) e n.2
-      by_told _ (tells y z e) = puts new.world.book id (with_child y.place exc n.0) (λ n. is_settled n ≡ true) e (by_body (is_some n.0.body) n.0.children y.place n.2)
+      by_told _ (tells y z e) = puts new.world.book id (with_child y.place exc n.0) (λ n. is_settled n ≡ true) e
+          (by_body (is_some n.0.body) n.0.children y.place n.2)
 
   -- and who may go on may do so still
   pub goes_left : (x : Task) → (wake : Wake) → MayGo old.world x wake → MayGo new.world x wake

@@ -44,18 +44,22 @@ known_enters l (enters m t d ∷ es) (inr k) = inr (known_enters l es k)
 known_enters l (starts i m t ∷ es) k = known_enters l es k
 
 -- two tasks together enter it no more often than all do
-pub two_counted : (l : Label) (x y : Started) (qs : List Started) → In x qs → In y qs → x.serial ≢ y.serial → times_made l x.made + times_made l y.made ≤ made_times l qs
+pub two_counted : (l : Label) (x y : Started) (qs : List Started) → In x qs → In y qs → x.serial ≢ y.serial →
+    times_made l x.made + times_made l y.made ≤ made_times l qs
 unfolding made_times
 two_counted l x y [] i j differs = absurd i
 two_counted l x y (q ∷ qs) (inl e) (inl f) differs = absurd (differs (ap (λ (z : Started). z.serial) (e ∙ sym f)))
 two_counted l x y (q ∷ qs) (inl e) (inr j) differs =
-    let g = made_counted l y qs j in let h : times_made l x.made ≡ times_made l q.made = ap (λ (z : Started). times_made l z.made) e in omega (arith, g, h)
+    let g = made_counted l y qs j in let h : times_made l x.made ≡ times_made l q.made =
+        ap (λ (z : Started). times_made l z.made) e in omega (arith, g, h)
 two_counted l x y (q ∷ qs) (inr i) (inl f) differs =
-    let g = made_counted l x qs i in let h : times_made l y.made ≡ times_made l q.made = ap (λ (z : Started). times_made l z.made) f in omega (arith, g, h)
+    let g = made_counted l x qs i in let h : times_made l y.made ≡ times_made l q.made =
+        ap (λ (z : Started). times_made l z.made) f in omega (arith, g, h)
 two_counted l x y (q ∷ qs) (inr i) (inr j) differs = let g = two_counted l x y qs i j differs in omega (arith, g)
 
 -- A label was entered by one task of a run.
-pub one_entered : {k : Table} {job : Job} {input : List ℕ} {t m : ℕ} → (course : Course k job input t m) → IsSettled k job input → GivesNamesOnce job → StartsInNurseries job →
+pub one_entered : {k : Table} {job : Job} {input : List ℕ} {t m : ℕ} → (course : Course k job input t m) → IsSettled k job input →
+    GivesNamesOnce job → StartsInNurseries job →
     (l : Label) (p q : ℕ) → p < m → q < m → Known l (entered_made (course.at p).made) → Known l (entered_made (course.at q).made) → p ≡ q
 one_entered {k} {job} {input} {t} {m} course settled names nurseries l p q below lower a b = by_test (same_or p q)
   where
@@ -83,12 +87,14 @@ known_got (y ∷ xs) zero x e = inl (sym (ap (λ (z : ScopeFrom). z.label) (one_
 known_got (y ∷ xs) (suc i) x e = inr (known_got xs i x e)
 
 -- each label among a task's froms was entered by it
-pub from_entered : {known : Label → Type 0} {f : Table} {s : Scoping} {entered : List Label} → Tracks known f s entered → (i : ℕ) (x : ScopeFrom) → slice_get s.froms i ≡ Some x →
+pub from_entered : {known : Label → Type 0} {f : Table} {s : Scoping} {entered : List Label} → Tracks known f s entered →
+    (i : ℕ) (x : ScopeFrom) → slice_get s.froms i ≡ Some x →
     Known x.label entered
 from_entered {s = s} h i x e = subst (Known x.label) h.labels (known_got s.froms i x e)
 
 -- and so was that of a scope that it is in
-pub own_entered : {known : Label → Type 0} {f : Table} {s : Scoping} {entered : List Label} → Tracks known f s entered → (o : Own) (i : ℕ) → slice_get s.own i ≡ Some o →
+pub own_entered : {known : Label → Type 0} {f : Table} {s : Scoping} {entered : List Label} → Tracks known f s entered → (o : Own) (i : ℕ) →
+    slice_get s.own i ≡ Some o →
     (l : Label) → s.labels o.id ≡ Some l → Known l entered
 own_entered {entered = entered} h o i e l labelled =
     let n = h.named o i e in
@@ -105,10 +111,12 @@ is_key key (l ∷ ls) (inl e) = inl e
 is_key key (l ∷ ls) (inr i) = inr (is_key key ls i)
 
 -- a scope that a task opened is one of its stack
-pub own_round : (st : Stack) (own : List Own) (keys : List ℕ) (o : Own) (i : ℕ) → keys_of st ≡ keys_in own ++ keys → slice_get own i ≡ Some o → IsKey o.id st
+pub own_round : (st : Stack) (own : List Own) (keys : List ℕ) (o : Own) (i : ℕ) → keys_of st ≡ keys_in own ++ keys →
+    slice_get own i ≡ Some o → IsKey o.id st
 own_round st own keys o i e got = is_key o.id st (subst (IsAmong o.id) (sym e) (among_left o.id (keys_in own) keys (key_got own o i got)))
 
-alone_is : (labels : Labels) (key k : ℕ) (label : Label) (st : Stack) → Alone labels key label st → IsKey k st → labels k ≡ Some label → k ≡ key
+alone_is : (labels : Labels) (key k : ℕ) (label : Label) (st : Stack) → Alone labels key label st → IsKey k st → labels k ≡ Some label →
+    k ≡ key
 alone_is labels key k label [] a i e = absurd i
 alone_is labels key k label (l ∷ ls) a (inl f) e = f ∙ a.0 (sym (ap labels f) ∙ e)
 alone_is labels key k label (l ∷ ls) a (inr i) e = alone_is labels key k label ls a.1 i e
@@ -116,7 +124,8 @@ alone_is labels key k label (l ∷ ls) a (inr i) e = alone_is labels key k label
 -- ---- all tasks
 
 -- a task that has not ended is one of those started
-pub below_of : {k : Table} {job : Job} {input : List ℕ} {t m : ℕ} {leaving : Option ℕ} {crew : Crew} → IsCrew k job input t m leaving crew → (p : ℕ) (task : Task) → crew.task p ≡ Some task → p < m
+pub below_of : {k : Table} {job : Job} {input : List ℕ} {t m : ℕ} {leaving : Option ℕ} {crew : Crew} → IsCrew k job input t m leaving crew →
+    (p : ℕ) (task : Task) → crew.task p ≡ Some task → p < m
 below_of {m = m} c p task e = by_order (cases_lt p m)
   where
     by_order : (p < m) ⊎ (m ≤ p) → p < m
@@ -124,15 +133,19 @@ below_of {m = m} c p task e = by_order (cases_lt p m)
     by_order (inr l) = absurd (not_both (c.unborn p l).0 e)
 
 -- the label of a scope that a task opened was entered by it
-pub opened_entered : {k : Table} {job : Job} {input : List ℕ} {t m : ℕ} {leaving : Option ℕ} {crew : Crew} → (c : IsCrew k job input t m leaving crew) → (key p : ℕ) (l : Label) →
+pub opened_entered : {k : Table} {job : Job} {input : List ℕ} {t m : ℕ} {leaving : Option ℕ} {crew : Crew} →
+    (c : IsCrew k job input t m leaving crew) → (key p : ℕ) (l : Label) →
     OpenedBy crew key p → label_at crew.world key ≡ Some l → Known l (entered_made (c.course.at p).made)
-opened_entered {crew = crew} c key p l o e = own_entered (c.follows p o.task o.lives).tracks o.scope o.place o.own l (ap (label_at crew.world) o.is ∙ e)
+opened_entered {crew = crew} c key p l o e =
+    own_entered (c.follows p o.task o.lives).tracks o.scope o.place o.own l (ap (label_at crew.world) o.is ∙ e)
 
 -- Different scopes have different labels: one of another task was entered by that one, and one of the same task is in the
 -- same stack.
-pub labels_apart : {k : Table} {job : Job} {input : List ℕ} {t m : ℕ} {leaving : Option ℕ} {crew : Crew} → (c : IsCrew k job input t m leaving crew) → IsSettled k job input → GivesNamesOnce job →
+pub labels_apart : {k : Table} {job : Job} {input : List ℕ} {t m : ℕ} {leaving : Option ℕ} {crew : Crew} →
+    (c : IsCrew k job input t m leaving crew) → IsSettled k job input → GivesNamesOnce job →
     StartsInNurseries job → (a b : ℕ) (l : Label) → label_at crew.world a ≡ Some l → label_at crew.world b ≡ Some l → a ≡ b
-labels_apart {k} {job} {input} {t} {m} {leaving} {crew} c settled names nurseries a b l e f = same_task (subst (OpenedBy crew b) (sym same) y.1)
+labels_apart {k} {job} {input} {t} {m} {leaving} {crew} c settled names nurseries a b l e f =
+    same_task (subst (OpenedBy crew b) (sym same) y.1)
   where
     x : (p : ℕ) × OpenedBy crew a p
     x = c.owned a (c.labelled a l e)
@@ -142,7 +155,8 @@ labels_apart {k} {job} {input} {t} {m} {leaving} {crew} c settled names nurserie
 
     same : x.0 ≡ y.0
     same =
-        one_entered c.course settled names nurseries l x.0 y.0 (below_of c x.0 x.1.task x.1.lives) (below_of c y.0 y.1.task y.1.lives) (opened_entered c a x.0 l x.1 e)
+        one_entered c.course settled names nurseries l x.0 y.0 (below_of c x.0 x.1.task x.1.lives) (below_of c y.0 y.1.task y.1.lives)
+            (opened_entered c a x.0 l x.1 e)
         (opened_entered c b y.0 l y.1 f)
 
     task : Task
@@ -158,15 +172,18 @@ labels_apart {k} {job} {input} {t} {m} {leaving} {crew} c settled names nurserie
     same_task z =
         let tasks : z.task ≡ task = one_of z.task task (sym z.lives ∙ x.1.lives) in
         let round : IsKey b (outer_of crew.world.scopes (scope_of task)) =
-        subst (λ (i : ℕ). IsKey i (outer_of crew.world.scopes (scope_of task))) z.is (within z.scope z.place (sym (ap (λ (v : Task). slice_get v.own.items z.place) tasks) ∙ z.own)) in
+        subst (λ (i : ℕ). IsKey i (outer_of crew.world.scopes (scope_of task))) z.is
+            (within z.scope z.place (sym (ap (λ (v : Task). slice_get v.own.items z.place) tasks) ∙ z.own)) in
         let inside : IsKey a (outer_of crew.world.scopes (scope_of task)) =
         subst (λ (i : ℕ). IsKey i (outer_of crew.world.scopes (scope_of task))) x.1.is (within x.1.scope x.1.place x.1.own) in
         let alone =
-        alone_at (label_at crew.world) c.course.froms (outer_of crew.world.scopes (scope_of task)) (c.course.at x.0).places b l f round follows.stands.own follows.stands.places in
+        alone_at (label_at crew.world) c.course.froms (outer_of crew.world.scopes (scope_of task)) (c.course.at x.0).places b l f round
+            follows.stands.own follows.stands.places in
         alone_is (label_at crew.world) b a l (outer_of crew.world.scopes (scope_of task)) alone inside e
 
 -- each label that a scope has was entered by a task
-pub labels_known : {k : Table} {job : Job} {input : List ℕ} {t m : ℕ} {leaving : Option ℕ} {crew : Crew} → (c : IsCrew k job input t m leaving crew) → (key : ℕ) (l : Label) →
+pub labels_known : {k : Table} {job : Job} {input : List ℕ} {t m : ℕ} {leaving : Option ℕ} {crew : Crew} →
+    (c : IsCrew k job input t m leaving crew) → (key : ℕ) (l : Label) →
     label_at crew.world key ≡ Some l → IsEntered c.course.at l
 labels_known c key l e = let x = c.owned key (c.labelled key l e) in (x.0, opened_entered c key x.0 l x.1 e)
 

@@ -43,14 +43,16 @@ use Rattle.run_crew.proofs.Found.{finds, puts}
 
 -- ---- what stays of a task
 
-opened_kept : (labels : Labels) (old new : NurseryBook) (bs : List Block) (own : List Own) (waits : Option ℕ) → AllLike old new → Opened labels old bs own waits → Opened labels new bs own waits
+opened_kept : (labels : Labels) (old new : NurseryBook) (bs : List Block) (own : List Own) (waits : Option ℕ) → AllLike old new →
+    Opened labels old bs own waits → Opened labels new bs own waits
 opened_kept labels old new [] [] None like h = h
 opened_kept labels old new [] [] (Some key) like h = absurd h
 opened_kept labels old new [] (o ∷ own) None like h = absurd h
 opened_kept labels old new [] (o ∷ own) (Some key) like h = (
   h.0,
   carry old new key (λ n. IsMine labels o n × IsSome n.body) (λ n. IsMine labels o n × IsSome n.body) like
-      (λ n m l i. (record { scope = l.scope ∙ i.0.scope; label = i.0.label ∙ ap (λ (x : Label). Some x) (sym l.label) }, subst IsSome (sym l.body) i.1)) h.1,
+      (λ n m l i. (record { scope = l.scope ∙ i.0.scope; label = i.0.label ∙ ap (λ (x : Label). Some x) (sym l.label) },
+          subst IsSome (sym l.body) i.1)) h.1,
 )
 opened_kept labels old new (b ∷ bs) [] waits like h = absurd h
 opened_kept labels old new (a_scope ∷ bs) (o ∷ own) waits like h = (h.0, h.1, opened_kept labels old new bs own waits like h.2)
@@ -61,7 +63,8 @@ opened_kept labels old new (a_nursery key ∷ bs) (o ∷ own) waits like h = (
   opened_kept labels old new bs own waits like h.2,
 )
 
-halt_kept : (numbers : Numbers) (old new : NurseryBook) (halt : Halt) (stopped : rest.Stopped) → AllLike old new → IsHalt numbers old halt stopped → IsHalt numbers new halt stopped
+halt_kept : (numbers : Numbers) (old new : NurseryBook) (halt : Halt) (stopped : rest.Stopped) → AllLike old new →
+    IsHalt numbers old halt stopped → IsHalt numbers new halt stopped
 halt_kept numbers old new ToBegin rest.to_begin like h = h
 halt_kept numbers old new (Asked kernel purpose) (rest.asking k p) like h = h
 halt_kept numbers old new (Asleep ticks since) (rest.asleep n u) like h = h
@@ -90,13 +93,16 @@ halt_kept numbers old new Over (rest.asleep n u) like h = absurd h
 halt_kept numbers old new Over (rest.awaiting children u exc) like h = absurd h
 
 -- Where a task stands, and how it goes on, in a world with another book.
-stands_kept : (task : Task) (w : World) (book : NurseryBook) (f : Table) (numbers : Numbers) (stopped : rest.Stopped) (ps : List Place) → AllLike w.book book →
-    Stands task.frames.items task w f numbers (Some stopped) ps → Stands task.frames.items task (record w { book = book }) f numbers (Some stopped) ps
+stands_kept : (task : Task) (w : World) (book : NurseryBook) (f : Table) (numbers : Numbers) (stopped : rest.Stopped) (ps : List Place) →
+    AllLike w.book book →
+    Stands task.frames.items task w f numbers (Some stopped) ps →
+        Stands task.frames.items task (record w { book = book }) f numbers (Some stopped) ps
 stands_kept task w book f numbers stopped ps like h =
     record {
       places = h.places;
       numbered =
-          λ id i. carry w.book book id (λ n. length (numbers id) ≡ length n.children) (λ n. length (numbers id) ≡ length n.children) like (λ n m l e. e ∙ sym l.long)
+          λ id i. carry w.book book id (λ n. length (numbers id) ≡ length n.children) (λ n. length (numbers id) ≡ length n.children) like
+              (λ n m l e. e ∙ sym l.long)
           (h.numbered id i);
       placed = h.placed;
       new = h.new;
@@ -118,12 +124,14 @@ goes_kept task w book like h =
 -- ---- the task that left
 
 -- it has no frame and waits for nothing
-pub ended_blocks : (task : Task) (numbers : Numbers) (ps : List Place) (stopped : rest.Stopped) (u : ℕ) (e : Option Exc) → PlacedStop stopped (frames_of numbers task.frames.items) ps →
+pub ended_blocks : (task : Task) (numbers : Numbers) (ps : List Place) (stopped : rest.Stopped) (u : ℕ) (e : Option Exc) →
+    PlacedStop stopped (frames_of numbers task.frames.items) ps →
     stopped ≡ rest.at_end u e → blocks_of task.frames.items ≡ []
 ended_blocks task numbers ps stopped u e placed ends =
     no_blocks numbers task.frames.items (subst (λ (x : rest.Stopped). PlacedStop x (frames_of numbers task.frames.items) ps) ends placed)
 
-pub over_halt : (numbers : Numbers) (book : NurseryBook) (halt : Halt) (u : ℕ) (e : Option Exc) → IsHalt numbers book halt (rest.at_end u e) → waits_of halt ≡ None
+pub over_halt : (numbers : Numbers) (book : NurseryBook) (halt : Halt) (u : ℕ) (e : Option Exc) →
+    IsHalt numbers book halt (rest.at_end u e) → waits_of halt ≡ None
 over_halt numbers book ToBegin u e h = absurd h
 over_halt numbers book (Asked kernel purpose) u e h = absurd h
 over_halt numbers book (Asleep ticks since) u e h = absurd h
@@ -142,7 +150,8 @@ past_froms f (x ∷ froms) h =
     ap (λ (d : Option ℕ). record { label = x.label; seen = d } ∷ map from_of froms) (h 0 x refl)
     ∙ ap (λ (fs : List From). record { label = x.label; seen = f x.label } ∷ fs) (past_froms f froms (λ i y e. h (suc i) y e))
 
-started_kept : (old new : ℕ → ℕ) (at : ℕ → Started) (child : ℕ → ℕ) (es : List rest.Event) → ((p : ℕ) → new p ≡ old p) → AreStarted old at child es → AreStarted new at child es
+started_kept : (old new : ℕ → ℕ) (at : ℕ → Started) (child : ℕ → ℕ) (es : List rest.Event) → ((p : ℕ) → new p ≡ old p) →
+    AreStarted old at child es → AreStarted new at child es
 started_kept old new at child [] same h = tt
 started_kept old new at child (rest.noted t e ∷ es) same h = started_kept old new at child es same h
 started_kept old new at child (rest.signs l t ∷ es) same h = started_kept old new at child es same h
@@ -150,7 +159,8 @@ started_kept old new at child (rest.enters l t d ∷ es) same h = started_kept o
 started_kept old new at child (rest.starts i l t ∷ es) same h = (h.0, same (child i) ∙ h.1, started_kept old new at child es same h.2)
 
 -- a home is at a place of a nursery
-home_parts : (h : Option Home) (id place : ℕ) → option_map {U = ℕ × ℕ} (λ (x : Home). (x.nursery, x.place)) h ≡ Some (id, place) → (y : Home) × (h ≡ Some y) × (y.nursery ≡ id) × (y.place ≡ place)
+home_parts : (h : Option Home) (id place : ℕ) → option_map {U = ℕ × ℕ} (λ (x : Home). (x.nursery, x.place)) h ≡ Some (id, place) →
+    (y : Home) × (h ≡ Some y) × (y.nursery ≡ id) × (y.place ≡ place)
 home_parts None id place e = absurd (let f : None ≡ Some (id, place) = e in cc)
 home_parts (Some y) id place e =
     let f : Some (y.nursery, y.place) ≡ Some (id, place) = e in
@@ -159,7 +169,8 @@ home_parts (Some y) id place e =
 
 -- ---- the crew without it
 
-pub crew_left : (k : Table) (job : Job) (input : List ℕ) (t m s : ℕ) (old new : Crew) (task : Task) (exc : Option Exc) → (c : IsCrew k job input t m (Some s) old) →
+pub crew_left : (k : Table) (job : Job) (input : List ℕ) (t m s : ℕ) (old new : Crew) (task : Task) (exc : Option Exc) →
+    (c : IsCrew k job input t m (Some s) old) →
     Leaving t s old new (c.course.at s) task exc → IsCrew k job input t m None new
 crew_left k job input t m s old new task exc c l =
     record {
@@ -170,12 +181,14 @@ crew_left k job input t m s old new task exc c l =
       small = c.small;
       some = c.some;
       begun = l.start 0 ∙ c.begun;
-      unborn = λ p le. let differs : p ≢ s = (λ e. absurd (omega (arith, e, le, less))) in ((l.others p differs).0 ∙ (c.unborn p le).0, (l.others p differs).1 ∙ (c.unborn p le).1);
+      unborn = λ p le. let differs : p ≢ s = (λ e. absurd (omega (arith, e, le, less))) in
+          ((l.others p differs).0 ∙ (c.unborn p le).0, (l.others p differs).1 ∙ (c.unborn p le).1);
       ended = ended_after;
       follows = follows_after;
       owned = λ key o. let h = c.owned key (subst (λ (tree : _). IsOpen tree key) scopes o) in (h.0, opened_after key h.0 h.1);
       apart = λ key p u a b. c.apart key p u (opened_before key p a) (opened_before key u b);
-      labelled = λ key label e. subst (λ (tree : _). IsOpen tree key) (sym scopes) (c.labelled key label (ap (λ (w : World). label_at w key) (sym l.world) ∙ e));
+      labelled = λ key label e. subst (λ (tree : _). IsOpen tree key) (sym scopes)
+          (c.labelled key label (ap (λ (w : World). label_at w key) (sym l.world) ∙ e));
       started = λ p lt. started_kept old.start new.start c.course.at (c.course.at p).child (c.course.at p).made l.start (c.started p lt);
       children = λ p lt. l.children p ∙ c.children p lt;
     }
@@ -203,19 +216,22 @@ crew_left k job input t m s old new task exc c l =
     blocks = ended_blocks task (c.numbers s) q.places q.rest.stopped t exc it.stands.placed l.ended
 
     waits : waits_of task.halt ≡ None
-    waits = over_halt (c.numbers s) old.world.book task.halt t exc (subst (λ (x : rest.Stopped). IsHalt (c.numbers s) old.world.book task.halt x) l.ended it.halt)
+    waits = over_halt (c.numbers s) old.world.book task.halt t exc
+        (subst (λ (x : rest.Stopped). IsHalt (c.numbers s) old.world.book task.halt x) l.ended it.halt)
 
     own : task.own.items ≡ []
     own =
         none_opened (label_at old.world) old.world.book task.own.items
         (subst (λ (w : Option ℕ). Opened (label_at old.world) old.world.book [] task.own.items w) waits
-        (subst (λ (bs : List Block). Opened (label_at old.world) old.world.book bs task.own.items (waits_of task.halt)) blocks it.goes.opened))
+        (subst (λ (bs : List Block). Opened (label_at old.world) old.world.book bs task.own.items (waits_of task.halt)) blocks
+            it.goes.opened))
 
     no_nursery : (id : ℕ) (x : Task) → old.task s ≡ Some x → HasNurseryOf id (blocks_of x.frames.items) (waits_of x.halt) → ⊥
     no_nursery id x e h =
         by_either
         (subst (λ (w : Option ℕ). HasNurseryOf id [] w) waits
-        (subst (λ (bs : List Block). HasNurseryOf id bs (waits_of task.halt)) blocks (subst (λ (y : Task). HasNurseryOf id (blocks_of y.frames.items) (waits_of y.halt)) is h)))
+        (subst (λ (bs : List Block). HasNurseryOf id bs (waits_of task.halt)) blocks
+            (subst (λ (y : Task). HasNurseryOf id (blocks_of y.frames.items) (waits_of y.halt)) is h)))
       where
         is : x ≡ task
         is = let g : Some x ≡ Some task = sym e ∙ l.was in cc
@@ -252,7 +268,8 @@ crew_left k job input t m s old new task exc c l =
     after p x differs e = (l.others p differs).0 ∙ e
 
     opened_before : (key p : ℕ) → OpenedBy new key p → OpenedBy old key p
-    opened_before key p o = record { task = o.task; lives = before p o.task o.lives; place = o.place; scope = o.scope; own = o.own; is = o.is }
+    opened_before key p o = record { task = o.task; lives = before p o.task o.lives; place = o.place; scope = o.scope; own = o.own; is =
+        o.is }
 
     opened_after : (key p : ℕ) → OpenedBy old key p → OpenedBy new key p
     opened_after key p o =
@@ -262,7 +279,8 @@ crew_left k job input t m s old new task exc c l =
         differs g =
             let e : Some o.task ≡ Some task = sym o.lives ∙ ap old.task g ∙ l.was in
             let is : o.task ≡ task = cc in
-            let none : None ≡ Some o.scope = ap (λ (os : List Own). slice_get os o.place) (sym own) ∙ ap (λ (x : Task). slice_get x.own.items o.place) (sym is) ∙ o.own in
+            let none : None ≡ Some o.scope = ap (λ (os : List Own). slice_get os o.place) (sym own)
+                ∙ ap (λ (x : Task). slice_get x.own.items o.place) (sym is) ∙ o.own in
             absurd cc
 
     ended_after : (p : ℕ) → p < m → new.task p ≡ None → (g : Gone) × (new.gone p ≡ Some g) × HasEnded f input t (c.course.at p) g
@@ -281,7 +299,8 @@ crew_left k job input t m s old new task exc c l =
     like = all_like old.world.book book task.home exc l.told
 
     -- the child of a number at the place where it was started
-    at_place : (y : Home) → task.home ≡ Some y → (u : ℕ) (b : Task) → old.task u ≡ Some b → (id place number : ℕ) → HasNurseryOf id (blocks_of b.frames.items) (waits_of b.halt) →
+    at_place : (y : Home) → task.home ≡ Some y → (u : ℕ) (b : Task) → old.task u ≡ Some b → (id place number : ℕ) →
+        HasNurseryOf id (blocks_of b.frames.items) (waits_of b.halt) →
         slice_get (c.numbers u id) place ≡ Some number → y.nursery ≡ id → y.place ≡ place → (c.course.at u).child number ≡ s
     at_place y e u b lives id place number owned stands is_nursery is_place =
         ap (λ (x : Started). x.child number) (ap c.course.at (sym same)) ∙ ap (c.course.at its.parent).child one ∙ its.serial
@@ -296,13 +315,15 @@ crew_left k job input t m s old new task exc c l =
 
         both : Some number ≡ Some its.number
         both =
-            sym stands ∙ ap (λ (n : ℕ). slice_get (c.numbers u id) n) (sym is_place) ∙ ap (λ (n : ℕ). slice_get (c.numbers u n) y.place) (sym is_nursery)
+            sym stands ∙ ap (λ (n : ℕ). slice_get (c.numbers u id) n) (sym is_place)
+                ∙ ap (λ (n : ℕ). slice_get (c.numbers u n) y.place) (sym is_nursery)
             ∙ ap (λ (n : ℕ). slice_get (c.numbers n y.nursery) y.place) (sym same) ∙ its.stands
 
         one : number ≡ its.number
         one = let e = both in cc
 
-    member_kept : (id place serial : ℕ) (end : Option End) → (home_of task ≡ Some (id, place) → ⊥) → IsMember old c.course.at t id place serial end → IsMember new c.course.at t id place serial end
+    member_kept : (id place serial : ℕ) (end : Option End) → (home_of task ≡ Some (id, place) → ⊥) →
+        IsMember old c.course.at t id place serial end → IsMember new c.course.at t id place serial end
     member_kept id place serial None other h = absurd h
     member_kept id place serial (Some None) other h = (h.0, after serial h.0 differs h.1, h.2)
       where
@@ -318,7 +339,8 @@ crew_left k job input t m s old new task exc c l =
             let is : serial ≡ s = eqb-true serial s e in
             let ends : rest.at_end h.0.end x ≡ rest.at_end t exc = sym h.3 ∙ ap (λ (n : ℕ). (c.course.at n).rest.stopped) is ∙ l.ended in
             let same : x ≡ exc = cc in
-            (kept, ap new.gone is ∙ l.kept, omega arith, ap (λ (n : ℕ). (c.course.at n).rest.stopped) is ∙ l.ended ∙ ap (λ (y : Option Exc). rest.at_end t y) (sym same))
+            (kept, ap new.gone is ∙ l.kept, omega arith, ap (λ (n : ℕ). (c.course.at n).rest.stopped) is ∙ l.ended
+                ∙ ap (λ (y : Option Exc). rest.at_end t y) (sym same))
         by_same false e =
             let differs : serial ≢ s = λ g. absurd (let z : true ≡ false = sym (eq-eqb serial s g) ∙ e in cc) in
             (h.0, (l.others serial differs).1 ∙ h.1, h.2, h.3)
@@ -337,7 +359,8 @@ crew_left k job input t m s old new task exc c l =
           modest = g.modest;
           goes = subst (CanGoOn x) (sym l.world) (goes_kept x old.world book like g.goes);
           notes = g.notes;
-          tracks = subst (λ (w : World). Tracks (λ l. (u : ℕ) × Known l (entered_made (c.course.at u).made)) f (scoping_of x w) (entered_made r.made)) (sym l.world) g.tracks;
+          tracks = subst (λ (w : World). Tracks (λ l. (u : ℕ) × Known l (entered_made (c.course.at u).made)) f (scoping_of x w)
+              (entered_made r.made)) (sym l.world) g.tracks;
           home = by_home x.home g.home;
           nurseries = nurseries;
         }
@@ -379,10 +402,12 @@ crew_left k job input t m s old new task exc c l =
                 puts book home.nursery (with_child y.place exc n.0) Runs w (
                   n.2.0,
                   set_else n.0.children y.place home.place (Some exc)
-                      (λ v. there p x e (sym h.serial ∙ at_place y is h.parent h.starter h.lives home.nursery home.place h.number h.owned h.stands z v)) ∙ n.2.1,
+                      (λ v. there p x e (sym h.serial ∙ at_place y is h.parent h.starter h.lives home.nursery home.place h.number h.owned
+                          h.stands z v)) ∙ n.2.1,
                 )
 
-        nurseries : (id : ℕ) → HasNurseryOf id (blocks_of x.frames.items) (waits_of x.halt) → HasNursery book id (λ n. HasMembers new c.course.at t (c.numbers p) r id n)
+        nurseries : (id : ℕ) → HasNurseryOf id (blocks_of x.frames.items) (waits_of x.halt) →
+            HasNursery book id (λ n. HasMembers new c.course.at t (c.numbers p) r id n)
         nurseries id h = by_told task.home refl (told old.world.book book task.home exc l.told id n.0 n.1)
           where
             Members : Crew → Nursery → Type 0
@@ -398,21 +423,25 @@ crew_left k job input t m s old new task exc c l =
                   long = n.2.long;
                   members =
                       λ place number stands. let m = n.2.members place number stands in
-                      (m.0, member_kept id place (r.child number) (slice_get n.0.children place) (λ v. let a = home_parts task.home id place v in w a.0 (sym is ∙ a.1) a.2) m.1);
+                      (m.0, member_kept id place (r.child number) (slice_get n.0.children place)
+                          (λ v. let a = home_parts task.home id place v in w a.0 (sym is ∙ a.1) a.2) m.1);
                 })
             by_told _ is (tells y z w) =
                 puts book id (with_child y.place exc n.0) (Members new) w
                 (record {
                   long = n.2.long ∙ sym (set_long n.0.children y.place (Some exc));
-                  members = λ place number stands. let m = n.2.members place number stands in (m.0, by_place place number stands m.1 (y.place == place) refl);
+                  members = λ place number stands. let m = n.2.members place number stands in
+                      (m.0, by_place place number stands m.1 (y.place == place) refl);
                 })
               where
                 by_end : (place serial : ℕ) (end : Option End) → IsMember old c.course.at t id place serial end → (v : End) × (end ≡ Some v)
                 by_end place serial None v = absurd v
                 by_end place serial (Some v) a = (v, refl)
 
-                by_place : (place number : ℕ) → slice_get (c.numbers p id) place ≡ Some number → IsMember old c.course.at t id place (r.child number) (slice_get n.0.children place) →
-                    (b : Bool) → (y.place == place) ≡ b → IsMember new c.course.at t id place (r.child number) (slice_get (slice_set n.0.children y.place (Some exc)) place)
+                by_place : (place number : ℕ) → slice_get (c.numbers p id) place ≡ Some number →
+                    IsMember old c.course.at t id place (r.child number) (slice_get n.0.children place) →
+                    (b : Bool) → (y.place == place) ≡ b → IsMember new c.course.at t id place (r.child number)
+                        (slice_get (slice_set n.0.children y.place (Some exc)) place)
                 by_place place number stands m true v =
                     let at : y.place ≡ place = eqb-true y.place place v in
                     let was = by_end place (r.child number) (slice_get n.0.children place) m in
@@ -424,7 +453,9 @@ crew_left k job input t m s old new task exc c l =
                     (kept, ap new.gone is_s ∙ l.kept, omega arith, ap (λ (a : ℕ). (c.course.at a).rest.stopped) is_s ∙ l.ended)
                 by_place place number stands m false v =
                     let differs : y.place ≢ place = λ a. absurd (let b : true ≡ false = sym (eq-eqb y.place place a) ∙ v in cc) in
-                    subst (IsMember new c.course.at t id place (r.child number)) (sym (set_else n.0.children y.place place (Some exc) differs))
+                    subst (IsMember new c.course.at t id place (r.child number))
+                        (sym (set_else n.0.children y.place place (Some exc) differs))
                     (member_kept id place (r.child number) (slice_get n.0.children place)
-                    (λ a. let h = home_parts task.home id place a in let same : Some h.0 ≡ Some y = sym h.1 ∙ is in let one : h.0 ≡ y = cc in
+                    (λ a. let h = home_parts task.home id place a in let same : Some h.0 ≡ Some y = sym h.1 ∙ is in let one : h.0 ≡ y =
+                        cc in
                     differs (ap (λ (z : Home). z.place) (sym one) ∙ h.3)) m)

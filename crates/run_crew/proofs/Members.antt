@@ -25,7 +25,8 @@ use Rattle.task_machine.proofs.Stacked.{one_of}
 use Rattle.run_crew.proofs.Found.{below_length, got_first, finds, puts}
 use Rattle.run_crew.proofs.LabelsApart.{below_of}
 
-module _ (k : Table) (job : Job) (input : List ℕ) (t m s : ℕ) (old new : Crew) (before after : Task) (stop : Stop) (c : IsCrew k job input t m None old)
+module _ (k : Table) (job : Job) (input : List ℕ) (t m s : ℕ) (old new : Crew) (before after : Task) (stop : Stop)
+    (c : IsCrew k job input t m None old)
     (T : Turning k job input t m s old new c.numbers before after stop c.course) where
   mover : Follows old c.course.froms input t c.course.at c.numbers None s before
   mover = c.follows s before T.task
@@ -35,14 +36,16 @@ module _ (k : Table) (job : Job) (input : List ℕ) (t m s : ℕ) (old new : Cre
   moved_to = turned k t m (c.course.at s) T.move T.stopped
 
   -- who is in one of the task's nurseries is another task, and stays as it is
-  member_stays : (id place serial : ℕ) (x : End) → HasBlock id (blocks_of before.frames.items) → IsMember old c.course.at t id place serial (Some x) →
+  member_stays : (id place serial : ℕ) (x : End) → HasBlock id (blocks_of before.frames.items) →
+      IsMember old c.course.at t id place serial (Some x) →
       IsMember new T.is.at t id place serial (Some x)
   member_stays id place serial None has h =
       let below : serial < m = below_of c serial h.0 h.1 in
       let later : s < serial = home_earlier k job input t m None old c serial h.0 h.1 id place h.2 s before T.task (inl has) in
       (h.0, T.other_after serial below (λ e. omega (arith, later, e)) ∙ h.1, h.2)
   member_stays id place serial (Some exc) has h =
-      (h.0, T.gone_after serial ∙ h.1, h.2, ap (λ (q : Started). q.rest.stopped) (T.of_other serial (gone_below k job input t m None old c serial h.0 h.1) differs) ∙ h.3)
+      (h.0, T.gone_after serial ∙ h.1, h.2, ap (λ (q : Started). q.rest.stopped)
+          (T.of_other serial (gone_below k job input t m None old c serial h.0 h.1) differs) ∙ h.3)
     where
       lives : live (c.course.at s).rest.stopped ≡ true
       lives = mover.lives (λ e. not_both refl e)
@@ -64,35 +67,44 @@ module _ (k : Table) (job : Job) (input : List ℕ) (t m s : ℕ) (old new : Cre
       let one = o.2.members place number was in
       let below : number < (c.course.at s).count = one.0 in
       let longer : slice_get n.children place ≡ slice_get (o.0.children ++ g.2.more) place =
-      ap (λ (x : Nursery). slice_get x.children place) (one_of n g.0 (sym at ∙ g.1)) ∙ ap (λ (es : List End). slice_get es place) g.2.children in (
+      ap (λ (x : Nursery). slice_get x.children place) (one_of n g.0 (sym at ∙ g.1))
+          ∙ ap (λ (es : List End). slice_get es place) g.2.children in (
         omega (arith, below),
-        subst (λ (z : ℕ). IsMember new T.is.at t id place z (slice_get n.children place)) (sym (old_child (c.course.at s).count (c.course.at s).child m number below))
+        subst (λ (z : ℕ). IsMember new T.is.at t id place z (slice_get n.children place))
+            (sym (old_child (c.course.at s).count (c.course.at s).child m number below))
             (by_end (slice_get o.0.children place) refl one.1 o.0.children g.2.more n.children longer refl),
       )
     where
-      by_end : (e : Option End) → e ≡ e → IsMember old c.course.at t id place ((c.course.at s).child number) e → (was_there more there : List End) →
+      by_end : (e : Option End) → e ≡ e → IsMember old c.course.at t id place ((c.course.at s).child number) e →
+          (was_there more there : List End) →
           slice_get there place ≡ slice_get (was_there ++ more) place → slice_get was_there place ≡ e →
           IsMember new T.is.at t id place ((c.course.at s).child number) (slice_get there place)
       by_end None r h xs ys zs same e = absurd h
       by_end (Some x) r h xs ys zs same e =
-          subst (λ (z : Option End). IsMember new T.is.at t id place ((c.course.at s).child number) z) (sym (same ∙ got_first xs ys place x e))
+          subst (λ (z : Option End). IsMember new T.is.at t id place ((c.course.at s).child number) z)
+              (sym (same ∙ got_first xs ys place x e))
           (member_stays id place ((c.course.at s).child number) x has h)
 
   -- where a child that was begun is at home
-  begun_there : (id place number : ℕ) (n : Nursery) → nursery_at new.world.book id ≡ Some n → (r : BeginsThere id place number T.took.tasks T.move.begun) →
-      (b : Begun) → IsBegun T.took.numbers_after new.world.book (blocks_of after.frames.items) (waits_of after.halt) r.task b → slice_get n.children place ≡ Some None
+  begun_there : (id place number : ℕ) (n : Nursery) → nursery_at new.world.book id ≡ Some n →
+      (r : BeginsThere id place number T.took.tasks T.move.begun) →
+      (b : Begun) → IsBegun T.took.numbers_after new.world.book (blocks_of after.frames.items) (waits_of after.halt) r.task b →
+          slice_get n.children place ≡ Some None
   begun_there id place number n at r b h =
-      let here : Some (h.home.nursery, h.home.place) ≡ Some (id, place) = sym (ap (option_map (λ (x : Home). (x.nursery, x.place))) h.at_home) ∙ r.home in
+      let here : Some (h.home.nursery, h.home.place) ≡ Some (id, place) =
+          sym (ap (option_map (λ (x : Home). (x.nursery, x.place))) h.at_home) ∙ r.home in
       let pair : (h.home.nursery, h.home.place) ≡ (id, place) = one_of (h.home.nursery, h.home.place) (id, place) here in
       let o = finds new.world.book h.home.nursery _ h.nursery in
       let same : Some o.0 ≡ Some n = sym o.1 ∙ (ap (λ (z : ℕ × ℕ). nursery_at new.world.book z.0) pair ∙ at) in
       sym (ap (λ (x : Nursery). slice_get x.children h.home.place) (one_of o.0 n same) ∙ ap (λ (z : ℕ × ℕ). slice_get n.children z.1) pair)
       ∙ o.2.1
 
-  new_member : (id place number : ℕ) (n : Nursery) → nursery_at new.world.book id ≡ Some n → BeginsThere id place number T.took.tasks T.move.begun →
+  new_member : (id place number : ℕ) (n : Nursery) → nursery_at new.world.book id ≡ Some n →
+      BeginsThere id place number T.took.tasks T.move.begun →
       (number < moved_to.count) × IsMember new T.is.at t id place (moved_to.child number) (slice_get n.children place)
   new_member id place number n at r =
-      let h = begun_at T.took.numbers_after new.world.book (blocks_of after.frames.items) (waits_of after.halt) T.took.tasks T.move.begun T.took.begun r.index r.task r.is in
+      let h = begun_at T.took.numbers_after new.world.book (blocks_of after.frames.items) (waits_of after.halt) T.took.tasks T.move.begun
+          T.took.begun r.index r.task r.is in
       let is : number ≡ (c.course.at s).count + r.index =
       sym r.number_is ∙ numbered_on (c.course.at s).count T.move.made T.move.begun T.promise.starts r.index r.child r.begun in
       let short : r.index < length T.move.begun = below_length T.move.begun r.index r.child r.begun in
@@ -100,7 +112,8 @@ module _ (k : Table) (job : Job) (input : List ℕ) (t m s : ℕ) (old new : Cre
       later_child (c.course.at s).count (c.course.at s).child m number (omega (arith, is)) in
       let serial : m + (number - (c.course.at s).count) ≡ m + r.index = omega (arith, is) in (
         omega (arith, is, short),
-        subst (λ (e : Option End). IsMember new T.is.at t id place (moved_to.child number) e) (sym (begun_there id place number n at r h.0 h.2))
+        subst (λ (e : Option End). IsMember new T.is.at t id place (moved_to.child number) e)
+            (sym (begun_there id place number n at r h.0 h.2))
             (r.task, ap new.task (child ∙ serial) ∙ (T.child_after r.index ∙ r.is), r.home),
       )
 
@@ -116,7 +129,8 @@ module _ (k : Table) (job : Job) (input : List ℕ) (t m s : ℕ) (old new : Cre
           (number < moved_to.count) × IsMember new T.is.at t id place (moved_to.child number) (slice_get found.0.children place)
       members place number at = by_cover (T.took.covered id place number has at)
         where
-          by_cover : (HasBlock id (blocks_of before.frames.items) × (slice_get (c.numbers s id) place ≡ Some number)) ⊎ BeginsAt id place number T.took.tasks T.move.begun →
+          by_cover : (HasBlock id (blocks_of before.frames.items) × (slice_get (c.numbers s id) place ≡ Some number))
+              ⊎ BeginsAt id place number T.took.tasks T.move.begun →
               (number < moved_to.count) × IsMember new T.is.at t id place (moved_to.child number) (slice_get found.0.children place)
           by_cover (inl h) = old_member id place number found.0 found.1 h.0 h.1
           by_cover (inr h) = new_member id place number found.0 found.1 (begins_there id place number T.took.tasks T.move.begun h)

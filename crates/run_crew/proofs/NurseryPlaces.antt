@@ -53,7 +53,8 @@ first_key a b xs ys e = cc
 other_keys : (a b : ℕ) (xs ys : List ℕ) → a ∷ xs ≡ b ∷ ys → xs ≡ ys
 other_keys a b xs ys e = cc
 
-first_at : (labels : Labels) (f : Table) (key : ℕ) (keys : List ℕ) (st : Stack) (ps : List Place) → AreAt labels f st ps → keys_of st ≡ key ∷ keys → First labels f key keys st ps
+first_at : (labels : Labels) (f : Table) (key : ℕ) (keys : List ℕ) (st : Stack) (ps : List Place) → AreAt labels f st ps →
+    keys_of st ≡ key ∷ keys → First labels f key keys st ps
 first_at labels f key keys [] ps a e = absurd (let g : [] ≡ key ∷ keys = e in cc)
 first_at labels f key keys (l ∷ ls) [] a e = absurd a
 first_at labels f key keys (l ∷ ls) (p ∷ ps) a e =
@@ -90,7 +91,8 @@ same_places labels f (l ∷ ls) (p ∷ ps) (q ∷ qs) a b =
     ∙ ap (λ (zs : List Place). q ∷ zs) (same_places labels f ls ps qs a.3 b.3)
 
 -- the stack of the key is that rest, where stacks are chains
-pub stack_here : (labels : Labels) (f : Table) (tree : Tree) (scope : Option ℕ) (key : ℕ) (ps : List Place) → IsChain tree → StandsIn labels f key (outer_of tree scope) ps →
+pub stack_here : (labels : Labels) (f : Table) (tree : Tree) (scope : Option ℕ) (key : ℕ) (ps : List Place) → IsChain tree →
+    StandsIn labels f key (outer_of tree scope) ps →
     (st : Stack) × (stack_of tree key ≡ Some st) × AreAt labels f st ps
 stack_here labels f tree None key ps chain h = absurd (none h.before h.is)
   where
@@ -103,7 +105,8 @@ stack_here labels f tree (Some scope) key ps chain h = by_stack (stack_of tree s
     none [] e = cc
     none (l ∷ before) e = cc
 
-    by_stack : (o : Option Stack) → stack_of tree scope ≡ o → unwrap_or o [] ≡ h.before ++ h.level ∷ h.behind → (st : Stack) × (stack_of tree key ≡ Some st) × AreAt labels f st ps
+    by_stack : (o : Option Stack) → stack_of tree scope ≡ o → unwrap_or o [] ≡ h.before ++ h.level ∷ h.behind → (st : Stack)
+        × (stack_of tree key ≡ Some st) × AreAt labels f st ps
     by_stack None e is = absurd (none h.before is)
     by_stack (Some st) e is =
         (h.level ∷ h.behind, ap (stack_of tree) (sym h.named) ∙ chain scope st e h.before h.level h.behind is, h.at)
@@ -112,10 +115,13 @@ stack_here labels f tree (Some scope) key ps chain h = by_stack (stack_of tree s
 
 -- a stop is that of a task which waits for this nursery, or for none
 abbrev pub IsStop : Numbers → Option ℕ → rest.Stopped → Type 0
-IsStop numbers None stopped = ((ps : List Place) → places_behind (Some stopped) ps ≡ ps) × ((i : ℕ) (home ps : List Place) → WaitsFor i home (Some stopped) ps → ⊥)
-IsStop numbers (Some id) stopped = (children : List ℕ) × (u : ℕ) × (e : Option Exc) × (stopped ≡ rest.awaiting children u e) × (numbers id ≡ children)
+IsStop numbers None stopped = ((ps : List Place) → places_behind (Some stopped) ps ≡ ps)
+    × ((i : ℕ) (home ps : List Place) → WaitsFor i home (Some stopped) ps → ⊥)
+IsStop numbers (Some id) stopped = (children : List ℕ) × (u : ℕ) × (e : Option Exc) × (stopped ≡ rest.awaiting children u e)
+    × (numbers id ≡ children)
 
-pub is_stop : (numbers : Numbers) (book : NurseryBook) (halt : Halt) (stopped : rest.Stopped) → IsHalt numbers book halt stopped → IsStop numbers (waits_of halt) stopped
+pub is_stop : (numbers : Numbers) (book : NurseryBook) (halt : Halt) (stopped : rest.Stopped) → IsHalt numbers book halt stopped →
+    IsStop numbers (waits_of halt) stopped
 is_stop numbers book ToBegin rest.to_begin h = ((λ ps. refl), (λ i home ps w. w))
 is_stop numbers book (Asked kernel purpose) (rest.asking k p) h = ((λ ps. refl), (λ i home ps w. w))
 is_stop numbers book (Asleep ticks since) (rest.asleep n u) h = ((λ ps. refl), (λ i home ps w. w))
@@ -127,7 +133,8 @@ is_stop numbers book _ _ h = absurd h
 
 -- a nursery of the task has this child, and its scope's stack is these places
 pub record Found
-    (labels : Labels) (book : NurseryBook) (f : Table) (numbers : Numbers) (bs : List Block) (waits : Option ℕ) (st : Stack) (i : ℕ) (home : List Place) : Type 0
+    (labels : Labels) (book : NurseryBook) (f : Table) (numbers : Numbers) (bs : List Block) (waits : Option ℕ) (st : Stack) (i : ℕ)
+        (home : List Place) : Type 0
   where
     pub id : ℕ
     pub scope : Own
@@ -136,7 +143,8 @@ pub record Found
     pub nursery : HasNursery book id (λ n. n.scope ≡ scope.id)
     pub at : StandsIn labels f scope.id st home
 
-found_more : {labels : Labels} {book : NurseryBook} {f : Table} {numbers : Numbers} {bs cs : List Block} {waits : Option ℕ} {st : Stack} {i : ℕ} {home : List Place} →
+found_more : {labels : Labels} {book : NurseryBook} {f : Table} {numbers : Numbers} {bs cs : List Block} {waits : Option ℕ} {st : Stack}
+    {i : ℕ} {home : List Place} →
     ((id : ℕ) → HasBlock id bs → HasBlock id cs) →
     Found labels book f numbers bs waits st i home → Found labels book f numbers cs waits st i home
 found_more {bs = bs} {cs = cs} {waits = waits} more h =
@@ -149,7 +157,8 @@ found_more {bs = bs} {cs = cs} {waits = waits} more h =
 -- The outer frames of a task stand at a rest of its places, which are those of a rest of its stack: each child of a nursery
 -- is one of theirs, or of the inner blocks.
 pub record Outer
-    (labels : Labels) (book : NurseryBook) (f : Table) (numbers : Numbers) (bs : List Block) (waits : Option ℕ) (stopped : rest.Stopped) (keys : List ℕ) (outer fs : List rest.Frame) (st : Stack) (ps : List Place) : Type 0
+    (labels : Labels) (book : NurseryBook) (f : Table) (numbers : Numbers) (bs : List Block) (waits : Option ℕ) (stopped : rest.Stopped)
+        (keys : List ℕ) (outer fs : List rest.Frame) (st : Stack) (ps : List Place) : Type 0
   where
     pub before : Stack
     pub stack : Stack
@@ -167,8 +176,10 @@ has_weaker None weaker h = h
 has_weaker (Some n) weaker h = weaker n h
 
 -- one frame that is no block
-outer_plain : {labels : Labels} {book : NurseryBook} {f : Table} {numbers : Numbers} {bs : List Block} {waits : Option ℕ} {stopped : rest.Stopped} {keys : List ℕ} {outer more fs : List rest.Frame} {st : Stack} {ps : List Place} →
-    ((i : ℕ) (home qs : List Place) → HasChild i home outer qs → HasChild i home more qs) → ((i : ℕ) (home qs : List Place) → HasChild i home more qs → HasChild i home outer qs) →
+outer_plain : {labels : Labels} {book : NurseryBook} {f : Table} {numbers : Numbers} {bs : List Block} {waits : Option ℕ}
+    {stopped : rest.Stopped} {keys : List ℕ} {outer more fs : List rest.Frame} {st : Stack} {ps : List Place} →
+    ((i : ℕ) (home qs : List Place) → HasChild i home outer qs → HasChild i home more qs) →
+        ((i : ℕ) (home qs : List Place) → HasChild i home more qs → HasChild i home outer qs) →
     Outer labels book f numbers bs waits stopped keys more fs st ps → Outer labels book f numbers bs waits stopped keys outer fs st ps
 outer_plain {labels} {book} {f} {numbers} {bs} {waits} {stopped} {keys} {outer} {more} {fs} {st} {ps} to back r =
     record {
@@ -182,7 +193,8 @@ outer_plain {labels} {book} {f} {numbers} {bs} {waits} {stopped} {keys} {outer} 
       outside = λ i home c. by_case i home (r.outside i home c);
     }
   where
-    by_case : (i : ℕ) (home : List Place) → Found labels book f numbers bs waits st i home ⊎ HasChild i home more r.places → Found labels book f numbers bs waits st i home ⊎ HasChild i home outer r.places
+    by_case : (i : ℕ) (home : List Place) → Found labels book f numbers bs waits st i home ⊎ HasChild i home more r.places →
+        Found labels book f numbers bs waits st i home ⊎ HasChild i home outer r.places
     by_case i home (inl x) = inl x
     by_case i home (inr c) = inr (back i home r.places c)
 
@@ -190,7 +202,8 @@ outer_plain {labels} {book} {f} {numbers} {bs} {waits} {stopped} {keys} {outer} 
 longer : (st before stack behind : Stack) (l : Level ℕ) → st ≡ before ++ stack → stack ≡ l ∷ behind → st ≡ before ++ l ∷ behind
 longer st before stack behind l e g = e ∙ ap (λ (z : Stack). before ++ z) g
 
-stands_first : {labels : Labels} {f : Table} {key : ℕ} {keys : List ℕ} (st before stack : Stack) {ps : List Place} → st ≡ before ++ stack → (first : First labels f key keys stack ps) →
+stands_first : {labels : Labels} {f : Table} {key : ℕ} {keys : List ℕ} (st before stack : Stack) {ps : List Place} → st ≡ before ++ stack →
+    (first : First labels f key keys stack ps) →
     StandsIn labels f key st (first.place ∷ first.places)
 stands_first st before stack e first =
     record {
@@ -203,12 +216,14 @@ stands_first st before stack e first =
     }
 
 -- one block, with its scope
-outer_block : {labels : Labels} {book : NurseryBook} {f : Table} {numbers : Numbers} {bs cs : List Block} {waits : Option ℕ} {stopped : rest.Stopped} {keys : List ℕ} {outer more fs : List rest.Frame} {st : Stack} {ps : List Place} (o : Own) →
+outer_block : {labels : Labels} {book : NurseryBook} {f : Table} {numbers : Numbers} {bs cs : List Block} {waits : Option ℕ}
+    {stopped : rest.Stopped} {keys : List ℕ} {outer more fs : List rest.Frame} {st : Stack} {ps : List Place} (o : Own) →
     ((i : ℕ) (home : List Place) (p : Place) (qs : List Place) → HasChild i home outer qs → HasChild i home more (p ∷ qs)) →
     ((id : ℕ) → HasBlock id bs → HasBlock id cs) →
     ((i : ℕ) (home : List Place) (p : Place) (qs : List Place) → StandsIn labels f o.id st (p ∷ qs) → HasChild i home more (p ∷ qs) →
     Found labels book f numbers cs waits st i home ⊎ HasChild i home outer qs) →
-    Outer labels book f numbers bs waits stopped (o.id ∷ keys) more fs st ps → Outer labels book f numbers cs waits stopped keys outer fs st ps
+    Outer labels book f numbers bs waits stopped (o.id ∷ keys) more fs st ps →
+        Outer labels book f numbers cs waits stopped keys outer fs st ps
 outer_block {labels} {book} {f} {numbers} {bs} {cs} {waits} {stopped} {keys} {outer} {more} {fs} {st} {ps} o to blocks back r =
     record {
       before = r.before ++ first.level ∷ [];
@@ -232,8 +247,10 @@ outer_block {labels} {book} {f} {numbers} {bs} {cs} {waits} {stopped} {keys} {ou
     by_case i home (inl x) = inl (found_more blocks x)
     by_case i home (inr c) = back i home first.place first.places here (subst (HasChild i home more) first.are c)
 
-pub carry : (labels : Labels) (book : NurseryBook) (f : Table) (numbers : Numbers) (fs : List Frame) (own : List Own) (waits : Option ℕ) (stopped : rest.Stopped) (keys : List ℕ) (outer : List rest.Frame)
-    (st : Stack) (ps : List Place) → Opened labels book (blocks_of fs) own waits → IsStop numbers waits stopped → AreAt labels f st ps → keys_of st ≡ keys_in own ++ keys →
+pub carry : (labels : Labels) (book : NurseryBook) (f : Table) (numbers : Numbers) (fs : List Frame) (own : List Own) (waits : Option ℕ)
+    (stopped : rest.Stopped) (keys : List ℕ) (outer : List rest.Frame)
+    (st : Stack) (ps : List Place) → Opened labels book (blocks_of fs) own waits → IsStop numbers waits stopped → AreAt labels f st ps →
+        keys_of st ≡ keys_in own ++ keys →
     Outer labels book f numbers (blocks_of fs) waits stopped keys outer (frames_onto numbers fs outer) st ps
 carry labels book f numbers [] [] None stopped keys outer st ps opened stop at e =
     record {
@@ -247,7 +264,8 @@ carry labels book f numbers [] [] None stopped keys outer st ps opened stop at e
       outside = λ i home c. by_case i home c;
     }
   where
-    by_case : (i : ℕ) (home : List Place) → HasChildAfter i home (Some stopped) outer ps → Found labels book f numbers [] None st i home ⊎ HasChild i home outer ps
+    by_case : (i : ℕ) (home : List Place) → HasChildAfter i home (Some stopped) outer ps → Found labels book f numbers [] None st i home
+        ⊎ HasChild i home outer ps
     by_case i home (inl w) = absurd (stop.1 i home ps w)
     by_case i home (inr c) = inr (subst (HasChild i home outer) (stop.0 ps) c)
 carry labels book f numbers [] [] (Some id) stopped keys outer st ps opened stop at e = absurd opened
@@ -268,12 +286,16 @@ carry labels book f numbers [] (o ∷ own) (Some id) stopped keys outer st ps op
     first = first_at labels f o.id keys st ps at (e ∙ ap (λ (xs : List Own). (keys_in xs ++ o.id ∷ []) ++ keys) opened.0)
 
     behind : places_behind (Some stopped) ps ≡ first.places
-    behind = ap (λ (s : rest.Stopped). places_behind (Some s) ps) stop.3 ∙ ap (places_behind (Some (rest.awaiting stop.0 stop.1 stop.2))) first.are
+    behind = ap (λ (s : rest.Stopped). places_behind (Some s) ps) stop.3
+        ∙ ap (places_behind (Some (rest.awaiting stop.0 stop.1 stop.2))) first.are
 
-    waited : (i : ℕ) (home : List Place) → WaitsFor i home (Some stopped) ps → WaitsFor i home (Some (rest.awaiting stop.0 stop.1 stop.2)) (first.place ∷ first.places)
-    waited i home w = subst (WaitsFor i home (Some (rest.awaiting stop.0 stop.1 stop.2))) first.are (subst (λ (s : rest.Stopped). WaitsFor i home (Some s) ps) stop.3 w)
+    waited : (i : ℕ) (home : List Place) → WaitsFor i home (Some stopped) ps →
+        WaitsFor i home (Some (rest.awaiting stop.0 stop.1 stop.2)) (first.place ∷ first.places)
+    waited i home w = subst (WaitsFor i home (Some (rest.awaiting stop.0 stop.1 stop.2))) first.are
+        (subst (λ (s : rest.Stopped). WaitsFor i home (Some s) ps) stop.3 w)
 
-    by_case : (i : ℕ) (home : List Place) → HasChildAfter i home (Some stopped) outer ps → Found labels book f numbers [] (Some id) st i home ⊎ HasChild i home outer first.places
+    by_case : (i : ℕ) (home : List Place) → HasChildAfter i home (Some stopped) outer ps →
+        Found labels book f numbers [] (Some id) st i home ⊎ HasChild i home outer first.places
     by_case i home (inl w) =
         let a = waited i home w in
         inl (record {
@@ -294,23 +316,30 @@ carry labels book f numbers [] (o ∷ own) (Some id) stopped keys outer st ps op
         })
     by_case i home (inr c) = inr (subst (HasChild i home outer) behind c)
 carry labels book f numbers (Steps steps ∷ fs) own waits stopped keys outer st ps opened stop at e =
-    outer_plain (λ i home qs c. c) (λ i home qs c. c) (carry labels book f numbers fs own waits stopped keys (frame_of numbers (Steps steps) ∷ outer) st ps opened stop at e)
+    outer_plain (λ i home qs c. c) (λ i home qs c. c) (carry labels book f numbers fs own waits stopped keys
+        (frame_of numbers (Steps steps) ∷ outer) st ps opened stop at e)
 carry labels book f numbers (Try handler cleanup ∷ fs) own waits stopped keys outer st ps opened stop at e =
-    outer_plain (λ i home qs c. c) (λ i home qs c. c) (carry labels book f numbers fs own waits stopped keys (frame_of numbers (Try handler cleanup) ∷ outer) st ps opened stop at e)
+    outer_plain (λ i home qs c. c) (λ i home qs c. c) (carry labels book f numbers fs own waits stopped keys
+        (frame_of numbers (Try handler cleanup) ∷ outer) st ps opened stop at e)
 carry labels book f numbers (Handler others cleanup ∷ fs) own waits stopped keys outer st ps opened stop at e =
-    outer_plain (λ i home qs c. c) (λ i home qs c. c) (carry labels book f numbers fs own waits stopped keys (frame_of numbers (Handler others cleanup) ∷ outer) st ps opened stop at e)
+    outer_plain (λ i home qs c. c) (λ i home qs c. c) (carry labels book f numbers fs own waits stopped keys
+        (frame_of numbers (Handler others cleanup) ∷ outer) st ps opened stop at e)
 carry labels book f numbers (Cleanup outcome ∷ fs) own waits stopped keys outer st ps opened stop at e =
-    outer_plain (λ i home qs c. c) (λ i home qs c. c) (carry labels book f numbers fs own waits stopped keys (frame_of numbers (Cleanup outcome) ∷ outer) st ps opened stop at e)
+    outer_plain (λ i home qs c. c) (λ i home qs c. c) (carry labels book f numbers fs own waits stopped keys
+        (frame_of numbers (Cleanup outcome) ∷ outer) st ps opened stop at e)
 carry labels book f numbers (Scope fail ∷ fs) [] waits stopped keys outer st ps opened stop at e = absurd opened
 carry labels book f numbers (Scope fail ∷ fs) (o ∷ own) waits stopped keys outer st ps opened stop at e =
     outer_block o (λ i home p qs c. c) (λ id b. b) (λ i home p qs here c. inr c)
-    (carry labels book f numbers fs own waits stopped (o.id ∷ keys) (rest.in_scope fail ∷ outer) st ps opened.2 stop at (e ∙ append_assoc (keys_in own) (o.id ∷ []) keys))
+    (carry labels book f numbers fs own waits stopped (o.id ∷ keys) (rest.in_scope fail ∷ outer) st ps opened.2 stop at
+        (e ∙ append_assoc (keys_in own) (o.id ∷ []) keys))
 carry labels book f numbers (Nursery key ∷ fs) [] waits stopped keys outer st ps opened stop at e = absurd opened
 carry labels book f numbers (Nursery key ∷ fs) (o ∷ own) waits stopped keys outer st ps opened stop at e =
     outer_block o (λ i home p qs c. inr c) (λ id b. inr b) back
-    (carry labels book f numbers fs own waits stopped (o.id ∷ keys) (rest.in_nursery (numbers key) ∷ outer) st ps opened.2 stop at (e ∙ append_assoc (keys_in own) (o.id ∷ []) keys))
+    (carry labels book f numbers fs own waits stopped (o.id ∷ keys) (rest.in_nursery (numbers key) ∷ outer) st ps opened.2 stop at
+        (e ∙ append_assoc (keys_in own) (o.id ∷ []) keys))
   where
-    back : (i : ℕ) (home : List Place) (p : Place) (qs : List Place) → StandsIn labels f o.id st (p ∷ qs) → HasChild i home (rest.in_nursery (numbers key) ∷ outer) (p ∷ qs) →
+    back : (i : ℕ) (home : List Place) (p : Place) (qs : List Place) → StandsIn labels f o.id st (p ∷ qs) →
+        HasChild i home (rest.in_nursery (numbers key) ∷ outer) (p ∷ qs) →
         Found labels book f numbers (a_nursery key ∷ blocks_of fs) waits st i home ⊎ HasChild i home outer qs
     back i home p qs here (inl c) =
         inl (record {
@@ -325,15 +354,19 @@ carry labels book f numbers (Nursery key ∷ fs) (o ∷ own) waits stopped keys 
 
 -- A child of a nursery of a task, in whose body it started, or for which it waits: its home's places are those of the stack of
 -- the nursery's scope.
-pub found : (labels : Labels) (book : NurseryBook) (f : Table) (numbers : Numbers) (fs : List Frame) (own : List Own) (waits : Option ℕ) (stopped : rest.Stopped) (keys : List ℕ)
-    (st : Stack) (ps : List Place) → Opened labels book (blocks_of fs) own waits → IsStop numbers waits stopped → AreAt labels f st ps → keys_of st ≡ keys_in own ++ keys →
-    (i : ℕ) (home : List Place) → HasChildAfter i home (Some stopped) (frames_of numbers fs) ps → Found labels book f numbers (blocks_of fs) waits st i home
+pub found : (labels : Labels) (book : NurseryBook) (f : Table) (numbers : Numbers) (fs : List Frame) (own : List Own) (waits : Option ℕ)
+    (stopped : rest.Stopped) (keys : List ℕ)
+    (st : Stack) (ps : List Place) → Opened labels book (blocks_of fs) own waits → IsStop numbers waits stopped → AreAt labels f st ps →
+        keys_of st ≡ keys_in own ++ keys →
+    (i : ℕ) (home : List Place) → HasChildAfter i home (Some stopped) (frames_of numbers fs) ps →
+        Found labels book f numbers (blocks_of fs) waits st i home
 found labels book f numbers fs own waits stopped keys st ps opened stop at e i home c = by_case (r.outside i home c)
   where
     r : Outer labels book f numbers (blocks_of fs) waits stopped keys [] (frames_of numbers fs) st ps
     r = carry labels book f numbers fs own waits stopped keys [] st ps opened stop at e
 
-    by_case : Found labels book f numbers (blocks_of fs) waits st i home ⊎ HasChild i home [] r.places → Found labels book f numbers (blocks_of fs) waits st i home
+    by_case : Found labels book f numbers (blocks_of fs) waits st i home ⊎ HasChild i home [] r.places →
+        Found labels book f numbers (blocks_of fs) waits st i home
     by_case (inl x) = x
     by_case (inr c) = absurd c
 
@@ -347,35 +380,49 @@ pub record Housed
     pub nursery : HasNursery book id (λ n. n.scope ≡ scope.id)
     pub at : StandsIn labels f scope.id st home
 
-pub housed_onto : (labels : Labels) (book : NurseryBook) (f : Table) (numbers : Numbers) (fs : List Frame) (own : List Own) (waits : Option ℕ) (stopped : rest.Stopped) (keys : List ℕ) (outer : List rest.Frame)
-    (st : Stack) (ps : List Place) → Opened labels book (blocks_of fs) own waits → IsStop numbers waits stopped → AreAt labels f st ps → keys_of st ≡ keys_in own ++ keys →
-    (id i : ℕ) → HasBlock id (blocks_of fs) → IsAmong i (numbers id) → Housed labels book f id i (frames_onto numbers fs outer) st (places_behind (Some stopped) ps)
+pub housed_onto : (labels : Labels) (book : NurseryBook) (f : Table) (numbers : Numbers) (fs : List Frame) (own : List Own)
+    (waits : Option ℕ) (stopped : rest.Stopped) (keys : List ℕ) (outer : List rest.Frame)
+    (st : Stack) (ps : List Place) → Opened labels book (blocks_of fs) own waits → IsStop numbers waits stopped → AreAt labels f st ps →
+        keys_of st ≡ keys_in own ++ keys →
+    (id i : ℕ) → HasBlock id (blocks_of fs) → IsAmong i (numbers id) →
+        Housed labels book f id i (frames_onto numbers fs outer) st (places_behind (Some stopped) ps)
 housed_onto labels book f numbers [] own waits stopped keys outer st ps opened stop at e id i has among = absurd has
 housed_onto labels book f numbers (Steps steps ∷ fs) own waits stopped keys outer st ps opened stop at e id i has among =
-    housed_onto labels book f numbers fs own waits stopped keys (frame_of numbers (Steps steps) ∷ outer) st ps opened stop at e id i has among
+    housed_onto labels book f numbers fs own waits stopped keys (frame_of numbers (Steps steps) ∷ outer) st ps opened stop at e id i has
+        among
 housed_onto labels book f numbers (Try handler cleanup ∷ fs) own waits stopped keys outer st ps opened stop at e id i has among =
-    housed_onto labels book f numbers fs own waits stopped keys (frame_of numbers (Try handler cleanup) ∷ outer) st ps opened stop at e id i has among
+    housed_onto labels book f numbers fs own waits stopped keys (frame_of numbers (Try handler cleanup) ∷ outer) st ps opened stop at e id i
+        has among
 housed_onto labels book f numbers (Handler others cleanup ∷ fs) own waits stopped keys outer st ps opened stop at e id i has among =
-    housed_onto labels book f numbers fs own waits stopped keys (frame_of numbers (Handler others cleanup) ∷ outer) st ps opened stop at e id i has among
+    housed_onto labels book f numbers fs own waits stopped keys (frame_of numbers (Handler others cleanup) ∷ outer) st ps opened stop at e
+        id i has among
 housed_onto labels book f numbers (Cleanup outcome ∷ fs) own waits stopped keys outer st ps opened stop at e id i has among =
-    housed_onto labels book f numbers fs own waits stopped keys (frame_of numbers (Cleanup outcome) ∷ outer) st ps opened stop at e id i has among
+    housed_onto labels book f numbers fs own waits stopped keys (frame_of numbers (Cleanup outcome) ∷ outer) st ps opened stop at e id i has
+        among
 housed_onto labels book f numbers (Scope fail ∷ fs) [] waits stopped keys outer st ps opened stop at e id i has among = absurd opened
 housed_onto labels book f numbers (Scope fail ∷ fs) (o ∷ own) waits stopped keys outer st ps opened stop at e id i has among =
-    housed_onto labels book f numbers fs own waits stopped (o.id ∷ keys) (rest.in_scope fail ∷ outer) st ps opened.2 stop at (e ∙ append_assoc (keys_in own) (o.id ∷ []) keys) id i has among
+    housed_onto labels book f numbers fs own waits stopped (o.id ∷ keys) (rest.in_scope fail ∷ outer) st ps opened.2 stop at
+        (e ∙ append_assoc (keys_in own) (o.id ∷ []) keys) id i has among
 housed_onto labels book f numbers (Nursery key ∷ fs) [] waits stopped keys outer st ps opened stop at e id i has among = absurd opened
 housed_onto labels book f numbers (Nursery key ∷ fs) (o ∷ own) waits stopped keys outer st ps opened stop at e id i (inr has) among =
-    housed_onto labels book f numbers fs own waits stopped (o.id ∷ keys) (rest.in_nursery (numbers key) ∷ outer) st ps opened.2 stop at (e ∙ append_assoc (keys_in own) (o.id ∷ []) keys) id i has among
+    housed_onto labels book f numbers fs own waits stopped (o.id ∷ keys) (rest.in_nursery (numbers key) ∷ outer) st ps opened.2 stop at
+        (e ∙ append_assoc (keys_in own) (o.id ∷ []) keys) id i has among
 housed_onto labels book f numbers (Nursery key ∷ fs) (o ∷ own) waits stopped keys outer st ps opened stop at e id i (inl same) among =
     record {
       home = first.place ∷ first.places;
       scope = o;
-      child = r.inside i (first.place ∷ first.places) (subst (HasChild i (first.place ∷ first.places) (rest.in_nursery (numbers key) ∷ outer)) (sym first.are) (inl (subst (λ (k : ℕ). IsAmong i (numbers k)) same among, refl)));
-      nursery = subst (λ (k : ℕ). HasNursery book k (λ n. n.scope ≡ o.id)) (sym same) (has_weaker (nursery_at book key) (λ n h. h.0.scope) opened.0);
+      child = r.inside i (first.place ∷ first.places)
+          (subst (HasChild i (first.place ∷ first.places) (rest.in_nursery (numbers key) ∷ outer)) (sym first.are)
+          (inl (subst (λ (k : ℕ). IsAmong i (numbers k)) same among, refl)));
+      nursery = subst (λ (k : ℕ). HasNursery book k (λ n. n.scope ≡ o.id)) (sym same)
+          (has_weaker (nursery_at book key) (λ n h. h.0.scope) opened.0);
       at = stands_first st r.before r.stack r.is first;
     }
   where
-    r : Outer labels book f numbers (blocks_of fs) waits stopped (o.id ∷ keys) (rest.in_nursery (numbers key) ∷ outer) (frames_onto numbers fs (rest.in_nursery (numbers key) ∷ outer)) st ps
-    r = carry labels book f numbers fs own waits stopped (o.id ∷ keys) (rest.in_nursery (numbers key) ∷ outer) st ps opened.2 stop at (e ∙ append_assoc (keys_in own) (o.id ∷ []) keys)
+    r : Outer labels book f numbers (blocks_of fs) waits stopped (o.id ∷ keys) (rest.in_nursery (numbers key) ∷ outer)
+        (frames_onto numbers fs (rest.in_nursery (numbers key) ∷ outer)) st ps
+    r = carry labels book f numbers fs own waits stopped (o.id ∷ keys) (rest.in_nursery (numbers key) ∷ outer) st ps opened.2 stop at
+        (e ∙ append_assoc (keys_in own) (o.id ∷ []) keys)
 
     first : First labels f o.id keys r.stack r.places
     first = first_at labels f o.id keys r.stack r.places r.at r.others

@@ -47,9 +47,12 @@ unsettled n i e s = by_body (is_some n.body) s
     by_body false f = let g : false ≡ true = f in cc
 
 -- a home among the nurseries of the mover is one of its blocks
-pub home_block : {k : Table} {job : Job} {input : List ℕ} {t m s : ℕ} {old new : Crew} {before after : Task} {stop : Stop} → (c : IsCrew k job input t m None old) →
-    Turning k job input t m s old new c.numbers before after stop c.course → (home : Home) → HasNurseryOf home.nursery (blocks_of before.frames.items) (waits_of before.halt) →
-    HasNursery old.world.book home.nursery (λ n. (n.scope ≡ home.scope) × (slice_get n.children home.place ≡ Some None)) → HasBlock home.nursery (blocks_of before.frames.items)
+pub home_block : {k : Table} {job : Job} {input : List ℕ} {t m s : ℕ} {old new : Crew} {before after : Task} {stop : Stop} →
+    (c : IsCrew k job input t m None old) →
+    Turning k job input t m s old new c.numbers before after stop c.course → (home : Home) →
+        HasNurseryOf home.nursery (blocks_of before.frames.items) (waits_of before.halt) →
+    HasNursery old.world.book home.nursery (λ n. (n.scope ≡ home.scope) × (slice_get n.children home.place ≡ Some None)) →
+        HasBlock home.nursery (blocks_of before.frames.items)
 home_block c T home (inl has) runs = has
 home_block {old = old} c T home (inr waits) runs =
     let n = finds old.world.book home.nursery _ runs in
@@ -57,16 +60,20 @@ home_block {old = old} c T home (inr waits) runs =
     absurd (unsettled n.0 home.place n.2.1 (subst (λ (x : Members). is_settled x ≡ true) (one_of o.0 n.0 (sym o.1 ∙ n.1)) o.2))
 
 -- that nursery after the turn
-pub grown : {k : Table} {job : Job} {input : List ℕ} {t m s : ℕ} {old new : Crew} {before after : Task} {stop : Stop} → (c : IsCrew k job input t m None old) →
+pub grown : {k : Table} {job : Job} {input : List ℕ} {t m s : ℕ} {old new : Crew} {before after : Task} {stop : Stop} →
+    (c : IsCrew k job input t m None old) →
     (T : Turning k job input t m s old new c.numbers before after stop c.course) → (id : ℕ) → HasBlock id (blocks_of before.frames.items) →
-    (n : Members) → nursery_at old.world.book id ≡ Some n → (x : Members) × (nursery_at new.world.book id ≡ Some x) × Grown n x (c.numbers s id) (T.took.numbers_after id)
+    (n : Members) → nursery_at old.world.book id ≡ Some n → (x : Members) × (nursery_at new.world.book id ≡ Some x)
+        × Grown n x (c.numbers s id) (T.took.numbers_after id)
 grown {new = new} c T id has n e = finds new.world.book id _ (T.took.grow id has n e)
 
 -- ---- the home of another task
 
 -- one of the mover's nurseries is one still
-pub mover_owned : {k : Table} {job : Job} {input : List ℕ} {t m s : ℕ} {old new : Crew} {before after : Task} {stop : Stop} → (c : IsCrew k job input t m None old) →
-    (T : Turning k job input t m s old new c.numbers before after stop c.course) → (u : ℕ) (home : Home) → (h : LivesIn old c.course.at c.numbers u home) → h.parent ≡ s →
+pub mover_owned : {k : Table} {job : Job} {input : List ℕ} {t m s : ℕ} {old new : Crew} {before after : Task} {stop : Stop} →
+    (c : IsCrew k job input t m None old) →
+    (T : Turning k job input t m s old new c.numbers before after stop c.course) → (u : ℕ) (home : Home) →
+        (h : LivesIn old c.course.at c.numbers u home) → h.parent ≡ s →
     HasBlock home.nursery (blocks_of before.frames.items) × HasNurseryOf home.nursery (blocks_of after.frames.items) (waits_of after.halt)
 mover_owned {old = old} {before = before} c T u home h e = (block, T.took.kept home.nursery block)
   where
@@ -74,10 +81,13 @@ mover_owned {old = old} {before = before} c T u home h e = (block, T.took.kept h
     starter = one_of h.starter before (sym h.lives ∙ (ap old.task e ∙ T.task))
 
     block : HasBlock home.nursery (blocks_of before.frames.items)
-    block = home_block c T home (subst (λ (x : Task). HasNurseryOf home.nursery (blocks_of x.frames.items) (waits_of x.halt)) starter h.owned) h.runs
+    block = home_block c T home (subst (λ (x : Task). HasNurseryOf home.nursery (blocks_of x.frames.items) (waits_of x.halt)) starter
+        h.owned) h.runs
 
-pub mover_home : {k : Table} {job : Job} {input : List ℕ} {t m s : ℕ} {old new : Crew} {before after : Task} {stop : Stop} → (c : IsCrew k job input t m None old) →
-    (T : Turning k job input t m s old new c.numbers before after stop c.course) → (u : ℕ) (home : Home) → (h : LivesIn old c.course.at c.numbers u home) → h.parent ≡ s →
+pub mover_home : {k : Table} {job : Job} {input : List ℕ} {t m s : ℕ} {old new : Crew} {before after : Task} {stop : Stop} →
+    (c : IsCrew k job input t m None old) →
+    (T : Turning k job input t m s old new c.numbers before after stop c.course) → (u : ℕ) (home : Home) →
+        (h : LivesIn old c.course.at c.numbers u home) → h.parent ≡ s →
     LivesIn new T.is.at (numbers_then c.numbers s m T.took.numbers_after) u home
 mover_home {k} {job} {input} {t} {m} {s} {old} {new} {before} {after} c T u home h e =
     record {
@@ -86,20 +96,25 @@ mover_home {k} {job} {input} {t} {m} {s} {old} {new} {before} {after} c T u home
       lives = T.task_after;
       earlier = subst (λ (p : ℕ). p < u) e h.earlier;
       owned = T.took.kept home.nursery block;
-      runs = subst (λ (o : Option Members). IsSomeAnd o (λ x. (x.scope ≡ home.scope) × (slice_get x.children home.place ≡ Some None))) (sym g.1) (g.2.scope ∙ n.2.0, child);
+      runs = subst (λ (o : Option Members). IsSomeAnd o (λ x. (x.scope ≡ home.scope) × (slice_get x.children home.place ≡ Some None)))
+          (sym g.1) (g.2.scope ∙ n.2.0, child);
       number = h.number;
       stands = ap (λ (f : Numbers). slice_get (f home.nursery) home.place) (numbers_mover c.numbers s m T.took.numbers_after) ∙ number;
-      below = subst (λ (x : ℕ). h.number < x) (sym (ap (λ (q : Started). q.count) T.of_task)) (let b : h.number < (c.course.at s).count = below in omega arith);
-      serial = ap (λ (q : Started). q.child h.number) T.of_task ∙ (old_child (c.course.at s).count (c.course.at s).child m h.number below ∙ subst (λ (p : ℕ). (c.course.at p).child h.number ≡ u) e h.serial);
+      below = subst (λ (x : ℕ). h.number < x) (sym (ap (λ (q : Started). q.count) T.of_task))
+          (let b : h.number < (c.course.at s).count = below in omega arith);
+      serial = ap (λ (q : Started). q.child h.number) T.of_task ∙ (old_child (c.course.at s).count (c.course.at s).child m h.number below
+          ∙ subst (λ (p : ℕ). (c.course.at p).child h.number ≡ u) e h.serial);
     }
   where
     block : HasBlock home.nursery (blocks_of before.frames.items)
     block = (mover_owned c T u home h e).0
 
-    n : (x : Members) × (nursery_at old.world.book home.nursery ≡ Some x) × ((x.scope ≡ home.scope) × (slice_get x.children home.place ≡ Some None))
+    n : (x : Members) × (nursery_at old.world.book home.nursery ≡ Some x)
+        × ((x.scope ≡ home.scope) × (slice_get x.children home.place ≡ Some None))
     n = finds old.world.book home.nursery _ h.runs
 
-    g : (x : Members) × (nursery_at new.world.book home.nursery ≡ Some x) × Grown n.0 x (c.numbers s home.nursery) (T.took.numbers_after home.nursery)
+    g : (x : Members) × (nursery_at new.world.book home.nursery ≡ Some x)
+        × Grown n.0 x (c.numbers s home.nursery) (T.took.numbers_after home.nursery)
     g = grown c T home.nursery block n.0 n.1
 
     child : slice_get g.0.children home.place ≡ Some None
@@ -108,14 +123,17 @@ mover_home {k} {job} {input} {t} {m} {s} {old} {new} {before} {after} c T u home
     number : slice_get (T.took.numbers_after home.nursery) home.place ≡ Some h.number
     number =
         ap (λ (is : List ℕ). slice_get is home.place) g.2.numbers
-        ∙ got_first (c.numbers s home.nursery) g.2.added home.place h.number (subst (λ (p : ℕ). slice_get (c.numbers p home.nursery) home.place ≡ Some h.number) e h.stands)
+        ∙ got_first (c.numbers s home.nursery) g.2.added home.place h.number
+            (subst (λ (p : ℕ). slice_get (c.numbers p home.nursery) home.place ≡ Some h.number) e h.stands)
 
     below : h.number < (c.course.at s).count
     below = subst (λ (p : ℕ). h.number < (c.course.at p).count) e h.below
 
 -- one of another task's
-else_home : {k : Table} {job : Job} {input : List ℕ} {t m s : ℕ} {old new : Crew} {before after : Task} {stop : Stop} → (c : IsCrew k job input t m None old) →
-    (T : Turning k job input t m s old new c.numbers before after stop c.course) → (u : ℕ) (home : Home) → u < m → (h : LivesIn old c.course.at c.numbers u home) → h.parent ≢ s →
+else_home : {k : Table} {job : Job} {input : List ℕ} {t m s : ℕ} {old new : Crew} {before after : Task} {stop : Stop} →
+    (c : IsCrew k job input t m None old) →
+    (T : Turning k job input t m s old new c.numbers before after stop c.course) → (u : ℕ) (home : Home) → u < m →
+        (h : LivesIn old c.course.at c.numbers u home) → h.parent ≢ s →
     LivesIn new T.is.at (numbers_then c.numbers s m T.took.numbers_after) u home
 else_home {k} {job} {input} {t} {m} {s} {old} {new} {before} {after} c T u home small h differs =
     record {
@@ -124,10 +142,12 @@ else_home {k} {job} {input} {t} {m} {s} {old} {new} {before} {after} c T u home 
       lives = T.other_after h.parent low differs ∙ h.lives;
       earlier = h.earlier;
       owned = h.owned;
-      runs = same_nursery (λ x. (x.scope ≡ home.scope) × (slice_get x.children home.place ≡ Some None)) old.world.book new.world.book home.nursery
+      runs = same_nursery (λ x. (x.scope ≡ home.scope) × (slice_get x.children home.place ≡ Some None)) old.world.book new.world.book
+          home.nursery
           (nursery_same c T h.parent h.starter differs h.lives home.nursery h.owned) h.runs;
       number = h.number;
-      stands = ap (λ (f : Numbers). slice_get (f home.nursery) home.place) (numbers_other c.numbers s m T.took.numbers_after h.parent low differs) ∙ h.stands;
+      stands = ap (λ (f : Numbers). slice_get (f home.nursery) home.place)
+          (numbers_other c.numbers s m T.took.numbers_after h.parent low differs) ∙ h.stands;
       below = subst (λ (q : Started). h.number < q.count) (sym (T.of_other h.parent low differs)) h.below;
       serial = ap (λ (q : Started). q.child h.number) (T.of_other h.parent low differs) ∙ h.serial;
     }
@@ -135,8 +155,10 @@ else_home {k} {job} {input} {t} {m} {s} {old} {new} {before} {after} c T u home 
     low : h.parent < m
     low = let e : h.parent < u = h.earlier in omega arith
 
-pub lives_in : {k : Table} {job : Job} {input : List ℕ} {t m s : ℕ} {old new : Crew} {before after : Task} {stop : Stop} → (c : IsCrew k job input t m None old) →
-    (T : Turning k job input t m s old new c.numbers before after stop c.course) → (u : ℕ) (home : Home) → u < m → LivesIn old c.course.at c.numbers u home →
+pub lives_in : {k : Table} {job : Job} {input : List ℕ} {t m s : ℕ} {old new : Crew} {before after : Task} {stop : Stop} →
+    (c : IsCrew k job input t m None old) →
+    (T : Turning k job input t m s old new c.numbers before after stop c.course) → (u : ℕ) (home : Home) → u < m →
+        LivesIn old c.course.at c.numbers u home →
     LivesIn new T.is.at (numbers_then c.numbers s m T.took.numbers_after) u home
 lives_in {k} {job} {input} {t} {m} {s} {old} {new} {before} {after} c T u home small h = by_parent (same_or h.parent s)
   where
@@ -144,8 +166,10 @@ lives_in {k} {job} {input} {t} {m} {s} {old} {new} {before} {after} c T u home s
     by_parent (inl e) = mover_home c T u home h e
     by_parent (inr differs) = else_home c T u home small h differs
 
-pub home_stays : {k : Table} {job : Job} {input : List ℕ} {t m s : ℕ} {old new : Crew} {before after : Task} {stop : Stop} → (c : IsCrew k job input t m None old) →
-    (T : Turning k job input t m s old new c.numbers before after stop c.course) → (u : ℕ) (home : Option Home) → u < m → HasHome old c.course.at c.numbers u home →
+pub home_stays : {k : Table} {job : Job} {input : List ℕ} {t m s : ℕ} {old new : Crew} {before after : Task} {stop : Stop} →
+    (c : IsCrew k job input t m None old) →
+    (T : Turning k job input t m s old new c.numbers before after stop c.course) → (u : ℕ) (home : Option Home) → u < m →
+        HasHome old c.course.at c.numbers u home →
     HasHome new T.is.at (numbers_then c.numbers s m T.took.numbers_after) u home
 home_stays c T u None small h = h
 home_stays c T u (Some home) small h = lives_in c T u home small h
@@ -153,13 +177,16 @@ home_stays c T u (Some home) small h = lives_in c T u home small h
 -- ---- the scope of a home
 
 -- that of another task's nursery is open, and none of the mover's
-pub home_else : {k : Table} {job : Job} {input : List ℕ} {t m s : ℕ} {old new : Crew} {before after : Task} {stop : Stop} → (c : IsCrew k job input t m None old) →
-    Turning k job input t m s old new c.numbers before after stop c.course → (u : ℕ) (home : Home) → (h : LivesIn old c.course.at c.numbers u home) → h.parent ≢ s →
+pub home_else : {k : Table} {job : Job} {input : List ℕ} {t m s : ℕ} {old new : Crew} {before after : Task} {stop : Stop} →
+    (c : IsCrew k job input t m None old) →
+    Turning k job input t m s old new c.numbers before after stop c.course → (u : ℕ) (home : Home) →
+        (h : LivesIn old c.course.at c.numbers u home) → h.parent ≢ s →
     IsOpen old.world.scopes home.scope × AreOthers home.scope before.own.items
 home_else {old = old} {before = before} c T u home h differs =
     let n = finds old.world.book home.nursery _ h.runs in
     let x : HasScope old.world.book h.starter.own.items home.nursery =
-    scope_of_nursery (label_at old.world) old.world.book (blocks_of h.starter.frames.items) h.starter.own.items (waits_of h.starter.halt) home.nursery
+    scope_of_nursery (label_at old.world) old.world.book (blocks_of h.starter.frames.items) h.starter.own.items (waits_of h.starter.halt)
+        home.nursery
     (c.follows h.parent h.starter h.lives).goes.opened h.owned in
     let same : x.scope.id ≡ home.scope = sym x.same ∙ (ap (λ (y : Members). y.scope) (one_of x.nursery n.0 (sym x.at ∙ n.1)) ∙ n.2.0) in (
       subst (IsOpen old.world.scopes) same (own_open c h.parent h.starter h.lives x.scope x.place x.got),
@@ -167,25 +194,32 @@ home_else {old = old} {before = before} c T u home h differs =
     )
 
 -- that of a nursery of the mover's is open after the turn
-mover_open : {k : Table} {job : Job} {input : List ℕ} {t m s : ℕ} {old new : Crew} {before after : Task} {stop : Stop} → (c : IsCrew k job input t m None old) →
-    (T : Turning k job input t m s old new c.numbers before after stop c.course) → (u : ℕ) (home : Home) → (h : LivesIn old c.course.at c.numbers u home) → h.parent ≡ s →
+mover_open : {k : Table} {job : Job} {input : List ℕ} {t m s : ℕ} {old new : Crew} {before after : Task} {stop : Stop} →
+    (c : IsCrew k job input t m None old) →
+    (T : Turning k job input t m s old new c.numbers before after stop c.course) → (u : ℕ) (home : Home) →
+        (h : LivesIn old c.course.at c.numbers u home) → h.parent ≡ s →
     IsOpen new.world.scopes home.scope
 mover_open {new = new} {after = after} c T u home h e =
     let now = mover_home c T u home h e in
     let n = finds new.world.book home.nursery _ now.runs in
     let x : HasScope new.world.book after.own.items home.nursery =
-    scope_of_nursery (label_at new.world) new.world.book (blocks_of after.frames.items) after.own.items (waits_of after.halt) home.nursery T.fits_after.opened
+    scope_of_nursery (label_at new.world) new.world.book (blocks_of after.frames.items) after.own.items (waits_of after.halt) home.nursery
+        T.fits_after.opened
     (mover_owned c T u home h e).1 in
     let same : x.scope.id ≡ home.scope = sym x.same ∙ (ap (λ (y : Members). y.scope) (one_of x.nursery n.0 (sym x.at ∙ n.1)) ∙ n.2.0) in
     subst (IsOpen new.world.scopes) same
-    (open_round new.world.scopes T.sound_after.chain (scope_of after) x.scope.id (own_round (outer_of new.world.scopes (scope_of after)) after.own.items _ x.scope x.place T.fits_after.first x.got))
+    (open_round new.world.scopes T.sound_after.chain (scope_of after) x.scope.id
+        (own_round (outer_of new.world.scopes (scope_of after)) after.own.items _ x.scope x.place T.fits_after.first x.got))
 
 -- so the scope of each home stays open
-pub home_open : {k : Table} {job : Job} {input : List ℕ} {t m s : ℕ} {old new : Crew} {before after : Task} {stop : Stop} → (c : IsCrew k job input t m None old) →
-    (T : Turning k job input t m s old new c.numbers before after stop c.course) → ActsOf c T → (u : ℕ) (home : Option Home) → HasHome old c.course.at c.numbers u home →
+pub home_open : {k : Table} {job : Job} {input : List ℕ} {t m s : ℕ} {old new : Crew} {before after : Task} {stop : Stop} →
+    (c : IsCrew k job input t m None old) →
+    (T : Turning k job input t m s old new c.numbers before after stop c.course) → ActsOf c T → (u : ℕ) (home : Option Home) →
+        HasHome old c.course.at c.numbers u home →
     ForSome (option_map (λ (h : Home). h.scope) home) (IsOpen new.world.scopes)
 home_open c T a u None h key e = absurd (not_both refl e)
-home_open {s = s} {new = new} c T a u (Some home) h key e = subst (IsOpen new.world.scopes) (one_of home.scope key e) (by_parent (same_or h.parent s))
+home_open {s = s} {new = new} c T a u (Some home) h key e =
+    subst (IsOpen new.world.scopes) (one_of home.scope key e) (by_parent (same_or h.parent s))
   where
     by_parent : (h.parent ≡ s) ⊎ (h.parent ≢ s) → IsOpen new.world.scopes home.scope
     by_parent (inl f) = mover_open c T u home h f

@@ -52,14 +52,16 @@ outer_is tree key st e = ap (λ (o : Option Stack). unwrap_or o []) e
 
 -- ---- one scope
 
-pub key_stays_open : {known : Label → Type 0} {t : ℕ} {s u : Scoping} {es : List Event} → Acted known t s u es → (key : ℕ) → IsOpen s.tree key → AreOthers key s.own → IsOpen u.tree key
+pub key_stays_open : {known : Label → Type 0} {t : ℕ} {s u : Scoping} {es : List Event} → Acted known t s u es → (key : ℕ) →
+    IsOpen s.tree key → AreOthers key s.own → IsOpen u.tree key
 key_stays_open {s = s} {u = u} a key i others =
     let st = open_stack s.tree key i in
     let n = stays a.acts (sound_of s a.sound) st.1 others in
     is_open u.tree key n.after n.at
 
 -- a stack of another task's is these places still
-pub places_stay : {known : Label → Type 0} {t : ℕ} {s u : Scoping} {es : List Event} → Acted known t s u es → (f : Table) (key : ℕ) (ps : List Place) → IsOpen s.tree key → AreOthers key s.own →
+pub places_stay : {known : Label → Type 0} {t : ℕ} {s u : Scoping} {es : List Event} → Acted known t s u es →
+    (f : Table) (key : ℕ) (ps : List Place) → IsOpen s.tree key → AreOthers key s.own →
     AreAt s.labels f (outer_of s.tree (Some key)) ps → AreAt u.labels (froms_after f es) (outer_of u.tree (Some key)) ps
 places_stay {known} {t} {s} {u} {es} a f key ps i others at =
     subst (λ (x : Stack). AreAt u.labels (froms_after f es) x ps) (sym (outer_is u.tree key after.0 after.1)) after.2
@@ -68,14 +70,16 @@ places_stay {known} {t} {s} {u} {es} a f key ps i others at =
     st = open_stack s.tree key i
 
     after : StandsAt key (froms_after f es) ps u
-    after = stays_at known f key st.0 ps a.acts (sound_of s a.sound) a.apart a.has a.new st.1 others (subst (λ (x : Stack). AreAt s.labels f x ps) (outer_is s.tree key st.0 st.1) at)
+    after = stays_at known f key st.0 ps a.acts (sound_of s a.sound) a.apart a.has a.new st.1 others
+        (subst (λ (x : Stack). AreAt s.labels f x ps) (outer_is s.tree key st.0 st.1) at)
 
 -- ---- what a task tracks
 
 abbrev pub with_own : Scoping → List Own → List ScopeFrom → Scoping
 with_own s own froms = record { tree = s.tree; labels = s.labels; own = own; froms = froms }
 
-pub tracks_other : {known : Label → Type 0} {t : ℕ} {s u : Scoping} {es : List Event} → Acted known t s u es → (was now : Label → Type 0) (f : Table) (own : List Own) (froms : List ScopeFrom)
+pub tracks_other : {known : Label → Type 0} {t : ℕ} {s u : Scoping} {es : List Event} → Acted known t s u es →
+    (was now : Label → Type 0) (f : Table) (own : List Own) (froms : List ScopeFrom)
     (entered : List Label) → AreElse own s.own → ((l : Label) → Known l entered → known l) → ((l : Label) → Known l entered → now l) →
     Tracks was f (with_own s own froms) entered → Tracks now (froms_after f es) (with_own u own froms) entered
 tracks_other {known} {t} {s} {u} {es} a was now f own froms entered others mine more h =
@@ -86,7 +90,8 @@ tracks_other {known} {t} {s} {u} {es} a was now f own froms entered others mine 
         let k = h.kept o i e in
         (k.1, k.3, kept_acts known f o.id k.1 a.acts (sound_of s a.sound) a.apart a.has a.new (others o i e) (k.0, k.2, k.3, k.4))
 
-    named : (o : Own) (i : ℕ) → slice_get own i ≡ Some o → (x : ScopeFrom) × (slice_get froms o.at ≡ Some x) × (u.labels o.id ≡ Some x.label)
+    named : (o : Own) (i : ℕ) → slice_get own i ≡ Some o → (x : ScopeFrom) × (slice_get froms o.at ≡ Some x)
+        × (u.labels o.id ≡ Some x.label)
     named o i e =
         let n = h.named o i e in
         let k = after o i e in
@@ -96,7 +101,8 @@ tracks_other {known} {t} {s} {u} {es} a was now f own froms entered others mine 
         (st : Stack) × (l : Label) × (stack_of u.tree o.id ≡ Some st) × (u.labels o.id ≡ Some l) × (own_from st ≡ froms_after f es l)
     kept o i e = let k = after o i e in (k.2.0, k.0, k.2.1, k.2.2, k.2.3)
 
-    left : (i : ℕ) (x : ScopeFrom) → slice_get froms i ≡ Some x → IsPast i own → (x.seen ≡ froms_after f es x.label) × ((key : ℕ) → u.labels key ≡ Some x.label → ⊥) × now x.label
+    left : (i : ℕ) (x : ScopeFrom) → slice_get froms i ≡ Some x → IsPast i own → (x.seen ≡ froms_after f es x.label)
+        × ((key : ℕ) → u.labels key ≡ Some x.label → ⊥) × now x.label
     left i x e past =
         let c = h.left i x e past in
         let entered_it : Known x.label entered = from_entered h i x e in
@@ -106,26 +112,31 @@ tracks_other {known} {t} {s} {u} {es} a was now f own froms entered others mine 
 -- ---- the innermost scope
 
 -- the last of some scopes
-pub last_is : (x : Own) (own : List Own) → (o : Own) × (i : ℕ) × (slice_get (x ∷ own) i ≡ Some o) × (last_or (Some x.id) (map (λ (y : Own). y.id) own) ≡ Some o.id)
+pub last_is : (x : Own) (own : List Own) → (o : Own) × (i : ℕ) × (slice_get (x ∷ own) i ≡ Some o)
+    × (last_or (Some x.id) (map (λ (y : Own). y.id) own) ≡ Some o.id)
 last_is x [] = (x, zero, refl, refl)
 last_is x (y ∷ own) = let r = last_is y own in (r.0, suc r.1, r.2, r.3)
 
-pub scope_stays : {known : Label → Type 0} {t : ℕ} {s u : Scoping} {es : List Event} → Acted known t s u es → (home : Option ℕ) (own : List Own) → AreElse own s.own →
-    ((o : Own) (i : ℕ) → slice_get own i ≡ Some o → IsOpen s.tree o.id) → ForSome home (IsOpen u.tree) → ForSome (last_or home (map (λ (o : Own). o.id) own)) (IsOpen u.tree)
+pub scope_stays : {known : Label → Type 0} {t : ℕ} {s u : Scoping} {es : List Event} → Acted known t s u es →
+    (home : Option ℕ) (own : List Own) → AreElse own s.own →
+    ((o : Own) (i : ℕ) → slice_get own i ≡ Some o → IsOpen s.tree o.id) → ForSome home (IsOpen u.tree) →
+        ForSome (last_or home (map (λ (o : Own). o.id) own)) (IsOpen u.tree)
 scope_stays a home [] others are h key e = h key e
 scope_stays {u = u} a home (x ∷ own) others are h key e =
     let o = last_is x own in
     subst (IsOpen u.tree) (one_of o.0.id key (sym o.3 ∙ e)) (key_stays_open a o.0.id (are o.0 o.1 o.2) (others o.0 o.1 o.2))
 
 -- the places of a task that opened a scope
-pub own_places_stay : {known : Label → Type 0} {t : ℕ} {s u : Scoping} {es : List Event} → Acted known t s u es → (f : Table) (home : Option ℕ) (x : Own) (own : List Own) (ps : List Place) →
+pub own_places_stay : {known : Label → Type 0} {t : ℕ} {s u : Scoping} {es : List Event} → Acted known t s u es →
+    (f : Table) (home : Option ℕ) (x : Own) (own : List Own) (ps : List Place) →
     AreElse (x ∷ own) s.own → ((o : Own) (i : ℕ) → slice_get (x ∷ own) i ≡ Some o → IsOpen s.tree o.id) →
     AreAt s.labels f (outer_of s.tree (last_or home (map (λ (o : Own). o.id) (x ∷ own)))) ps →
     AreAt u.labels (froms_after f es) (outer_of u.tree (last_or home (map (λ (o : Own). o.id) (x ∷ own)))) ps
 own_places_stay {known} {t} {s} {u} {es} a f home x own ps others are at =
     let o = last_is x own in
     subst (λ (k : Option ℕ). AreAt u.labels (froms_after f es) (outer_of u.tree k) ps) (sym o.3)
-    (places_stay a f o.0.id ps (are o.0 o.1 o.2) (others o.0 o.1 o.2) (subst (λ (k : Option ℕ). AreAt s.labels f (outer_of s.tree k) ps) o.3 at))
+    (places_stay a f o.0.id ps (are o.0 o.1 o.2) (others o.0 o.1 o.2)
+        (subst (λ (k : Option ℕ). AreAt s.labels f (outer_of s.tree k) ps) o.3 at))
 
 -- ---- the stack of a task, and that of its home
 
@@ -148,14 +159,17 @@ own_first tree key own i = by_stack st.0 st.1 (own key st.0 st.1)
 
     by_stack : (x : Stack) → stack_of tree key ≡ Some x → own_label x ≡ Some key → Own_first tree key
     by_stack [] e f = absurd (not_both refl f)
-    by_stack (l ∷ ls) e f = record { more = keys_of ls; is = ap keys_of (outer_is tree key (l ∷ ls) e) ∙ ap (λ (k : ℕ). k ∷ keys_of ls) (one_of l.label key f) }
+    by_stack (l ∷ ls) e f = record { more = keys_of ls; is = ap keys_of (outer_is tree key (l ∷ ls) e)
+        ∙ ap (λ (k : ℕ). k ∷ keys_of ls) (one_of l.label key f) }
 
 -- the keys of the home's stack stay, where those of the task's do
-home_keys : (old new : Tree) (home : Option ℕ) (key : ℕ) (keys : List ℕ) → IsOwn old → IsChain new → ForSome home (IsOpen old) → IsOpen new key →
+home_keys : (old new : Tree) (home : Option ℕ) (key : ℕ) (keys : List ℕ) → IsOwn old → IsChain new → ForSome home (IsOpen old) →
+    IsOpen new key →
     keys_of (outer_of new (Some key)) ≡ keys ++ keys_of (outer_of old home) → keys_of (outer_of old home) ≡ keys_of (outer_of new home)
 home_keys old new None key keys own chain was now e = refl
 home_keys old new (Some home) key keys own chain was now e =
-    first.is ∙ sym (ap keys_of (outer_is new home (c.level ∷ c.behind) here) ∙ (ap (λ (k : ℕ). k ∷ keys_of c.behind) c.named ∙ ap (λ (ks : List ℕ). home ∷ ks) c.outer))
+    first.is ∙ sym (ap keys_of (outer_is new home (c.level ∷ c.behind) here)
+        ∙ (ap (λ (k : ℕ). k ∷ keys_of c.behind) c.named ∙ ap (λ (ks : List ℕ). home ∷ ks) c.outer))
   where
     first : Own_first old home
     first = own_first old home own (was home refl)
@@ -169,11 +183,14 @@ home_keys old new (Some home) key keys own chain was now e =
     here : stack_of new home ≡ Some (c.level ∷ c.behind)
     here = ap (stack_of new) (sym c.named) ∙ chain key st.0 st.1 c.before c.level c.behind c.is
 
-pub first_stays : {known : Label → Type 0} {t : ℕ} {s u : Scoping} {es : List Event} → Acted known t s u es → (home : Option ℕ) (own : List Own) → AreElse own s.own →
-    ((o : Own) (i : ℕ) → slice_get own i ≡ Some o → IsOpen s.tree o.id) → ForSome home (IsOpen s.tree) → OwnFirst s.tree home own → OwnFirst u.tree home own
+pub first_stays : {known : Label → Type 0} {t : ℕ} {s u : Scoping} {es : List Event} → Acted known t s u es →
+    (home : Option ℕ) (own : List Own) → AreElse own s.own →
+    ((o : Own) (i : ℕ) → slice_get own i ≡ Some o → IsOpen s.tree o.id) → ForSome home (IsOpen s.tree) → OwnFirst s.tree home own →
+        OwnFirst u.tree home own
 first_stays a home [] others are was h = refl
 first_stays {known} {t} {s} {u} {es} a home (x ∷ own) others are was h =
-    subst (λ (k : Option ℕ). keys_of (outer_of u.tree k) ≡ keys_in (x ∷ own) ++ keys_of (outer_of u.tree home)) (sym o.3) (now ∙ ap (λ (ks : List ℕ). keys_in (x ∷ own) ++ ks) homes)
+    subst (λ (k : Option ℕ). keys_of (outer_of u.tree k) ≡ keys_in (x ∷ own) ++ keys_of (outer_of u.tree home)) (sym o.3)
+        (now ∙ ap (λ (ks : List ℕ). keys_in (x ∷ own) ++ ks) homes)
   where
     o : (y : Own) × (i : ℕ) × (slice_get (x ∷ own) i ≡ Some y) × (last_or (Some x.id) (map (λ (z : Own). z.id) own) ≡ Some y.id)
     o = last_is x own
@@ -188,7 +205,9 @@ first_stays {known} {t} {s} {u} {es} a home (x ∷ own) others are was h =
     now =
         ap keys_of (outer_is u.tree o.0.id n.after n.at)
         ∙ (keys_same st.0 n.after n.levels
-        ∙ (sym (ap keys_of (outer_is s.tree o.0.id st.0 st.1)) ∙ subst (λ (k : Option ℕ). keys_of (outer_of s.tree k) ≡ keys_in (x ∷ own) ++ keys_of (outer_of s.tree home)) o.3 h))
+        ∙ (sym (ap keys_of (outer_is s.tree o.0.id st.0 st.1)) ∙ subst
+            (λ (k : Option ℕ). keys_of (outer_of s.tree k) ≡ keys_in (x ∷ own) ++ keys_of (outer_of s.tree home)) o.3 h))
 
     homes : keys_of (outer_of s.tree home) ≡ keys_of (outer_of u.tree home)
-    homes = home_keys s.tree u.tree home o.0.id (keys_in (x ∷ own)) a.sound.own a.sound_after.chain was (is_open u.tree o.0.id n.after n.at) now
+    homes = home_keys s.tree u.tree home o.0.id (keys_in (x ∷ own)) a.sound.own a.sound_after.chain was (is_open u.tree o.0.id n.after n.at)
+        now

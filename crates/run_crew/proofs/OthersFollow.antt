@@ -35,7 +35,8 @@ use Rattle.run_crew.proofs.Found.{same_got}
 use Rattle.run_crew.proofs.Parts.{numbers_other}
 use Rattle.run_crew.proofs.LabelsApart.{below_of}
 
-module _ (k : Table) (job : Job) (input : List ℕ) (t m s : ℕ) (old new : Crew) (before after : Task) (stop : Stop) (c : IsCrew k job input t m None old)
+module _ (k : Table) (job : Job) (input : List ℕ) (t m s : ℕ) (old new : Crew) (before after : Task) (stop : Stop)
+    (c : IsCrew k job input t m None old)
     (T : Turning k job input t m s old new c.numbers before after stop c.course) where
   -- ---- who is in a nursery
 
@@ -48,11 +49,13 @@ module _ (k : Table) (job : Job) (input : List ℕ) (t m s : ℕ) (old new : Cre
   running_stays id place serial h (inr differs) = (h.0, T.other_after serial (below_of c serial h.0 h.1) differs ∙ h.1, h.2)
 
   -- what is a member stays one
-  member_stays : (id place serial : ℕ) (e : Option End) → IsMember old c.course.at t id place serial e → IsMember new T.is.at t id place serial e
+  member_stays : (id place serial : ℕ) (e : Option End) → IsMember old c.course.at t id place serial e →
+      IsMember new T.is.at t id place serial e
   member_stays id place serial None h = absurd h
   member_stays id place serial (Some None) h = running_stays id place serial h (same_or serial s)
   member_stays id place serial (Some (Some exc)) h =
-      (h.0, T.gone_after serial ∙ h.1, h.2, ap (λ (q : Started). q.rest.stopped) (T.of_other serial (gone_below k job input t m None old c serial h.0 h.1) differs) ∙ h.3)
+      (h.0, T.gone_after serial ∙ h.1, h.2, ap (λ (q : Started). q.rest.stopped)
+          (T.of_other serial (gone_below k job input t m None old c serial h.0 h.1) differs) ∙ h.3)
     where
       lives : live (c.course.at s).rest.stopped ≡ true
       lives = (c.follows s before T.task).lives (λ e. not_both refl e)
@@ -79,13 +82,15 @@ module _ (k : Table) (job : Job) (input : List ℕ) (t m s : ℕ) (old new : Cre
     opens : (o : Own) (i : ℕ) → slice_get task.own.items i ≡ Some o → IsOpen old.world.scopes o.id
     opens = own_open c u task is
 
-    nursery : (id : ℕ) → HasNurseryOf id (blocks_of task.frames.items) (waits_of task.halt) → nursery_at new.world.book id ≡ nursery_at old.world.book id
+    nursery : (id : ℕ) → HasNurseryOf id (blocks_of task.frames.items) (waits_of task.halt) →
+        nursery_at new.world.book id ≡ nursery_at old.world.book id
     nursery = nursery_same c T u task differs is
 
     tracks : Tracks (IsEntered T.is.at) T.is.froms (scoping_of task new.world) (entered_made (c.course.at u).made)
     tracks =
         subst (λ (f : Table). Tracks (IsEntered T.is.at) f (scoping_of task new.world) (entered_made (c.course.at u).made)) (sym T.froms)
-        (tracks_other a (IsEntered c.course.at) (IsEntered T.is.at) c.course.froms task.own.items task.froms.items (entered_made (c.course.at u).made) others (λ l h. (u, h))
+        (tracks_other a (IsEntered c.course.at) (IsEntered T.is.at) c.course.froms task.own.items task.froms.items
+            (entered_made (c.course.at u).made) others (λ l h. (u, h))
         (λ l h. (u, subst (λ (q : Started). Known l (entered_made q.made)) (sym same) h)) was.tracks)
 
     -- each of its scopes has the label that it had
@@ -108,7 +113,8 @@ module _ (k : Table) (job : Job) (input : List ℕ) (t m s : ℕ) (old new : Cre
           first = first_stays a (home_scope task) task.own.items others opens was.goes.home was.goes.first;
           froms = was.goes.froms;
           opened =
-              opened_stays (label_at old.world) (label_at new.world) old.world.book new.world.book (blocks_of task.frames.items) task.own.items (waits_of task.halt) label_same nursery
+              opened_stays (label_at old.world) (label_at new.world) old.world.book new.world.book (blocks_of task.frames.items)
+                  task.own.items (waits_of task.halt) label_same nursery
               was.goes.opened;
         }
 
@@ -116,11 +122,13 @@ module _ (k : Table) (job : Job) (input : List ℕ) (t m s : ℕ) (old new : Cre
     stands =
         record {
           places =
-              subst (λ (f : Table). AreAt (label_at new.world) f (outer_of new.world.scopes (scope_of task)) (c.course.at u).places) (sym T.froms)
+              subst (λ (f : Table). AreAt (label_at new.world) f (outer_of new.world.scopes (scope_of task)) (c.course.at u).places)
+                  (sym T.froms)
               (places_other c T a u task differs is);
           numbered =
               λ id has.
-              same_nursery (λ n. length (c.numbers u id) ≡ length n.children) old.world.book new.world.book id (nursery id (inl has)) (was.stands.numbered id has);
+              same_nursery (λ n. length (c.numbers u id) ≡ length n.children) old.world.book new.world.book id (nursery id (inl has))
+                  (was.stands.numbered id has);
           placed = was.stands.placed;
           new = was.stands.new;
           own = was.stands.own;
@@ -140,7 +148,8 @@ module _ (k : Table) (job : Job) (input : List ℕ) (t m s : ℕ) (old new : Cre
               long = h.long;
               members =
                   λ place number got.
-                  let one = h.members place number got in (one.0, member_stays id place ((c.course.at u).child number) (slice_get n.children place) one.1);
+                  let one = h.members place number got in
+                      (one.0, member_stays id place ((c.course.at u).child number) (slice_get n.children place) one.1);
             }
 
     stood : Stood new T.is.froms input t T.is.at (leaving_by stop s) u task (c.numbers u) (c.course.at u)
@@ -151,7 +160,8 @@ module _ (k : Table) (job : Job) (input : List ℕ) (t m s : ℕ) (old new : Cre
           lives = λ stays. was.lives (λ e. not_both refl e);
           frames = was.frames;
           stands = stands;
-          halt = halt_stays (c.numbers u) old.world.book new.world.book task.halt (c.course.at u).rest.stopped (λ id waits. nursery id (inr waits)) was.halt;
+          halt = halt_stays (c.numbers u) old.world.book new.world.book task.halt (c.course.at u).rest.stopped
+              (λ id waits. nursery id (inr waits)) was.halt;
           modest = was.modest;
           goes = goes;
           notes = was.notes;
@@ -162,5 +172,6 @@ module _ (k : Table) (job : Job) (input : List ℕ) (t m s : ℕ) (old new : Cre
     -- Another task follows after the turn what it followed before.
     pub others_follow : Follows new T.is.froms input t T.is.at (numbers_then c.numbers s m T.took.numbers_after) (leaving_by stop s) u task
     others_follow =
-        follows_by new T.is.froms input t T.is.at (numbers_then c.numbers s m T.took.numbers_after) (leaving_by stop s) u task (c.numbers u) (c.course.at u)
+        follows_by new T.is.froms input t T.is.at (numbers_then c.numbers s m T.took.numbers_after) (leaving_by stop s) u task (c.numbers u)
+            (c.course.at u)
         (numbers_other c.numbers s m T.took.numbers_after u below differs) same stood (home_stays c T u task.home below was.home)

@@ -33,7 +33,8 @@ children_later k t m (b ∷ bs) x (inr i) = let h = children_later k t (suc m) b
 abbrev RootStays : Job → List ℕ → ℕ → List Started → Type 0
 RootStays job input m qs = (0 < m) × ((x : Started) → In x qs → x.serial ≡ 0 → x.here ≡ root_here job input)
 
-root_stays : (k : Table) (job : Job) (input : List ℕ) (f : Table) (t m : ℕ) (qs : List Started) → Reached k job input f t m qs → RootStays job input m qs
+root_stays : (k : Table) (job : Job) (input : List ℕ) (f : Table) (t m : ℕ) (qs : List Started) → Reached k job input f t m qs →
+    RootStays job input m qs
 root_stays k job input _ _ _ _ (begun f) = (omega arith, by_in)
   where
     by_in : (x : Started) → In x (root_task k job input ∷ []) → x.serial ≡ 0 → x.here ≡ root_here job input
@@ -41,11 +42,14 @@ root_stays k job input _ _ _ _ (begun f) = (omega arith, by_in)
     by_in x (inr i) z = absurd i
 root_stays k job input _ _ _ _ (turn f t m q qs others wake o s r front may goes stopped) =
     let inner = root_stays k job input f t m qs r in
-    (let some = inner.0 in omega (arith, some), λ x i z. by_part inner x z (in_either x (turned k t m q o s ∷ children_from k t m o.begun) others i))
+    (let some = inner.0 in omega (arith, some), λ x i z. by_part inner x z
+        (in_either x (turned k t m q o s ∷ children_from k t m o.begun) others i))
   where
-    by_part : RootStays job input m qs → (x : Started) → x.serial ≡ 0 → In x (turned k t m q o s ∷ children_from k t m o.begun) ⊎ In x others → x.here ≡ root_here job input
+    by_part : RootStays job input m qs → (x : Started) → x.serial ≡ 0 → In x (turned k t m q o s ∷ children_from k t m o.begun)
+        ⊎ In x others → x.here ≡ root_here job input
     by_part inner x z (inl (inl e)) =
-        ap (λ (y : Started). y.here) e ∙ inner.1 q ((front_same q qs others front).back q (inl refl)) (sym (ap (λ (y : Started). y.serial) e) ∙ z)
+        ap (λ (y : Started). y.here) e ∙ inner.1 q ((front_same q qs others front).back q (inl refl))
+            (sym (ap (λ (y : Started). y.serial) e) ∙ z)
     by_part inner x z (inl (inr j)) = absurd (let h = children_later k t m o.begun x j in let some = inner.0 in omega (arith, h, some, z))
     by_part inner x z (inr j) = inner.1 x ((front_same q qs others front).back x (inr j)) z
 root_stays k job input _ _ _ _ (jump f t u m qs r le blocked) = root_stays k job input f t m qs r
@@ -86,7 +90,8 @@ shown_entries input (signs l t ∷ es) = shown_entries input es
 shown_entries input (enters l t d ∷ es) = shown_entries input es
 shown_entries input (starts i l t ∷ es) = shown_entries input es
 
-rows_started : (f : Table) (start : ℕ → ℕ) (at : ℕ → Started) (child : ℕ → ℕ) (es : List Event) → AreStarted start at child es → StartsRows (λ p. row_at f (start p) (at p)) child es
+rows_started : (f : Table) (start : ℕ → ℕ) (at : ℕ → Started) (child : ℕ → ℕ) (es : List Event) → AreStarted start at child es →
+    StartsRows (λ p. row_at f (start p) (at p)) child es
 rows_started f start at child [] h = tt
 rows_started f start at child (noted t e ∷ es) h = rows_started f start at child es h
 rows_started f start at child (signs l t ∷ es) h = rows_started f start at child es h
@@ -96,7 +101,8 @@ rows_started f start at child (starts i l t ∷ es) h = (h.0, h.1, rows_started 
 ended_row : (s : Stopped) (u : ℕ) (e : Option Exc) → s ≡ at_end u e → s ≡ at_end (end_at s) (exc_at s)
 ended_row s u e h = subst (λ (x : Stopped). x ≡ at_end (end_at x) (exc_at x)) (sym h) refl
 
-pub crew_over : (job : Job) (input : List ℕ) → GivesNamesOnce job → StartsInNurseries job → (t m : ℕ) (crew : Crew) → IsCrew (meaning_table job input) job input t m None crew →
+pub crew_over : (job : Job) (input : List ℕ) → GivesNamesOnce job → StartsInNurseries job → (t m : ℕ) (crew : Crew) →
+    IsCrew (meaning_table job input) job input t m None crew →
     ((p : ℕ) → crew.task p ≡ None) → IsOver job input m crew
 crew_over job input names starting t m crew c none =
     record {
@@ -159,5 +165,6 @@ crew_over job input names starting t m crew c none =
         ap (λ (h : Here). h.task) ((root_stays k job input f t m c.course.tasks c.course.reached).1 (c.course.at 0) at.0 at.1)
 
     means : (taken : List ℕ) → DepthFirst rows (0 ∷ []) taken →
-        (records_by rows taken ≡ meaning_records job input) × (froms_in rows taken ≡ meaning_froms job input) × ((rows 0).end ≡ meaning_end job input)
+        (records_by rows taken ≡ meaning_records job input) × (froms_in rows taken ≡ meaning_froms job input)
+            × ((rows 0).end ≡ meaning_end job input)
     means taken d = runs_are_the_meaning job input names starting f t m c.course.tasks c.course.reached rows has_row label c.begun taken d

@@ -47,7 +47,8 @@ among_got x (y ∷ xs) (inr a) = let g = among_got x xs a in (suc g.0, g.1)
 
 -- ---- the children begun
 
-pub begun_at : (numbers : Numbers) (book : NurseryBook) (blocks : List Block) (waits : Option ℕ) (ts : List Task) (bs : List Begun) → AreBegun numbers book blocks waits ts bs →
+pub begun_at : (numbers : Numbers) (book : NurseryBook) (blocks : List Block) (waits : Option ℕ) (ts : List Task) (bs : List Begun) →
+    AreBegun numbers book blocks waits ts bs →
     (i : ℕ) (task : Task) → slice_get ts i ≡ Some task → (b : Begun) × (slice_get bs i ≡ Some b) × IsBegun numbers book blocks waits task b
 begun_at numbers book blocks waits [] bs h i task e = absurd (not_both refl e)
 begun_at numbers book blocks waits (u ∷ ts) [] h i task e = absurd h
@@ -65,7 +66,8 @@ pub record BeginsThere (id place number : ℕ) (ts : List Task) (bs : List Begun
   pub home : home_of task ≡ Some (id, place)
   pub number_is : child.number ≡ number
 
-pub begins_there : (id place number : ℕ) (ts : List Task) (bs : List Begun) → BeginsAt id place number ts bs → BeginsThere id place number ts bs
+pub begins_there : (id place number : ℕ) (ts : List Task) (bs : List Begun) → BeginsAt id place number ts bs →
+    BeginsThere id place number ts bs
 begins_there id place number [] bs h = absurd h
 begins_there id place number (t ∷ ts) [] h = absurd h
 begins_there id place number (t ∷ ts) (b ∷ bs) (inl h) =
@@ -75,7 +77,8 @@ begins_there id place number (t ∷ ts) (b ∷ bs) (inr h) =
     record { index = suc r.index; task = r.task; child = r.child; is = r.is; begun = r.begun; home = r.home; number_is = r.number_is }
 
 -- they are numbered on
-pub numbered_on : (n : ℕ) (es : List Event) (bs : List Begun) → Starts n es bs → (i : ℕ) (b : Begun) → slice_get bs i ≡ Some b → b.number ≡ n + i
+pub numbered_on : (n : ℕ) (es : List Event) (bs : List Begun) → Starts n es bs → (i : ℕ) (b : Begun) → slice_get bs i ≡ Some b →
+    b.number ≡ n + i
 numbered_on n [] [] h i b e = absurd (not_both refl e)
 numbered_on n [] (c ∷ bs) h i b e = absurd h
 numbered_on n (noted t x ∷ es) bs h i b e = numbered_on n es bs h i b e
@@ -93,12 +96,15 @@ starts_at ls [] h i b e = absurd (not_both refl e)
 starts_at ls (c ∷ bs) h zero b e = subst (λ (z : Begun). StartsIn false z.body) (one_of c b e) h.1
 starts_at ls (c ∷ bs) h (suc i) b e = starts_at ls bs h.2 i b e
 
-pub new_at : (bs : List Begun) → AllNew bs → (i : ℕ) (b : Begun) → slice_get bs i ≡ Some b → names.AreNew (names_at b.places) b.body × OwnNames (names_at b.places)
+pub new_at : (bs : List Begun) → AllNew bs → (i : ℕ) (b : Begun) → slice_get bs i ≡ Some b → names.AreNew (names_at b.places) b.body
+    × OwnNames (names_at b.places)
 new_at [] h i b e = absurd (not_both refl e)
-new_at (c ∷ bs) h zero b e = subst (λ (z : Begun). names.AreNew (names_at z.places) z.body × OwnNames (names_at z.places)) (one_of c b e) (h.0, h.1)
+new_at (c ∷ bs) h zero b e = subst (λ (z : Begun). names.AreNew (names_at z.places) z.body × OwnNames (names_at z.places)) (one_of c b e)
+    (h.0, h.1)
 new_at (c ∷ bs) h (suc i) b e = new_at bs h.2 i b e
 
-pub housed_at : (bs : List Begun) (s : Option Stopped) (fs : List Frame) (ps : List Place) → AllHoused bs s fs ps → (i : ℕ) (b : Begun) → slice_get bs i ≡ Some b →
+pub housed_at : (bs : List Begun) (s : Option Stopped) (fs : List Frame) (ps : List Place) → AllHoused bs s fs ps → (i : ℕ) (b : Begun) →
+    slice_get bs i ≡ Some b →
     HasChildAfter b.number b.places s fs ps
 housed_at [] s fs ps h i b e = absurd (not_both refl e)
 housed_at (c ∷ bs) s fs ps h zero b e = subst (λ (z : Begun). HasChildAfter z.number z.places s fs ps) (one_of c b e) h.0

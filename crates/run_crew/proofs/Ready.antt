@@ -26,15 +26,19 @@ use Rattle.run_crew.specs.Turn.{Turning}
 use Rattle.run_crew.proofs.Goes.{ready_by}
 
 -- one that has ended has no weight, and so no turn
-no_weight : (rest : Rest) (ps : List Place) (u : ℕ) (e : Option Exc) → PlacedStop rest.stopped rest.frames ps → rest.stopped ≡ at_end u e → rest_weight rest ≡ 0
+no_weight : (rest : Rest) (ps : List Place) (u : ℕ) (e : Option Exc) → PlacedStop rest.stopped rest.frames ps → rest.stopped ≡ at_end u e →
+    rest_weight rest ≡ 0
 no_weight rest ps u e placed ends =
     let none : rest.frames ≡ [] = subst (λ (x : Stopped). PlacedStop x rest.frames ps) ends placed in
     ap (λ (x : Stopped). rest_weight (record { stopped = x; frames = rest.frames })) ends
     ∙ ap (λ (fs : List Frame). rest_weight (record { stopped = at_end u e; frames = fs })) none
 
-pub still_ready : (k : Table) (job : Job) (input : List ℕ) (t m s : ℕ) (old new : Crew) (numbers : ℕ → Numbers) (before after : Task) (stop : Stop) (was : Course k job input t m) →
-    IsSettled k job input → GivesNamesOnce job → StartsInNurseries job → (turn : Turning k job input t m s old new numbers before after stop was) → (p : ℕ) → p < m → p ≢ s →
-    (w : Wake) → MayWake was.froms was.tasks t (was.at p) w (was.at p).rest.stopped → MayWake turn.is.froms turn.is.tasks t (turn.is.at p) w (turn.is.at p).rest.stopped
+pub still_ready : (k : Table) (job : Job) (input : List ℕ) (t m s : ℕ) (old new : Crew) (numbers : ℕ → Numbers) (before after : Task)
+    (stop : Stop) (was : Course k job input t m) →
+    IsSettled k job input → GivesNamesOnce job → StartsInNurseries job →
+        (turn : Turning k job input t m s old new numbers before after stop was) → (p : ℕ) → p < m → p ≢ s →
+    (w : Wake) → MayWake was.froms was.tasks t (was.at p) w (was.at p).rest.stopped →
+        MayWake turn.is.froms turn.is.tasks t (turn.is.at p) w (turn.is.at p).rest.stopped
 still_ready k job input t m s old new numbers before after stop was settled names starting turn p below differs w may =
     subst (λ (x : Started). MayWake turn.is.froms turn.is.tasks t x w x.rest.stopped) (sym other)
     (ready_by was.froms turn.is.froms was.tasks turn.is.tasks t q w q.rest.stopped (sym seen_before ∙ seen_after) over may)
@@ -58,12 +62,14 @@ still_ready k job input t m s old new numbers before after stop was settled name
     less = omega (arith, below)
 
     seen_before : seen (stack_at k q.places) t ≡ seen (stack_at was.froms q.places) t
-    seen_before = seen_near (suc t) (stack_at k q.places) (stack_at was.froms q.places) t (near_places t k was.froms q.places (on_before.2 q (was.has p below).0)) (omega arith)
+    seen_before = seen_near (suc t) (stack_at k q.places) (stack_at was.froms q.places) t
+        (near_places t k was.froms q.places (on_before.2 q (was.has p below).0)) (omega arith)
 
     seen_after : seen (stack_at k q.places) t ≡ seen (stack_at turn.is.froms q.places) t
     seen_after =
         seen_near (suc t) (stack_at k q.places) (stack_at turn.is.froms q.places) t
-        (near_places t k turn.is.froms q.places (on_after.2 q (subst (λ (x : Started). In x turn.is.tasks) other (turn.is.has p less).0))) (omega arith)
+        (near_places t k turn.is.froms q.places (on_after.2 q (subst (λ (x : Started). In x turn.is.tasks) other (turn.is.has p less).0)))
+            (omega arith)
 
     -- the task that had its turn had not ended
     alive : (u : ℕ) (e : Option Exc) → (was.at s).rest.stopped ≡ at_end u e → ⊥
@@ -72,10 +78,12 @@ still_ready k job input t m s old new numbers before after stop was settled name
         let weight = turn.promise.weight in
         absurd (omega (arith, none, weight))
 
-    over : (children : List ℕ) (ended : ℕ) (e x : Option Exc) → WaitIsOver was.tasks q t children ended e x → WaitIsOver turn.is.tasks q t children ended e x
+    over : (children : List ℕ) (ended : ℕ) (e x : Option Exc) → WaitIsOver was.tasks q t children ended e x →
+        WaitIsOver turn.is.tasks q t children ended e x
     over children ended e x h = record { ends = h.ends; numbers = h.numbers; over = over_after; settled = h.settled }
       where
-        over_after : (i : ℕ) → IsAmong i children → (c : Started) → In c turn.is.tasks → c.serial ≡ q.child i → c.rest.stopped ≡ at_end (h.ends i).end (h.ends i).exc
+        over_after : (i : ℕ) → IsAmong i children → (c : Started) → In c turn.is.tasks → c.serial ≡ q.child i →
+            c.rest.stopped ≡ at_end (h.ends i).end (h.ends i).exc
         over_after i among c there serial = by_same (c.serial == s) refl
           where
             kid : Kid was.tasks q i

@@ -46,19 +46,22 @@ use Rattle.run_crew.proofs.Turned.{crew_turned}
 -- ---- what a stop says
 
 -- where the task stopped is what it goes on with and what was told, now
-pub record IsToldNow (numbers : Numbers) (book : NurseryBook) (part : Part) (stop : Stop) (halt : Halt) (t : ℕ) (froms : Table) (ps : List Place) (s : Stopped) : Type 0 where
+pub record IsToldNow (numbers : Numbers) (book : NurseryBook) (part : Part) (stop : Stop) (halt : Halt) (t : ℕ) (froms : Table)
+    (ps : List Place) (s : Stopped) : Type 0 where
   pub halts : IsHalt numbers book halt s
   pub told : IsTold part stop halt s
   pub now : StopsAt t froms (Some s) ps
 
-told_now : (numbers : Numbers) (book : NurseryBook) (part : Part) (stop : Stop) (halt : Halt) (t : ℕ) (froms : Table) (ps : List Place) (o : Option Stopped) (s : Stopped) → o ≡ Some s →
+told_now : (numbers : Numbers) (book : NurseryBook) (part : Part) (stop : Stop) (halt : Halt) (t : ℕ) (froms : Table) (ps : List Place)
+    (o : Option Stopped) (s : Stopped) → o ≡ Some s →
     StopsAs numbers book part stop halt o → StopsAt t froms o ps → IsToldNow numbers book part stop halt t froms ps s
 told_now numbers book part stop halt t froms ps o s e stops now =
     let both = subst (λ (x : Option Stopped). StopsAs numbers book part stop halt x) e stops in
     record { halts = both.0; told = both.1; now = subst (λ (x : Option Stopped). StopsAt t froms x ps) e now }
 
 -- who ended did so now
-pub ends_now : (numbers : Numbers) (book : NurseryBook) (part : Part) (stop : Stop) (halt : Halt) (t : ℕ) (froms : Table) (ps : List Place) (s : Stopped) →
+pub ends_now : (numbers : Numbers) (book : NurseryBook) (part : Part) (stop : Stop) (halt : Halt) (t : ℕ) (froms : Table) (ps : List Place)
+    (s : Stopped) →
     IsToldNow numbers book part stop halt t froms ps s → (q : Started) → q.rest.stopped ≡ s → EndsAs stop t q
 ends_now numbers book part (Ask request) halt t froms ps s h q e = tt
 ends_now numbers book part (Sleep due) halt t froms ps s h q e = tt
@@ -79,9 +82,12 @@ some_there None P h = absurd h
 some_there (Some n) P h = refl
 
 -- and what the stop says is so
-says_now : (numbers : Numbers) (book : NurseryBook) (part : Part) (stop : Stop) (halt : Halt) (t : ℕ) (froms : Table) (ps : List Place) (s : Stopped) →
-    IsToldNow numbers book part stop halt t froms ps s → (world : World) (task : Task) → task.halt ≡ halt → task.part ≡ part → world.tick ≡ t →
-    AreAt (label_at world) froms (outer_of world.scopes (scope_of task)) ps → IsModestHalt halt → book ≡ world.book → StopSays world task stop
+says_now : (numbers : Numbers) (book : NurseryBook) (part : Part) (stop : Stop) (halt : Halt) (t : ℕ) (froms : Table) (ps : List Place)
+    (s : Stopped) →
+    IsToldNow numbers book part stop halt t froms ps s → (world : World) (task : Task) → task.halt ≡ halt → task.part ≡ part →
+        world.tick ≡ t →
+    AreAt (label_at world) froms (outer_of world.scopes (scope_of task)) ps → IsModestHalt halt → book ≡ world.book →
+        StopSays world task stop
 says_now numbers book part (Ask request) ToBegin t froms ps s h world task e of tick at modest held = absurd h.told
 says_now numbers book part (Ask request) (Asked kernel purpose) t froms ps s h world task e of tick at modest held =
     record { purpose = purpose; halt = e ∙ ap (λ (k : Kernel). Asked k purpose) (sym h.told.0); part = h.told.1 ∙ sym of }
@@ -91,7 +97,8 @@ says_now numbers book part (Ask request) Over t froms ps s h world task e of tic
 says_now numbers book part (Sleep due) ToBegin t froms ps s h world task e of tick at modest held = absurd h.told
 says_now numbers book part (Sleep due) (Asked kernel purpose) t froms ps s h world task e of tick at modest held = absurd h.told
 says_now numbers book part (Sleep due) (Asleep ticks since) t froms ps to_begin h world task e of tick at modest held = absurd h.halts
-says_now numbers book part (Sleep due) (Asleep ticks since) t froms ps (asking kernel purpose) h world task e of tick at modest held = absurd h.halts
+says_now numbers book part (Sleep due) (Asleep ticks since) t froms ps (asking kernel purpose) h world task e of tick at modest held =
+    absurd h.halts
 says_now numbers book part (Sleep due) (Asleep ticks since) t froms ps (asleep n u) h world task e of tick at modest held =
     let is : since ≡ world.tick = h.halts.1 ∙ (h.now.0 ∙ sym tick) in
     let long : ticks ≡ n = h.halts.0 in
@@ -107,7 +114,8 @@ says_now numbers book part (Sleep due) (Asleep ticks since) t froms ps (asleep n
           ap (λ (v : ℕ). seen (outer_of world.scopes (scope_of task)) v) tick
           ∙ (seen_at (label_at world) froms (outer_of world.scopes (scope_of task)) ps t at ∙ h.now.2);
     }
-says_now numbers book part (Sleep due) (Asleep ticks since) t froms ps (awaiting children u x) h world task e of tick at modest held = absurd h.halts
+says_now numbers book part (Sleep due) (Asleep ticks since) t froms ps (awaiting children u x) h world task e of tick at modest held =
+    absurd h.halts
 says_now numbers book part (Sleep due) (Asleep ticks since) t froms ps (at_end u x) h world task e of tick at modest held = absurd h.halts
 says_now numbers book part (Sleep due) (Awaits id since) t froms ps s h world task e of tick at modest held = absurd h.told
 says_now numbers book part (Sleep due) Over t froms ps s h world task e of tick at modest held = absurd h.told
@@ -115,7 +123,8 @@ says_now numbers book part (Wait id) ToBegin t froms ps s h world task e of tick
 says_now numbers book part (Wait id) (Asked kernel purpose) t froms ps s h world task e of tick at modest held = absurd h.told
 says_now numbers book part (Wait id) (Asleep ticks since) t froms ps s h world task e of tick at modest held = absurd h.told
 says_now numbers book part (Wait id) (Awaits key since) t froms ps to_begin h world task e of tick at modest held = absurd h.halts
-says_now numbers book part (Wait id) (Awaits key since) t froms ps (asking kernel purpose) h world task e of tick at modest held = absurd h.halts
+says_now numbers book part (Wait id) (Awaits key since) t froms ps (asking kernel purpose) h world task e of tick at modest held =
+    absurd h.halts
 says_now numbers book part (Wait id) (Awaits key since) t froms ps (asleep n u) h world task e of tick at modest held = absurd h.halts
 says_now numbers book part (Wait id) (Awaits key since) t froms ps (awaiting children u x) h world task e of tick at modest held =
     record {
@@ -132,48 +141,62 @@ says_now numbers book part (Ended exc) halt t froms ps s h world task e of tick 
 -- ---- a turn
 
 -- each other task follows as it did
-pub other_follows : (k : Table) (job : Job) (input : List ℕ) (t m s : ℕ) (old new : Crew) (before after : Task) (stop : Stop) → IsSettled k job input → GivesNamesOnce job →
-    StartsInNurseries job → (c : IsCrew k job input t m None old) → (T : Turning k job input t m s old new c.numbers before after stop c.course) → (u : ℕ) → u < m → u ≢ s →
-    (task : Task) → old.task u ≡ Some task → Follows new T.is.froms input t T.is.at (numbers_then c.numbers s m T.took.numbers_after) (leaving_by stop s) u task
+pub other_follows : (k : Table) (job : Job) (input : List ℕ) (t m s : ℕ) (old new : Crew) (before after : Task) (stop : Stop) →
+    IsSettled k job input → GivesNamesOnce job →
+    StartsInNurseries job → (c : IsCrew k job input t m None old) →
+        (T : Turning k job input t m s old new c.numbers before after stop c.course) → (u : ℕ) → u < m → u ≢ s →
+    (task : Task) → old.task u ≡ Some task → Follows new T.is.froms input t T.is.at (numbers_then c.numbers s m T.took.numbers_after)
+        (leaving_by stop s) u task
 other_follows k job input t m s old new before after stop settled names starting c T u below differs task is =
     others_follow k job input t m s old new before after stop c T (acted c T settled names starting) u below differs task is
 
-module _ (k : Table) (job : Job) (input : List ℕ) (t m s : ℕ) (old new : Crew) (before after : Task) (wake : Wake) (stop : Stop) (settled : IsSettled k job input)
-    (names : GivesNamesOnce job) (starting : StartsInNurseries job) (c : IsCrew k job input t m None old) (x : TakesTurn t m s old new before after wake stop)
-    (may : MayWake c.course.froms c.course.tasks t (c.course.at s) (wake_in old.world.book before.halt wake) (c.course.at s).rest.stopped) where
+module _ (k : Table) (job : Job) (input : List ℕ) (t m s : ℕ) (old new : Crew) (before after : Task) (wake : Wake) (stop : Stop)
+    (settled : IsSettled k job input)
+    (names : GivesNamesOnce job) (starting : StartsInNurseries job) (c : IsCrew k job input t m None old)
+        (x : TakesTurn t m s old new before after wake stop)
+    (may : MayWake c.course.froms c.course.tasks t (c.course.at s) (wake_in old.world.book before.halt wake) (c.course.at s).rest.stopped)
+        where
   -- what the code says of it is all that is known of a turn
   turn : Turning k job input t m s old new c.numbers before after stop c.course
   turn =
-      turning k job input t m s old new before after wake stop settled names starting c x.task x.stays x.world x.sound x.sound_after x.none_left
-      (crew_fits k job input t m None old c x.sound s before x.task) x.fits_after x.modest x.goes.fits x.turn may x.task_after x.child_after x.other_after x.gone_after x.start_after
+      turning k job input t m s old new before after wake stop settled names starting c x.task x.stays x.world x.sound x.sound_after
+          x.none_left
+      (crew_fits k job input t m None old c x.sound s before x.task) x.fits_after x.modest x.goes.fits x.turn may x.task_after x.child_after
+          x.other_after x.gone_after x.start_after
       x.start_child x.more_children x.children_after x.no_children x.turns
 
   -- and it began the tasks that wait in the world
-  pub turning_of : (T : Turning k job input t m s old new c.numbers before after stop c.course) × (length T.move.begun ≡ length new.world.started.items)
+  pub turning_of : (T : Turning k job input t m s old new c.numbers before after stop c.course)
+      × (length T.move.begun ≡ length new.world.started.items)
   turning_of = (turn, sym (tasks_long turn) ∙ sym (ap (λ (ts : List Task). length ts) started))
     where
       started : new.world.started.items ≡ turn.took.tasks
       started = turn.took.started ∙ ap (λ (ts : List Task). ts ++ turn.took.tasks) x.none_left
 
   module _ (T : Turning k job input t m s old new c.numbers before after stop c.course) where
-    told : IsToldNow T.took.numbers_after new.world.book before.part stop after.halt t (froms_after c.course.froms T.move.made) T.move.places T.stopped
+    told : IsToldNow T.took.numbers_after new.world.book before.part stop after.halt t (froms_after c.course.froms T.move.made)
+        T.move.places T.stopped
     told =
-        told_now T.took.numbers_after new.world.book before.part stop after.halt t (froms_after c.course.froms T.move.made) T.move.places T.move.stopped T.stopped T.stops T.took.moves.1
+        told_now T.took.numbers_after new.world.book before.part stop after.halt t (froms_after c.course.froms T.move.made) T.move.places
+            T.move.stopped T.stopped T.stops T.took.moves.1
         T.promise.stops
 
     now : EndsAs stop t (T.is.at s)
     now =
-        ends_now T.took.numbers_after new.world.book before.part stop after.halt t (froms_after c.course.froms T.move.made) T.move.places T.stopped told (T.is.at s)
+        ends_now T.took.numbers_after new.world.book before.part stop after.halt t (froms_after c.course.froms T.move.made) T.move.places
+            T.stopped told (T.is.at s)
         (ap (λ (q : Started). q.rest.stopped) T.of_task)
 
     step : StoppedIn k job input t (m + length T.move.begun) s stop new
     step =
-        let after = crew_turned c T settled names starting (other_follows k job input t m s old new before after stop settled names starting c T) in
+        let after = crew_turned c T settled names starting (other_follows k job input t m s old new before after stop settled names starting
+            c T) in
         record { is = after.0; ended = subst (λ (at : ℕ → Started). EndsAs stop t (at s)) (sym after.1) now }
 
     says : StopSays new.world after stop
     says =
-        says_now T.took.numbers_after new.world.book before.part stop after.halt t (froms_after c.course.froms T.move.made) T.move.places T.stopped told new.world after refl
+        says_now T.took.numbers_after new.world.book before.part stop after.halt t (froms_after c.course.froms T.move.made) T.move.places
+            T.stopped told new.world after refl
         (ap (λ (z : Task). z.part) T.stays) (ap (λ (w : World). w.tick) T.world ∙ c.tick) T.took.places T.modest refl
 
   -- A crew in which a task took a turn is one with the tasks that it started, in which that task stopped so.

@@ -22,10 +22,13 @@ use Rattle.run_crew.proofs.Crews.{one_nursery}
 -- ---- whose a nursery is
 
 -- no two tasks have one nursery
-pub same_owner : (k : Table) (job : Job) (input : List ℕ) (t m : ℕ) (leaving : Option ℕ) (crew : Crew) → IsCrew k job input t m leaving crew → (p u : ℕ) (a b : Task) (id : ℕ) →
-    crew.task p ≡ Some a → crew.task u ≡ Some b → HasNurseryOf id (blocks_of a.frames.items) (waits_of a.halt) → HasNurseryOf id (blocks_of b.frames.items) (waits_of b.halt) → p ≡ u
+pub same_owner : (k : Table) (job : Job) (input : List ℕ) (t m : ℕ) (leaving : Option ℕ) (crew : Crew) →
+    IsCrew k job input t m leaving crew → (p u : ℕ) (a b : Task) (id : ℕ) →
+    crew.task p ≡ Some a → crew.task u ≡ Some b → HasNurseryOf id (blocks_of a.frames.items) (waits_of a.halt) →
+        HasNurseryOf id (blocks_of b.frames.items) (waits_of b.halt) → p ≡ u
 same_owner k job input t m leaving crew c p u a b id e f h g =
-    let x = scope_of_nursery (label_at crew.world) crew.world.book (blocks_of a.frames.items) a.own.items (waits_of a.halt) id (c.follows p a e).goes.opened h in
+    let x = scope_of_nursery (label_at crew.world) crew.world.book (blocks_of a.frames.items) a.own.items (waits_of a.halt) id
+        (c.follows p a e).goes.opened h in
     one_nursery k job input t m leaving crew c p u a b e f id x.nursery h g x.at
 
 -- ---- what stays of nurseries where an end is told
@@ -46,8 +49,10 @@ pub data Told (new : NurseryBook) (exc : Option Exc) (id : ℕ) (n : Nursery) : 
   stays : (home : Option Home) → nursery_at new id ≡ Some n → ((h : Home) → home ≡ Some h → h.nursery ≢ id) → Told new exc id n home
   tells : (h : Home) → h.nursery ≡ id → nursery_at new id ≡ Some (with_child h.place exc n) → Told new exc id n (Some h)
 
-pub told : (old new : NurseryBook) (home : Option Home) (exc : Option Exc) → EndIsTold old new home exc → (id : ℕ) (n : Nursery) → nursery_at old id ≡ Some n → Told new exc id n home
-told old new None exc h id n e = stays None (ap (λ (b : NurseryBook). nursery_at b id) h ∙ e) (λ x f. absurd (let g : None ≡ Some x = f in cc))
+pub told : (old new : NurseryBook) (home : Option Home) (exc : Option Exc) → EndIsTold old new home exc → (id : ℕ) (n : Nursery) →
+    nursery_at old id ≡ Some n → Told new exc id n home
+told old new None exc h id n e =
+    stays None (ap (λ (b : NurseryBook). nursery_at b id) h ∙ e) (λ x f. absurd (let g : None ≡ Some x = f in cc))
 told old new (Some x) exc h id n e = by_key (x.nursery == id) refl
   where
     u : (n : Nursery) × (nursery_at old x.nursery ≡ Some n) × Updates old new x.nursery (Some (with_child x.place exc n))
@@ -88,9 +93,11 @@ all_like old new home exc h id n e = by_told home (told old new home exc h id n 
   where
     by_told : (x : Option Home) → Told new exc id n x → (m : Nursery) × (nursery_at new id ≡ Some m) × Like n m
     by_told _ (stays x f g) = (n, f, record { scope = refl; label = refl; body = refl; long = refl })
-    by_told _ (tells x f g) = (with_child x.place exc n, g, record { scope = refl; label = refl; body = refl; long = set_long n.children x.place (Some exc) })
+    by_told _ (tells x f g) = (with_child x.place exc n, g, record
+        { scope = refl; label = refl; body = refl; long = set_long n.children x.place (Some exc) })
 
 -- what is true of nurseries like one
-pub carry : (old new : NurseryBook) (id : ℕ) (P Q : Nursery → Type 0) → AllLike old new → ((n m : Nursery) → Like n m → P n → Q m) → HasNursery old id P → HasNursery new id Q
+pub carry : (old new : NurseryBook) (id : ℕ) (P Q : Nursery → Type 0) → AllLike old new → ((n m : Nursery) → Like n m → P n → Q m) →
+    HasNursery old id P → HasNursery new id Q
 carry old new id P Q like step h =
     let n = finds old id P h in let m = like id n.0 n.1 in puts new id m.0 Q m.1 (step n.0 m.0 m.2 n.2)

@@ -59,7 +59,8 @@ froms_same f g (l ∷ ls) same =
 abbrev pub IsSameChild : (was are : ℕ → ℕ) (at now : ℕ → Started) (child later : ℕ → ℕ) → ℕ → Type 0
 IsSameChild was are at now child later i = ((now (later i)).here.task ≡ (at (child i)).here.task) × (are (later i) ≡ was (child i))
 
-pub started_same : (was are : ℕ → ℕ) (at now : ℕ → Started) (child later : ℕ → ℕ) (es : List Event) → ((i : ℕ) → StartsChild i es → IsSameChild was are at now child later i) →
+pub started_same : (was are : ℕ → ℕ) (at now : ℕ → Started) (child later : ℕ → ℕ) (es : List Event) →
+    ((i : ℕ) → StartsChild i es → IsSameChild was are at now child later i) →
     AreStarted was at child es → AreStarted are now later es
 started_same was are at now child later [] same h = tt
 started_same was are at now child later (noted t e ∷ es) same h = started_same was are at now child later es same h
@@ -69,7 +70,8 @@ started_same was are at now child later (starts i l t ∷ es) same h =
     let o = same i (inl refl) in
     (o.0 ∙ h.0, o.1 ∙ h.1, started_same was are at now child later es (λ j among. same j (inr among)) h.2)
 
-pub started_join : (start : ℕ → ℕ) (at : ℕ → Started) (child : ℕ → ℕ) (es fs : List Event) → AreStarted start at child es → AreStarted start at child fs →
+pub started_join : (start : ℕ → ℕ) (at : ℕ → Started) (child : ℕ → ℕ) (es fs : List Event) → AreStarted start at child es →
+    AreStarted start at child fs →
     AreStarted start at child (es ++ fs)
 started_join start at child [] fs h k = k
 started_join start at child (noted t e ∷ es) fs h k = started_join start at child es fs h k
@@ -82,7 +84,8 @@ abbrev pub IsStartedAs : (start : ℕ → ℕ) (at : ℕ → Started) (t n : ℕ
 IsStartedAs start at t n b = ((at n).here.task ≡ b.here.task) × (start n ≡ t)
 
 -- the events of a turn start the children begun in it, numbered on
-pub started_now : (start : ℕ → ℕ) (at : ℕ → Started) (child : ℕ → ℕ) (t : ℕ) (ls : List Label) (n : ℕ) (es : List Event) (bs : List Begun) → MadeAt t ls es → Starts n es bs →
+pub started_now : (start : ℕ → ℕ) (at : ℕ → Started) (child : ℕ → ℕ) (t : ℕ) (ls : List Label) (n : ℕ) (es : List Event) (bs : List Begun) →
+    MadeAt t ls es → Starts n es bs →
     ((i : ℕ) (b : Begun) → slice_get bs i ≡ Some b → IsStartedAs start at t (child (n + i)) b) → AreStarted start at child es
 started_now start at child t ls n [] bs made h are = tt
 started_now start at child t ls n (noted u e ∷ es) bs made h are = started_now start at child t ls n es bs made.1 h are
@@ -96,13 +99,16 @@ started_now start at child t ls n (starts i l u ∷ es) (b ∷ bs) made h are =
       ap (λ (x : ℕ). (at (child x)).here.task) first ∙ (o.0 ∙ sym h.2),
       ap (λ (x : ℕ). start (child x)) first ∙ (o.1 ∙ sym made.0),
       started_now start at child t ls (suc n) es bs made.1 h.3
-          (λ j c e. let on : n + suc j ≡ suc n + j = omega arith in subst (λ (x : ℕ). IsStartedAs start at t (child x) c) on (are (suc j) c e)),
+          (λ j c e. let on : n + suc j ≡ suc n + j = omega arith in subst (λ (x : ℕ). IsStartedAs start at t (child x) c) on
+              (are (suc j) c e)),
     )
 
 -- ---- after a turn
 
-module _ (k : Table) (job : Job) (input : List ℕ) (t m s : ℕ) (old new : Crew) (before after : Task) (stop : Stop) (settled : IsSettled k job input) (names : GivesNamesOnce job)
-    (starting : StartsInNurseries job) (c : IsCrew k job input t m None old) (T : Turning k job input t m s old new c.numbers before after stop c.course) where
+module _ (k : Table) (job : Job) (input : List ℕ) (t m s : ℕ) (old new : Crew) (before after : Task) (stop : Stop)
+    (settled : IsSettled k job input) (names : GivesNamesOnce job)
+    (starting : StartsInNurseries job) (c : IsCrew k job input t m None old)
+        (T : Turning k job input t m s old new c.numbers before after stop c.course) where
   abbrev numbers : ℕ → Numbers
   numbers = numbers_then c.numbers s m T.took.numbers_after
 
@@ -133,20 +139,24 @@ module _ (k : Table) (job : Job) (input : List ℕ) (t m s : ℕ) (old new : Cre
   -- ---- who has ended
 
   -- no scope has a label that such a task entered
-  none_has : (p : ℕ) → p < m → old.task p ≡ None → (l : Label) → Known l (entered_made (c.course.at p).made) → (key : ℕ) → label_at old.world key ≡ Some l → ⊥
+  none_has : (p : ℕ) → p < m → old.task p ≡ None → (l : Label) → Known l (entered_made (c.course.at p).made) → (key : ℕ) →
+      label_at old.world key ≡ Some l → ⊥
   none_has p below ended l i key e =
       let x = c.owned key (c.labelled key l e) in
-      let same : x.0 ≡ p = one_entered c.course settled names starting l x.0 p (below_of c x.0 x.1.task x.1.lives) below (opened_entered c key x.0 l x.1 e) i in
+      let same : x.0 ≡ p = one_entered c.course settled names starting l x.0 p (below_of c x.0 x.1.task x.1.lives) below
+          (opened_entered c key x.0 l x.1 e) i in
       not_both ended (ap old.task (sym same) ∙ x.1.lives)
 
   ended_other : (p : ℕ) → p < m → p ≢ s → old.task p ≡ None → (g : Gone) × (new.gone p ≡ Some g) × HasEnded T.is.froms input t (T.is.at p) g
-  ended_other p below differs e = (g.0, T.gone_after p ∙ g.1, subst (λ (x : Started). HasEnded T.is.froms input t x g.0) (sym (T.of_other p below differs)) still)
+  ended_other p below differs e =
+      (g.0, T.gone_after p ∙ g.1, subst (λ (x : Started). HasEnded T.is.froms input t x g.0) (sym (T.of_other p below differs)) still)
     where
       g : (g : Gone) × (old.gone p ≡ Some g) × HasEnded c.course.froms input t (c.course.at p) g
       g = c.ended p below e
 
       same_from : (l : Label) → Known l (entered_made (c.course.at p).made) → T.is.froms l ≡ c.course.froms l
-      same_from l i = ap (λ (f : Table). f l) T.froms ∙ (unmoved (IsEntered c.course.at) c.course.froms l T.took.acts (none_has p below e l i) (p, i) T.fresh).0
+      same_from l i = ap (λ (f : Table). f l) T.froms
+          ∙ (unmoved (IsEntered c.course.at) c.course.froms l T.took.acts (none_has p below e l i) (p, i) T.fresh).0
 
       still : HasEnded T.is.froms input t (c.course.at p) g.0
       still =
@@ -158,7 +168,8 @@ module _ (k : Table) (job : Job) (input : List ℕ) (t m s : ℕ) (old new : Cre
             froms = g.2.froms ∙ sym (froms_same c.course.froms T.is.froms (entered_made (c.course.at p).made) same_from);
           }
 
-  ended_after : (p : ℕ) → p < m + length T.move.begun → new.task p ≡ None → (g : Gone) × (new.gone p ≡ Some g) × HasEnded T.is.froms input t (T.is.at p) g
+  ended_after : (p : ℕ) → p < m + length T.move.begun → new.task p ≡ None → (g : Gone) × (new.gone p ≡ Some g)
+      × HasEnded T.is.froms input t (T.is.at p) g
   ended_after p less e = by_whose (whose p)
     where
       by_whose : Whose p → (g : Gone) × (new.gone p ≡ Some g) × HasEnded T.is.froms input t (T.is.at p) g
@@ -176,7 +187,8 @@ module _ (k : Table) (job : Job) (input : List ℕ) (t m s : ℕ) (old new : Cre
   differs_by : (key p : ℕ) → AreOthers key before.own.items → OpenedBy old key p → p ≢ s
   differs_by key p others o e =
       let is : o.task ≡ before = one_of o.task before (sym o.lives ∙ (ap old.task e ∙ T.task)) in
-      all_got (λ (x : Own). x.id ≢ key) before.own.items o.place o.scope others (sym (ap (λ (z : Task). slice_get z.own.items o.place) is) ∙ o.own) o.is
+      all_got (λ (x : Own). x.id ≢ key) before.own.items o.place o.scope others
+          (sym (ap (λ (z : Task). slice_get z.own.items o.place) is) ∙ o.own) o.is
 
   opened_on : (key p : ℕ) → p ≢ s → OpenedBy old key p → OpenedBy new key p
   opened_on key p differs o =
@@ -191,12 +203,14 @@ module _ (k : Table) (job : Job) (input : List ℕ) (t m s : ℕ) (old new : Cre
 
   opened_back : (key p : ℕ) → p < m → p ≢ s → OpenedBy new key p → OpenedBy old key p
   opened_back key p below differs o =
-      record { task = o.task; lives = sym (T.other_after p below differs) ∙ o.lives; place = o.place; scope = o.scope; own = o.own; is = o.is }
+      record { task = o.task; lives = sym (T.other_after p below differs) ∙ o.lives; place = o.place; scope = o.scope; own = o.own; is =
+          o.is }
 
   owned_after : (key : ℕ) → IsOpen new.world.scopes key → (p : ℕ) × OpenedBy new key p
   owned_after key opens = by_own (own_or key after.own.items)
     where
-      by_own : AreOthers key after.own.items ⊎ ((i : ℕ) × (o : Own) × (slice_get after.own.items i ≡ Some o) × (o.id ≡ key)) → (p : ℕ) × OpenedBy new key p
+      by_own : AreOthers key after.own.items ⊎ ((i : ℕ) × (o : Own) × (slice_get after.own.items i ≡ Some o) × (o.id ≡ key)) → (p : ℕ)
+          × OpenedBy new key p
       by_own (inl others) =
           let was : IsElse key (scoping_of before old.world) = else_acts T.took.acts (opens, others) in
           let x = c.owned key was.0 in
@@ -206,7 +220,8 @@ module _ (k : Table) (job : Job) (input : List ℕ) (t m s : ℕ) (old new : Cre
   -- no scope is the task's and that of another
   not_both_own : (key u : ℕ) → u < m → u ≢ s → OpenedBy new key s → OpenedBy new key u → ⊥
   not_both_own key u below differs mine theirs =
-      all_got (λ (x : Own). x.id ≢ key) after.own.items mine.place mine.scope stay.others (sym (ap (λ (z : Task). slice_get z.own.items mine.place) is) ∙ mine.own) mine.is
+      all_got (λ (x : Own). x.id ≢ key) after.own.items mine.place mine.scope stay.others
+          (sym (ap (λ (z : Task). slice_get z.own.items mine.place) is) ∙ mine.own) mine.is
     where
       o : OpenedBy old key u
       o = opened_back key u below differs theirs
@@ -229,7 +244,8 @@ module _ (k : Table) (job : Job) (input : List ℕ) (t m s : ℕ) (old new : Cre
   -- a new task opened none yet
   child_owns_none : (key i : ℕ) → OpenedBy new key (m + i) → ⊥
   child_owns_none key i o =
-      let b = begun_at T.took.numbers_after new.world.book (blocks_of after.frames.items) (waits_of after.halt) T.took.tasks T.move.begun T.took.begun i o.task (sym (T.child_after i) ∙ o.lives) in
+      let b = begun_at T.took.numbers_after new.world.book (blocks_of after.frames.items) (waits_of after.halt) T.took.tasks T.move.begun
+          T.took.begun i o.task (sym (T.child_after i) ∙ o.lives) in
       not_both refl (sym (ap (λ (os : List Own). slice_get os o.place) b.2.own) ∙ o.own)
 
   apart_after : (key p u : ℕ) → OpenedBy new key p → OpenedBy new key u → p ≡ u
@@ -288,7 +304,8 @@ module _ (k : Table) (job : Job) (input : List ℕ) (t m s : ℕ) (old new : Cre
       are i b e =
           let f : m + (q.count + i - q.count) ≡ m + i = omega arith in
           let is : child (q.count + i) ≡ m + i = later_child q.count q.child m (q.count + i) (omega arith) ∙ f in
-          (ap (λ (n : ℕ). (T.is.at n).here.task) is ∙ ap (λ (x : Started). x.here.task) (T.of_child i b e), ap new.start is ∙ T.start_child i (below_length T.move.begun i b e))
+          (ap (λ (n : ℕ). (T.is.at n).here.task) is ∙ ap (λ (x : Started). x.here.task) (T.of_child i b e), ap new.start is
+              ∙ T.start_child i (below_length T.move.begun i b e))
 
   started_after : (p : ℕ) → p < m + length T.move.begun → AreStarted new.start T.is.at (T.is.at p).child (T.is.at p).made
   started_after p less = by_whose (whose p)
@@ -297,7 +314,8 @@ module _ (k : Table) (job : Job) (input : List ℕ) (t m s : ℕ) (old new : Cre
       by_whose (inl e) = subst (λ (u : ℕ). AreStarted new.start T.is.at (T.is.at u).child (T.is.at u).made) (sym e) started_mover
       by_whose (inr (inl o)) =
           subst (λ (x : Started). AreStarted new.start T.is.at x.child x.made) (sym (T.of_other p o.0 o.1))
-          (started_same old.start new.start c.course.at T.is.at (c.course.at p).child (c.course.at p).child (c.course.at p).made (same_child p o.0) (c.started p o.0))
+          (started_same old.start new.start c.course.at T.is.at (c.course.at p).child (c.course.at p).child (c.course.at p).made
+              (same_child p o.0) (c.started p o.0))
       by_whose (inr (inr i)) =
           let is : m + i.0 ≡ p = i.1 in
           let b = nth T.move.begun i.0 (omega (arith, is, less)) in
@@ -305,19 +323,24 @@ module _ (k : Table) (job : Job) (input : List ℕ) (t m s : ℕ) (old new : Cre
 
   -- ---- all of it
 
-  module _ (others : (u : ℕ) → u < m → u ≢ s → (task : Task) → old.task u ≡ Some task → Follows new T.is.froms input t T.is.at numbers (leaving_by stop s) u task) where
-    follows_after : (p : ℕ) (task : Task) → new.task p ≡ Some task → Follows new T.is.froms input t T.is.at numbers (leaving_by stop s) p task
+  module _ (others : (u : ℕ) → u < m → u ≢ s → (task : Task) → old.task u ≡ Some task →
+      Follows new T.is.froms input t T.is.at numbers (leaving_by stop s) u task) where
+    follows_after : (p : ℕ) (task : Task) → new.task p ≡ Some task →
+        Follows new T.is.froms input t T.is.at numbers (leaving_by stop s) p task
     follows_after p task e = by_whose (whose p)
       where
         by_whose : Whose p → Follows new T.is.froms input t T.is.at numbers (leaving_by stop s) p task
         by_whose (inl is) =
             subst (λ (u : ℕ). Follows new T.is.froms input t T.is.at numbers (leaving_by stop s) u task) (sym is)
-            (subst (λ (x : Task). Follows new T.is.froms input t T.is.at numbers (leaving_by stop s) s x) (one_of after task (sym T.task_after ∙ (ap new.task (sym is) ∙ e)))
-            (mover_follows k job input t m s old new before after stop c T (λ u le. ap entered_made (c.course.none u le)) (labels_apart c settled names starting) (labels_known c)))
+            (subst (λ (x : Task). Follows new T.is.froms input t T.is.at numbers (leaving_by stop s) s x)
+                (one_of after task (sym T.task_after ∙ (ap new.task (sym is) ∙ e)))
+            (mover_follows k job input t m s old new before after stop c T (λ u le. ap entered_made (c.course.none u le))
+                (labels_apart c settled names starting) (labels_known c)))
         by_whose (inr (inl o)) = others p o.0 o.1 task (sym (T.other_after p o.0 o.1) ∙ e)
         by_whose (inr (inr i)) =
             subst (λ (u : ℕ). Follows new T.is.froms input t T.is.at numbers (leaving_by stop s) u task) i.1
-            (child_follows k job input t m s old new before after stop c T (λ j b begun. T.inputs j b begun ∙ (c.follows s before T.task).input_is) i.0 task
+            (child_follows k job input t m s old new before after stop c T
+                (λ j b begun. T.inputs j b begun ∙ (c.follows s before T.task).input_is) i.0 task
             (sym (T.child_after i.0) ∙ (ap new.task i.1 ∙ e)) (leaving_by stop s))
 
     crew_after : (x : IsCrew k job input t (m + length T.move.begun) (leaving_by stop s) new) × (x.course.at ≡ T.is.at)
@@ -343,8 +366,10 @@ module _ (k : Table) (job : Job) (input : List ℕ) (t m s : ℕ) (old new : Cre
     )
 
 -- A crew after a turn is a crew of the run after it, with the new tasks, if every other task that was there is tied to the run after it.
-pub crew_turned : {k : Table} {job : Job} {input : List ℕ} {t m s : ℕ} {old new : Crew} {before after : Task} {stop : Stop} → (c : IsCrew k job input t m None old) →
-    (T : Turning k job input t m s old new c.numbers before after stop c.course) → IsSettled k job input → GivesNamesOnce job → StartsInNurseries job →
+pub crew_turned : {k : Table} {job : Job} {input : List ℕ} {t m s : ℕ} {old new : Crew} {before after : Task} {stop : Stop} →
+    (c : IsCrew k job input t m None old) →
+    (T : Turning k job input t m s old new c.numbers before after stop c.course) → IsSettled k job input → GivesNamesOnce job →
+        StartsInNurseries job →
     ((u : ℕ) → u < m → u ≢ s → (task : Task) → old.task u ≡ Some task →
     Follows new T.is.froms input t T.is.at (numbers_then c.numbers s m T.took.numbers_after) (leaving_by stop s) u task) →
     (x : IsCrew k job input t (m + length T.move.begun) (leaving_by stop s) new) × (x.course.at ≡ T.is.at)

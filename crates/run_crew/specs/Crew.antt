@@ -92,7 +92,8 @@ IsPast i own = All (λ (o : Own). o.at ≢ i) own
 pub record Tracks (known : Label → Type 0) (f : Table) (s : Scoping) (entered : List Label) : Type 0 where
   pub labels : map (λ (x : ScopeFrom). x.label) s.froms ≡ entered
   pub differ : Differ s.own
-  pub named : (o : Own) (i : ℕ) → slice_get s.own i ≡ Some o → (x : ScopeFrom) × (slice_get s.froms o.at ≡ Some x) × (s.labels o.id ≡ Some x.label)
+  pub named : (o : Own) (i : ℕ) → slice_get s.own i ≡ Some o → (x : ScopeFrom) × (slice_get s.froms o.at ≡ Some x)
+      × (s.labels o.id ≡ Some x.label)
   pub kept :
       (o : Own) (i : ℕ) → slice_get s.own i ≡ Some o →
       (st : Stack) × (l : Label) × (stack_of s.tree o.id ≡ Some st) × (s.labels o.id ≡ Some l) × (own_from st ≡ f l)
@@ -145,7 +146,8 @@ pub record HasMembers (crew : Crew) (at : ℕ → Started) (t : ℕ) (numbers : 
       (number < q.count) × IsMember crew at t id place (q.child number) (slice_get n.children place)
 
 -- A task that has not ended, or of whose end nobody was told yet, tied to the one of the definitions that has its serial number.
-pub record Follows (crew : Crew) (f : Table) (input : List ℕ) (t : ℕ) (at : ℕ → Started) (numbers : ℕ → Numbers) (leaving : Option ℕ) (s : ℕ) (task : Task) : Type 0
+pub record Follows (crew : Crew) (f : Table) (input : List ℕ) (t : ℕ) (at : ℕ → Started) (numbers : ℕ → Numbers) (leaving : Option ℕ)
+    (s : ℕ) (task : Task) : Type 0
   where
     pub here : here_of task ≡ (at s).here
     pub input_is : (at s).here.input ≡ input

@@ -60,4 +60,5 @@ pub record Keeps (crew : Crew) (s id : ℕ) : Type 0 where
 
 -- the home of each task is a nursery of the one that has this serial number
 abbrev pub AreHomesOf : Crew → (ℕ → ℕ) → Type 0
-AreHomesOf crew parent = (s : ℕ) (task : Task) (home : Home) → crew.task s ≡ Some task → task.home ≡ Some home → Keeps crew (parent s) home.nursery
+AreHomesOf crew parent = (s : ℕ) (task : Task) (home : Home) → crew.task s ≡ Some task → task.home ≡ Some home →
+    Keeps crew (parent s) home.nursery

@@ -15,48 +15,60 @@ abbrev pub ComputedBelow : ℕ → List Request → List Slot → Type 0
 ComputedBelow k requests row = (i : ℕ) (q : Request) (s : Slot) → i < k → IsComputed (slice_index_or requests i q) (slice_index_or row i s)
 
 -- one request more is computed
-pub computed-one_more : (requests : List Request) (row : List Slot) (k : ℕ) (request : Request) (slot : Slot) → k < length requests → k < length row → request ≡ slice_index_or requests k request → ComputedBelow k requests row → IsComputed request slot
+pub computed-one_more : (requests : List Request) (row : List Slot) (k : ℕ) (request : Request) (slot : Slot) → k < length requests →
+    k < length row → request ≡ slice_index_or requests k request → ComputedBelow k requests row → IsComputed request slot
     → ComputedBelow (k + 1) requests (slice_set row k slot)
 computed-one_more requests row k request slot inside within is below this i q s less =
     ⊎_elim
-    (λ (before : i < k). subst (IsComputed (slice_index_or requests i q)) (sym (get_or-set_other row k i slot s (omega arith))) (below i q s before))
+    (λ (before : i < k). subst (IsComputed (slice_index_or requests i q)) (sym (get_or-set_other row k i slot s (omega arith)))
+        (below i q s before))
     (λ (behind : k ≤ i).
     let same : i ≡ k = omega arith in
-    let asked : request ≡ slice_index_or requests i q = is ∙ get_or_default requests k request q inside ∙ ap (λ j. slice_index_or requests j q) (sym same) in
-    subst (IsComputed (slice_index_or requests i q)) (sym (get_or-set_at row k i slot s same within)) (subst (λ r. IsComputed r slot) asked this))
+    let asked : request ≡ slice_index_or requests i q = is ∙ get_or_default requests k request q inside
+        ∙ ap (λ j. slice_index_or requests j q) (sym same) in
+    subst (IsComputed (slice_index_or requests i q)) (sym (get_or-set_at row k i slot s same within))
+        (subst (λ r. IsComputed r slot) asked this))
     (cases_lt i k)
 
 -- one answer more is taken out
-pub taken-one_more : (answers more : List Answer) (rest left row : List Slot) (slot : Slot) (answer taken : Answer) → map done answers ++ rest ≡ row → rest ≡ slot ∷ left → slot.content ≡ Done answer → taken ≡ answer → more ≡ answers ++ taken ∷ [] → map done more ++ left ≡ row
+pub taken-one_more : (answers more : List Answer) (rest left row : List Slot) (slot : Slot) (answer taken : Answer) →
+    map done answers ++ rest ≡ row → rest ≡ slot ∷ left → slot.content ≡ Done answer → taken ≡ answer → more ≡ answers ++ taken ∷ [] →
+    map done more ++ left ≡ row
 taken-one_more answers more rest left row slot answer taken before next holds is pushed =
     let this : slot ≡ done taken = ap (λ content. record { content = content }) (holds ∙ ap Done (sym is)) in
-    ap (λ items. map done items ++ left) pushed ∙ ap (λ slots. slots ++ left) (map-append done answers (taken ∷ [])) ∙ append_assoc (map done answers) (done taken ∷ []) left
+    ap (λ items. map done items ++ left) pushed ∙ ap (λ slots. slots ++ left) (map-append done answers (taken ∷ []))
+        ∙ append_assoc (map done answers) (done taken ∷ []) left
     ∙ ap (λ s. map done answers ++ (s ∷ left)) (sym this) ∙ ap (λ slots. map done answers ++ slots) (sym next) ∙ before
 
 -- what is left of a full row is full
 pub filled-rest : (rest left : List Slot) (slot : Slot) → rest ≡ slot ∷ left → All IsFilled rest → All IsFilled left
-filled-rest rest left slot next all k d less = subst (λ slots. IsFilled (slice_index_or slots (suc k) d)) next (all (suc k) d (omega (arith, ap length next)))
+filled-rest rest left slot next all k d less =
+    subst (λ slots. IsFilled (slice_index_or slots (suc k) d)) next (all (suc k) d (omega (arith, ap length next)))
 
 -- a slot that holds what its request came to isn't empty
 computed-filled : (request : Request) (slot : Slot) → IsComputed request slot → IsFilled slot
 computed-filled request slot holds none = subst (Computes request) none holds
 
 -- where each request was computed no slot is empty
-pub computed-filled-all : (requests : List Request) (row : List Slot) → length row ≡ length requests → AreComputed requests row → All IsFilled row
+pub computed-filled-all : (requests : List Request) (row : List Slot) → length row ≡ length requests → AreComputed requests row →
+    All IsFilled row
 computed-filled-all [] row paired computed k d less = absurd (omega arith)
-computed-filled-all (request ∷ requests) row paired computed k d less = computed-filled (slice_index_or (request ∷ requests) k request) (slice_index_or row k d) (computed k request d less)
+computed-filled-all (request ∷ requests) row paired computed k d less =
+    computed-filled (slice_index_or (request ∷ requests) k request) (slice_index_or row k d) (computed k request d less)
 
 -- a row that was lent whole is what the calls left
 pub written-whole : {X : Type 0} (n : ℕ) (row rest : List X) → length row ≡ n → take n (row ++ rest) ≡ row
 written-whole n row rest whole = take-append-le n row rest (omega arith) ∙ take_all n row (omega arith)
 
 -- the answers of a row are those to the requests
-pub answers-computed : (requests : List Request) (answers : List Answer) (row : List Slot) → map done answers ≡ row → length row ≡ length requests → AreComputed requests row → AreAnswers requests answers
+pub answers-computed : (requests : List Request) (answers : List Answer) (row : List Slot) → map done answers ≡ row →
+    length row ≡ length requests → AreComputed requests row → AreAnswers requests answers
 answers-computed requests answers row taken paired computed =
     let count : length answers ≡ length requests = sym (length-map answers done) ∙ ap length taken ∙ paired in
     record {
       count = count;
       each = λ i q a less.
-          let slot : slice_index_or row i (done a) ≡ done (slice_index_or answers i a) = sym (ap (λ slots. slice_index_or slots i (done a)) taken) ∙ get_or-map done answers i a in
+          let slot : slice_index_or row i (done a) ≡ done (slice_index_or answers i a) =
+              sym (ap (λ slots. slice_index_or slots i (done a)) taken) ∙ get_or-map done answers i a in
           subst (IsComputed (slice_index_or requests i q)) slot (computed i q (done a) (omega arith));
     }

@@ -34,18 +34,22 @@ top-push [] n = omega arith
 top-push (x ∷ xs) n = let rest = top-push xs n in omega arith
 
 -- one request more is drawn and answered
-pub drawn-one_more : (requests : List Request) (drawn drawn_then : List ℕ) (answered then : List Numbered) (i : ℕ) (request : Request) (answer : Answer) → AreDrawn requests drawn answered → i < length requests → request ≡ slice_index_or requests i request
-    → Answers request answer → drawn_then ≡ drawn ++ i ∷ [] → then ≡ answered ++ record { number = i; answer = answer } ∷ [] → AreDrawn requests drawn_then then
+pub drawn-one_more : (requests : List Request) (drawn drawn_then : List ℕ) (answered then : List Numbered) (i : ℕ) (request : Request)
+    (answer : Answer) → AreDrawn requests drawn answered → i < length requests → request ≡ slice_index_or requests i request
+    → Answers request answer → drawn_then ≡ drawn ++ i ∷ [] → then ≡ answered ++ record { number = i; answer = answer } ∷ [] →
+        AreDrawn requests drawn_then then
 drawn-one_more requests drawn drawn_then answered then i request answer before inside is right drew noted =
     let numbered : Numbered = record { number = i; answer = answer } in
     record {
-      numbers = ap (map number) noted ∙ map-append number answered (numbered ∷ []) ∙ ap (λ (xs : List ℕ). xs ++ i ∷ []) before.numbers ∙ sym drew;
+      numbers = ap (map number) noted ∙ map-append number answered (numbered ∷ []) ∙ ap (λ (xs : List ℕ). xs ++ i ∷ []) before.numbers
+          ∙ sym drew;
       right = subst (All (IsRight requests)) (sym noted) (All-push (IsRight requests) answered numbered before.right
           (inside, λ q. subst (λ r. Answers r answer) (is ∙ get_or_default requests i request q inside) right));
     }
 
 -- one station more is gathered
-pub gathered-one_more : (requests : List Request) (passes passes_then : List Pass) (pass : Pass) (answered then its : List Numbered) → AreGathered requests passes answered → AreDrawn requests (drawn_by pass) its
+pub gathered-one_more : (requests : List Request) (passes passes_then : List Pass) (pass : Pass) (answered then its : List Numbered) →
+    AreGathered requests passes answered → AreDrawn requests (drawn_by pass) its
     → passes_then ≡ passes ++ pass ∷ [] → then ≡ answered ++ its → AreGathered requests passes_then then
 gathered-one_more requests passes passes_then pass answered then its before drawn pushed appended =
     record {
@@ -53,7 +57,8 @@ gathered-one_more requests passes passes_then pass answered then its before draw
       each =
           λ i.
           let count : Pass → ℕ = λ (p : Pass). count_by (nat_eq i) (drawn_by p) in
-          let left = ap (λ ns. count_by (nat_eq i) (map number ns)) appended ∙ ap (count_by (nat_eq i)) (map-append number answered its) ∙ sum_by-append (λ x. cond (nat_eq i x) 1 0) (map number answered) (map number its) in
+          let left = ap (λ ns. count_by (nat_eq i) (map number ns)) appended ∙ ap (count_by (nat_eq i)) (map-append number answered its)
+              ∙ sum_by-append (λ x. cond (nat_eq i x) 1 0) (map number answered) (map number its) in
           let right = ap (sum_by count) pushed ∙ sum_by_push count passes pass in
           let same = ap (count_by (nat_eq i)) drawn.numbers in
           let was = before.each i in
@@ -62,14 +67,17 @@ gathered-one_more requests passes passes_then pass answered then its before draw
 
 -- each slot holds what its request came to, but those whose answers are still to come
 abbrev pub ComputedBut : List Request → List Numbered → List Slot → Type 0
-ComputedBut requests left row = (i : ℕ) (q : Request) (s : Slot) → i < length requests → count_by (nat_eq i) (map number left) ≡ 0 → IsComputed (slice_index_or requests i q) (slice_index_or row i s)
+ComputedBut requests left row = (i : ℕ) (q : Request) (s : Slot) → i < length requests → count_by (nat_eq i) (map number left) ≡ 0 →
+    IsComputed (slice_index_or requests i q) (slice_index_or row i s)
 
 -- another number doesn't count
 count-other : (i other : ℕ) (xs : List ℕ) → i ≢ other → count_by (nat_eq i) (other ∷ xs) ≡ count_by (nat_eq i) xs
-count-other i other xs ne = sum_by-cons (λ x. cond (nat_eq i x) 1 0) other xs ∙ ap (λ (b : Bool). cond b 1 0 + count_by (nat_eq i) xs) (ne_eqb i other ne) ∙ omega arith
+count-other i other xs ne = sum_by-cons (λ x. cond (nat_eq i x) 1 0) other xs
+    ∙ ap (λ (b : Bool). cond b 1 0 + count_by (nat_eq i) xs) (ne_eqb i other ne) ∙ omega arith
 
 -- one answer more is placed
-pub placed-one_more : (requests : List Request) (rest left : List Numbered) (numbered : Numbered) (row then : List Slot) → length row ≡ length requests → rest ≡ numbered ∷ left → IsRight requests numbered → ComputedBut requests rest row
+pub placed-one_more : (requests : List Request) (rest left : List Numbered) (numbered : Numbered) (row then : List Slot) →
+    length row ≡ length requests → rest ≡ numbered ∷ left → IsRight requests numbered → ComputedBut requests rest row
     → then ≡ slice_set row numbered.number (done numbered.answer) → ComputedBut requests left then
 placed-one_more requests rest left numbered row then paired next right but put i q s inside none =
     let at = numbered.number in
@@ -82,20 +90,24 @@ placed-one_more requests rest left numbered row then paired next right but put i
     (but i q s inside (ap (λ ns. count_by (nat_eq i) (map number ns)) next ∙ count-other i at (map number left) other ∙ none))))
 
 -- where all answers are placed, all slots are computed
-pub placed-all : (requests : List Request) (left : List Numbered) (row : List Slot) → length row ≡ length requests → left ≡ [] → ComputedBut requests left row → AreComputed requests row
+pub placed-all : (requests : List Request) (left : List Numbered) (row : List Slot) → length row ≡ length requests → left ≡ [] →
+    ComputedBut requests left row → AreComputed requests row
 placed-all requests left row paired none but i q s less = but i q s (omega arith) (ap (λ ns. count_by (nat_eq i) (map number ns)) none)
 
 -- no answer is placed yet, and each request has one
-pub placed-none : (requests : List Request) (answered : List Numbered) (row : List Slot) → HaveAnswers requests answered → ComputedBut requests answered row
+pub placed-none : (requests : List Request) (answered : List Numbered) (row : List Slot) → HaveAnswers requests answered →
+    ComputedBut requests answered row
 placed-none requests answered row have i q s inside none = let some = have.each i inside in absurd (omega arith)
 
 -- where the claims were closed, each request has an answer
-pub gathered-all : (requests : List Request) (passes : List Pass) (answered : List Numbered) → AreGathered requests passes answered → ((i : ℕ) → i < length requests → sum_by (λ (pass : Pass). count_by (nat_eq i) (drawn_by pass)) passes ≡ 1)
+pub gathered-all : (requests : List Request) (passes : List Pass) (answered : List Numbered) → AreGathered requests passes answered →
+    ((i : ℕ) → i < length requests → sum_by (λ (pass : Pass). count_by (nat_eq i) (drawn_by pass)) passes ≡ 1)
     → HaveAnswers requests answered
 gathered-all requests passes answered gathered once =
     record { right = gathered.right; each = λ i inside. let same = gathered.each i in let one = once i inside in omega arith }
 
 -- the first of several passes was told what all were told
-pub told-first : (passes : List Pass) → 0 < length passes → All (λ pass. was_told pass ≡ true) passes → Any (λ pass. was_told pass ≡ true) passes
+pub told-first : (passes : List Pass) → 0 < length passes → All (λ pass. was_told pass ≡ true) passes →
+    Any (λ pass. was_told pass ≡ true) passes
 told-first [] some all = absurd (omega arith)
 told-first (pass ∷ passes) some all = (0, pass, some, refl, all 0 pass some)

@@ -23,7 +23,8 @@ IsComputed request slot = Computes request slot.content
 
 -- the slot of each request holds what that request came to
 abbrev pub AreComputed : List Request → List Slot → Type 0
-AreComputed requests row = (i : ℕ) (q : Request) (s : Slot) → i < length row → IsComputed (slice_index_or requests i q) (slice_index_or row i s)
+AreComputed requests row = (i : ℕ) (q : Request) (s : Slot) → i < length row →
+    IsComputed (slice_index_or requests i q) (slice_index_or row i s)
 
 -- the answer at each place is that of the request there
 pub record AreAnswers (requests : List Request) (answers : List Answer) : Type 0 where

@@ -15,7 +15,8 @@ number numbered = numbered.number
 
 -- the answer is that to the request of its number
 abbrev pub IsRight : List Request → Numbered → Type 0
-IsRight requests numbered = (numbered.number < length requests) × ((q : Request) → Answers (slice_index_or requests numbered.number q) numbered.answer)
+IsRight requests numbered = (numbered.number < length requests)
+    × ((q : Request) → Answers (slice_index_or requests numbered.number q) numbered.answer)
 
 -- each number drawn has its answer, in the same order
 pub record AreDrawn (requests : List Request) (drawn : List ℕ) (answered : List Numbered) : Type 0 where
@@ -39,7 +40,8 @@ pub record IsFinished (requests : List Request) (claims : Claims) (station : Sta
 pub record IsNoted (request : Request) (i : ℕ) (before after : Station) : Type 0 where
   pub pass : after.pass ≡ before.pass
   pub kept : after.refused ≡ false → before.refused ≡ false
-  pub more : after.refused ≡ false → (answer : Answer) × Answers request answer × (after.answered.items ≡ before.answered.items ++ record { number = i; answer = answer } ∷ [])
+  pub more : after.refused ≡ false → (answer : Answer) × Answers request answer
+      × (after.answered.items ≡ before.answered.items ++ record { number = i; answer = answer } ∷ [])
 
 -- the answers are right, and there are as many to each request as the passes drew its number
 pub record AreGathered (requests : List Request) (passes : List Pass) (answered : List Numbered) : Type 0 where

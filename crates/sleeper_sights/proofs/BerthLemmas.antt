@@ -26,7 +26,8 @@ under_own berth = rw (eq-eqb berth.scope berth.scope refl) refl
 
 under_other : (scope : ℕ) (o : Option Berth) (other : ℕ) → scope_of o ≡ Some other → scope ≢ other → place_under scope o ≡ None
 under_other scope None other e apart = refl
-under_other scope (Some berth) other e apart = rw (ne_eqb berth.scope scope (λ same. apart (let own : berth.scope ≡ other = some_same berth.scope other e in sym same ∙ own))) refl
+under_other scope (Some berth) other e apart =
+    rw (ne_eqb berth.scope scope (λ same. apart (let own : berth.scope ≡ other = some_same berth.scope other e in sym same ∙ own))) refl
 
 under_none : (scope : ℕ) (o : Option Berth) → scope_of o ≡ None → place_under scope o ≡ None
 under_none scope None e = refl
@@ -49,7 +50,8 @@ under_has scope (Some berth) e = (berth.place, rw (eq-eqb berth.scope scope (som
 written : (berths : List (Option Berth)) (task : ℕ) (o : Option Berth) → task < length berths → berth_at (slice_set berths task o) task ≡ o
 written berths task o within = get_or-set_same berths task o None within
 
-unwritten : (berths : List (Option Berth)) (task other : ℕ) (o : Option Berth) → other ≢ task → berth_at (slice_set berths task o) other ≡ berth_at berths other
+unwritten : (berths : List (Option Berth)) (task other : ℕ) (o : Option Berth) → other ≢ task →
+    berth_at (slice_set berths task o) other ≡ berth_at berths other
 unwritten berths task other o differs = get_or-set_other berths task other o None differs
 
 -- a task with a berth is in the table
@@ -61,20 +63,24 @@ is_within berths task scope e =
     ]
 
 module _ {Z : Type 0} where
-  get-written : (lists : List (Vec ℕ Z)) (scope : ℕ) (v : Vec ℕ Z) → scope < length lists → slice_get (slice_set lists scope v) scope ≡ Some v
+  get-written : (lists : List (Vec ℕ Z)) (scope : ℕ) (v : Vec ℕ Z) → scope < length lists →
+      slice_get (slice_set lists scope v) scope ≡ Some v
   get-written [] scope v within = absurd (omega arith)
   get-written (l ∷ lists) zero v within = refl
   get-written (l ∷ lists) (suc scope) v within = get-written lists scope v (omega arith)
 
-  get-unwritten : (lists : List (Vec ℕ Z)) (scope other : ℕ) (v : Vec ℕ Z) → other ≢ scope → slice_get (slice_set lists scope v) other ≡ slice_get lists other
+  get-unwritten : (lists : List (Vec ℕ Z)) (scope other : ℕ) (v : Vec ℕ Z) → other ≢ scope →
+      slice_get (slice_set lists scope v) other ≡ slice_get lists other
   get-unwritten [] scope other v differs = refl
   get-unwritten (l ∷ lists) zero zero v differs = absurd (differs refl)
   get-unwritten (l ∷ lists) zero (suc other) v differs = refl
   get-unwritten (l ∷ lists) (suc scope) zero v differs = refl
-  get-unwritten (l ∷ lists) (suc scope) (suc other) v differs = get-unwritten lists scope other v (λ same. differs (ap (λ (n : ℕ). suc n) same))
+  get-unwritten (l ∷ lists) (suc scope) (suc other) v differs =
+      get-unwritten lists scope other v (λ same. differs (ap (λ (n : ℕ). suc n) same))
 
   -- the list that was read
-  pub tasks_read : (lists : List (Vec ℕ Z)) (scope : ℕ) (v : Vec ℕ Z) → scope < length lists → v ≡ get_or lists scope v → tasks_at lists scope ≡ v.items
+  pub tasks_read : (lists : List (Vec ℕ Z)) (scope : ℕ) (v : Vec ℕ Z) → scope < length lists → v ≡ get_or lists scope v →
+      tasks_at lists scope ≡ v.items
   tasks_read [] scope v within e = absurd (omega arith)
   tasks_read (l ∷ lists) zero v within e = ap (λ (x : Vec ℕ Z). x.items) (sym e)
   tasks_read (l ∷ lists) (suc scope) v within e = tasks_read lists scope v (omega arith) e
@@ -86,7 +92,8 @@ module _ {Z : Type 0} where
   has_list (l ∷ lists) (suc scope) place inside = omega (arith, has_list lists scope place inside)
 
   -- a list that was written as it was
-  pub tasks_again : (lists : List (Vec ℕ Z)) (scope : ℕ) (v w : Vec ℕ Z) → scope < length lists → v ≡ get_or lists scope v → w.items ≡ v.items → SameTasks lists (slice_set lists scope w)
+  pub tasks_again : (lists : List (Vec ℕ Z)) (scope : ℕ) (v w : Vec ℕ Z) → scope < length lists → v ≡ get_or lists scope v →
+      w.items ≡ v.items → SameTasks lists (slice_set lists scope w)
   tasks_again lists scope v w within read same other =
       elim (cases_eq other scope) [
         | inl here ↦ rw here (ap tasks_of (get-written lists scope w within) ∙ same ∙ sym (tasks_read lists scope v within read))
@@ -97,13 +104,19 @@ module _ {Z : Type 0} where
   then_same lists more later first second scope = second scope ∙ first scope
 
   -- tables that grew
-  pub placed_grown : (berths more : List (Option Berth)) (lists later : List (Vec ℕ Z)) → AllPlaced berths lists → SameBerths berths more → SameTasks lists later → AllPlaced more later
+  pub placed_grown : (berths more : List (Option Berth)) (lists later : List (Vec ℕ Z)) → AllPlaced berths lists → SameBerths berths more →
+      SameTasks lists later → AllPlaced more later
   placed_grown berths more lists later h berths_same tasks_same = record {
-    placed = λ scope. placed-same (λ task. place_under scope (berth_at berths task)) (λ task. place_under scope (berth_at more task)) (tasks_at lists scope) (tasks_at later scope) (h.placed scope) (λ task. ap (place_under scope) (berths_same task)) (tasks_same scope);
+    placed = λ scope. placed-same (λ task. place_under scope (berth_at berths task)) (λ task. place_under scope (berth_at more task))
+        (tasks_at lists scope) (tasks_at later scope) (h.placed scope) (λ task. ap (place_under scope) (berths_same task))
+        (tasks_same scope);
   }
 
   -- a task that comes last in the list of its scope
-  pub placed_added : (berths : List (Option Berth)) (lists : List (Vec ℕ Z)) (task : ℕ) (berth : Berth) (v w : Vec ℕ Z) → AllPlaced berths lists → scope_of (berth_at berths task) ≡ None → task < length berths → berth.scope < length lists → v ≡ get_or lists berth.scope v → w.items ≡ v.items ++ task ∷ [] → berth.place ≡ length v.items → AllPlaced (slice_set berths task (Some berth)) (slice_set lists berth.scope w)
+  pub placed_added : (berths : List (Option Berth)) (lists : List (Vec ℕ Z)) (task : ℕ) (berth : Berth) (v w : Vec ℕ Z) →
+      AllPlaced berths lists → scope_of (berth_at berths task) ≡ None → task < length berths → berth.scope < length lists →
+      v ≡ get_or lists berth.scope v → w.items ≡ v.items ++ task ∷ [] → berth.place ≡ length v.items →
+      AllPlaced (slice_set berths task (Some berth)) (slice_set lists berth.scope w)
   placed_added berths lists task berth v w h awake within kept read pushed last = record {
     placed = λ scope. elim (cases_eq scope berth.scope) [
       | inl here ↦ rw here own
@@ -120,7 +133,8 @@ module _ {Z : Type 0} where
       later : ℕ → ℕ → Option ℕ
       later scope k = place_under scope (berth_at (slice_set berths task (Some berth)) k)
 
-      elsewhere : (scope : ℕ) → scope ≢ berth.scope → (k : ℕ) → place_under scope (berth_at (slice_set berths task (Some berth)) k) ≡ place_under scope (berth_at berths k)
+      elsewhere : (scope : ℕ) → scope ≢ berth.scope → (k : ℕ) → place_under scope (berth_at (slice_set berths task (Some berth)) k)
+          ≡ place_under scope (berth_at berths k)
       elsewhere scope differs k =
           elim (cases_eq k task) [
             | inl same ↦
@@ -131,18 +145,24 @@ module _ {Z : Type 0} where
             | inr apart ↦ ap (place_under scope) (unwritten berths task k (Some berth) apart)
           ]
 
-      own : IsPlaced (λ k. place_under berth.scope (berth_at (slice_set berths task (Some berth)) k)) (tasks_at (slice_set lists berth.scope w) berth.scope)
+      own : IsPlaced (λ k. place_under berth.scope (berth_at (slice_set berths task (Some berth)) k))
+          (tasks_at (slice_set lists berth.scope w) berth.scope)
       own =
           let tasks : tasks_at lists berth.scope ≡ v.items = tasks_read lists berth.scope v kept read in
-          let now : tasks_at lists berth.scope ++ task ∷ [] ≡ tasks_at (slice_set lists berth.scope w) berth.scope = ap (λ (l : List ℕ). l ++ task ∷ []) tasks ∙ sym pushed ∙ sym (ap tasks_of (get-written lists berth.scope w kept)) in
+          let now : tasks_at lists berth.scope ++ task ∷ [] ≡ tasks_at (slice_set lists berth.scope w) berth.scope =
+              ap (λ (l : List ℕ). l ++ task ∷ []) tasks ∙ sym pushed ∙ sym (ap tasks_of (get-written lists berth.scope w kept)) in
           subst (λ (l : List ℕ). IsPlaced (λ k. place_under berth.scope (berth_at (slice_set berths task (Some berth)) k)) l) now
-          (placed-push (λ k. place_under berth.scope (berth_at berths k)) (λ k. place_under berth.scope (berth_at (slice_set berths task (Some berth)) k)) (tasks_at lists berth.scope) task (h.placed berth.scope)
+          (placed-push (λ k. place_under berth.scope (berth_at berths k))
+              (λ k. place_under berth.scope (berth_at (slice_set berths task (Some berth)) k)) (tasks_at lists berth.scope) task
+              (h.placed berth.scope)
           (under_none berth.scope (berth_at berths task) awake)
-          (ap (place_under berth.scope) (written berths task (Some berth) within) ∙ under_own berth ∙ ap Some (last ∙ sym (ap length tasks)))
+          (ap (place_under berth.scope) (written berths task (Some berth) within) ∙ under_own berth
+              ∙ ap Some (last ∙ sym (ap length tasks)))
           (λ other apart. ap (place_under berth.scope) (unwritten berths task other (Some berth) apart)))
 
 -- where tasks sleep after it
-pub puts_added : (berths more : List (Option Berth)) (task : ℕ) (berth : Berth) → SameBerths berths more → task < length more → Puts (map scope_of berths) (map scope_of (slice_set more task (Some berth))) task (Some berth.scope)
+pub puts_added : (berths more : List (Option Berth)) (task : ℕ) (berth : Berth) → SameBerths berths more → task < length more →
+    Puts (map scope_of berths) (map scope_of (slice_set more task (Some berth))) task (Some berth.scope)
 puts_added berths more task berth same within = record {
   changed = scope_seen (slice_set more task (Some berth)) task ∙ ap scope_of (written more task (Some berth) within);
   others = λ other differs.
@@ -152,7 +172,8 @@ puts_added berths more task berth same within = record {
 }
 
 -- A task that slept in a berth, and what is left of the list of its scope without it
-pub record Leaves {Z : Type 0} (berths : List (Option Berth)) (lists : List (Vec ℕ Z)) (task : ℕ) (berth : Berth) (v w : Vec ℕ Z) : Type 0 where
+pub record Leaves {Z : Type 0} (berths : List (Option Berth)) (lists : List (Vec ℕ Z)) (task : ℕ) (berth : Berth) (v w : Vec ℕ Z) : Type 0
+    where
   pub kept : AllPlaced berths lists
   pub slept : berth_at berths task ≡ Some berth
   pub read : v ≡ get_or lists berth.scope v
@@ -185,22 +206,27 @@ module _ {Z : Type 0} (berths : List (Option Berth)) (lists : List (Vec ℕ Z)) 
       (tasks_read lists berth.scope v (scope_within berths lists task berth h.kept h.slept) h.read) (h.kept.placed berth.scope)
 
   -- the last of the list sleeps in the same scope, and is another
-  last_is : Leaves berths lists task berth v w → (moved : ℕ) → berth.place < length w.items → moved ≡ get_or w.items berth.place 0 → (scope_of (berth_at berths moved) ≡ Some berth.scope) × (moved ≢ task)
+  last_is : Leaves berths lists task berth v w → (moved : ℕ) → berth.place < length w.items → moved ≡ get_or w.items berth.place 0 →
+      (scope_of (berth_at berths moved) ≡ Some berth.scope) × (moved ≢ task)
   last_is h moved inside is =
-      let m = moved_is (λ k. place_under berth.scope (berth_at berths k)) v.items w.items task berth.place moved (placed_in h) (own_place berths lists task berth h.slept) h.taken inside is in
+      let m = moved_is (λ k. place_under berth.scope (berth_at berths k)) v.items w.items task berth.place moved (placed_in h)
+          (own_place berths lists task berth h.slept) h.taken inside is in
       (under_is berth.scope (berth_at berths moved) (length v.items - 1) m.0, m.1)
 
-  pub moved_within : Leaves berths lists task berth v w → (moved : ℕ) → berth.place < length w.items → moved ≡ get_or w.items berth.place 0 → moved < length berths
+  pub moved_within : Leaves berths lists task berth v w → (moved : ℕ) → berth.place < length w.items →
+      moved ≡ get_or w.items berth.place 0 → moved < length berths
   moved_within h moved inside is = is_within berths moved berth.scope (last_is h moved inside is).0
 
-  pub clears_last : Leaves berths lists task berth v w → length w.items ≤ berth.place → Clears berths (slice_set berths task None) task berth w
+  pub clears_last : Leaves berths lists task berth v w → length w.items ≤ berth.place →
+      Clears berths (slice_set berths task None) task berth w
   clears_last h out = record {
     gone = written berths task None (task_within berths lists task berth h.slept);
     moved = λ inside. absurd (omega (arith, inside, out));
     others = λ k differs apart. unwritten berths task k None differs;
   }
 
-  pub clears_moved : Leaves berths lists task berth v w → (moved : ℕ) → berth.place < length w.items → moved ≡ get_or w.items berth.place 0 → Clears berths (slice_set (slice_set berths task None) moved (Some berth)) task berth w
+  pub clears_moved : Leaves berths lists task berth v w → (moved : ℕ) → berth.place < length w.items →
+      moved ≡ get_or w.items berth.place 0 → Clears berths (slice_set (slice_set berths task None) moved (Some berth)) task berth w
   clears_moved h moved inside is =
       let one : List (Option Berth) = slice_set berths task None in
       let within : moved < length one = omega (arith, moved_within h moved inside is, length-set berths task None) in
@@ -214,12 +240,14 @@ module _ {Z : Type 0} (berths : List (Option Berth)) (lists : List (Vec ℕ Z)) 
             ∙ unwritten berths task k None differs;
       }
 
-  pub placed_left : (later : List (Option Berth)) → Leaves berths lists task berth v w → Clears berths later task berth w → AllPlaced later (slice_set lists berth.scope w)
+  pub placed_left : (later : List (Option Berth)) → Leaves berths lists task berth v w → Clears berths later task berth w →
+      AllPlaced later (slice_set lists berth.scope w)
   placed_left later h c = record {
     placed = λ scope. elim (cases_eq scope berth.scope) [
       | inl here ↦ rw here own
       | inr differs ↦
-          placed-same (λ k. place_under scope (berth_at berths k)) (λ k. place_under scope (berth_at later k)) (tasks_at lists scope) (tasks_at (slice_set lists berth.scope w) scope) (h.kept.placed scope)
+          placed-same (λ k. place_under scope (berth_at berths k)) (λ k. place_under scope (berth_at later k)) (tasks_at lists scope)
+              (tasks_at (slice_set lists berth.scope w) scope) (h.kept.placed scope)
           (λ k. elsewhere scope differs k)
           (ap tasks_of (get-unwritten lists berth.scope scope w differs))
     ];
@@ -229,7 +257,8 @@ module _ {Z : Type 0} (berths : List (Option Berth)) (lists : List (Vec ℕ Z)) 
       own =
           subst (λ (l : List ℕ). IsPlaced (λ k. place_under berth.scope (berth_at later k)) l)
           (sym (ap tasks_of (get-written lists berth.scope w (scope_within berths lists task berth h.kept h.slept))))
-          (placed-removed (λ k. place_under berth.scope (berth_at berths k)) (λ k. place_under berth.scope (berth_at later k)) v.items w.items task berth.place (placed_in h) (own_place berths lists task berth h.slept) h.taken
+          (placed-removed (λ k. place_under berth.scope (berth_at berths k)) (λ k. place_under berth.scope (berth_at later k)) v.items
+              w.items task berth.place (placed_in h) (own_place berths lists task berth h.slept) h.taken
           (ap (place_under berth.scope) c.gone)
           (λ inside. ap (place_under berth.scope) (c.moved inside) ∙ under_own berth)
           (λ other differs apart. ap (place_under berth.scope) (c.others other differs apart)))
@@ -247,7 +276,8 @@ module _ {Z : Type 0} (berths : List (Option Berth)) (lists : List (Vec ℕ Z)) 
                   | inl inside ↦
                       elim (cases_eq k (get_or w.items berth.place 0)) [
                         | inl is ↦
-                            under_other scope (berth_at later k) berth.scope (ap (λ (n : ℕ). scope_of (berth_at later n)) is ∙ ap scope_of (c.moved inside)) differs
+                            under_other scope (berth_at later k) berth.scope (ap (λ (n : ℕ). scope_of (berth_at later n)) is
+                                ∙ ap scope_of (c.moved inside)) differs
                             ∙ sym (under_other scope (berth_at berths k) berth.scope (last_is h k inside is).0 differs)
                         | inr other ↦ ap (place_under scope) (c.others k apart (λ _. other))
                       ]
@@ -255,7 +285,8 @@ module _ {Z : Type 0} (berths : List (Option Berth)) (lists : List (Vec ℕ Z)) 
                 ]
           ]
 
-  pub puts_left : (later : List (Option Berth)) → Leaves berths lists task berth v w → Clears berths later task berth w → Puts (map scope_of berths) (map scope_of later) task None
+  pub puts_left : (later : List (Option Berth)) → Leaves berths lists task berth v w → Clears berths later task berth w →
+      Puts (map scope_of berths) (map scope_of later) task None
   puts_left later h c = record {
     changed = scope_seen later task ∙ ap scope_of c.gone;
     others = λ other differs. scope_seen later other ∙ stays other differs ∙ sym (scope_seen berths other);
@@ -273,25 +304,31 @@ module _ {Z : Type 0} (berths : List (Option Berth)) (lists : List (Vec ℕ Z)) 
           ]
 
 -- who is last in the list of a scope sleeps there
-pub is_sleeper : {Z : Type 0} (berths : List (Option Berth)) (lists : List (Vec ℕ Z)) (scope place task : ℕ) → AllPlaced berths lists → place < length (tasks_at lists scope) → get_or (tasks_at lists scope) place 0 ≡ task → scope_at (map scope_of berths) task ≡ Some scope
+pub is_sleeper : {Z : Type 0} (berths : List (Option Berth)) (lists : List (Vec ℕ Z)) (scope place task : ℕ) → AllPlaced berths lists →
+    place < length (tasks_at lists scope) → get_or (tasks_at lists scope) place 0 ≡ task → scope_at (map scope_of berths) task ≡ Some scope
 is_sleeper berths lists scope place task h inside is =
     scope_seen berths task
     ∙ ap (λ (k : ℕ). scope_of (berth_at berths k)) (sym is)
     ∙ under_is scope (berth_at berths (get_or (tasks_at lists scope) place 0)) place ((h.placed scope).placed place inside)
 
 -- an empty list: nobody sleeps in the scope
-pub none_sleeps : {Z : Type 0} (berths : List (Option Berth)) (lists : List (Vec ℕ Z)) (scope : ℕ) → AllPlaced berths lists → tasks_at lists scope ≡ [] → IsEmpty (map scope_of berths) scope
+pub none_sleeps : {Z : Type 0} (berths : List (Option Berth)) (lists : List (Vec ℕ Z)) (scope : ℕ) → AllPlaced berths lists →
+    tasks_at lists scope ≡ [] → IsEmpty (map scope_of berths) scope
 none_sleeps berths lists scope h empty task sleeps =
     let p = under_has scope (berth_at berths task) (sym (scope_seen berths task) ∙ sleeps) in
     let s = (h.placed scope).stands task p.0 p.1 in
     omega (arith, s.0, ap length empty)
 
 -- what was read of a task's berth
-pub slept_at : (berths : List (Option Berth)) (task : ℕ) (found : Option Berth) (berth : Berth) → task < length berths → found ≡ get_or berths task found → found ≡ Some berth → berth_at berths task ≡ Some berth
+pub slept_at : (berths : List (Option Berth)) (task : ℕ) (found : Option Berth) (berth : Berth) → task < length berths →
+    found ≡ get_or berths task found → found ≡ Some berth → berth_at berths task ≡ Some berth
 slept_at berths task found berth within read is = sym (get_or_read berths task found within read None) ∙ is
 
 -- what `swap_remove` leaves
-pub leaves : {Z : Type 0} (berths : List (Option Berth)) (lists : List (Vec ℕ Z)) (task : ℕ) (berth : Berth) (v w : Vec ℕ Z) → AllPlaced berths lists → berth_at berths task ≡ Some berth → v ≡ get_or lists berth.scope v → w.len + 1 ≡ v.len → (((d : ℕ) → berth.place + 1 < v.len → get_or w.items berth.place d ≡ get_or v.items (v.len - 1) d) × ((k d : ℕ) → k ≢ berth.place → k + 1 < v.len → get_or w.items k d ≡ get_or v.items k d)) → Leaves berths lists task berth v w
+pub leaves : {Z : Type 0} (berths : List (Option Berth)) (lists : List (Vec ℕ Z)) (task : ℕ) (berth : Berth) (v w : Vec ℕ Z) →
+    AllPlaced berths lists → berth_at berths task ≡ Some berth → v ≡ get_or lists berth.scope v → w.len + 1 ≡ v.len →
+    (((d : ℕ) → berth.place + 1 < v.len → get_or w.items berth.place d ≡ get_or v.items (v.len - 1) d)
+    × ((k d : ℕ) → k ≢ berth.place → k + 1 < v.len → get_or w.items k d ≡ get_or v.items k d)) → Leaves berths lists task berth v w
 leaves berths lists task berth v w kept slept read less by_index = record {
   kept = kept;
   slept = slept;
@@ -300,7 +337,9 @@ leaves berths lists task berth v w kept slept read less by_index = record {
 }
 
 -- the last of a list, if it has one
-pub last_seen : {Z : Type 0} (berths : List (Option Berth)) (lists : List (Vec ℕ Z)) (scope : ℕ) (tasks : List ℕ) (last : Option ℕ) → AllPlaced berths lists → tasks_at lists scope ≡ tasks → last ≡ slice_get tasks (length tasks - 1) → MatchOption last (IsEmpty (map scope_of berths) scope) (λ task. scope_at (map scope_of berths) task ≡ Some scope)
+pub last_seen : {Z : Type 0} (berths : List (Option Berth)) (lists : List (Vec ℕ Z)) (scope : ℕ) (tasks : List ℕ) (last : Option ℕ) →
+    AllPlaced berths lists → tasks_at lists scope ≡ tasks → last ≡ slice_get tasks (length tasks - 1) →
+    MatchOption last (IsEmpty (map scope_of berths) scope) (λ task. scope_at (map scope_of berths) task ≡ Some scope)
 last_seen berths lists scope tasks None h are e =
     none_sleeps berths lists scope h
     (elim (cases_lt 0 (length tasks)) [
@@ -313,5 +352,6 @@ last_seen berths lists scope tasks (Some task) h are e =
     (ap (λ (l : List ℕ). get_or l (length tasks - 1) 0) are ∙ get_or_from_slice_get tasks (length tasks - 1) task 0 (sym e))
 
 -- a scope past the table
-pub none_past : {Z : Type 0} (berths : List (Option Berth)) (lists : List (Vec ℕ Z)) (scope : ℕ) → AllPlaced berths lists → length lists ≤ scope → IsEmpty (map scope_of berths) scope
+pub none_past : {Z : Type 0} (berths : List (Option Berth)) (lists : List (Vec ℕ Z)) (scope : ℕ) → AllPlaced berths lists →
+    length lists ≤ scope → IsEmpty (map scope_of berths) scope
 none_past berths lists scope h past = none_sleeps berths lists scope h (ap tasks_of (slice_get_past lists scope past))

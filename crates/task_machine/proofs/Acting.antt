@@ -44,7 +44,8 @@ WaitsNot (Some (asleep n since)) = Unit {0}
 WaitsNot (Some (awaiting children ended exc)) = ⊥
 WaitsNot (Some (at_end u e)) = Unit {0}
 
-halts_not : (numbers : Numbers) (book : NurseryBook) (halt : Halt) (s : Stopped) → WaitsNot (Some s) → IsHalt numbers book halt s → waits_of halt ≡ None
+halts_not : (numbers : Numbers) (book : NurseryBook) (halt : Halt) (s : Stopped) → WaitsNot (Some s) → IsHalt numbers book halt s →
+    waits_of halt ≡ None
 halts_not numbers book ToBegin s not h = refl
 halts_not numbers book (Asked kernel purpose) s not h = refl
 halts_not numbers book (Asleep ticks since) s not h = refl
@@ -55,14 +56,16 @@ halts_not numbers book (Awaits id since) (awaiting children ended exc) not h = a
 halts_not numbers book (Awaits id since) (at_end u e) not h = absurd h
 halts_not numbers book Over s not h = refl
 
-pub waits_not : (numbers : Numbers) (book : NurseryBook) (part : Part) (goes : Moved) (halt : Halt) (o : Move) → WaitsNot o.stopped → MovesAs numbers book part goes halt o →
+pub waits_not : (numbers : Numbers) (book : NurseryBook) (part : Part) (goes : Moved) (halt : Halt) (o : Move) → WaitsNot o.stopped →
+    MovesAs numbers book part goes halt o →
     waits_by goes halt ≡ None
 waits_not numbers book part (On exc) halt o not h = refl
 waits_not numbers book part (Stops stop) halt o not h = by_stop o.stopped refl
   where
     by_stop : (s : Option Stopped) → o.stopped ≡ s → waits_of halt ≡ None
     by_stop None e =
-        absurd (let f : MovesAs numbers book part (Stops stop) halt (record o { stopped = None }) = subst (λ (x : Option Stopped). MovesAs numbers book part (Stops stop) halt (record o { stopped = x })) e h in f.1)
+        absurd (let f : MovesAs numbers book part (Stops stop) halt (record o { stopped = None }) =
+            subst (λ (x : Option Stopped). MovesAs numbers book part (Stops stop) halt (record o { stopped = x })) e h in f.1)
     by_stop (Some s) e =
         let f : MovesAs numbers book part (Stops stop) halt (record o { stopped = Some s }) =
         subst (λ (x : Option Stopped). MovesAs numbers book part (Stops stop) halt (record o { stopped = x })) e h in
@@ -78,7 +81,8 @@ has_or_not id [] = inr (λ h. h)
 has_or_not id (a_scope ∷ bs) = has_or_not id bs
 has_or_not id (a_nursery key ∷ bs) = by_key (id == key) refl (has_or_not id bs)
   where
-    by_key : (b : Bool) → (id == key) ≡ b → HasBlock id bs ⊎ (HasBlock id bs → ⊥) → ((id ≡ key) ⊎ HasBlock id bs) ⊎ ((id ≡ key) ⊎ HasBlock id bs → ⊥)
+    by_key : (b : Bool) → (id == key) ≡ b → HasBlock id bs ⊎ (HasBlock id bs → ⊥) → ((id ≡ key) ⊎ HasBlock id bs)
+        ⊎ ((id ≡ key) ⊎ HasBlock id bs → ⊥)
     by_key true e d = inl (inl (eqb-true id key e))
     by_key false e (inl h) = inl (inr h)
     by_key false e (inr h) = inr neither
@@ -110,22 +114,26 @@ lines_acts tick t (l ∷ spans) s u e = act_noted s u t (log.line l) (lines_made
 pub start_acts : (tick : ℕ) (i : ℕ) (l : Label) (t : ℕ) (s u : Scoping) → u ≡ s → Acts tick s (starts i l t ∷ []) u
 start_acts tick i l t s u e = act_starts s u i l t [] (same_acts tick s u e)
 
-pub starts_acts : (tick : ℕ) (name : List ℕ) (here : Here) (t first k : ℕ) (s u : Scoping) → u ≡ s → Acts tick s (starts_over name here t first k) u
+pub starts_acts : (tick : ℕ) (name : List ℕ) (here : Here) (t first k : ℕ) (s u : Scoping) → u ≡ s →
+    Acts tick s (starts_over name here t first k) u
 starts_acts tick name here t first zero s u e = same_acts tick s u e
 starts_acts tick name here t first (suc k) s u e =
-    acts_append tick s u u (starts_over name here t first k) _ (starts_acts tick name here t first k s u e) (start_acts tick _ (label_over name here k) t u u refl)
+    acts_append tick s u u (starts_over name here t first k) _ (starts_acts tick name here t first k s u e)
+        (start_acts tick _ (label_over name here k) t u u refl)
 
 -- ---- signs
 
 -- a scope of this label is signed, and nothing else is changed
-one_signed : (before after : Task) (old new : World) (key : ℕ) (label : Label) → after.own.items ≡ before.own.items → after.froms.items ≡ before.froms.items →
+one_signed : (before after : Task) (old new : World) (key : ℕ) (label : Label) → after.own.items ≡ before.own.items →
+    after.froms.items ≡ before.froms.items →
     label_at new ≡ label_at old → label_at old key ≡ Some label → Signed old new (Some key) →
     Acts old.tick (scoping_of before old) (signs label old.tick ∷ []) (scoping_of after new)
 one_signed before after old new key label own froms labels labelled signed =
     act_signs (scoping_of before old) (scoping_of after new) (scoping_of after new) label []
     (record { key = key; labelled = labelled; cancels = signed; labels = labels; own = own; froms = froms }) (no_act (scoping_of after new))
 
-none_signed : (before after : Task) (old new : World) → after.own.items ≡ before.own.items → after.froms.items ≡ before.froms.items → label_at new ≡ label_at old →
+none_signed : (before after : Task) (old new : World) → after.own.items ≡ before.own.items → after.froms.items ≡ before.froms.items →
+    label_at new ≡ label_at old →
     Signed old new None → Acts old.tick (scoping_of before old) [] (scoping_of after new)
 none_signed before after old new own froms labels signed = same_acts old.tick (scoping_of before old) (scoping_of after new) same
   where
@@ -139,28 +147,34 @@ none_signed before after old new own froms labels signed = same_acts old.tick (s
         ∙ ap (λ x. record { tree = old.scopes; labels = label_at old; own = before.own.items; froms = x }) froms
 
 -- the scope that a name finds
-pub found_signed : (before after : Task) (old new : World) (found : Option ℕ) (label : Option Label) → after.own.items ≡ before.own.items → after.froms.items ≡ before.froms.items →
+pub found_signed : (before after : Task) (old new : World) (found : Option ℕ) (label : Option Label) → after.own.items ≡ before.own.items →
+    after.froms.items ≡ before.froms.items →
     label_at new ≡ label_at old → FoundAs (label_at old) found label → Signed old new found →
     Acts old.tick (scoping_of before old) (signs_to label old.tick) (scoping_of after new)
 found_signed before after old new None label own froms labels at signed =
-    subst (λ (o : Option Label). Acts old.tick (scoping_of before old) (signs_to o old.tick) (scoping_of after new)) (sym at) (none_signed before after old new own froms labels signed)
+    subst (λ (o : Option Label). Acts old.tick (scoping_of before old) (signs_to o old.tick) (scoping_of after new)) (sym at)
+        (none_signed before after old new own froms labels signed)
 found_signed before after old new (Some key) label own froms labels at signed =
     subst (λ (o : Option Label). Acts old.tick (scoping_of before old) (signs_to o old.tick) (scoping_of after new)) (sym at.1.1)
     (one_signed before after old new key at.1.0 own froms labels (at.0 ∙ at.1.1) signed)
 
 -- the innermost scope of who failed
-pub home_signed : (before after : Task) (old new : World) (exc : Option Exc) (froms : Table) (st : Stack) (ps : List Place) → after.own.items ≡ before.own.items →
-    after.froms.items ≡ before.froms.items → label_at new ≡ label_at old → AreAt (label_at old) froms st ps → Signed old new (key_failed exc st) →
+pub home_signed : (before after : Task) (old new : World) (exc : Option Exc) (froms : Table) (st : Stack) (ps : List Place) →
+    after.own.items ≡ before.own.items →
+    after.froms.items ≡ before.froms.items → label_at new ≡ label_at old → AreAt (label_at old) froms st ps →
+        Signed old new (key_failed exc st) →
     Acts old.tick (scoping_of before old) (signs_home exc ps old.tick) (scoping_of after new)
 home_signed before after old new None table st ps own froms labels at signed = none_signed before after old new own froms labels signed
 home_signed before after old new (Some e) table [] [] own froms labels at signed = none_signed before after old new own froms labels signed
 home_signed before after old new (Some e) table [] (p ∷ ps) own froms labels at signed = absurd at
 home_signed before after old new (Some e) table (l ∷ ls) [] own froms labels at signed = absurd at
-home_signed before after old new (Some e) table (l ∷ ls) (p ∷ ps) own froms labels at signed = one_signed before after old new l.label p.label own froms labels at.0 signed
+home_signed before after old new (Some e) table (l ∷ ls) (p ∷ ps) own froms labels at signed =
+    one_signed before after old new l.label p.label own froms labels at.0 signed
 
 -- ---- scopes that are entered and left
 
-pub entered_acts : (before after : Task) (old new : World) (label : Label) (deadline : Tick) → EntersOne before after old new label deadline →
+pub entered_acts : (before after : Task) (old new : World) (label : Label) (deadline : Tick) →
+    EntersOne before after old new label deadline →
     Acts old.tick (scoping_of before old) (enters label old.tick deadline ∷ []) (scoping_of after new)
 entered_acts before after old new label deadline e =
     act_enters (scoping_of before old) (scoping_of after new) (scoping_of after new) label old.tick deadline []
@@ -207,7 +221,8 @@ left_acts before after old new t entry e =
 abbrev pub IsOpenOther : ℕ → Scoping → Type 0
 IsOpenOther key s = IsOpen s.tree key × AreOthers key s.own
 
-signed_open : (key at t : ℕ) (old new : Tree) → ((other : ℕ) → stack_of new other ≡ option_map (after_cancel at t) (stack_of old other)) → IsOpen old key → IsOpen new key
+signed_open : (key at t : ℕ) (old new : Tree) → ((other : ℕ) → stack_of new other ≡ option_map (after_cancel at t) (stack_of old other)) →
+    IsOpen old key → IsOpen new key
 signed_open key at t old new h opened = subst IsSome (sym (h key)) (by_stack (stack_of old key) opened)
   where
     by_stack : (o : Option Stack) → IsSome o → IsSome (option_map (after_cancel at t) o)
@@ -230,11 +245,14 @@ acts_stay tick _ u _ key (act_signs s m x l ds g a) h =
 acts_stay tick _ u _ key (act_enters s m x l t d ds g a) h =
     acts_stay tick m u ds key a (
       subst IsSome (sym (g.others key other)) h.0,
-      subst (AreOthers key) (sym g.opened) (All-append (λ (o : Own). o.id ≢ key) s.own (g.scope ∷ []) h.1 (All-cons (λ (o : Own). o.id ≢ key) g.scope [] (λ e. other (sym e)) (All-nil (λ (o : Own). o.id ≢ key)))),
+      subst (AreOthers key) (sym g.opened) (All-append (λ (o : Own). o.id ≢ key) s.own (g.scope ∷ []) h.1
+          (All-cons (λ (o : Own). o.id ≢ key) g.scope [] (λ e. other (sym e)) (All-nil (λ (o : Own). o.id ≢ key)))),
     )
   where
     other : key ≢ g.scope.id
-    other e = absurd (let f : IsSome (stack_of s.tree g.scope.id) = subst (IsOpen s.tree) e h.0 in let k : is_some (stack_of s.tree g.scope.id) ≡ false = ap is_some g.fresh in let n : is_some (stack_of s.tree g.scope.id) ≡ true = f in cc)
+    other e = absurd (let f : IsSome (stack_of s.tree g.scope.id) = subst (IsOpen s.tree) e h.0 in
+        let k : is_some (stack_of s.tree g.scope.id) ≡ false = ap is_some g.fresh in let n : is_some (stack_of s.tree g.scope.id) ≡ true =
+        f in cc)
 acts_stay tick _ u _ key (act_leaves s m x es g a) h =
     let first = others_first key m.own g.scope (subst (AreOthers key) g.taken h.1) in
     acts_stay tick m u es key a (subst IsSome (sym (g.others key first.1)) h.0, first.0)

@@ -24,14 +24,16 @@ blocks_append (Cleanup outcome ∷ fs) gs = blocks_append fs gs
 -- ---- the scopes that were opened
 
 -- one more block, with its scope
-pub opened_in : (labels : Labels) (book : NurseryBook) (bs : List Block) (own : List Own) (b : Block) (o : Own) → Opened labels book bs own None → IsBlockOf labels book b o → AreOthers o.id own → Opened labels book (bs ++ b ∷ []) (own ++ o ∷ []) None
+pub opened_in : (labels : Labels) (book : NurseryBook) (bs : List Block) (own : List Own) (b : Block) (o : Own) →
+    Opened labels book bs own None → IsBlockOf labels book b o → AreOthers o.id own → Opened labels book (bs ++ b ∷ []) (own ++ o ∷ []) None
 opened_in labels book [] [] b o h i e = (i, All-nil (λ (x : Own). x.id ≢ o.id), tt)
 opened_in labels book [] (x ∷ own) b o h i e = absurd h
 opened_in labels book (c ∷ bs) [] b o h i e = absurd h
 opened_in labels book (c ∷ bs) (x ∷ own) b o h i e = (
   h.0,
   All-append (λ (y : Own). y.id ≢ x.id) own (o ∷ []) h.1
-      (All-cons (λ (y : Own). y.id ≢ x.id) o [] (λ f. All-head (λ (y : Own). y.id ≢ o.id) x own e (sym f)) (All-nil (λ (y : Own). y.id ≢ x.id))),
+      (All-cons (λ (y : Own). y.id ≢ x.id) o [] (λ f. All-head (λ (y : Own). y.id ≢ o.id) x own e (sym f))
+          (All-nil (λ (y : Own). y.id ≢ x.id))),
   opened_in labels book bs own b o h.2 i (All-tail (λ (y : Own). y.id ≢ o.id) x own e),
 )
 
@@ -41,7 +43,8 @@ pub record Innermost (labels : Labels) (book : NurseryBook) (bs : List Block) (o
   pub others : AreOthers o.id own
   pub outer : Opened labels book bs own None
 
-pub opened_out : (labels : Labels) (book : NurseryBook) (bs : List Block) (own : List Own) (b : Block) (o : Own) → Opened labels book (bs ++ b ∷ []) (own ++ o ∷ []) None → Innermost labels book bs own b o
+pub opened_out : (labels : Labels) (book : NurseryBook) (bs : List Block) (own : List Own) (b : Block) (o : Own) →
+    Opened labels book (bs ++ b ∷ []) (own ++ o ∷ []) None → Innermost labels book bs own b o
 opened_out labels book [] [] b o h = record { block = h.0; others = All-nil (λ (x : Own). x.id ≢ o.id); outer = tt }
 opened_out labels book [] (x ∷ []) b o h = absurd h.2
 opened_out labels book [] (x ∷ y ∷ own) b o h = absurd h.2
@@ -66,13 +69,15 @@ opened_out labels book (c ∷ bs) (x ∷ own) b o h =
         (first_else own o key (All-tail (λ (z : Own). z.id ≢ key) y (own ++ o ∷ []) a))
 
 -- a task that is in a block opened its scope
-pub opened_some : (labels : Labels) (book : NurseryBook) (bs : List Block) (own : List Own) (b : Block) → Opened labels book (bs ++ b ∷ []) own None → 0 < length own
+pub opened_some : (labels : Labels) (book : NurseryBook) (bs : List Block) (own : List Own) (b : Block) →
+    Opened labels book (bs ++ b ∷ []) own None → 0 < length own
 opened_some labels book [] [] b h = absurd h
 opened_some labels book (c ∷ bs) [] b h = absurd h
 opened_some labels book bs (x ∷ own) b h = omega arith
 
 -- the innermost nursery's body ended
-pub opened_waits : (labels : Labels) (book : NurseryBook) (bs : List Block) (own : List Own) (id : ℕ) (o : Own) → Opened labels book bs own None → AreOthers o.id own →
+pub opened_waits : (labels : Labels) (book : NurseryBook) (bs : List Block) (own : List Own) (id : ℕ) (o : Own) →
+    Opened labels book bs own None → AreOthers o.id own →
     HasNursery book id (λ n. IsMine labels o n × IsSome n.body) → Opened labels book bs (own ++ o ∷ []) (Some id)
 opened_waits labels book [] [] id o h e n = (refl, n)
 opened_waits labels book [] (x ∷ own) id o h e n = absurd h
@@ -80,7 +85,8 @@ opened_waits labels book (c ∷ bs) [] id o h e n = absurd h
 opened_waits labels book (c ∷ bs) (x ∷ own) id o h e n = (
   h.0,
   All-append (λ (y : Own). y.id ≢ x.id) own (o ∷ []) h.1
-      (All-cons (λ (y : Own). y.id ≢ x.id) o [] (λ f. All-head (λ (y : Own). y.id ≢ o.id) x own e (sym f)) (All-nil (λ (y : Own). y.id ≢ x.id))),
+      (All-cons (λ (y : Own). y.id ≢ x.id) o [] (λ f. All-head (λ (y : Own). y.id ≢ o.id) x own e (sym f))
+          (All-nil (λ (y : Own). y.id ≢ x.id))),
   opened_waits labels book bs own id o h.2 (All-tail (λ (y : Own). y.id ≢ o.id) x own e) n,
 )
 
@@ -91,17 +97,21 @@ pub record StaysBut (labels more : Labels) (old new : NurseryBook) (key : ℕ) :
   pub named : (other : ℕ) → other ≢ key → more other ≡ labels other
   pub nurseries : (id : ℕ) (n : Members) → nursery_at old id ≡ Some n → n.scope ≢ key → nursery_at new id ≡ Some n
 
-block_stays : (labels more : Labels) (old new : NurseryBook) (key : ℕ) (b : Block) (o : Own) → StaysBut labels more old new key → o.id ≢ key → IsBlockOf labels old b o → IsBlockOf more new b o
+block_stays : (labels more : Labels) (old new : NurseryBook) (key : ℕ) (b : Block) (o : Own) → StaysBut labels more old new key →
+    o.id ≢ key → IsBlockOf labels old b o → IsBlockOf more new b o
 block_stays labels more old new key a_scope o s differs i = subst IsSome (sym (s.named o.id differs)) i
 block_stays labels more old new key (a_nursery id) o s differs i = by_nursery (nursery_at old id) refl i
   where
-    by_nursery : (m : Option Members) → nursery_at old id ≡ m → IsSomeAnd m (λ n. IsMine labels o n × (n.body ≡ None)) → HasNursery new id (λ n. IsMine more o n × (n.body ≡ None))
+    by_nursery : (m : Option Members) → nursery_at old id ≡ m → IsSomeAnd m (λ n. IsMine labels o n × (n.body ≡ None)) →
+        HasNursery new id (λ n. IsMine more o n × (n.body ≡ None))
     by_nursery None e i = absurd i
     by_nursery (Some n) e i =
-        subst (λ (m : Option Members). IsSomeAnd m (λ n. IsMine more o n × (n.body ≡ None))) (sym (s.nurseries id n e (λ f. differs (sym i.0.scope ∙ f))))
+        subst (λ (m : Option Members). IsSomeAnd m (λ n. IsMine more o n × (n.body ≡ None)))
+            (sym (s.nurseries id n e (λ f. differs (sym i.0.scope ∙ f))))
         (record { scope = i.0.scope; label = s.named o.id differs ∙ i.0.label }, i.1)
 
-pub opened_stays : (labels more : Labels) (old new : NurseryBook) (key : ℕ) (bs : List Block) (own : List Own) → StaysBut labels more old new key → AreOthers key own → Opened labels old bs own None → Opened more new bs own None
+pub opened_stays : (labels more : Labels) (old new : NurseryBook) (key : ℕ) (bs : List Block) (own : List Own) →
+    StaysBut labels more old new key → AreOthers key own → Opened labels old bs own None → Opened more new bs own None
 opened_stays labels more old new key [] [] s e h = tt
 opened_stays labels more old new key [] (x ∷ own) s e h = absurd h
 opened_stays labels more old new key (b ∷ bs) [] s e h = absurd h
@@ -132,7 +142,8 @@ runs_in_outer book (a_scope ∷ bs) (suc i) r = runs_in_outer book bs i r
 runs_in_outer book (a_nursery id ∷ bs) (suc i) r = runs_in_outer book bs i r
 
 -- without the innermost nursery, which is waited for
-pub runs_in_waits : (book : NurseryBook) (bs : List Block) (id i : ℕ) → RunsIn book (bs ++ a_nursery id ∷ []) i None → RunsIn book bs i (Some id)
+pub runs_in_waits : (book : NurseryBook) (bs : List Block) (id i : ℕ) → RunsIn book (bs ++ a_nursery id ∷ []) i None →
+    RunsIn book bs i (Some id)
 runs_in_waits book [] id zero (inl r) = r
 runs_in_waits book [] id zero (inr r) = absurd r
 runs_in_waits book [] id (suc i) r = absurd r
@@ -143,14 +154,16 @@ runs_in_waits book (a_scope ∷ bs) id (suc i) r = runs_in_waits book bs id i r
 runs_in_waits book (a_nursery x ∷ bs) id (suc i) r = runs_in_waits book bs id i r
 
 -- behind the last block nothing runs but in the nursery that is waited for
-pub runs_behind : (book : NurseryBook) (bs : List Block) (i : ℕ) (waits : Option ℕ) → length bs ≤ i → RunsIn book bs i waits → HasRunning book waits
+pub runs_behind : (book : NurseryBook) (bs : List Block) (i : ℕ) (waits : Option ℕ) → length bs ≤ i → RunsIn book bs i waits →
+    HasRunning book waits
 runs_behind book [] i waits long r = r
 runs_behind book (b ∷ bs) zero waits long r = absurd (omega (arith, long))
 runs_behind book (a_scope ∷ bs) (suc i) waits long r = runs_behind book bs i waits (omega (arith, long)) r
 runs_behind book (a_nursery id ∷ bs) (suc i) waits long r = runs_behind book bs i waits (omega (arith, long)) r
 
 -- children that ran run on
-pub runs_in_later : (old new : NurseryBook) (bs : List Block) (i : ℕ) (waits : Option ℕ) → ((id : ℕ) → HasRunning old (Some id) → HasRunning new (Some id)) → RunsIn old bs i waits → RunsIn new bs i waits
+pub runs_in_later : (old new : NurseryBook) (bs : List Block) (i : ℕ) (waits : Option ℕ) →
+    ((id : ℕ) → HasRunning old (Some id) → HasRunning new (Some id)) → RunsIn old bs i waits → RunsIn new bs i waits
 runs_in_later old new [] i None s r = absurd r
 runs_in_later old new [] i (Some id) s r = s id r
 runs_in_later old new (a_scope ∷ bs) zero waits s r = runs_in_later old new bs zero waits s r
@@ -160,7 +173,8 @@ runs_in_later old new (a_scope ∷ bs) (suc i) waits s r = runs_in_later old new
 runs_in_later old new (a_nursery id ∷ bs) (suc i) waits s r = runs_in_later old new bs i waits s r
 
 -- as many scopes as blocks
-pub opened_length : (labels : Labels) (book : NurseryBook) (bs : List Block) (own : List Own) → Opened labels book bs own None → length own ≡ length bs
+pub opened_length : (labels : Labels) (book : NurseryBook) (bs : List Block) (own : List Own) → Opened labels book bs own None →
+    length own ≡ length bs
 opened_length labels book [] [] h = refl
 opened_length labels book [] (x ∷ own) h = absurd h
 opened_length labels book (b ∷ bs) [] h = absurd h

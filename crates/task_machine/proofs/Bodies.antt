@@ -30,10 +30,12 @@ last2 f g (h ∷ fs) =
     let l = last2 g h fs in
     record { outer = f ∷ l.outer; round = l.round; top = l.top; is = ap (λ (xs : List Frame). f ∷ xs) l.is }
 
-frames_last2 : (fs : List Frame) (l : Last2 fs) → frames_of (λ id. []) fs ≡ frame_of (λ id. []) l.top ∷ frame_of (λ id. []) l.round ∷ frames_of (λ id. []) l.outer
+frames_last2 : (fs : List Frame) (l : Last2 fs) → frames_of (λ id. []) fs ≡ frame_of (λ id. []) l.top ∷ frame_of (λ id. []) l.round
+    ∷ frames_of (λ id. []) l.outer
 frames_last2 fs l =
     ap (frames_of (λ id. [])) (l.is ∙ sym (append_assoc l.outer (l.round ∷ []) (l.top ∷ [])))
-    ∙ frames_push (λ id. []) (l.outer ++ l.round ∷ []) l.top ∙ ap (λ (xs : List rest.Frame). frame_of (λ id. []) l.top ∷ xs) (frames_push (λ id. []) l.outer l.round)
+    ∙ frames_push (λ id. []) (l.outer ++ l.round ∷ []) l.top ∙ ap (λ (xs : List rest.Frame). frame_of (λ id. []) l.top ∷ xs)
+        (frames_push (λ id. []) l.outer l.round)
 
 -- a frame that is a nursery's
 pub record IsBody (fs : List Frame) : Type 0 where
@@ -47,7 +49,8 @@ is_body (f ∷ g ∷ fs) b =
     let l = last2 f g fs in
     by_round l.round l.is (subst (λ (xs : List rest.Frame). IsTrue (in_body (frames_behind xs))) (frames_last2 (f ∷ g ∷ fs) l) b)
   where
-    by_round : (h : Frame) → f ∷ g ∷ fs ≡ (last2 f g fs).outer ++ h ∷ (last2 f g fs).top ∷ [] → IsTrue (in_body (frame_of (λ id. []) h ∷ frames_of (λ id. []) (last2 f g fs).outer)) → IsBody (f ∷ g ∷ fs)
+    by_round : (h : Frame) → f ∷ g ∷ fs ≡ (last2 f g fs).outer ++ h ∷ (last2 f g fs).top ∷ [] →
+        IsTrue (in_body (frame_of (λ id. []) h ∷ frames_of (λ id. []) (last2 f g fs).outer)) → IsBody (f ∷ g ∷ fs)
     by_round (Steps steps) e b = absurd (let e : false ≡ true = b in cc)
     by_round (Scope fail) e b = absurd (let e : false ≡ true = b in cc)
     by_round (Nursery id) e b = record { id = id; at = record { outer = (last2 f g fs).outer; top = (last2 f g fs).top; is = e } }
@@ -56,7 +59,8 @@ is_body (f ∷ g ∷ fs) b =
     by_round (Cleanup outcome) e b = absurd (let e : false ≡ true = b in cc)
 
 pub body_long : (fs : List Frame) (id : ℕ) → InBody fs id → 2 ≤ length fs
-body_long fs id b = (let e = ap (λ (xs : List Frame). length xs) b.is in let f = length-append b.outer (Nursery id ∷ b.top ∷ []) in omega (arith, e, f))
+body_long fs id b = (let e = ap (λ (xs : List Frame). length xs) b.is in let f = length-append b.outer (Nursery id ∷ b.top ∷ []) in
+    omega (arith, e, f))
 
 at_two : (outer : List Frame) (y x : Frame) → slice_get (outer ++ y ∷ x ∷ []) (length outer) ≡ Some y
 at_two [] y x = refl
@@ -69,10 +73,12 @@ body_at fs id b =
     ∙ at_two b.outer (Nursery id) b.top
   where
     place : length fs - 2 ≡ length b.outer
-    place = (let e = ap (λ (xs : List Frame). length xs) b.is in let f = length-append b.outer (Nursery id ∷ b.top ∷ []) in omega (arith, e, f))
+    place = (let e = ap (λ (xs : List Frame). length xs) b.is in let f = length-append b.outer (Nursery id ∷ b.top ∷ []) in
+        omega (arith, e, f))
 
 -- the body of a nursery among the blocks runs
-pub body_block : (labels : Labels) (book : NurseryBook) (bs cs : List Block) (id : ℕ) (own : List Own) (waits : Option ℕ) → Opened labels book (bs ++ a_nursery id ∷ cs) own waits → HasNursery book id (λ n. n.body ≡ None)
+pub body_block : (labels : Labels) (book : NurseryBook) (bs cs : List Block) (id : ℕ) (own : List Own) (waits : Option ℕ) →
+    Opened labels book (bs ++ a_nursery id ∷ cs) own waits → HasNursery book id (λ n. n.body ≡ None)
 body_block labels book [] cs id [] waits h = absurd h
 body_block labels book [] cs id (o ∷ own) waits h = by_nursery (nursery_at book id) h.0
   where
@@ -82,14 +88,18 @@ body_block labels book [] cs id (o ∷ own) waits h = by_nursery (nursery_at boo
 body_block labels book (b ∷ bs) cs id [] waits h = absurd h
 body_block labels book (b ∷ bs) cs id (o ∷ own) waits h = body_block labels book bs cs id own waits h.2
 
-pub body_runs : (labels : Labels) (book : NurseryBook) (fs : List Frame) (id : ℕ) (own : List Own) → InBody fs id → Opened labels book (blocks_of fs) own None → HasNursery book id (λ n. n.body ≡ None)
+pub body_runs : (labels : Labels) (book : NurseryBook) (fs : List Frame) (id : ℕ) (own : List Own) → InBody fs id →
+    Opened labels book (blocks_of fs) own None → HasNursery book id (λ n. n.body ≡ None)
 body_runs labels book fs id own b h =
     body_block labels book (blocks_of b.outer) (blocks_of (b.top ∷ [])) id own None
-    (subst (λ (bs : List Block). Opened labels book bs own None) (ap blocks_of b.is ∙ blocks_append b.outer (Nursery id ∷ b.top ∷ []) ∙ ap (λ (bs : List Block). blocks_of b.outer ++ bs) (blocks_append (Nursery id ∷ []) (b.top ∷ []))) h)
+    (subst (λ (bs : List Block). Opened labels book bs own None)
+        (ap blocks_of b.is ∙ blocks_append b.outer (Nursery id ∷ b.top ∷ [])
+        ∙ ap (λ (bs : List Block). blocks_of b.outer ++ bs) (blocks_append (Nursery id ∷ []) (b.top ∷ []))) h)
 
 -- what stands there
 pub body_frame : (fs xs : List Frame) (b : IsBody fs) (f : Frame) → xs ≡ fs → f ≡ get_or xs (length xs - 2) f → f ≡ Nursery b.id
-body_frame fs xs b f same at = at ∙ ap (λ (ys : List Frame). get_or ys (length ys - 2) f) same ∙ get_or_from_slice_get fs (length fs - 2) (Nursery b.id) f (body_at fs b.id b.at)
+body_frame fs xs b f same at = at ∙ ap (λ (ys : List Frame). get_or ys (length ys - 2) f) same
+    ∙ get_or_from_slice_get fs (length fs - 2) (Nursery b.id) f (body_at fs b.id b.at)
 
 pub body_id : (fs : List Frame) (b : IsBody fs) (f : Frame) (id : ℕ) → f ≡ Nursery b.id → f ≡ Nursery id → InBody fs id
 body_id fs b f id e g = subst (λ (k : ℕ). InBody fs k) (let h : Nursery b.id ≡ Nursery id = sym e ∙ g in let i : b.id ≡ id = cc in i) b.at

@@ -29,18 +29,24 @@ same_outer (a ∷ xs) (b ∷ ys) x y e =
     let more : xs ++ x ∷ [] ≡ ys ++ y ∷ [] = cc in
     ap (λ (z : Frame). z ∷ xs) first ∙ ap (λ (zs : List Frame). b ∷ zs) (same_outer xs ys x y more)
 
-pub takes_children : (frames : List Frame) (first : Step) (task before : Task) (old new : World) (name : List ℕ) (over : Option ℕ) (body : Steps) → Fits before.frames.items before old None →
-    AtStep frames task before first → first ≡ code.Start name over body → new ≡ record old { book = new.book; started = new.started } → StartsChildren before old new name over body →
+pub takes_children : (frames : List Frame) (first : Step) (task before : Task) (old new : World) (name : List ℕ) (over : Option ℕ)
+    (body : Steps) → Fits before.frames.items before old None →
+    AtStep frames task before first → first ≡ code.Start name over body → new ≡ record old { book = new.book; started = new.started } →
+        StartsChildren before old new name over body →
     AreModest body →
     Takes frames task before old new (On None) (step_at task old frames None)
 takes_children frames first task before old new name over body h a is world s modest = by_over over is s.started
   where
     within : a.outer ≡ s.at.outer ++ Nursery s.id ∷ []
-    within = same_outer a.outer (s.at.outer ++ Nursery s.id ∷ []) _ s.at.top (sym a.held ∙ s.at.is ∙ sym (append_assoc s.at.outer (Nursery s.id ∷ []) (s.at.top ∷ [])))
+    within = same_outer a.outer (s.at.outer ++ Nursery s.id ∷ []) _ s.at.top
+        (sym a.held ∙ s.at.is ∙ sym (append_assoc s.at.outer (Nursery s.id ∷ []) (s.at.top ∷ [])))
 
     other : HasBlock s.id (blocks_of s.at.outer) → ⊥
-    other = apart_steps s.at.outer a.outer before.frames.items a.left before.part (home_scope before) before.own.items _ old.scopes (label_at old) old.book s.id a.held within h
+    other = apart_steps s.at.outer a.outer before.frames.items a.left before.part (home_scope before) before.own.items _ old.scopes
+        (label_at old) old.book s.id a.held within h
 
-    by_over : (o : Option ℕ) → first ≡ code.Start name o body → StartsAll before old new s.id name o body → Takes frames task before old new (On None) (step_at task old frames None)
+    by_over : (o : Option ℕ) → first ≡ code.Start name o body → StartsAll before old new s.id name o body →
+        Takes frames task before old new (On None) (step_at task old frames None)
     by_over None e started = takes_start frames s.at.outer s.id first task before old new name body a e within other world started modest
-    by_over (Some k) e started = takes_start_over frames s.at.outer s.id first task before old new name k body a e within other world started modest
+    by_over (Some k) e started = takes_start_over frames s.at.outer s.id first task before old new name k body a e within other world
+        started modest

@@ -26,7 +26,8 @@ use Rattle.task_machine.specs.Stops.{Numbers, IsHalt, IsTold}
 
 -- ---- nurseries with the keys of their scopes
 
--- Frames, innermost first, and the keys of the scopes round them: each scope and nursery has its key, and a nursery has the children that are
+-- Frames, innermost first, and the keys of the scopes round them: each scope and nursery has its key, and a nursery has the
+-- children that are
 -- numbered where it stands in the book, with a fact of both.
 abbrev pub Keyed : (ℕ → ℕ → Type 0) → Numbers → List rest.Frame → List ℕ → Type 0
 Keyed P now [] ks = Unit {0}
@@ -46,18 +47,22 @@ KeyedAfter P (Some id) now fs [] = ⊥
 KeyedAfter P (Some id) now fs (k ∷ ks) = P id k × Keyed P now fs ks
 
 -- a nursery that is a task's has the scope
-is_scope : (labels : Labels) (Q : Members → Type 0) (p : Option Members) (o : Own) → IsSomeAnd p (λ n. IsMine labels o n × Q n) → IsSomeAnd p (λ n. n.scope ≡ o.id)
+is_scope : (labels : Labels) (Q : Members → Type 0) (p : Option Members) (o : Own) → IsSomeAnd p (λ n. IsMine labels o n × Q n) →
+    IsSomeAnd p (λ n. n.scope ≡ o.id)
 is_scope labels Q None o i = i
 is_scope labels Q (Some n) o i = i.0.scope
 
-one_behind : (id key : ℕ) (bs : List Block) (waits : Option ℕ) → HasNurseryOf id bs waits → ((id ≡ key) ⊎ HasBlock id bs) ⊎ (waits ≡ Some id)
+one_behind : (id key : ℕ) (bs : List Block) (waits : Option ℕ) → HasNurseryOf id bs waits → ((id ≡ key) ⊎ HasBlock id bs)
+    ⊎ (waits ≡ Some id)
 one_behind id key bs waits (inl h) = inl (inr h)
 one_behind id key bs waits (inr e) = inr e
 
-keyed_onto : (P : ℕ → ℕ → Type 0) (now : Numbers) (labels : Labels) (book : NurseryBook) (fs : List Frame) (own : List Own) (waits : Option ℕ) (outer : List rest.Frame)
+keyed_onto : (P : ℕ → ℕ → Type 0) (now : Numbers) (labels : Labels) (book : NurseryBook) (fs : List Frame) (own : List Own)
+    (waits : Option ℕ) (outer : List rest.Frame)
     (ks : List ℕ) →
     ((id : ℕ) (o : Own) → HasNurseryOf id (blocks_of fs) waits → HasNursery book id (λ n. n.scope ≡ o.id) → P id o.id) →
-    Opened labels book (blocks_of fs) own waits → Keyed P now outer ks → KeyedAfter P waits now (frames_onto now fs outer) (keys_in own ++ ks)
+    Opened labels book (blocks_of fs) own waits → Keyed P now outer ks →
+        KeyedAfter P waits now (frames_onto now fs outer) (keys_in own ++ ks)
 keyed_onto P now labels book [] [] None outer ks has h k = k
 keyed_onto P now labels book [] [] (Some id) outer ks has h k = absurd h
 keyed_onto P now labels book [] (o ∷ own) None outer ks has h k = absurd h
@@ -68,11 +73,13 @@ keyed_onto P now labels book (Steps steps ∷ fs) own waits outer ks has h k =
     keyed_onto P now labels book fs own waits (frame_of now (Steps steps) ∷ outer) ks has h k
 keyed_onto P now labels book (Scope fail ∷ fs) [] waits outer ks has h k = absurd h
 keyed_onto P now labels book (Scope fail ∷ fs) (o ∷ own) waits outer ks has h k =
-    subst (λ (zs : List ℕ). KeyedAfter P waits now (frames_onto now fs (rest.in_scope fail ∷ outer)) zs) (sym (append_assoc (keys_in own) (o.id ∷ []) ks))
+    subst (λ (zs : List ℕ). KeyedAfter P waits now (frames_onto now fs (rest.in_scope fail ∷ outer)) zs)
+        (sym (append_assoc (keys_in own) (o.id ∷ []) ks))
     (keyed_onto P now labels book fs own waits (rest.in_scope fail ∷ outer) (o.id ∷ ks) has h.2 k)
 keyed_onto P now labels book (Nursery id ∷ fs) [] waits outer ks has h k = absurd h
 keyed_onto P now labels book (Nursery id ∷ fs) (o ∷ own) waits outer ks has h k =
-    subst (λ (zs : List ℕ). KeyedAfter P waits now (frames_onto now fs (rest.in_nursery (now id) ∷ outer)) zs) (sym (append_assoc (keys_in own) (o.id ∷ []) ks))
+    subst (λ (zs : List ℕ). KeyedAfter P waits now (frames_onto now fs (rest.in_nursery (now id) ∷ outer)) zs)
+        (sym (append_assoc (keys_in own) (o.id ∷ []) ks))
     (keyed_onto P now labels book fs own waits (rest.in_nursery (now id) ∷ outer) (o.id ∷ ks)
     (λ key x i n. has key x (one_behind key id (blocks_of fs) waits i) n) h.2
     ((id, refl, has id o (inl (inl refl)) (is_scope labels (λ n. n.body ≡ None) (nursery_at book id) o h.0)), k))
@@ -84,7 +91,8 @@ keyed_onto P now labels book (Cleanup outcome ∷ fs) own waits outer ks has h k
     keyed_onto P now labels book fs own waits (frame_of now (Cleanup outcome) ∷ outer) ks has h k
 
 -- The frames of a task have the keys of the scopes that it opened.
-pub keyed_by : (P : ℕ → ℕ → Type 0) (now : Numbers) (labels : Labels) (book : NurseryBook) (fs : List Frame) (own : List Own) (waits : Option ℕ) (ks : List ℕ) →
+pub keyed_by : (P : ℕ → ℕ → Type 0) (now : Numbers) (labels : Labels) (book : NurseryBook) (fs : List Frame) (own : List Own)
+    (waits : Option ℕ) (ks : List ℕ) →
     ((id : ℕ) (o : Own) → HasNurseryOf id (blocks_of fs) waits → HasNursery book id (λ n. n.scope ≡ o.id) → P id o.id) →
     Opened labels book (blocks_of fs) own waits → KeyedAfter P waits now (frames_of now fs) (keys_in own ++ ks)
 keyed_by P now labels book fs own waits ks has h = keyed_onto P now labels book fs own waits [] ks has h tt
@@ -92,7 +100,8 @@ keyed_by P now labels book fs own waits ks has h = keyed_onto P now labels book 
 -- ---- how a task stopped
 
 -- who stopped at its end told so
-pub told_end : (numbers : Numbers) (book : NurseryBook) (part : Part) (stop : Stop) (halt : Halt) (u : ℕ) (e : Option Exc) → IsHalt numbers book halt (at_end u e) →
+pub told_end : (numbers : Numbers) (book : NurseryBook) (part : Part) (stop : Stop) (halt : Halt) (u : ℕ) (e : Option Exc) →
+    IsHalt numbers book halt (at_end u e) →
     IsTold part stop halt (at_end u e) → (exc : Option held.Exc) × (stop ≡ Ended exc)
 told_end numbers book part stop ToBegin u e h told = absurd h
 told_end numbers book part stop (Asked kernel purpose) u e h told = absurd h
@@ -111,7 +120,8 @@ WaitsAs numbers waits (asleep n since) = waits ≡ None
 WaitsAs numbers waits (awaiting children ended exc) = (id : ℕ) × (waits ≡ Some id) × (numbers id ≡ children)
 WaitsAs numbers waits (at_end u e) = waits ≡ None
 
-pub halt_waits : (numbers : Numbers) (book : NurseryBook) (halt : Halt) (stopped : Stopped) → IsHalt numbers book halt stopped → WaitsAs numbers (waits_of halt) stopped
+pub halt_waits : (numbers : Numbers) (book : NurseryBook) (halt : Halt) (stopped : Stopped) → IsHalt numbers book halt stopped →
+    WaitsAs numbers (waits_of halt) stopped
 halt_waits numbers book ToBegin to_begin h = refl
 halt_waits numbers book ToBegin (asking k p) h = absurd h
 halt_waits numbers book ToBegin (asleep n u) h = absurd h

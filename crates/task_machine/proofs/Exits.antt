@@ -24,7 +24,8 @@ use Rattle.task_machine.proofs.Cancels.{round_after}
 use Rattle.task_machine.proofs.Stacked.{one_of, signed_alike}
 
 -- what goes on behind a block, by what was read of its place
-pub exc_goes_on : (kind : Kind) (l p : Label) (t u : ℕ) (b c : Bool) (left : Left) (e after : Option Exc) → after ≡ exc_after kind l t left → left ≡ left_with b e → l ≡ p →
+pub exc_goes_on : (kind : Kind) (l p : Label) (t u : ℕ) (b c : Bool) (left : Left) (e after : Option Exc) →
+    after ≡ exc_after kind l t left → left ≡ left_with b e → l ≡ p →
     b ≡ c → t ≡ u → after ≡ exc_after kind p u (left_with c e)
 exc_goes_on kind l p t u b c left e after h i j k m = cc
 
@@ -49,11 +50,13 @@ leaving_noted input entry kind l p t u b c left e h s i j k m =
 
 -- ---- who fails
 
-no_places : (labels : Labels) (froms : Table) (st : Stack) (key t : ℕ) → AreAt labels froms st [] → AreAt labels froms (after_cancel key t st) []
+no_places : (labels : Labels) (froms : Table) (st : Stack) (key t : ℕ) → AreAt labels froms st [] →
+    AreAt labels froms (after_cancel key t st) []
 no_places labels froms [] key t a = a
 no_places labels froms (l ∷ ls) key t a = absurd a
 
-signed_first : (labels : Labels) (froms : Table) (st : Stack) (ps : List Place) (key t : ℕ) (e : Exc) → own_label st ≡ Some key → OwnNames (names_at ps) → AreAt labels froms st ps →
+signed_first : (labels : Labels) (froms : Table) (st : Stack) (ps : List Place) (key t : ℕ) (e : Exc) → own_label st ≡ Some key →
+    OwnNames (names_at ps) → AreAt labels froms st ps →
     AreAt labels (froms_after froms (signs_home (Some e) ps t)) (after_cancel key t st) ps
 signed_first labels froms st [] key t e top own a = no_places labels froms st key t a
 signed_first labels froms [] (p ∷ ps) key t e top own a = absurd a
@@ -62,7 +65,8 @@ signed_first labels froms (l ∷ ls) (p ∷ ps) key t e top own a =
     signed_alike labels froms (l ∷ ls) (p ∷ ps) key t p.label (ap labels same ∙ a.0) (inl same) own a
 
 -- the innermost scope of a stack is the scope whose stack it is
-top_at : (tree : Tree) (scope : Option ℕ) (key : ℕ) → IsOwn tree → scope ≡ Some key → IsSome (stack_of tree key) → own_label (outer_of tree scope) ≡ Some key
+top_at : (tree : Tree) (scope : Option ℕ) (key : ℕ) → IsOwn tree → scope ≡ Some key → IsSome (stack_of tree key) →
+    own_label (outer_of tree scope) ≡ Some key
 top_at tree scope key own within is_open =
     subst (λ (s : Option ℕ). own_label (outer_of tree s) ≡ Some key) (sym within) (by_stack (stack_of tree key) refl is_open)
   where
@@ -71,22 +75,28 @@ top_at tree scope key own within is_open =
     by_stack (Some st) f s = own key st f
 
 -- who fails signs for that
-pub failed_at : (tree : Tree) (scope : Option ℕ) (key : ℕ) (o : Option held.Exc) (b : Bool) → is_some o ≡ not b → b ≡ false → IsOwn tree → scope ≡ Some key → IsSome (stack_of tree key) →
+pub failed_at : (tree : Tree) (scope : Option ℕ) (key : ℕ) (o : Option held.Exc) (b : Bool) → is_some o ≡ not b → b ≡ false → IsOwn tree →
+    scope ≡ Some key → IsSome (stack_of tree key) →
     key_failed (option_map exc_of o) (outer_of tree scope) ≡ Some key
 failed_at tree scope key None b h i own within is_open = absurd (let f : false ≡ true = h ∙ ap not i in cc)
 failed_at tree scope key (Some e) b h i own within is_open = top_at tree scope key own within is_open
 
 -- the innermost place is signed by the scope of that
-pub fails_at : (labels more : Labels) (old new : Tree) (scope : Option ℕ) (key t : ℕ) (e : Exc) → more ≡ labels → IsOwn old → scope ≡ Some key → IsSome (stack_of old key) →
-    ((at : ℕ) → stack_of new at ≡ option_map (after_cancel key t) (stack_of old at)) → (froms : Table) (ps : List Place) → OwnNames (names_at ps) →
+pub fails_at : (labels more : Labels) (old new : Tree) (scope : Option ℕ) (key t : ℕ) (e : Exc) → more ≡ labels → IsOwn old →
+    scope ≡ Some key → IsSome (stack_of old key) →
+    ((at : ℕ) → stack_of new at ≡ option_map (after_cancel key t) (stack_of old at)) → (froms : Table) (ps : List Place) →
+        OwnNames (names_at ps) →
     AreAt labels froms (outer_of old scope) ps → AreAt more (froms_after froms (signs_home (Some e) ps t)) (outer_of new scope) ps
 fails_at labels more old new scope key t e same own within is_open after froms ps names a =
     subst (λ (ls : Labels). AreAt ls (froms_after froms (signs_home (Some e) ps t)) (outer_of new scope) ps) (sym same)
     (subst (λ (st : Stack). AreAt labels (froms_after froms (signs_home (Some e) ps t)) st ps) (sym (round_after old new key t scope after))
     (signed_first labels froms (outer_of old scope) ps key t e (top_at old scope key own within is_open) names a))
 
-pub fails_if : (labels more : Labels) (old new : Tree) (scope : Option ℕ) (key t : ℕ) (o : Option held.Exc) (b : Bool) → is_some o ≡ not b → b ≡ false → more ≡ labels → IsOwn old → scope ≡ Some key →
-    IsSome (stack_of old key) → ((at : ℕ) → stack_of new at ≡ option_map (after_cancel key t) (stack_of old at)) → (froms : Table) (ps : List Place) → OwnNames (names_at ps) →
-    AreAt labels froms (outer_of old scope) ps → AreAt more (froms_after froms (signs_home (option_map exc_of o) ps t)) (outer_of new scope) ps
+pub fails_if : (labels more : Labels) (old new : Tree) (scope : Option ℕ) (key t : ℕ) (o : Option held.Exc) (b : Bool) → is_some o ≡ not b →
+    b ≡ false → more ≡ labels → IsOwn old → scope ≡ Some key →
+    IsSome (stack_of old key) → ((at : ℕ) → stack_of new at ≡ option_map (after_cancel key t) (stack_of old at)) →
+        (froms : Table) (ps : List Place) → OwnNames (names_at ps) →
+    AreAt labels froms (outer_of old scope) ps → AreAt more (froms_after froms (signs_home (option_map exc_of o) ps t)) (outer_of new scope)
+        ps
 fails_if labels more old new scope key t None b h i = absurd (let f : false ≡ true = h ∙ ap not i in cc)
 fails_if labels more old new scope key t (Some e) b h i = fails_at labels more old new scope key t (exc_of e)

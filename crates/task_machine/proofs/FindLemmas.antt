@@ -23,20 +23,25 @@ begins tree id own whole = by_stack (stack_of tree id) refl
         record { first = l; outer = outer; stack = is; own = cc }
 
 -- the scope has the name
-pub found_here : (labels : Labels) (name : List ℕ) (tree : Tree) (id : ℕ) → IsOwn tree → IsOpen tree id → is_named name (labels id) ≡ true → scope_named labels name (outer_of tree (Some id)) ≡ Some id
+pub found_here : (labels : Labels) (name : List ℕ) (tree : Tree) (id : ℕ) → IsOwn tree → IsOpen tree id → is_named name (labels id) ≡ true →
+    scope_named labels name (outer_of tree (Some id)) ≡ Some id
 found_here labels name tree id own whole named =
     let b = begins tree id own whole in
     rw (b.stack, b.own, named) refl
 
 -- it has not, and the search goes on at its parent
-pub found_outwards : (labels : Labels) (name : List ℕ) (tree : Tree) (id : ℕ) (parent : Option ℕ) → IsOwn tree → IsOpen tree id → is_named name (labels id) ≡ false → ForSome (stack_of tree id) (λ stack. outer_of tree parent ≡ behind_own stack) → scope_named labels name (outer_of tree (Some id)) ≡ scope_named labels name (outer_of tree parent)
+pub found_outwards : (labels : Labels) (name : List ℕ) (tree : Tree) (id : ℕ) (parent : Option ℕ) → IsOwn tree → IsOpen tree id →
+    is_named name (labels id) ≡ false → ForSome (stack_of tree id) (λ stack. outer_of tree parent ≡ behind_own stack) →
+    scope_named labels name (outer_of tree (Some id)) ≡ scope_named labels name (outer_of tree parent)
 found_outwards labels name tree id parent own whole named round =
     let b = begins tree id own whole in
     let e : outer_of tree parent ≡ b.outer = round (b.first ∷ b.outer) b.stack in
     rw (e, b.stack, b.own, named) refl
 
 -- which has a shorter stack
-pub shorter : (tree : Tree) (id : ℕ) (parent : Option ℕ) → IsOwn tree → IsOpen tree id → ForSome (stack_of tree id) (λ stack. outer_of tree parent ≡ behind_own stack) → length (outer_of tree parent) < length (outer_of tree (Some id))
+pub shorter : (tree : Tree) (id : ℕ) (parent : Option ℕ) → IsOwn tree → IsOpen tree id →
+    ForSome (stack_of tree id) (λ stack. outer_of tree parent ≡ behind_own stack) →
+    length (outer_of tree parent) < length (outer_of tree (Some id))
 shorter tree id parent own whole round =
     let b = begins tree id own whole in
     let e : outer_of tree parent ≡ b.outer = round (b.first ∷ b.outer) b.stack in

@@ -40,9 +40,11 @@ key_after key t l false = refl
 keys_after : (key t : ℕ) (st : Stack) → keys_of (after_cancel key t st) ≡ keys_of st
 keys_after key t [] = refl
 keys_after key t (l ∷ ls) =
-    ap (λ (k : ℕ). k ∷ keys_of (after_cancel key t ls)) (key_after key t l (l.label == key)) ∙ ap (λ (ks : List ℕ). l.label ∷ ks) (keys_after key t ls)
+    ap (λ (k : ℕ). k ∷ keys_of (after_cancel key t ls)) (key_after key t l (l.label == key))
+        ∙ ap (λ (ks : List ℕ). l.label ∷ ks) (keys_after key t ls)
 
-pub signed_keys : (old new : Tree) (id t : ℕ) → ((key : ℕ) → stack_of new key ≡ option_map (after_cancel id t) (stack_of old key)) → SameKeys old new
+pub signed_keys : (old new : Tree) (id t : ℕ) → ((key : ℕ) → stack_of new key ≡ option_map (after_cancel id t) (stack_of old key)) →
+    SameKeys old new
 signed_keys old new id t h key = ap (λ (o : Option Stack). option_map keys_of o) (h key) ∙ by_stack (stack_of old key)
   where
     by_stack : (o : Option Stack) → option_map keys_of (option_map (after_cancel id t) o) ≡ option_map keys_of o
@@ -78,16 +80,20 @@ keys_round : (old new : Tree) (scope : Option ℕ) → SameKeys old new → keys
 keys_round old new None same = refl
 keys_round old new (Some k) same = same_outer (stack_of new k) (stack_of old k) (same k)
 
-others_same : (old new : Tree) (book : NurseryBook) (bs : List Block) (own : List Own) (waits : Option ℕ) → SameKeys old new → OthersRun old book bs own waits → OthersRun new book bs own waits
+others_same : (old new : Tree) (book : NurseryBook) (bs : List Block) (own : List Own) (waits : Option ℕ) → SameKeys old new →
+    OthersRun old book bs own waits → OthersRun new book bs own waits
 others_same old new book bs own waits same run key st e a i o got within = by_stack (stack_of old key) refl
   where
     by_stack : (p : Option Stack) → stack_of old key ≡ p → RunsIn book bs i waits
-    by_stack None f = absurd (let g : Some (keys_of st) ≡ None = sym (ap (option_map keys_of) e) ∙ same key ∙ ap (option_map keys_of) f in cc)
+    by_stack None f = absurd (let g : Some (keys_of st) ≡ None = sym (ap (option_map keys_of) e) ∙ same key ∙ ap (option_map keys_of) f in
+        cc)
     by_stack (Some su) f =
-        let keys : keys_of st ≡ keys_of su = same_outer (Some st) (Some su) (sym (ap (option_map keys_of) e) ∙ same key ∙ ap (option_map keys_of) f) in
+        let keys : keys_of st ≡ keys_of su =
+            same_outer (Some st) (Some su) (sym (ap (option_map keys_of) e) ∙ same key ∙ ap (option_map keys_of) f) in
         run key su f a i o got (is_key o.id su (subst (IsAmong o.id) keys (among_keys o.id st within)))
 
-pub fits_signed : (fs : List Frame) (part : Part) (home : Option ℕ) (own : List Own) (n : ℕ) (old new : Tree) (labels : Labels) (book : NurseryBook) (waits : Option ℕ) → SameKeys old new →
+pub fits_signed : (fs : List Frame) (part : Part) (home : Option ℕ) (own : List Own) (n : ℕ) (old new : Tree) (labels : Labels)
+    (book : NurseryBook) (waits : Option ℕ) → SameKeys old new →
     FitsIn fs part home own n old labels book waits → FitsIn fs part home own n new labels book waits
 fits_signed fs part home own n old new labels book waits same h =
     record {
@@ -107,13 +113,16 @@ fits_signed fs part home own n old new labels book waits same h =
 -- ---- a scope that is entered
 
 -- the scopes that a task opened are open
-own_open : (tree : Tree) → IsChain tree → (home : Option ℕ) (own : List Own) (key : ℕ) → OwnFirst tree home own → IsAmong key (keys_in own) → IsOpen tree key
+own_open : (tree : Tree) → IsChain tree → (home : Option ℕ) (own : List Own) (key : ℕ) → OwnFirst tree home own →
+    IsAmong key (keys_in own) → IsOpen tree key
 own_open tree chain home own key first i =
     open_round tree chain (last_or home (ids own)) key
-    (is_key key (outer_of tree (last_or home (ids own))) (subst (IsAmong key) (sym first) (among_left key (keys_in own) (keys_of (outer_of tree home)) i)))
+    (is_key key (outer_of tree (last_or home (ids own))) (subst (IsAmong key) (sym first)
+        (among_left key (keys_in own) (keys_of (outer_of tree home)) i)))
 
 -- so one that was not open is none of them
-pub fresh_others : (tree : Tree) → IsChain tree → (home : Option ℕ) (own : List Own) (key : ℕ) → OwnFirst tree home own → stack_of tree key ≡ None → AreOthers key own
+pub fresh_others : (tree : Tree) → IsChain tree → (home : Option ℕ) (own : List Own) (key : ℕ) → OwnFirst tree home own →
+    stack_of tree key ≡ None → AreOthers key own
 fresh_others tree chain home own key first closed = by_owner (is_mine key own)
   where
     by_owner : AreOthers key own ⊎ IsAmong key (keys_in own) → AreOthers key own
@@ -126,21 +135,29 @@ kept_open old new key k closed keep opened = keep k differs
     differs : k ≢ key
     differs e = let f : false ≡ true = subst IsSome (ap (stack_of old) e ∙ closed) opened in cc
 
-kept_outer : (old new : Tree) (key : ℕ) (scope : Option ℕ) → stack_of old key ≡ None → OthersKeep old new key → ForSome scope (IsOpen old) → outer_of new scope ≡ outer_of old scope
+kept_outer : (old new : Tree) (key : ℕ) (scope : Option ℕ) → stack_of old key ≡ None → OthersKeep old new key → ForSome scope (IsOpen old) →
+    outer_of new scope ≡ outer_of old scope
 kept_outer old new key None closed keep opened = refl
-kept_outer old new key (Some k) closed keep opened = ap (λ (o : Option Stack). unwrap_or o []) (kept_open old new key k closed keep (opened k refl))
+kept_outer old new key (Some k) closed keep opened =
+    ap (λ (o : Option Stack). unwrap_or o []) (kept_open old new key k closed keep (opened k refl))
 
 all_below : (n : ℕ) (own : List Own) → All (λ (o : Own). o.at < n) own → All (λ (o : Own). o.at < suc n) own
 all_below n [] a = All-nil (λ (o : Own). o.at < suc n)
 all_below n (o ∷ own) a =
-    All-cons (λ (x : Own). x.at < suc n) o own (let e = All-head (λ (x : Own). x.at < n) o own a in omega (arith, e)) (all_below n own (All-tail (λ (x : Own). x.at < n) o own a))
+    All-cons (λ (x : Own). x.at < suc n) o own (let e = All-head (λ (x : Own). x.at < n) o own a in omega (arith, e))
+        (all_below n own (All-tail (λ (x : Own). x.at < n) o own a))
 
-pub fits_entered : (fs gs : List Frame) (b : Block) (part : Part) (home : Option ℕ) (own : List Own) (o : Own) (n : ℕ) (old new : Tree) (labels more : Labels) (book after : NurseryBook) (name : Label)
-    (level : Level ℕ) → IsChain old → stack_of old o.id ≡ None → stack_of new o.id ≡ Some (level ∷ outer_of old (last_or home (ids own))) → level.label ≡ o.id → OthersKeep old new o.id →
-    label.Updates labels more o.id (Some name) → o.at ≡ n → ((id : ℕ) (m : Members) → nursery_at book id ≡ Some m → nursery_at after id ≡ Some m) → IsBlockOf more after b o →
-    blocks_of gs ≡ blocks_of fs ++ b ∷ [] → AreModestFrames (frames_of (λ id. []) gs) → StartsFit (frames_of (λ id. []) gs) → FitsIn fs part home own n old labels book None →
+pub fits_entered : (fs gs : List Frame) (b : Block) (part : Part) (home : Option ℕ) (own : List Own) (o : Own) (n : ℕ) (old new : Tree)
+    (labels more : Labels) (book after : NurseryBook) (name : Label)
+    (level : Level ℕ) → IsChain old → stack_of old o.id ≡ None → stack_of new o.id ≡ Some (level ∷ outer_of old (last_or home (ids own))) →
+        level.label ≡ o.id → OthersKeep old new o.id →
+    label.Updates labels more o.id (Some name) → o.at ≡ n → ((id : ℕ) (m : Members) → nursery_at book id ≡ Some m →
+        nursery_at after id ≡ Some m) → IsBlockOf more after b o →
+    blocks_of gs ≡ blocks_of fs ++ b ∷ [] → AreModestFrames (frames_of (λ id. []) gs) → StartsFit (frames_of (λ id. []) gs) →
+        FitsIn fs part home own n old labels book None →
     FitsIn gs part home (own ++ o ∷ []) (suc n) new more after None
-fits_entered fs gs b part home own o n old new labels more book after name level chain closed stack named keep u at stay block blocks modest starts h =
+fits_entered fs gs b part home own o n old new labels more book after name level chain closed stack named keep u at stay block blocks modest
+    starts h =
     record {
       modest = modest;
       starts = starts;
@@ -154,7 +171,8 @@ fits_entered fs gs b part home own o n old new labels more book after name level
       opened =
           subst (λ (bs : List Block). Opened more after bs (own ++ o ∷ []) None) (sym blocks)
           (opened_in more after (blocks_of fs) own b o
-          (opened_stays labels more book after o.id (blocks_of fs) own (record { named = u.others; nurseries = λ id m e differs. stay id m e }) apart h.opened) block apart);
+          (opened_stays labels more book after o.id (blocks_of fs) own
+              (record { named = u.others; nurseries = λ id m e differs. stay id m e }) apart h.opened) block apart);
       others =
           subst (λ (bs : List Block). OthersRun new after bs (own ++ o ∷ []) None) (sym blocks)
           (others_entered old new book after chain (blocks_of fs) own b o closed keep run h.others);
@@ -185,10 +203,12 @@ fits_entered fs gs b part home own o n old new labels more book after name level
 pub first_below : (n : ℕ) (own : List Own) (o : Own) → All (λ (x : Own). x.at < n) (own ++ o ∷ []) → All (λ (x : Own). x.at < n) own
 first_below n [] o a = All-nil (λ (x : Own). x.at < n)
 first_below n (x ∷ own) o a =
-    All-cons (λ (y : Own). y.at < n) x own (All-head (λ (y : Own). y.at < n) x (own ++ o ∷ []) a) (first_below n own o (All-tail (λ (y : Own). y.at < n) x (own ++ o ∷ []) a))
+    All-cons (λ (y : Own). y.at < n) x own (All-head (λ (y : Own). y.at < n) x (own ++ o ∷ []) a)
+        (first_below n own o (All-tail (λ (y : Own). y.at < n) x (own ++ o ∷ []) a))
 
 -- what is round the innermost scope stays open when that is closed
-behind_open : (old new : Tree) → IsChain old → IsOwn old → IsApart old → (home : Option ℕ) (os : List Own) (o : Own) → Top old home os o → OthersKeep old new o.id → (key : ℕ) →
+behind_open : (old new : Tree) → IsChain old → IsOwn old → IsApart old → (home : Option ℕ) (os : List Own) (o : Own) → Top old home os o →
+    OthersKeep old new o.id → (key : ℕ) →
     IsAmong key (keys_of (outer_of old home)) → IsOpen new key
 behind_open old new chain owns apart home os o top keep key i =
     let named : top.level.label ≡ o.id = one_of _ _ (owns o.id (top.level ∷ top.behind) top.at) in
@@ -199,16 +219,21 @@ behind_open old new chain owns apart home os o top keep key i =
     All-head (λ (m : Level ℕ). m.label ≢ o.id) at.level at.behind
     (all_behind (λ (m : Level ℕ). m.label ≢ o.id) at.before (at.level ∷ at.behind)
     (subst (λ (s : Stack). All (λ (m : Level ℕ). m.label ≢ o.id) s) at.is
-    (subst (λ (k : ℕ). All (λ (m : Level ℕ). m.label ≢ k) top.behind) named (apart o.id (top.level ∷ top.behind) top.at [] top.level top.behind refl)))) in
+    (subst (λ (k : ℕ). All (λ (m : Level ℕ). m.label ≢ k) top.behind) named
+        (apart o.id (top.level ∷ top.behind) top.at [] top.level top.behind refl)))) in
     subst (IsOpen new) at.named (subst IsSome (sym (keep at.level.label differs ∙ round)) refl)
 
-pub home_open : (old new : Tree) → IsChain old → IsOwn old → IsApart old → (home : Option ℕ) (os : List Own) (o : Own) → Top old home os o → OthersKeep old new o.id →
+pub home_open : (old new : Tree) → IsChain old → IsOwn old → IsApart old → (home : Option ℕ) (os : List Own) (o : Own) → Top old home os o →
+    OthersKeep old new o.id →
     ForSome home (IsOpen old) → ForSome home (IsOpen new)
 home_open old new chain owns apart home os o top keep opened key e =
-    behind_open old new chain owns apart home os o top keep key (head_among (keys_of (outer_of old home)) key (first_key old home owns opened ∙ e))
+    behind_open old new chain owns apart home os o top keep key (head_among (keys_of (outer_of old home)) key
+        (first_key old home owns opened ∙ e))
 
-pub fits_left : (fs : List Frame) (fail : Bool) (part : Part) (home : Option ℕ) (os : List Own) (o : Own) (n : ℕ) (old new : Tree) (labels more : Labels) (book : NurseryBook) → IsChain old → IsOwn old →
-    IsApart old → Top old home os o → stack_of new o.id ≡ None → OthersKeep old new o.id → label.Updates labels more o.id None → OwnFirst new home os →
+pub fits_left : (fs : List Frame) (fail : Bool) (part : Part) (home : Option ℕ) (os : List Own) (o : Own) (n : ℕ) (old new : Tree)
+    (labels more : Labels) (book : NurseryBook) → IsChain old → IsOwn old →
+    IsApart old → Top old home os o → stack_of new o.id ≡ None → OthersKeep old new o.id → label.Updates labels more o.id None →
+        OwnFirst new home os →
     FitsIn (fs ++ Scope fail ∷ []) part home (os ++ o ∷ []) n old labels book None → FitsIn fs part home os n new more book None
 fits_left fs fail part home os o n old new labels more book chain owns apart top closed keep u first h =
     record {
@@ -219,20 +244,24 @@ fits_left fs fail part home os o n old new labels more book chain owns apart top
       scope = round_open old new chain owns apart home os o h.home top keep;
       first = first;
       froms = first_below n os o h.froms;
-      opened = opened_stays labels more book book o.id (blocks_of fs) os (record { named = u.others; nurseries = λ id m e differs. e }) inner.others inner.outer;
-      others = others_left old new book book (blocks_of fs) os o closed keep refl (subst (λ (bs : List Block). OthersRun old book bs (os ++ o ∷ []) None) blocks h.others);
+      opened = opened_stays labels more book book o.id (blocks_of fs) os (record { named = u.others; nurseries = λ id m e differs. e })
+          inner.others inner.outer;
+      others = others_left old new book book (blocks_of fs) os o closed keep refl
+          (subst (λ (bs : List Block). OthersRun old book bs (os ++ o ∷ []) None) blocks h.others);
     }
   where
     blocks : blocks_of (fs ++ Scope fail ∷ []) ≡ blocks_of fs ++ a_scope ∷ []
     blocks = blocks_append fs (Scope fail ∷ [])
 
     inner : Innermost labels book (blocks_of fs) os a_scope o
-    inner = opened_out labels book (blocks_of fs) os a_scope o (subst (λ (bs : List Block). Opened labels book bs (os ++ o ∷ []) None) blocks h.opened)
+    inner = opened_out labels book (blocks_of fs) os a_scope o (subst (λ (bs : List Block). Opened labels book bs (os ++ o ∷ []) None)
+        blocks h.opened)
 
 -- ---- a nursery whose body ended
 
 -- the nursery of a key changed, and others stay: those of other scopes stay too
-pub stays_but : (labels : Labels) (book after : NurseryBook) (id : ℕ) (o : Own) (m : Members) → nursery_at book id ≡ Some m → m.scope ≡ o.id →
+pub stays_but : (labels : Labels) (book after : NurseryBook) (id : ℕ) (o : Own) (m : Members) → nursery_at book id ≡ Some m →
+    m.scope ≡ o.id →
     ((other : ℕ) → other ≢ id → nursery_at after other ≡ nursery_at book other) → StaysBut labels labels book after o.id
 stays_but labels book after id o m was mine others =
     record { named = λ other differs. refl; nurseries = λ other n e differs. others other (λ f. differs (same other n e f)) ∙ e }
@@ -241,7 +270,8 @@ stays_but labels book after id o m was mine others =
     same other n e f = ap (λ (x : Members). x.scope) (one_of n m (sym e ∙ ap (nursery_at book) f ∙ was)) ∙ mine
 
 -- a task with the innermost of its blocks and the scope of that
-pub record Inside (fs : List Frame) (part : Part) (home : Option ℕ) (n : ℕ) (tree : Tree) (labels : Labels) (book : NurseryBook) (id : ℕ) (own : List Own) : Type 0 where
+pub record Inside (fs : List Frame) (part : Part) (home : Option ℕ) (n : ℕ) (tree : Tree) (labels : Labels) (book : NurseryBook) (id : ℕ)
+    (own : List Own) : Type 0 where
   pub last : LastOf own
   pub members : Members
   pub at : nursery_at book id ≡ Some members
@@ -250,7 +280,8 @@ pub record Inside (fs : List Frame) (part : Part) (home : Option ℕ) (n : ℕ) 
   pub apart : AreOthers last.last.id last.before
   pub outer : Opened labels book (blocks_of fs) last.before None
 
-pub inside_of : (fs : List Frame) (id : ℕ) (part : Part) (home : Option ℕ) (own : List Own) (n : ℕ) (tree : Tree) (labels : Labels) (book : NurseryBook) →
+pub inside_of : (fs : List Frame) (id : ℕ) (part : Part) (home : Option ℕ) (own : List Own) (n : ℕ) (tree : Tree) (labels : Labels)
+    (book : NurseryBook) →
     FitsIn (fs ++ Nursery id ∷ []) part home own n tree labels book None → Inside fs part home n tree labels book id own
 inside_of fs id part home own n tree labels book h = by_nursery (nursery_at book id) refl inner.block
   where
@@ -261,14 +292,18 @@ inside_of fs id part home own n tree labels book h = by_nursery (nursery_at book
     l = last_of own (opened_some labels book (blocks_of fs) own (a_nursery id) opened)
 
     inner : Innermost labels book (blocks_of fs) l.before (a_nursery id) l.last
-    inner = opened_out labels book (blocks_of fs) l.before (a_nursery id) l.last (subst (λ (os : List Own). Opened labels book (blocks_of fs ++ a_nursery id ∷ []) os None) l.is opened)
+    inner = opened_out labels book (blocks_of fs) l.before (a_nursery id) l.last
+        (subst (λ (os : List Own). Opened labels book (blocks_of fs ++ a_nursery id ∷ []) os None) l.is opened)
 
-    by_nursery : (m : Option Members) → nursery_at book id ≡ m → IsSomeAnd m (λ n. IsMine labels l.last n × (n.body ≡ None)) → Inside fs part home n tree labels book id own
+    by_nursery : (m : Option Members) → nursery_at book id ≡ m → IsSomeAnd m (λ n. IsMine labels l.last n × (n.body ≡ None)) →
+        Inside fs part home n tree labels book id own
     by_nursery None e i = absurd i
     by_nursery (Some m) e i = record { last = l; members = m; at = e; mine = i.0; runs = i.1; apart = inner.others; outer = inner.outer }
 
-pub fits_awaits : (fs : List Frame) (id : ℕ) (part : Part) (home : Option ℕ) (own : List Own) (n : ℕ) (tree : Tree) (labels : Labels) (book after : NurseryBook) (exc : Option Exc) →
-    Changes book after id (with_body exc) → FitsIn (fs ++ Nursery id ∷ []) part home own n tree labels book None → FitsIn fs part home own n tree labels after (Some id)
+pub fits_awaits : (fs : List Frame) (id : ℕ) (part : Part) (home : Option ℕ) (own : List Own) (n : ℕ) (tree : Tree) (labels : Labels)
+    (book after : NurseryBook) (exc : Option Exc) →
+    Changes book after id (with_body exc) → FitsIn (fs ++ Nursery id ∷ []) part home own n tree labels book None →
+        FitsIn fs part home own n tree labels after (Some id)
 fits_awaits fs id part home own n tree labels book after exc changes h =
     record {
       modest = subst AreModestFrames (frames_push (λ key. []) fs (Nursery id)) h.modest;
@@ -281,12 +316,15 @@ fits_awaits fs id part home own n tree labels book after exc changes h =
       opened =
           subst (λ (os : List Own). Opened labels after (blocks_of fs) os (Some id)) (sym i.last.is)
           (opened_waits labels after (blocks_of fs) i.last.before id i.last.last
-          (opened_stays labels labels book after i.last.last.id (blocks_of fs) i.last.before (stays_but labels book after id i.last.last i.members i.at i.mine.scope u.others) i.apart i.outer) i.apart
-          (subst (λ (m : Option Members). IsSomeAnd m (λ n. IsMine labels i.last.last n × IsSome n.body)) (sym u.changed) (record { scope = i.mine.scope; label = i.mine.label }, refl)));
+          (opened_stays labels labels book after i.last.last.id (blocks_of fs) i.last.before
+              (stays_but labels book after id i.last.last i.members i.at i.mine.scope u.others) i.apart i.outer) i.apart
+          (subst (λ (m : Option Members). IsSomeAnd m (λ n. IsMine labels i.last.last n × IsSome n.body)) (sym u.changed)
+              (record { scope = i.mine.scope; label = i.mine.label }, refl)));
       others =
           λ key st e a at o got within.
           runs_in_later book after (blocks_of fs) at (Some id) run
-          (runs_in_waits book (blocks_of fs) id at (subst (λ (bs : List Block). RunsIn book bs at None) (blocks_append fs (Nursery id ∷ [])) (h.others key st e a at o got within)));
+          (runs_in_waits book (blocks_of fs) id at (subst (λ (bs : List Block). RunsIn book bs at None) (blocks_append fs (Nursery id ∷ []))
+              (h.others key st e a at o got within)));
     }
   where
     i : Inside fs part home n tree labels book id own
@@ -302,7 +340,8 @@ fits_awaits fs id part home own n tree labels book after exc changes h =
         by_key true e =
             subst (λ (k : ℕ). HasRunning after (Some k)) (sym (eqb-true key id e))
             (subst (λ (m : Option Members). IsSomeAnd m (λ x. AnyRuns x.children)) (sym u.changed)
-            (subst (λ (m : Option Members). IsSomeAnd m (λ x. AnyRuns x.children)) i.at (subst (λ (k : ℕ). HasRunning book (Some k)) (eqb-true key id e) r)))
+            (subst (λ (m : Option Members). IsSomeAnd m (λ x. AnyRuns x.children)) i.at
+                (subst (λ (k : ℕ). HasRunning book (Some k)) (eqb-true key id e) r)))
         by_key false e =
             subst (λ (m : Option Members). IsSomeAnd m (λ x. AnyRuns x.children))
             (sym (u.others key (λ f. absurd (let g : true ≡ false = sym (eq-eqb key id f) ∙ e in cc)))) r

@@ -30,13 +30,15 @@ keys_pushed (o ∷ os) x = ap (λ (ks : List ℕ). ks ++ o.id ∷ []) (keys_push
 
 -- each rest of a stack is the stack of its first key
 abbrev Suffixes : Tree → Stack → Stack → Type 0
-Suffixes tree before st = (front : Stack) (l : Level ℕ) (behind : Stack) → before ++ st ≡ front ++ l ∷ behind → stack_of tree l.label ≡ Some (l ∷ behind)
+Suffixes tree before st = (front : Stack) (l : Level ℕ) (behind : Stack) → before ++ st ≡ front ++ l ∷ behind →
+    stack_of tree l.label ≡ Some (l ∷ behind)
 
 rest_round : (tree : Tree) (before ls : Stack) → Suffixes tree before ls → outer_of tree (head_of (keys_of ls)) ≡ ls
 rest_round tree before [] chain = refl
 rest_round tree before (l ∷ ls) chain = ap (λ (o : Option Stack). unwrap_or o []) (chain before l ls refl)
 
-home_round : (tree : Tree) → IsChain tree → IsOwn tree → (home : Option ℕ) → outer_of tree (head_of (keys_of (outer_of tree home))) ≡ outer_of tree home
+home_round : (tree : Tree) → IsChain tree → IsOwn tree → (home : Option ℕ) →
+    outer_of tree (head_of (keys_of (outer_of tree home))) ≡ outer_of tree home
 home_round tree chain own None = refl
 home_round tree chain own (Some h) = by_stack (stack_of tree h) refl
   where
@@ -45,12 +47,14 @@ home_round tree chain own (Some h) = by_stack (stack_of tree h) refl
     by_stack (Some st) e = rest_round tree [] st (λ front l behind f. chain h st e front l behind f)
 
 -- either of two outer scopes with one stack
-same_last : (tree : Tree) (a b : Option ℕ) (ks : List ℕ) → outer_of tree a ≡ outer_of tree b → outer_of tree (last_or a ks) ≡ outer_of tree (last_or b ks)
+same_last : (tree : Tree) (a b : Option ℕ) (ks : List ℕ) → outer_of tree a ≡ outer_of tree b →
+    outer_of tree (last_or a ks) ≡ outer_of tree (last_or b ks)
 same_last tree a b [] e = e
 same_last tree a b (k ∷ ks) e = refl
 
 -- what is round the scope that is left
-pub round_last : (tree : Tree) → IsChain tree → IsOwn tree → (home : Option ℕ) (os : List Own) (x : Own) (l : Level ℕ) (ls : Stack) → stack_of tree x.id ≡ Some (l ∷ ls) →
+pub round_last : (tree : Tree) → IsChain tree → IsOwn tree → (home : Option ℕ) (os : List Own) (x : Own) (l : Level ℕ) (ls : Stack) →
+    stack_of tree x.id ≡ Some (l ∷ ls) →
     keys_of ls ≡ keys_in os ++ keys_of (outer_of tree home) → outer_of tree (last_or home (ids os)) ≡ ls
 round_last tree chain own home os x l ls stack keys =
     same_last tree home (head_of (keys_of (outer_of tree home))) (ids os) (sym (home_round tree chain own home))
@@ -59,23 +63,27 @@ round_last tree chain own home os x l ls stack keys =
     ∙ rest_round tree (l ∷ []) ls (λ front m behind e. chain x.id (l ∷ ls) stack front m behind e)
 
 -- a stack that is shorter is of another key
-keeps_outer : (old new : Tree) (key : ℕ) (l : Level ℕ) (ls : Stack) → OthersKeep old new key → stack_of old key ≡ Some (l ∷ ls) → (at : Option ℕ) →
+keeps_outer : (old new : Tree) (key : ℕ) (l : Level ℕ) (ls : Stack) → OthersKeep old new key → stack_of old key ≡ Some (l ∷ ls) →
+    (at : Option ℕ) →
     length (outer_of old at) < length (l ∷ ls) → outer_of new at ≡ outer_of old at
 keeps_outer old new key l ls others stack None short = refl
 keeps_outer old new key l ls others stack (Some p) short = ap (λ (o : Option Stack). unwrap_or o []) (others p other)
   where
     other : p ≢ key
     other e =
-        let f : length (outer_of old (Some p)) ≡ length (l ∷ ls) = ap (λ (k : ℕ). length (unwrap_or (stack_of old k) [])) e ∙ ap (λ (o : Option Stack). length (unwrap_or o [])) stack in
+        let f : length (outer_of old (Some p)) ≡ length (l ∷ ls) = ap (λ (k : ℕ). length (unwrap_or (stack_of old k) [])) e
+            ∙ ap (λ (o : Option Stack). length (unwrap_or o [])) stack in
         omega (arith, short, f)
 
 -- a key is in no rest of its own stack, so its label may change
-same_behind : (labels more : Labels) (tree : Tree) (key : ℕ) (label : Option Label) (whole before st : Stack) → Updates labels more key label → stack_of tree key ≡ Some whole →
+same_behind : (labels more : Labels) (tree : Tree) (key : ℕ) (label : Option Label) (whole before st : Stack) →
+    Updates labels more key label → stack_of tree key ≡ Some whole →
     length st < length whole → Suffixes tree before st → SameOn labels more st
 same_behind labels more tree key label whole before [] u stack short chain = tt
 same_behind labels more tree key label whole before (l ∷ ls) u stack short chain = (
   sym (u.others l.label other),
-  same_behind labels more tree key label whole (before ++ l ∷ []) ls u stack (omega (arith, short)) (λ front m behind e. chain front m behind (sym (append_assoc before (l ∷ []) ls) ∙ e)),
+  same_behind labels more tree key label whole (before ++ l ∷ []) ls u stack (omega (arith, short))
+      (λ front m behind e. chain front m behind (sym (append_assoc before (l ∷ []) ls) ∙ e)),
 )
   where
     other : l.label ≢ key
@@ -85,7 +93,8 @@ same_behind labels more tree key label whole before (l ∷ ls) u stack short cha
         let h : length (l ∷ ls) ≡ length whole = ap length g in
         omega (arith, short, h)
 
-pub same_labels : (labels more : Labels) (froms : Table) (st : Stack) (ps : List Place) → SameOn labels more st → AreAt labels froms st ps → AreAt more froms st ps
+pub same_labels : (labels more : Labels) (froms : Table) (st : Stack) (ps : List Place) → SameOn labels more st → AreAt labels froms st ps →
+    AreAt more froms st ps
 same_labels labels more froms [] [] same a = tt
 same_labels labels more froms [] (p ∷ ps) same a = absurd a
 same_labels labels more froms (l ∷ ls) [] same a = absurd a
@@ -107,7 +116,8 @@ length_keys (l ∷ ls) = ap suc (length_keys ls)
 tail_of : (a b : ℕ) (xs ys : List ℕ) → a ∷ xs ≡ b ∷ ys → xs ≡ ys
 tail_of a b xs ys e = cc
 
-pub top_of : (tree : Tree) → IsChain tree → IsOwn tree → (home : Option ℕ) (own os : List Own) (x : Own) → own ≡ os ++ x ∷ [] → IsOpen tree x.id → OwnFirst tree home own →
+pub top_of : (tree : Tree) → IsChain tree → IsOwn tree → (home : Option ℕ) (own os : List Own) (x : Own) → own ≡ os ++ x ∷ [] →
+    IsOpen tree x.id → OwnFirst tree home own →
     last_or home (ids own) ≡ Some x.id → Top tree home os x
 top_of tree chain owns home own os x pushed opened first last = by_stack (stack_of tree x.id) refl
   where
@@ -116,20 +126,25 @@ top_of tree chain owns home own os x pushed opened first last = by_stack (stack_
         let whole : keys_of (outer_of tree (last_or home (ids own))) ≡ l.label ∷ keys_of ls =
         ap (λ (s : Option ℕ). keys_of (outer_of tree s)) last ∙ ap (λ (o : Option Stack). keys_of (unwrap_or o [])) e in
         let split : keys_in own ++ keys_of (outer_of tree home) ≡ x.id ∷ (keys_in os ++ keys_of (outer_of tree home)) =
-        ap (λ (ks : List Own). keys_in ks ++ keys_of (outer_of tree home)) pushed ∙ ap (λ (ks : List ℕ). ks ++ keys_of (outer_of tree home)) (keys_pushed os x) in
+        ap (λ (ks : List Own). keys_in ks ++ keys_of (outer_of tree home)) pushed
+            ∙ ap (λ (ks : List ℕ). ks ++ keys_of (outer_of tree home)) (keys_pushed os x) in
         let keys : keys_of ls ≡ keys_in os ++ keys_of (outer_of tree home) = tail_of l.label x.id _ _ (sym whole ∙ first ∙ split) in
         record { level = l; behind = ls; at = e; keys = keys; round = round_last tree chain owns home os x l ls e keys }
 
     by_stack : (o : Option Stack) → stack_of tree x.id ≡ o → Top tree home os x
-    by_stack None e = absurd (let f : is_some (stack_of tree x.id) ≡ true = opened in let g : is_some (stack_of tree x.id) ≡ false = ap is_some e in cc)
+    by_stack None e = absurd (let f : is_some (stack_of tree x.id) ≡ true = opened in let g : is_some (stack_of tree x.id) ≡ false =
+        ap is_some e in cc)
     by_stack (Some []) e = absurd (let f : None ≡ Some x.id = owns x.id [] e in cc)
     by_stack (Some (l ∷ ls)) e = by_level l ls e
 
 -- the scopes that the task still has are those round it
-pub first_after : (old new : Tree) (home : Option ℕ) (os : List Own) (x : Own) → OthersKeep old new x.id → Top old home os x → OwnFirst new home os
+pub first_after : (old new : Tree) (home : Option ℕ) (os : List Own) (x : Own) → OthersKeep old new x.id → Top old home os x →
+    OwnFirst new home os
 first_after old new home os x others top =
-    let shorter : length (keys_of top.behind) ≡ length (keys_in os) + length (keys_of (outer_of old home)) = ap length top.keys ∙ length-append (keys_in os) _ in
-    let n : length (outer_of old (last_or home (ids os))) < length (top.level ∷ top.behind) = subst (λ (st : Stack). length st < length (top.level ∷ top.behind)) (sym top.round) (omega arith) in
+    let shorter : length (keys_of top.behind) ≡ length (keys_in os) + length (keys_of (outer_of old home)) =
+        ap length top.keys ∙ length-append (keys_in os) _ in
+    let n : length (outer_of old (last_or home (ids os))) < length (top.level ∷ top.behind) =
+        subst (λ (st : Stack). length st < length (top.level ∷ top.behind)) (sym top.round) (omega arith) in
     let m : length (outer_of old home) < length (top.level ∷ top.behind) =
     (let a = length_keys (outer_of old home) in let b = length_keys top.behind in omega (arith, shorter, a, b)) in
     ap keys_of (keeps_outer old new x.id top.level top.behind others top.at (last_or home (ids os)) n)
@@ -137,17 +152,22 @@ first_after old new home os x others top =
     ∙ ap (λ (st : Stack). keys_in os ++ keys_of st) (sym (keeps_outer old new x.id top.level top.behind others top.at home m))
 
 -- and its places those round the one that is left
-pub places_after : (labels more : Labels) (old new : Tree) (home : Option ℕ) (os : List Own) (x : Own) (label : Option Label) → IsChain old → OthersKeep old new x.id →
+pub places_after : (labels more : Labels) (old new : Tree) (home : Option ℕ) (os : List Own) (x : Own) (label : Option Label) →
+    IsChain old → OthersKeep old new x.id →
     Updates labels more x.id label → (top : Top old home os x) → (froms : Table) (ps : List Place) → AreAt labels froms top.behind ps →
     AreAt more froms (outer_of new (last_or home (ids os))) ps
 places_after labels more old new home os x label chain others u top froms ps a =
-    let n : length (outer_of old (last_or home (ids os))) < length (top.level ∷ top.behind) = subst (λ (st : Stack). length st < length (top.level ∷ top.behind)) (sym top.round) (omega arith) in
-    subst (λ (st : Stack). AreAt more froms st ps) (sym (keeps_outer old new x.id top.level top.behind others top.at (last_or home (ids os)) n ∙ top.round))
+    let n : length (outer_of old (last_or home (ids os))) < length (top.level ∷ top.behind) =
+        subst (λ (st : Stack). length st < length (top.level ∷ top.behind)) (sym top.round) (omega arith) in
+    subst (λ (st : Stack). AreAt more froms st ps)
+        (sym (keeps_outer old new x.id top.level top.behind others top.at (last_or home (ids os)) n ∙ top.round))
     (same_labels labels more froms top.behind ps
-    (same_behind labels more old x.id label (top.level ∷ top.behind) (top.level ∷ []) top.behind u top.at (omega arith) (λ front l behind e. chain x.id (top.level ∷ top.behind) top.at front l behind e)) a)
+    (same_behind labels more old x.id label (top.level ∷ top.behind) (top.level ∷ []) top.behind u top.at (omega arith)
+        (λ front l behind e. chain x.id (top.level ∷ top.behind) top.at front l behind e)) a)
 
 -- the innermost place, by the scope that is left
-pub left_from : (labels : Labels) (froms : Table) (tree : Tree) (home outer : Option ℕ) (os : List Own) (x : Own) (p : Place) (ps : List Place) → (top : Top tree home os x) →
+pub left_from : (labels : Labels) (froms : Table) (tree : Tree) (home outer : Option ℕ) (os : List Own) (x : Own) (p : Place)
+    (ps : List Place) → (top : Top tree home os x) →
     outer ≡ Some x.id → AreAt labels froms (outer_of tree outer) (p ∷ ps) → AreAt labels froms (top.level ∷ top.behind) (p ∷ ps)
 left_from labels froms tree home outer os x p ps top last a =
     subst (λ (st : Stack). AreAt labels froms st (p ∷ ps)) (ap (outer_of tree) last ∙ ap (λ (o : Option Stack). unwrap_or o []) top.at) a

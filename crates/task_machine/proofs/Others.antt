@@ -33,7 +33,8 @@ pub is_mine : (key : ℕ) (own : List Own) → AreOthers key own ⊎ IsAmong key
 is_mine key [] = inl (All-nil (λ (o : Own). o.id ≢ key))
 is_mine key (o ∷ own) = by_test (o.id == key) refl (is_mine key own)
   where
-    by_test : (b : Bool) → (o.id == key) ≡ b → AreOthers key own ⊎ IsAmong key (keys_in own) → AreOthers key (o ∷ own) ⊎ IsAmong key (keys_in own ++ o.id ∷ [])
+    by_test : (b : Bool) → (o.id == key) ≡ b → AreOthers key own ⊎ IsAmong key (keys_in own) → AreOthers key (o ∷ own)
+        ⊎ IsAmong key (keys_in own ++ o.id ∷ [])
     by_test true e h = inr (among_right key (keys_in own) (o.id ∷ []) (inl (sym (eqb-true o.id key e))))
     by_test false e (inl a) =
         inl (All-cons (λ (x : Own). x.id ≢ key) o own (λ f. absurd (let g : true ≡ false = sym (eq-eqb o.id key f) ∙ e in cc)) a)
@@ -60,7 +61,8 @@ all_behind P (l ∷ before) st a = all_behind P before st (All-tail P l (before 
 
 all_else : (key : ℕ) (st : Stack) → (IsKey key st → ⊥) → All (λ (l : Level ℕ). l.label ≢ key) st
 all_else key [] never = All-nil (λ (l : Level ℕ). l.label ≢ key)
-all_else key (l ∷ ls) never = All-cons (λ (m : Level ℕ). m.label ≢ key) l ls (λ e. never (inl (sym e))) (all_else key ls (λ i. never (inr i)))
+all_else key (l ∷ ls) never = All-cons (λ (m : Level ℕ). m.label ≢ key) l ls (λ e. never (inl (sym e)))
+    (all_else key ls (λ i. never (inr i)))
 
 pub got_before : (own : List Own) (o x : Own) (i : ℕ) → slice_get own i ≡ Some x → slice_get (own ++ o ∷ []) i ≡ Some x
 got_before [] o x i e = absurd (let f : None ≡ Some x = e in cc)
@@ -78,12 +80,14 @@ got_one (y ∷ own) o x zero e = inl e
 got_one (y ∷ own) o x (suc i) e = got_one own o x i e
 
 pub others_but : (key : ℕ) (own : List Own) (o : Own) → AreOthers key own → o.id ≢ key → AreOthers key (own ++ o ∷ [])
-others_but key own o a differs = All-append (λ (x : Own). x.id ≢ key) own (o ∷ []) a (All-cons (λ (x : Own). x.id ≢ key) o [] differs (All-nil (λ (x : Own). x.id ≢ key)))
+others_but key own o a differs = All-append (λ (x : Own). x.id ≢ key) own (o ∷ []) a
+    (All-cons (λ (x : Own). x.id ≢ key) o [] differs (All-nil (λ (x : Own). x.id ≢ key)))
 
 others_first : (key : ℕ) (own : List Own) (o : Own) → AreOthers key (own ++ o ∷ []) → AreOthers key own
 others_first key [] o a = All-nil (λ (x : Own). x.id ≢ key)
 others_first key (y ∷ own) o a =
-    All-cons (λ (x : Own). x.id ≢ key) y own (All-head (λ (x : Own). x.id ≢ key) y (own ++ o ∷ []) a) (others_first key own o (All-tail (λ (x : Own). x.id ≢ key) y (own ++ o ∷ []) a))
+    All-cons (λ (x : Own). x.id ≢ key) y own (All-head (λ (x : Own). x.id ≢ key) y (own ++ o ∷ []) a)
+        (others_first key own o (All-tail (λ (x : Own). x.id ≢ key) y (own ++ o ∷ []) a))
 
 others_last : (key : ℕ) (own : List Own) (o : Own) → AreOthers key (own ++ o ∷ []) → o.id ≢ key
 others_last key [] o a = All-head (λ (x : Own). x.id ≢ key) o [] a
@@ -92,34 +96,40 @@ others_last key (y ∷ own) o a = others_last key own o (All-tail (λ (x : Own).
 -- ---- the innermost scope of a task is left only when no other task's scope is inside
 
 -- of the task's own scopes none has the last one round it
-not_mine : (tree : Tree) → IsChain tree → IsOwn tree → IsApart tree → (home : Option ℕ) (os : List Own) (o : Own) → Top tree home os o → (other : ℕ) (st : Stack) →
+not_mine : (tree : Tree) → IsChain tree → IsOwn tree → IsApart tree → (home : Option ℕ) (os : List Own) (o : Own) → Top tree home os o →
+    (other : ℕ) (st : Stack) →
     IsAmong other (keys_in os) → stack_of tree other ≡ Some st → All (λ (l : Level ℕ). l.label ≢ o.id) st
 not_mine tree chain owns apart home os o top other st i e =
     let named : top.level.label ≡ o.id = one_of _ _ (owns o.id (top.level ∷ top.behind) top.at) in
-    let at = level_at other top.behind (subst (λ (ks : List ℕ). IsAmong other ks) (sym top.keys) (among_left other (keys_in os) (keys_of (outer_of tree home)) i)) in
+    let at = level_at other top.behind (subst (λ (ks : List ℕ). IsAmong other ks) (sym top.keys)
+        (among_left other (keys_in os) (keys_of (outer_of tree home)) i)) in
     let round : stack_of tree at.level.label ≡ Some (at.level ∷ at.behind) =
     chain o.id (top.level ∷ top.behind) top.at (top.level ∷ at.before) at.level at.behind (ap (λ (s : Stack). top.level ∷ s) at.is) in
     let same : at.level ∷ at.behind ≡ st = one_stack _ _ (sym round ∙ ap (stack_of tree) at.named ∙ e) in
     subst (λ (s : Stack). All (λ (l : Level ℕ). l.label ≢ o.id) s) same
     (all_behind (λ (l : Level ℕ). l.label ≢ o.id) at.before (at.level ∷ at.behind)
     (subst (λ (s : Stack). All (λ (l : Level ℕ). l.label ≢ o.id) s) at.is
-    (subst (λ (k : ℕ). All (λ (l : Level ℕ). l.label ≢ k) top.behind) named (apart o.id (top.level ∷ top.behind) top.at [] top.level top.behind refl))))
+    (subst (λ (k : ℕ). All (λ (l : Level ℕ). l.label ≢ k) top.behind) named
+        (apart o.id (top.level ∷ top.behind) top.at [] top.level top.behind refl))))
   where
     one_stack : (a b : Stack) → Some a ≡ Some b → a ≡ b
     one_stack a b f = cc
 
-pub innermost_of : (tree : Tree) (book : NurseryBook) → IsChain tree → IsOwn tree → IsApart tree → (home : Option ℕ) (bs : List Block) (os : List Own) (o : Own) (waits : Option ℕ) →
+pub innermost_of : (tree : Tree) (book : NurseryBook) → IsChain tree → IsOwn tree → IsApart tree →
+    (home : Option ℕ) (bs : List Block) (os : List Own) (o : Own) (waits : Option ℕ) →
     Top tree home os o → OthersRun tree book bs (os ++ o ∷ []) waits → (RunsIn book bs (length os) waits → ⊥) → IsInnermost tree o.id
 innermost_of tree book chain owns apart home bs os o waits top run quiet other st differs e = by_owner (is_mine other os)
   where
     by_owner : AreOthers other os ⊎ IsAmong other (keys_in os) → All (λ (l : Level ℕ). l.label ≢ o.id) st
-    by_owner (inl a) = all_else o.id st (λ i. quiet (run other st e (others_but other os o a (λ f. differs (sym f))) (length os) o (got_last os o) i))
+    by_owner (inl a) = all_else o.id st
+        (λ i. quiet (run other st e (others_but other os o a (λ f. differs (sym f))) (length os) o (got_last os o) i))
     by_owner (inr i) = not_mine tree chain owns apart home os o top other st i e
 
 -- ---- what becomes of the others
 
 -- a scope is entered: it is in no other task's stack
-pub others_entered : (old new : Tree) (book more : NurseryBook) → IsChain old → (bs : List Block) (own : List Own) (b : Block) (o : Own) → stack_of old o.id ≡ None →
+pub others_entered : (old new : Tree) (book more : NurseryBook) → IsChain old → (bs : List Block) (own : List Own) (b : Block) (o : Own) →
+    stack_of old o.id ≡ None →
     OthersKeep old new o.id → ((id : ℕ) → HasRunning book (Some id) → HasRunning more (Some id)) → OthersRun old book bs own None →
     OthersRun new more (bs ++ b ∷ []) (own ++ o ∷ []) None
 others_entered old new book more chain bs own b o closed keep later run key st e a i x got within =
@@ -138,11 +148,13 @@ others_entered old new book more chain bs own b o closed keep later run key st e
         absurd (let f : false ≡ true = subst IsSome closed is_open in cc)
 
 -- the innermost scope is left
-pub others_left : (old new : Tree) (book more : NurseryBook) (bs : List Block) (own : List Own) (o : Own) → stack_of new o.id ≡ None → OthersKeep old new o.id →
+pub others_left : (old new : Tree) (book more : NurseryBook) (bs : List Block) (own : List Own) (o : Own) → stack_of new o.id ≡ None →
+    OthersKeep old new o.id →
     more ≡ book → OthersRun old book (bs ++ a_scope ∷ []) (own ++ o ∷ []) None → OthersRun new more bs own None
 others_left old new book more bs own o closed keep same run key st e a i x got within =
     subst (λ (b : NurseryBook). RunsIn b bs i None) (sym same)
-    (runs_in_outer book bs i (run key st (sym (keep key differs) ∙ e) (others_but key own o a (λ f. differs (sym f))) i x (got_before own o x i got) within))
+    (runs_in_outer book bs i (run key st (sym (keep key differs) ∙ e) (others_but key own o a (λ f. differs (sym f))) i x
+        (got_before own o x i got) within))
   where
     differs : key ≢ o.id
     differs f = let g : None ≡ Some st = sym closed ∙ sym (ap (stack_of new) f) ∙ e in cc

@@ -7,7 +7,8 @@ use Rattle.task_machine.specs.declared.task.Own.{Own}
 abbrev pub ids : List Own → List ℕ
 ids own = map (λ (o : Own). o.id) own
 
-last_at : (o : Option ℕ) (own : List Own) (n : ℕ) (x : Own) → length own ≡ n + 1 → slice_get own n ≡ Some x → last_or o (ids own) ≡ Some x.id
+last_at : (o : Option ℕ) (own : List Own) (n : ℕ) (x : Own) → length own ≡ n + 1 → slice_get own n ≡ Some x →
+    last_or o (ids own) ≡ Some x.id
 last_at o [] n x long got = absurd (omega (arith, long))
 last_at o (y ∷ []) zero x long got =
     let same : y ≡ x = (let e : Some y ≡ Some x = got in cc) in

@@ -30,7 +30,8 @@ pub record Awaited (labels : Labels) (book : NurseryBook) (bs : List Block) (os 
   pub apart : AreOthers o.id os
   pub outer : Opened labels book bs os None
 
-pub awaited_of : (labels : Labels) (book : NurseryBook) (bs : List Block) (os : List Own) (o : Own) (id : ℕ) → Opened labels book bs (os ++ o ∷ []) (Some id) → Awaited labels book bs os o id
+pub awaited_of : (labels : Labels) (book : NurseryBook) (bs : List Block) (os : List Own) (o : Own) (id : ℕ) →
+    Opened labels book bs (os ++ o ∷ []) (Some id) → Awaited labels book bs os o id
 awaited_of labels book [] [] o id h = record { nursery = h.1; apart = All-nil (λ (x : Own). x.id ≢ o.id); outer = tt }
 awaited_of labels book [] (x ∷ []) o id h = absurd (let e : o ∷ [] ≡ [] = h.0 in cc)
 awaited_of labels book [] (x ∷ y ∷ os) o id h = absurd (let e : y ∷ (os ++ o ∷ []) ≡ [] = h.0 in cc)
@@ -54,7 +55,8 @@ awaited_of labels book (c ∷ bs) (x ∷ os) o id h =
         All-cons (λ (z : Own). z.id ≢ key) y own (All-head (λ (z : Own). z.id ≢ key) y (own ++ o ∷ []) a)
         (first_else own o key (All-tail (λ (z : Own). z.id ≢ key) y (own ++ o ∷ []) a))
 
-awaited_some : (labels : Labels) (book : NurseryBook) (bs : List Block) (own : List Own) (id : ℕ) → Opened labels book bs own (Some id) → 0 < length own
+awaited_some : (labels : Labels) (book : NurseryBook) (bs : List Block) (own : List Own) (id : ℕ) → Opened labels book bs own (Some id) →
+    0 < length own
 awaited_some labels book [] [] id h = absurd h
 awaited_some labels book (c ∷ bs) [] id h = absurd h
 awaited_some labels book bs (x ∷ own) id h = omega arith
@@ -77,7 +79,8 @@ settled_quiet book id s r = by_nursery (nursery_at book id) s r
     by_nursery (Some n) s r = by_body (is_some n.body) n.children s r
 
 -- it may be left
-pub ready_settled : (fs : List Frame) (id : ℕ) (part : Part) (home : Option ℕ) (own : List Own) (n : ℕ) (tree : Tree) (labels : Labels) (book : NurseryBook) → IsChain tree → IsOwn tree → IsApart tree →
+pub ready_settled : (fs : List Frame) (id : ℕ) (part : Part) (home : Option ℕ) (own : List Own) (n : ℕ) (tree : Tree) (labels : Labels)
+    (book : NurseryBook) → IsChain tree → IsOwn tree → IsApart tree →
     HasNursery book id (λ m. is_settled m ≡ true) → FitsIn fs part home own n tree labels book (Some id) → Ready home own tree labels
 ready_settled fs id part home own n tree labels book chain owns apart settled h =
     record {
@@ -88,8 +91,10 @@ ready_settled fs id part home own n tree labels book chain owns apart settled h 
           (innermost_of tree book chain owns apart home (blocks_of fs) l.before l.last (Some id)
           (top_of tree chain owns home own l.before l.last l.is (h.scope l.last.id scope_is) h.first scope_is)
           (subst (λ (os : List Own). OthersRun tree book (blocks_of fs) os (Some id)) l.is h.others)
-          (λ r. settled_quiet book id settled (runs_behind book (blocks_of fs) (length l.before) (Some id) (let e = opened_length labels book (blocks_of fs) l.before at.outer in omega (arith, e)) r)));
-      labelled = λ key e. subst (λ (k : ℕ). IsSome (labels k)) (one_of l.last.id key (sym scope_is ∙ e)) (has_label (nursery_at book id) at.nursery);
+          (λ r. settled_quiet book id settled (runs_behind book (blocks_of fs) (length l.before) (Some id)
+              (let e = opened_length labels book (blocks_of fs) l.before at.outer in omega (arith, e)) r)));
+      labelled = λ key e. subst (λ (k : ℕ). IsSome (labels k)) (one_of l.last.id key (sym scope_is ∙ e))
+          (has_label (nursery_at book id) at.nursery);
     }
   where
     some : 0 < length own
@@ -99,7 +104,8 @@ ready_settled fs id part home own n tree labels book chain owns apart settled h 
     l = last_of own some
 
     at : Awaited labels book (blocks_of fs) l.before l.last id
-    at = awaited_of labels book (blocks_of fs) l.before l.last id (subst (λ (os : List Own). Opened labels book (blocks_of fs) os (Some id)) l.is h.opened)
+    at = awaited_of labels book (blocks_of fs) l.before l.last id
+        (subst (λ (os : List Own). Opened labels book (blocks_of fs) os (Some id)) l.is h.opened)
 
     scope_is : last_or home (ids own) ≡ Some l.last.id
     scope_is = last_pushed home l.before own l.last l.is
@@ -108,7 +114,8 @@ ready_settled fs id part home own n tree labels book chain owns apart settled h 
     has_label None i = absurd i
     has_label (Some x) i = subst IsSome (sym i.0.label) refl
 
-runs_unless : (book : NurseryBook) (bs : List Block) (i id : ℕ) → (HasRunning book (Some id) → ⊥) → RunsIn book bs i (Some id) → RunsIn book bs i None
+runs_unless : (book : NurseryBook) (bs : List Block) (i id : ℕ) → (HasRunning book (Some id) → ⊥) → RunsIn book bs i (Some id) →
+    RunsIn book bs i None
 runs_unless book [] i id quiet r = quiet r
 runs_unless book (a_scope ∷ bs) zero id quiet r = runs_unless book bs zero id quiet r
 runs_unless book (a_nursery key ∷ bs) zero id quiet (inl r) = inl r
@@ -117,9 +124,12 @@ runs_unless book (a_scope ∷ bs) (suc i) id quiet r = runs_unless book bs i id 
 runs_unless book (a_nursery key ∷ bs) (suc i) id quiet r = runs_unless book bs i id quiet r
 
 -- once it was closed and left
-pub fits_settled : (fs : List Frame) (id : ℕ) (part : Part) (home : Option ℕ) (os : List Own) (o : Own) (n : ℕ) (old new : Tree) (labels more : Labels) (book after : NurseryBook) → IsChain old → IsOwn old →
-    IsApart old → Top old home os o → stack_of new o.id ≡ None → OthersKeep old new o.id → label.Updates labels more o.id None → OwnFirst new home os →
-    HasNursery book id (λ m. is_settled m ≡ true) → Updates book after id None → FitsIn fs part home (os ++ o ∷ []) n old labels book (Some id) → FitsIn fs part home os n new more after None
+pub fits_settled : (fs : List Frame) (id : ℕ) (part : Part) (home : Option ℕ) (os : List Own) (o : Own) (n : ℕ) (old new : Tree)
+    (labels more : Labels) (book after : NurseryBook) → IsChain old → IsOwn old →
+    IsApart old → Top old home os o → stack_of new o.id ≡ None → OthersKeep old new o.id → label.Updates labels more o.id None →
+        OwnFirst new home os →
+    HasNursery book id (λ m. is_settled m ≡ true) → Updates book after id None →
+        FitsIn fs part home (os ++ o ∷ []) n old labels book (Some id) → FitsIn fs part home os n new more after None
 fits_settled fs id part home os o n old new labels more book after chain owns apart top closed keep u first settled ended h =
     record {
       modest = h.modest;
@@ -134,7 +144,8 @@ fits_settled fs id part home os o n old new labels more book after chain owns ap
           λ key st e a i x got within.
           runs_in_later book after (blocks_of fs) i None run
           (runs_unless book (blocks_of fs) i id (settled_quiet book id settled)
-          (h.others key st (sym (keep key (differs key st e)) ∙ e) (others_but key os o a (λ f. differs key st e (sym f))) i x (got_before os o x i got) within));
+          (h.others key st (sym (keep key (differs key st e)) ∙ e) (others_but key os o a (λ f. differs key st e (sym f))) i x
+              (got_before os o x i got) within));
     }
   where
     at : Awaited labels book (blocks_of fs) os o id
@@ -143,7 +154,8 @@ fits_settled fs id part home os o n old new labels more book after chain owns ap
     differs : (key : ℕ) (st : Stack) → stack_of new key ≡ Some st → key ≢ o.id
     differs key st e f = let g : None ≡ Some st = sym closed ∙ sym (ap (stack_of new) f) ∙ e in cc
 
-    by_nursery : (m : Option Members) → nursery_at book id ≡ m → IsSomeAnd m (λ x. IsMine labels o x × IsSome x.body) → Opened more after (blocks_of fs) os None
+    by_nursery : (m : Option Members) → nursery_at book id ≡ m → IsSomeAnd m (λ x. IsMine labels o x × IsSome x.body) →
+        Opened more after (blocks_of fs) os None
     by_nursery None e i = absurd i
     by_nursery (Some m) e i =
         let s = stays_but labels book after id o m e i.0.scope ended.others in
@@ -161,7 +173,8 @@ any_more [] more r = absurd r
 any_more (None ∷ es) more r = tt
 any_more (Some e ∷ es) more r = any_more es more r
 
-block_more : (labels : Labels) (book after : NurseryBook) (id : ℕ) (m : Members) (more : List End) (b : Block) (o : Own) → nursery_at book id ≡ Some m →
+block_more : (labels : Labels) (book after : NurseryBook) (id : ℕ) (m : Members) (more : List End) (b : Block) (o : Own) →
+    nursery_at book id ≡ Some m →
     Updates book after id (Some (record m { children = m.children ++ more })) → IsBlockOf labels book b o → IsBlockOf labels after b o
 block_more labels book after id m more a_scope o was u i = i
 block_more labels book after id m more (a_nursery key) o was u i = by_key (key == id) refl
@@ -176,16 +189,20 @@ block_more labels book after id m more (a_nursery key) o was u i = by_key (key =
         subst Mine (sym (ap (nursery_at after) same ∙ u.changed)) (record { scope = mine.0.scope; label = mine.0.label }, mine.1)
     by_key false e = subst Mine (sym (u.others key (λ f. absurd (let g : true ≡ false = sym (eq-eqb key id f) ∙ e in cc)))) i
 
-opened_more : (labels : Labels) (book after : NurseryBook) (id : ℕ) (m : Members) (more : List End) (bs : List Block) (own : List Own) → nursery_at book id ≡ Some m →
-    Updates book after id (Some (record m { children = m.children ++ more })) → Opened labels book bs own None → Opened labels after bs own None
+opened_more : (labels : Labels) (book after : NurseryBook) (id : ℕ) (m : Members) (more : List End) (bs : List Block) (own : List Own) →
+    nursery_at book id ≡ Some m →
+    Updates book after id (Some (record m { children = m.children ++ more })) → Opened labels book bs own None →
+        Opened labels after bs own None
 opened_more labels book after id m more [] [] was u h = tt
 opened_more labels book after id m more [] (x ∷ own) was u h = absurd h
 opened_more labels book after id m more (b ∷ bs) [] was u h = absurd h
 opened_more labels book after id m more (b ∷ bs) (x ∷ own) was u h =
     (block_more labels book after id m more b x was u h.0, h.1, opened_more labels book after id m more bs own was u h.2)
 
-pub fits_started : (fs : List Frame) (id : ℕ) (part : Part) (home : Option ℕ) (own : List Own) (n : ℕ) (tree : Tree) (labels : Labels) (book after : NurseryBook) (m : Members) (more : List End) →
-    nursery_at book id ≡ Some m → Updates book after id (Some (record m { children = m.children ++ more })) → FitsIn fs part home own n tree labels book None →
+pub fits_started : (fs : List Frame) (id : ℕ) (part : Part) (home : Option ℕ) (own : List Own) (n : ℕ) (tree : Tree) (labels : Labels)
+    (book after : NurseryBook) (m : Members) (more : List End) →
+    nursery_at book id ≡ Some m → Updates book after id (Some (record m { children = m.children ++ more })) →
+        FitsIn fs part home own n tree labels book None →
     FitsIn fs part home own n tree labels after None
 fits_started fs id part home own n tree labels book after m more was u h =
     record {
@@ -209,5 +226,6 @@ fits_started fs id part home own n tree labels book after m more was u h =
         by_key : (b : Bool) → (key == id) ≡ b → Runs (nursery_at after key)
         by_key true e =
             let same = eqb-true key id e in
-            subst Runs (sym (ap (nursery_at after) same ∙ u.changed)) (any_more m.children more (subst Runs (ap (nursery_at book) same ∙ was) r))
+            subst Runs (sym (ap (nursery_at after) same ∙ u.changed)) (any_more m.children more
+                (subst Runs (ap (nursery_at book) same ∙ was) r))
         by_key false e = subst Runs (sym (u.others key (λ f. absurd (let g : true ≡ false = sym (eq-eqb key id f) ∙ e in cc)))) r

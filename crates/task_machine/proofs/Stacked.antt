@@ -20,20 +20,24 @@ pub one_of : {A : Type 0} (a b : A) → Some a ≡ Some b → a ≡ b
 one_of a b e = cc
 
 -- the same is seen from a stack and from its places
-pub sight_at : (labels : Labels) (froms : Table) (st : scopes.Stack) (ps : List Place) → AreAt labels froms st ps → sight st ≡ sight (stack_at froms ps)
+pub sight_at : (labels : Labels) (froms : Table) (st : scopes.Stack) (ps : List Place) → AreAt labels froms st ps →
+    sight st ≡ sight (stack_at froms ps)
 sight_at labels froms [] [] a = refl
 sight_at labels froms [] (p ∷ ps) a = absurd a
 sight_at labels froms (l ∷ ls) [] a = absurd a
 sight_at labels froms (l ∷ ls) (p ∷ ps) a = by_level l.shield p.shield l.from (froms p.label) a.1 a.2 (sight_at labels froms ls ps a.3)
   where
-    by_level : (b c : Bool) (x y : Tick) {u v : Tick} → b ≡ c → x ≡ y → u ≡ v → (if b then x else earlier x u) ≡ (if c then y else earlier y v)
+    by_level : (b c : Bool) (x y : Tick) {u v : Tick} → b ≡ c → x ≡ y → u ≡ v →
+        (if b then x else earlier x u) ≡ (if c then y else earlier y v)
     by_level b c x y e f g = cc
 
-pub seen_at : (labels : Labels) (froms : Table) (st : scopes.Stack) (ps : List Place) (t : ℕ) → AreAt labels froms st ps → seen st t ≡ seen (stack_at froms ps) t
+pub seen_at : (labels : Labels) (froms : Table) (st : scopes.Stack) (ps : List Place) (t : ℕ) → AreAt labels froms st ps →
+    seen st t ≡ seen (stack_at froms ps) t
 seen_at labels froms st ps t a = ap (λ (x : Tick). reached x t) (sight_at labels froms st ps a)
 
 -- the innermost scope catches as its place does
-pub catches_at : (labels : Labels) (froms : Table) (l : Level ℕ) (ls : scopes.Stack) (p : Place) (ps : List Place) (t : ℕ) → AreAt labels froms (l ∷ ls) (p ∷ ps) →
+pub catches_at : (labels : Labels) (froms : Table) (l : Level ℕ) (ls : scopes.Stack) (p : Place) (ps : List Place) (t : ℕ) →
+    AreAt labels froms (l ∷ ls) (p ∷ ps) →
     scopes.catches (l ∷ ls) t ≡ catches (froms p.label) p.shield (stack_at froms ps) t
 catches_at labels froms l ls p ps t a = both l.from (froms p.label) l.shield p.shield a.2 a.1 (seen_at labels froms ls ps t a.3)
   where
@@ -48,7 +52,8 @@ named_at labels froms name [] [] a = refl
 named_at labels froms name [] (p ∷ ps) a = absurd a
 named_at labels froms name (l ∷ ls) [] a = absurd a
 named_at labels froms name (l ∷ ls) (p ∷ ps) a =
-    subst (λ (o : Option Label). FoundAs labels (key_if (is_named name o) l.label (scope_named labels name ls)) (label_among name (p ∷ ps))) (sym a.0)
+    subst (λ (o : Option Label). FoundAs labels (key_if (is_named name o) l.label (scope_named labels name ls)) (label_among name (p ∷ ps)))
+        (sym a.0)
     (by_name (bytes_eq name p.label.name) _ _ (named_at labels froms name ls ps a.3))
   where
     by_name : (b : Bool) (further : Option ℕ) (found : Option Label) → FoundAs labels further found →
@@ -61,14 +66,16 @@ pub named_is_in : (labels : Labels) (name : List ℕ) (st : scopes.Stack) (key :
 named_is_in labels name [] key e = absurd (let f : None ≡ Some key = e in cc)
 named_is_in labels name (l ∷ ls) key e = by_name (is_named name (labels l.label)) (λ f. named_is_in labels name ls key f) e
   where
-    by_name : (b : Bool) → (scope_named labels name ls ≡ Some key → IsKey key ls) → key_if b l.label (scope_named labels name ls) ≡ Some key → (key ≡ l.label) ⊎ IsKey key ls
+    by_name : (b : Bool) → (scope_named labels name ls ≡ Some key → IsKey key ls) →
+        key_if b l.label (scope_named labels name ls) ≡ Some key → (key ≡ l.label) ⊎ IsKey key ls
     by_name true inside f = inl (sym (one_of l.label key f))
     by_name false inside f = inr (inside f)
 
 -- ---- what a turn does to the scopes
 
 -- a scope has the key that is signed just where its place has the label
-same_test : (labels : Labels) (l : Level ℕ) (p : Place) (key : ℕ) (label : Label) → labels key ≡ Some label → (labels l.label ≡ Some label → l.label ≡ key) →
+same_test : (labels : Labels) (l : Level ℕ) (p : Place) (key : ℕ) (label : Label) → labels key ≡ Some label →
+    (labels l.label ≡ Some label → l.label ≡ key) →
     labels l.label ≡ Some p.label → (l.label == key) ≡ same_label p.label label
 same_test labels l p key label named alone at = by_key (l.label == key) refl
   where
@@ -79,7 +86,8 @@ same_test labels l p key label named alone at = by_key (l.label == key) refl
       where
         by_label : (c : Bool) → same_label p.label label ≡ c → false ≡ c
         by_label true f =
-            absurd (clash (subst (λ (k : ℕ). (l.label == k) ≡ true) (alone (at ∙ ap (λ (m : Label). Some m) (same_label_equal p.label label f))) (eq-eqb l.label l.label refl)))
+            absurd (clash (subst (λ (k : ℕ). (l.label == k) ≡ true) (alone
+                (at ∙ ap (λ (m : Label). Some m) (same_label_equal p.label label f))) (eq-eqb l.label l.label refl)))
           where
             clash : (l.label == key) ≡ true → ⊥
             clash g = let f : false ≡ true = sym e ∙ g in cc
@@ -99,7 +107,8 @@ same_shield : (l : Level ℕ) (t : ℕ) (b : Bool) → (if b then record l { fro
 same_shield l t true = refl
 same_shield l t false = refl
 
-pub signed_at : (labels : Labels) (froms : Table) (st : scopes.Stack) (ps : List Place) (key t : ℕ) (label : Label) → labels key ≡ Some label →
+pub signed_at : (labels : Labels) (froms : Table) (st : scopes.Stack) (ps : List Place) (key t : ℕ) (label : Label) →
+    labels key ≡ Some label →
     Alone labels key label st → AreAt labels froms st ps → AreAt labels (lowered froms label t) (after_cancel key t st) ps
 signed_at labels froms [] [] key t label named alone a = tt
 signed_at labels froms [] (p ∷ ps) key t label named alone a = a
@@ -133,11 +142,14 @@ opened_else labels more froms (l ∷ ls) (p ∷ ps) label d same new a = (
         by_test false e = refl
 
 -- a scope that is opened with a label that is new, inside these places
-pub opened_at : (labels more : Labels) (froms : Table) (st : scopes.Stack) (ps : List Place) (key : ℕ) (label : Label) (shield : Bool) (d : Tick) →
+pub opened_at : (labels more : Labels) (froms : Table) (st : scopes.Stack) (ps : List Place) (key : ℕ) (label : Label) (shield : Bool)
+    (d : Tick) →
     more key ≡ Some label → SameOn labels more st → (Known label (labels_of ps) → ⊥) → AreAt labels froms st ps →
-    AreAt more (opened froms label d) (record { label = key; shield = shield; from = d } ∷ st) (record { label = label; shield = shield } ∷ ps)
+    AreAt more (opened froms label d) (record { label = key; shield = shield; from = d } ∷ st)
+        (record { label = label; shield = shield } ∷ ps)
 opened_at labels more froms st ps key label shield d named same new a =
-    (named, refl, sym (ap (λ (b : Bool). opened_if b d (froms label)) (same_label_itself label)), opened_else labels more froms st ps label d same new a)
+    (named, refl, sym (ap (λ (b : Bool). opened_if b d (froms label)) (same_label_itself label)),
+        opened_else labels more froms st ps label d same new a)
 
 -- ---- names that are apart
 
@@ -148,7 +160,8 @@ known_name label (p ∷ ps) (inl e) = inl (ap (λ (l : Label). l.name) e)
 known_name label (p ∷ ps) (inr k) = inr (known_name label ps k)
 
 -- a scope with a label that is not among the places is none of the stack
-none_alone : (labels : Labels) (froms : Table) (st : scopes.Stack) (ps : List Place) (key : ℕ) (label : Label) → (Known label (labels_of ps) → ⊥) →
+none_alone : (labels : Labels) (froms : Table) (st : scopes.Stack) (ps : List Place) (key : ℕ) (label : Label) →
+    (Known label (labels_of ps) → ⊥) →
     AreAt labels froms st ps → Alone labels key label st
 none_alone labels froms [] [] key label new a = tt
 none_alone labels froms [] (p ∷ ps) key label new a = absurd a
@@ -157,7 +170,8 @@ none_alone labels froms (l ∷ ls) (p ∷ ps) key label new a =
     ((λ e. absurd (new (inl (one_of label p.label (sym e ∙ a.0))))), none_alone labels froms ls ps key label (λ k. new (inr k)) a.3)
 
 -- a scope of the stack has its label among the places
-key_known : (labels : Labels) (froms : Table) (st : scopes.Stack) (ps : List Place) (key : ℕ) (label : Label) → labels key ≡ Some label → IsKey key st →
+key_known : (labels : Labels) (froms : Table) (st : scopes.Stack) (ps : List Place) (key : ℕ) (label : Label) → labels key ≡ Some label →
+    IsKey key st →
     AreAt labels froms st ps → Known label (labels_of ps)
 key_known labels froms [] [] key label named i a = absurd i
 key_known labels froms [] (p ∷ ps) key label named i a = absurd i
@@ -166,27 +180,34 @@ key_known labels froms (l ∷ ls) (p ∷ ps) key label named (inl e) a = inl (on
 key_known labels froms (l ∷ ls) (p ∷ ps) key label named (inr i) a = inr (key_known labels froms ls ps key label named i a.3)
 
 -- where places have names of their own, no other scope of the stack has the label of one
-pub alone_at : (labels : Labels) (froms : Table) (st : scopes.Stack) (ps : List Place) (key : ℕ) (label : Label) → labels key ≡ Some label → IsKey key st →
+pub alone_at : (labels : Labels) (froms : Table) (st : scopes.Stack) (ps : List Place) (key : ℕ) (label : Label) → labels key ≡ Some label →
+    IsKey key st →
     OwnNames (names_at ps) → AreAt labels froms st ps → Alone labels key label st
 alone_at labels froms [] [] key label named i own a = tt
 alone_at labels froms [] (p ∷ ps) key label named i own a = absurd a
 alone_at labels froms (l ∷ ls) [] key label named i own a = absurd a
 alone_at labels froms (l ∷ ls) (p ∷ ps) key label named (inl e) own a =
     let same : label ≡ p.label = one_of label p.label (sym named ∙ ap labels e ∙ a.0) in
-    ((λ f. sym e), none_alone labels froms ls ps key label (λ k. own.0 (subst (λ (m : Label). IsName m.name (names_at ps)) same (known_name label ps k))) a.3)
+    ((λ f. sym e), none_alone labels froms ls ps key label (λ k.
+        own.0 (subst (λ (m : Label). IsName m.name (names_at ps)) same (known_name label ps k))) a.3)
 alone_at labels froms (l ∷ ls) (p ∷ ps) key label named (inr i) own a = (
-  (λ e. absurd (own.0 (subst (λ (m : Label). IsName m.name (names_at ps)) (one_of label p.label (sym e ∙ a.0)) (known_name label ps (key_known labels froms ls ps key label named i a.3))))),
+  (λ e. absurd (own.0 (subst (λ (m : Label). IsName m.name (names_at ps)) (one_of label p.label (sym e ∙ a.0))
+      (known_name label ps (key_known labels froms ls ps key label named i a.3))))),
   alone_at labels froms ls ps key label named i own.1 a.3,
 )
 
 -- ---- the laws
 
-pub signed_alike : (labels : Labels) (froms : Table) (st : scopes.Stack) (ps : List Place) (key t : ℕ) (label : Label) → labels key ≡ Some label → IsKey key st →
+pub signed_alike : (labels : Labels) (froms : Table) (st : scopes.Stack) (ps : List Place) (key t : ℕ) (label : Label) →
+    labels key ≡ Some label → IsKey key st →
     OwnNames (names_at ps) → AreAt labels froms st ps → AreAt labels (lowered froms label t) (after_cancel key t st) ps
-signed_alike labels froms st ps key t label named i own a = signed_at labels froms st ps key t label named (alone_at labels froms st ps key label named i own a) a
+signed_alike labels froms st ps key t label named i own a =
+    signed_at labels froms st ps key t label named (alone_at labels froms st ps key label named i own a) a
 
-pub entered_alike : (labels more : Labels) (froms : Table) (st : scopes.Stack) (ps : List Place) (key : ℕ) (label : Label) (shield : Bool) (d : Tick) → more key ≡ Some label →
+pub entered_alike : (labels more : Labels) (froms : Table) (st : scopes.Stack) (ps : List Place) (key : ℕ) (label : Label) (shield : Bool)
+    (d : Tick) → more key ≡ Some label →
     SameOn labels more st → (IsName label.name (names_at ps) → ⊥) → AreAt labels froms st ps →
-    AreAt more (opened froms label d) (record { label = key; shield = shield; from = d } ∷ st) (record { label = label; shield = shield } ∷ ps)
+    AreAt more (opened froms label d) (record { label = key; shield = shield; from = d } ∷ st)
+        (record { label = label; shield = shield } ∷ ps)
 entered_alike labels more froms st ps key label shield d named same new a =
     opened_at labels more froms st ps key label shield d named same (λ k. new (known_name label ps k)) a

@@ -15,16 +15,21 @@ use Rattle.task_machine.specs.declared.world.World.{World}
 use Rattle.task_machine.specs.Started.{IsChild, running, home_at, StartsOne, StartsOver}
 use Rattle.task_machine.proofs.Stacked.{one_of}
 
-home_is : (id place scope len n : ℕ) → place ≡ len → scope ≡ n → (let h : Home = record { nursery = id; place = place; scope = scope } in h) ≡ record { nursery = id; place = len + 0; scope = n }
+home_is : (id place scope len n : ℕ) → place ≡ len → scope ≡ n →
+    (let h : Home = record { nursery = id; place = place; scope = scope } in h) ≡ record { nursery = id; place = len + 0; scope = n }
 home_is id place scope len n e f = (let g : place ≡ len + 0 = omega (arith, e) in cc)
 
 -- one child is started, at the place that the book gives it
-pub starts_one : (old new : World) (id : ℕ) (label : Label) (part : Part) (body : Steps) (task : Task) (scope place : ℕ) → HasNursery old.book id (λ n. scope ≡ n.scope) →
-    HasNursery old.book id (λ n. place ≡ length n.children) → Changes old.book new.book id with_start → new.started.items ≡ old.started.items ++ task ∷ [] →
-    IsChild task label (buffer_of part) (range_of part) body (record { nursery = id; place = place; scope = scope }) → StartsOne old new id label part body
+pub starts_one : (old new : World) (id : ℕ) (label : Label) (part : Part) (body : Steps) (task : Task) (scope place : ℕ) →
+    HasNursery old.book id (λ n. scope ≡ n.scope) →
+    HasNursery old.book id (λ n. place ≡ length n.children) → Changes old.book new.book id with_start →
+        new.started.items ≡ old.started.items ++ task ∷ [] →
+    IsChild task label (buffer_of part) (range_of part) body (record { nursery = id; place = place; scope = scope }) →
+        StartsOne old new id label part body
 starts_one old new id label part body task scope place s p b started child = by_nursery (nursery_at old.book id) refl s p b
   where
-    by_nursery : (o : Option Nursery) → nursery_at old.book id ≡ o → IsSomeAnd o (λ n. scope ≡ n.scope) → IsSomeAnd o (λ n. place ≡ length n.children) →
+    by_nursery : (o : Option Nursery) → nursery_at old.book id ≡ o → IsSomeAnd o (λ n. scope ≡ n.scope) →
+        IsSomeAnd o (λ n. place ≡ length n.children) →
         IsSomeAnd o (λ n. Updates old.book new.book id (Some (with_start n))) → StartsOne old new id label part body
     by_nursery None e s p b = absurd s
     by_nursery (Some n) e s p b =
@@ -54,13 +59,15 @@ running_length : (i : ℕ) → length (running i) ≡ i
 running_length zero = refl
 running_length (suc i) = length-append (running i) (None ∷ []) ∙ (let e = running_length i in omega (arith, e))
 
-next_home : (id i : ℕ) (n : Nursery) → (let more : Nursery = record n { children = n.children ++ running i } in home_at id more 0) ≡ home_at id n i
+next_home : (id i : ℕ) (n : Nursery) → (let more : Nursery = record n { children = n.children ++ running i } in home_at id more 0)
+    ≡ home_at id n i
 next_home id i n =
     ap (λ (p : ℕ). (let h : Home = record { nursery = id; place = p; scope = n.scope } in h))
     (let e = length-append n.children (running i) in let f = running_length i in omega (arith, e, f))
 
 -- at first none is
-pub starts_none : (self : Task) (world : World) (id k : ℕ) (name : List ℕ) (body : Steps) (P : Nursery → Type 0) → HasNursery world.book id P → StartsOver self world world id name k body 0
+pub starts_none : (self : Task) (world : World) (id k : ℕ) (name : List ℕ) (body : Steps) (P : Nursery → Type 0) →
+    HasNursery world.book id P → StartsOver self world world id name k body 0
 starts_none self world id k name body P has = by_nursery (nursery_at world.book id) refl has
   where
     by_nursery : (o : Option Nursery) → nursery_at world.book id ≡ o → IsSomeAnd o P → StartsOver self world world id name k body 0
@@ -69,14 +76,17 @@ starts_none self world id k name body P has = by_nursery (nursery_at world.book 
         record {
           nursery = n;
           was = e;
-          book = record { changed = e ∙ ap (λ (es : List End). Some (record n { children = es })) (sym (append-nil n.children)); others = λ other differs. refl };
+          book = record { changed = e ∙ ap (λ (es : List End). Some (record n { children = es })) (sym (append-nil n.children)); others =
+              λ other differs. refl };
           tasks = [];
           started = sym (append-nil world.started.items);
           children = refl;
         }
 
-pub starts_more : (self : Task) (old mid new : World) (id k i : ℕ) (name : List ℕ) (label : Label) (part : Part) (body : Steps) → StartsOver self old mid id name k body i →
-    StartsOne mid new id label part body → label ≡ record { name = name; indices = self.label.indices ++ i ∷ [] } → buffer_of part ≡ buffer_of self.part →
+pub starts_more : (self : Task) (old mid new : World) (id k i : ℕ) (name : List ℕ) (label : Label) (part : Part) (body : Steps) →
+    StartsOver self old mid id name k body i →
+    StartsOne mid new id label part body → label ≡ record { name = name; indices = self.label.indices ++ i ∷ [] } →
+        buffer_of part ≡ buffer_of self.part →
     range_of part ≡ cut_of (buffer_of self.part) (range_of self.part) k i → StartsOver self old new id name k body (suc i)
 starts_more self old mid new id k i name label part body h g named input cut =
     record {
@@ -86,7 +96,8 @@ starts_more self old mid new id k i name label part body h g named input cut =
           record {
             changed =
                 g.book.changed ∙ ap (λ (n : Nursery). Some (with_start n)) same
-                ∙ ap (λ (es : List End). Some (record h.nursery { children = es })) (append_assoc h.nursery.children (running i) (None ∷ []));
+                ∙ ap (λ (es : List End). Some (record h.nursery { children = es }))
+                    (append_assoc h.nursery.children (running i) (None ∷ []));
             others = λ other differs. g.book.others other differs ∙ h.book.others other differs;
           };
       tasks = h.tasks ++ g.task ∷ [];
@@ -100,7 +111,8 @@ starts_more self old mid new id k i name label part body h g named input cut =
           label_is = g.child.label_is ∙ named;
           input_is = g.child.input_is ∙ input;
           range_is = g.child.range_is ∙ cut;
-          home_is = g.child.home_is ∙ ap (λ (n : Nursery). Some (home_at id n 0)) same ∙ ap (λ (x : Home). Some x) (next_home id i h.nursery);
+          home_is = g.child.home_is ∙ ap (λ (n : Nursery). Some (home_at id n 0)) same
+              ∙ ap (λ (x : Home). Some x) (next_home id i h.nursery);
           frames = g.child.frames;
           own = g.child.own;
           halt = g.child.halt;
@@ -114,7 +126,8 @@ starts_more self old mid new id k i name label part body h g named input cut =
     same = one_of _ _ (sym g.was ∙ h.book.changed)
 
 -- the body runs on
-pub runs_on : (mid new : World) (id : ℕ) (label : Label) (part : Part) (body : Steps) → StartsOne mid new id label part body → HasNursery mid.book id (λ n. n.body ≡ None) →
+pub runs_on : (mid new : World) (id : ℕ) (label : Label) (part : Part) (body : Steps) → StartsOne mid new id label part body →
+    HasNursery mid.book id (λ n. n.body ≡ None) →
     HasNursery new.book id (λ n. n.body ≡ None)
 runs_on mid new id label part body g r =
     subst (λ (o : Option Nursery). IsSomeAnd o (λ n. n.body ≡ None)) (sym g.book.changed)

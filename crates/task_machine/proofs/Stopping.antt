@@ -22,7 +22,8 @@ use Rattle.task_machine.specs.Stops.{Numbers, IsHalt, StopsAs, MovesAs}
 use Rattle.task_machine.specs.Waking.{WakesFrom}
 
 -- it is settled
-pub settled_from : (halt : Halt) (part : Part) (book : NurseryBook) (wake : Wake) (id : ℕ) → WakesFrom halt part book wake → waits_of halt ≡ Some id →
+pub settled_from : (halt : Halt) (part : Part) (book : NurseryBook) (wake : Wake) (id : ℕ) → WakesFrom halt part book wake →
+    waits_of halt ≡ Some id →
     HasNursery book id (λ n. is_settled n ≡ true)
 settled_from ToBegin part book wake id h e = absurd (let f : None ≡ Some id = e in cc)
 settled_from (Asked kernel purpose) part book wake id h e = absurd (let f : None ≡ Some id = e in cc)
@@ -36,11 +37,13 @@ settled_from (Awaits key since) part book Settled id h e =
 settled_from Over part book wake id h e = absurd (let f : None ≡ Some id = e in cc)
 
 -- where the move of the definitions stops
-pub stop_of : (numbers : Numbers) (book : NurseryBook) (part : Part) (stop : Stop) (halt : Halt) (o : Move) → MovesAs numbers book part (Stops stop) halt o →
+pub stop_of : (numbers : Numbers) (book : NurseryBook) (part : Part) (stop : Stop) (halt : Halt) (o : Move) →
+    MovesAs numbers book part (Stops stop) halt o →
     (s : Stopped) × (o.stopped ≡ Some s) × IsHalt numbers book halt s
 stop_of numbers book part stop halt o h = by_stop o.stopped refl h.1
   where
-    by_stop : (x : Option Stopped) → o.stopped ≡ x → StopsAs numbers book part stop halt x → (s : Stopped) × (o.stopped ≡ Some s) × IsHalt numbers book halt s
+    by_stop : (x : Option Stopped) → o.stopped ≡ x → StopsAs numbers book part stop halt x → (s : Stopped) × (o.stopped ≡ Some s)
+        × IsHalt numbers book halt s
     by_stop None e g = absurd g
     by_stop (Some s) e g = (s, e, g.0)
 
@@ -57,7 +60,8 @@ no_blocks children fs e = by_frames fs e
     by_frames (h ∷ gs) e = absurd (by_long gs (frame_of children h) [] e)
 
 -- no block of a task that has to begin
-pub no_blocks_begun : (children : ℕ → List ℕ) (fs : List Frame) (body : Steps) → frames_of children fs ≡ rest.steps_left body ∷ [] → blocks_of fs ≡ []
+pub no_blocks_begun : (children : ℕ → List ℕ) (fs : List Frame) (body : Steps) → frames_of children fs ≡ rest.steps_left body ∷ [] →
+    blocks_of fs ≡ []
 no_blocks_begun children [] body e = absurd (let g : [] ≡ rest.steps_left body ∷ [] = e in cc)
 no_blocks_begun children (f ∷ []) body e = by_frame f e
   where
@@ -70,6 +74,7 @@ no_blocks_begun children (f ∷ []) body e = by_frame f e
     by_frame (frames.Cleanup outcome) e = refl
 no_blocks_begun children (f ∷ g ∷ fs) body e = absurd (by_long fs (frame_of children g) (frame_of children f) [] e)
   where
-    by_long : (gs : List Frame) (x y : rest.Frame) (outer : List rest.Frame) → frames_onto children gs (x ∷ y ∷ outer) ≡ rest.steps_left body ∷ [] → ⊥
+    by_long : (gs : List Frame) (x y : rest.Frame) (outer : List rest.Frame) →
+        frames_onto children gs (x ∷ y ∷ outer) ≡ rest.steps_left body ∷ [] → ⊥
     by_long [] x y outer h = absurd (let z : y ∷ outer ≡ [] = cc in cc)
     by_long (h ∷ gs) x y outer z = by_long gs (frame_of children h) x (y ∷ outer) z

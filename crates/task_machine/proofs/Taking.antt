@@ -64,7 +64,8 @@ nothing_then m None o e = nothing_more m o e
 nothing_then m (Some s) o e = refl
 
 -- a move after no move is that move
-after_nothing : (f : Table → Midway → Move) (froms : Table) (m : Midway) → f froms m ≡ then_move None (unmoved m) (f froms (moved m (unmoved m)))
+after_nothing : (f : Table → Midway → Move) (froms : Table) (m : Midway) →
+    f froms m ≡ then_move None (unmoved m) (f froms (moved m (unmoved m)))
 after_nothing f froms m = ap (f froms) by_count
   where
     zero_more : (n : ℕ) → n ≡ n + 0
@@ -82,7 +83,8 @@ grouped o p q None =
 
 -- the task after two moves, and the froms then
 after_both : (f : Table → Midway → Move) (froms : Table) (m : Midway) (o p : Move) →
-    f (froms_after (froms_after froms o.made) p.made) (moved (moved m o) p) ≡ f (froms_after froms (then_move None o p).made) (moved m (then_move None o p))
+    f (froms_after (froms_after froms o.made) p.made) (moved (moved m o) p)
+        ≡ f (froms_after froms (then_move None o p).made) (moved m (then_move None o p))
 after_both f froms m o p =
     ap (λ (fr : Table). f fr (moved (moved m o) p)) (sym (froms_append o.made p.made froms))
     ∙ ap (λ (n : ℕ). f (froms_after froms (o.made ++ p.made)) (record { frames = p.frames; places = p.places; exc = p.exc; count = n }))
@@ -101,7 +103,8 @@ then_both f froms m (Some s) o p e = ap (λ (z : Option Stopped). then_move z o 
 
 -- a turn of one step more is the turn, and a step from where it led
 pub turn_snoc : (n : ℕ) (froms : Table) (t : ℕ) (here : Here) (m : Midway) →
-    (let o = turn_of n froms t here m in turn_of (suc n) froms t here m ≡ then_move o.stopped o (step_of (froms_after froms o.made) t here (moved m o)))
+    (let o = turn_of n froms t here m in turn_of (suc n) froms t here m
+        ≡ then_move o.stopped o (step_of (froms_after froms o.made) t here (moved m o)))
 unfolding turn_of
 turn_snoc zero froms t here m =
     let o = step_of froms t here m in
@@ -109,7 +112,8 @@ turn_snoc zero froms t here m =
 turn_snoc (suc n) froms t here m =
     let o = step_of froms t here m in
     ap (λ (q : Move). then_move o.stopped o q) (turn_snoc n (froms_after froms o.made) t here (moved m o))
-    ∙ then_both (λ (fr : Table) (k : Midway). step_of fr t here k) froms m o.stopped o (turn_of n (froms_after froms o.made) t here (moved m o)) refl
+    ∙ then_both (λ (fr : Table) (k : Midway). step_of fr t here k) froms m o.stopped o
+        (turn_of n (froms_after froms o.made) t here (moved m o)) refl
 
 -- ---- what two moves noted and began
 
@@ -121,11 +125,13 @@ shown_append input (signs l t ∷ es) fs = shown_append input es fs
 shown_append input (enters l t d ∷ es) fs = shown_append input es fs
 shown_append input (starts i l t ∷ es) fs = shown_append input es fs
 
-noted_append : (input : List ℕ) (xs ys : List Entry) (es fs : List Event) → AreNoted input xs es → AreNoted input ys fs → AreNoted input (xs ++ ys) (es ++ fs)
+noted_append : (input : List ℕ) (xs ys : List Entry) (es fs : List Event) → AreNoted input xs es → AreNoted input ys fs →
+    AreNoted input (xs ++ ys) (es ++ fs)
 noted_append input xs ys es fs h k =
     record {
       shown =
-          map-append entry_of xs ys ∙ ap (λ x. x ++ map entry_of ys) h.shown ∙ ap (λ x. shown_made input es ++ x) k.shown ∙ sym (shown_append input es fs);
+          map-append entry_of xs ys ∙ ap (λ x. x ++ map entry_of ys) h.shown ∙ ap (λ x. shown_made input es ++ x) k.shown
+              ∙ sym (shown_append input es fs);
       slices = All-append (IsSlice input) xs ys h.slices k.slices;
     }
 
@@ -134,7 +140,8 @@ grew_twice : {A : Type 0} (xs ys zs more rest : List A) → ys ≡ xs ++ more �
 grew_twice xs ys zs more rest e f = f ∙ (ap (λ l. l ++ rest) e ∙ append_assoc xs more rest)
 
 begun_append : (numbers : Numbers) (book : NurseryBook) (blocks : List Block) (waits : Option ℕ) (ts us : List Task) (bs cs : List Begun) →
-    AreBegun numbers book blocks waits ts bs → AreBegun numbers book blocks waits us cs → AreBegun numbers book blocks waits (ts ++ us) (bs ++ cs)
+    AreBegun numbers book blocks waits ts bs → AreBegun numbers book blocks waits us cs →
+        AreBegun numbers book blocks waits (ts ++ us) (bs ++ cs)
 begun_append numbers book blocks waits [] us [] cs h k = k
 begun_append numbers book blocks waits [] us (b ∷ bs) cs h k = absurd h
 begun_append numbers book blocks waits (t ∷ ts) us [] cs h k = absurd h
@@ -148,15 +155,18 @@ got_longer [] ys i x e = absurd (let f : None ≡ Some x = e in cc)
 got_longer (y ∷ xs) ys zero x e = e
 got_longer (y ∷ xs) ys (suc i) x e = got_longer xs ys i x e
 
-grown_number : (o : Option Nursery) (n : Nursery) (was are : List ℕ) (i x : ℕ) → IsSomeAnd o (λ m. Grown n m was are) → slice_get was i ≡ Some x → slice_get are i ≡ Some x
+grown_number : (o : Option Nursery) (n : Nursery) (was are : List ℕ) (i x : ℕ) → IsSomeAnd o (λ m. Grown n m was are) →
+    slice_get was i ≡ Some x → slice_get are i ≡ Some x
 grown_number None n was are i x h e = absurd h
 grown_number (Some m) n was are i x h e = subst (λ (l : List ℕ). slice_get l i ≡ Some x) (sym h.numbers) (got_longer was h.added i x e)
 
 grown_home : (o : Option Nursery) (n : Nursery) (was are : List ℕ) (scope place : ℕ) → IsSomeAnd o (λ m. Grown n m was are) →
-    (n.scope ≡ scope) × (slice_get n.children place ≡ Some None) → IsSomeAnd o (λ m. (m.scope ≡ scope) × (slice_get m.children place ≡ Some None))
+    (n.scope ≡ scope) × (slice_get n.children place ≡ Some None) →
+        IsSomeAnd o (λ m. (m.scope ≡ scope) × (slice_get m.children place ≡ Some None))
 grown_home None n was are scope place h e = absurd h
 grown_home (Some m) n was are scope place h e =
-    (h.scope ∙ e.0, subst (λ (es : List End). slice_get es place ≡ Some None) (sym h.children) (got_longer n.children h.more place None e.1))
+    (h.scope ∙ e.0, subst (λ (es : List End). slice_get es place ≡ Some None) (sym h.children)
+        (got_longer n.children h.more place None e.1))
 
 grown_twice : (a b c : Nursery) (ns ms ks : List ℕ) → Grown a b ns ms → Grown b c ms ks → Grown a c ns ks
 grown_twice a b c ns ms ks h k =
@@ -171,7 +181,8 @@ grown_twice a b c ns ms ks h k =
       numbers = grew_twice ns ms ks h.added k.added h.numbers k.numbers;
     }
 
-grown_then : (o : Option Nursery) (a b : Nursery) (ns ms ks : List ℕ) → Grown a b ns ms → IsSomeAnd o (λ c. Grown b c ms ks) → IsSomeAnd o (λ c. Grown a c ns ks)
+grown_then : (o : Option Nursery) (a b : Nursery) (ns ms ks : List ℕ) → Grown a b ns ms → IsSomeAnd o (λ c. Grown b c ms ks) →
+    IsSomeAnd o (λ c. Grown a c ns ks)
 grown_then None a b ns ms ks h k = absurd k
 grown_then (Some c) a b ns ms ks h k = grown_twice a b c ns ms ks h k
 
@@ -193,8 +204,10 @@ grow_then fs gs numbers between after old mid new h kept k id has n e = by_nurse
     by_nursery (Some m) f g = grown_then (nursery_at new id) n m (numbers id) (between id) (after id) g (k id (kept id has) m f)
 
 -- a child that was begun is still the same after a move of its starter
-begun_on : (gs : List Frame) (between after : Numbers) (mid new : NurseryBook) (blocks : List Block) (waits : Option ℕ) → Grow gs between after mid new →
-    ((id : ℕ) → HasBlock id (blocks_of gs) → HasNurseryOf id blocks waits) → (task : Task) (b : Begun) → IsBegun between mid (blocks_of gs) None task b →
+begun_on : (gs : List Frame) (between after : Numbers) (mid new : NurseryBook) (blocks : List Block) (waits : Option ℕ) →
+    Grow gs between after mid new →
+    ((id : ℕ) → HasBlock id (blocks_of gs) → HasNurseryOf id blocks waits) → (task : Task) (b : Begun) →
+        IsBegun between mid (blocks_of gs) None task b →
     IsBegun after new blocks waits task b
 begun_on gs between after mid new blocks waits grow kept task b h =
     record {
@@ -215,36 +228,47 @@ begun_on gs between after mid new blocks waits grow kept task b h =
     among : HasBlock h.home.nursery (blocks_of gs)
     among = goes_with h.home.nursery (blocks_of gs) h.owned
 
-    by_number : (o : Option Nursery) → nursery_at mid h.home.nursery ≡ o → IsSomeAnd o (λ n. (n.scope ≡ h.home.scope) × (slice_get n.children h.home.place ≡ Some None)) → slice_get (after h.home.nursery) h.home.place ≡ Some b.number
+    by_number : (o : Option Nursery) → nursery_at mid h.home.nursery ≡ o →
+        IsSomeAnd o (λ n. (n.scope ≡ h.home.scope) × (slice_get n.children h.home.place ≡ Some None)) →
+        slice_get (after h.home.nursery) h.home.place ≡ Some b.number
     by_number None e s = absurd s
     by_number (Some n) e s =
-        grown_number (nursery_at new h.home.nursery) n (between h.home.nursery) (after h.home.nursery) h.home.place b.number (grow h.home.nursery among n e) h.number
+        grown_number (nursery_at new h.home.nursery) n (between h.home.nursery) (after h.home.nursery) h.home.place b.number
+            (grow h.home.nursery among n e) h.number
 
-    by_nursery : (o : Option Nursery) → nursery_at mid h.home.nursery ≡ o → IsSomeAnd o (λ n. (n.scope ≡ h.home.scope) × (slice_get n.children h.home.place ≡ Some None)) →
+    by_nursery : (o : Option Nursery) → nursery_at mid h.home.nursery ≡ o →
+        IsSomeAnd o (λ n. (n.scope ≡ h.home.scope) × (slice_get n.children h.home.place ≡ Some None)) →
         HasNursery new h.home.nursery (λ n. (n.scope ≡ h.home.scope) × (slice_get n.children h.home.place ≡ Some None))
     by_nursery None e s = absurd s
     by_nursery (Some n) e s =
-        grown_home (nursery_at new h.home.nursery) n (between h.home.nursery) (after h.home.nursery) h.home.scope h.home.place (grow h.home.nursery among n e) s
+        grown_home (nursery_at new h.home.nursery) n (between h.home.nursery) (after h.home.nursery) h.home.scope h.home.place
+            (grow h.home.nursery among n e) s
 
-all_begun_on : (gs : List Frame) (between after : Numbers) (mid new : NurseryBook) (blocks : List Block) (waits : Option ℕ) → Grow gs between after mid new →
-    ((id : ℕ) → HasBlock id (blocks_of gs) → HasNurseryOf id blocks waits) → (ts : List Task) (bs : List Begun) → AreBegun between mid (blocks_of gs) None ts bs →
+all_begun_on : (gs : List Frame) (between after : Numbers) (mid new : NurseryBook) (blocks : List Block) (waits : Option ℕ) →
+    Grow gs between after mid new →
+    ((id : ℕ) → HasBlock id (blocks_of gs) → HasNurseryOf id blocks waits) → (ts : List Task) (bs : List Begun) →
+        AreBegun between mid (blocks_of gs) None ts bs →
     AreBegun after new blocks waits ts bs
 all_begun_on gs between after mid new blocks waits grow kept [] [] h = tt
 all_begun_on gs between after mid new blocks waits grow kept [] (b ∷ bs) h = absurd h
 all_begun_on gs between after mid new blocks waits grow kept (t ∷ ts) [] h = absurd h
 all_begun_on gs between after mid new blocks waits grow kept (t ∷ ts) (b ∷ bs) h =
-    (begun_on gs between after mid new blocks waits grow kept t b h.0, all_begun_on gs between after mid new blocks waits grow kept ts bs h.1)
+    (begun_on gs between after mid new blocks waits grow kept t b h.0,
+        all_begun_on gs between after mid new blocks waits grow kept ts bs h.1)
 
 -- how the second of two moves goes on is how both do
-moves_then : (numbers : Numbers) (book : NurseryBook) (was part : Part) (goes : Moved) (halt : Halt) (o q : Move) → part ≡ was → MovesAs numbers book part goes halt q →
+moves_then : (numbers : Numbers) (book : NurseryBook) (was part : Part) (goes : Moved) (halt : Halt) (o q : Move) → part ≡ was →
+    MovesAs numbers book part goes halt q →
     MovesAs numbers book was goes halt (then_move None o q)
 moves_then numbers book was part (On exc) halt o q e h = h
 moves_then numbers book was part (Stops stop) halt o q e h = (h.0, subst (λ (p : Part). StopsAs numbers book p stop halt q.stopped) e h.1)
 
 -- a move after which the task goes on, and another from where it led: the move of both, with the numbers of the second
-took_both : (fs : List Frame) (before mid after : Task) (old w new : World) (exc : Option held.Exc) (goes : Moved) (froms : Table) (numbers : Numbers) (o q : Move) →
+took_both : (fs : List Frame) (before mid after : Task) (old w new : World) (exc : Option held.Exc) (goes : Moved) (froms : Table)
+    (numbers : Numbers) (o q : Move) →
     (first : Took fs before mid old w (On exc) froms numbers o) →
-    (second : Took mid.frames.items mid after w new goes (froms_after froms o.made) first.numbers_after q) → mid.part ≡ before.part → w.tick ≡ old.tick →
+    (second : Took mid.frames.items mid after w new goes (froms_after froms o.made) first.numbers_after q) → mid.part ≡ before.part →
+        w.tick ≡ old.tick →
     (took : Took fs before after old new goes froms numbers (then_move None o q)) × (took.numbers_after ≡ second.numbers_after)
 took_both fs before mid after old w new exc goes froms numbers o q first second part tick = (both, refl)
   where
@@ -255,43 +279,54 @@ took_both fs before mid after old w new exc goes froms numbers o q first second 
     still_other : (n : Nursery) → IsOfOther before.own.items old.scopes n → IsOfOther mid.own.items w.scopes n
     still_other n other = acts_stay old.tick (scoping_of before old) (scoping_of mid w) o.made n.scope first.acts other
 
-    stays_there : (id : ℕ) (n : Nursery) → nursery_at old.book id ≡ Some n → (HasBlock id (blocks_of fs) → ⊥) → IsOfOther before.own.items old.scopes n →
+    stays_there : (id : ℕ) (n : Nursery) → nursery_at old.book id ≡ Some n → (HasBlock id (blocks_of fs) → ⊥) →
+        IsOfOther before.own.items old.scopes n →
         HasBlock id (blocks_of mid.frames.items) → ⊥
     stays_there id n at apart other has = by_owned (first.owned id (inl has))
       where
-        by_owned : HasBlock id (blocks_of fs) ⊎ ((m : Nursery) → nursery_at old.book id ≡ Some m → IsOfOther before.own.items old.scopes m → ⊥) → ⊥
+        by_owned : HasBlock id (blocks_of fs) ⊎ ((m : Nursery) → nursery_at old.book id ≡ Some m → IsOfOther before.own.items old.scopes m →
+            ⊥) → ⊥
         by_owned (inl h) = apart h
         by_owned (inr h) = h n at other
 
     others_then : OthersStay (blocks_of fs) before.own.items old.scopes old.book new.book
-    others_then id n at apart other = second.others id n (first.others id n at apart other) (stays_there id n at apart other) (still_other n other)
+    others_then id n at apart other =
+        second.others id n (first.others id n at apart other) (stays_there id n at apart other) (still_other n other)
 
     owned_then : Owns (blocks_of fs) before.own.items old.scopes old.book (blocks_of after.frames.items) (waits_by goes after.halt)
     owned_then id has = by_second (second.owned id has)
       where
-        by_old : ((n : Nursery) → nursery_at w.book id ≡ Some n → IsOfOther mid.own.items w.scopes n → ⊥) → HasBlock id (blocks_of fs) ⊎ (HasBlock id (blocks_of fs) → ⊥) →
+        by_old : ((n : Nursery) → nursery_at w.book id ≡ Some n → IsOfOther mid.own.items w.scopes n → ⊥) → HasBlock id (blocks_of fs)
+            ⊎ (HasBlock id (blocks_of fs) → ⊥) →
             HasBlock id (blocks_of fs) ⊎ ((n : Nursery) → nursery_at old.book id ≡ Some n → IsOfOther before.own.items old.scopes n → ⊥)
         by_old h (inl f) = inl f
         by_old h (inr f) = inr (λ n at other. h n (first.others id n at f other) (still_other n other))
 
-        by_second : HasBlock id (blocks_of mid.frames.items) ⊎ ((n : Nursery) → nursery_at w.book id ≡ Some n → IsOfOther mid.own.items w.scopes n → ⊥) →
+        by_second : HasBlock id (blocks_of mid.frames.items) ⊎ ((n : Nursery) → nursery_at w.book id ≡ Some n →
+            IsOfOther mid.own.items w.scopes n → ⊥) →
             HasBlock id (blocks_of fs) ⊎ ((n : Nursery) → nursery_at old.book id ≡ Some n → IsOfOther before.own.items old.scopes n → ⊥)
         by_second (inl h) = first.owned id (inl h)
         by_second (inr h) = by_old h (has_or_not id (blocks_of fs))
 
-    covered_then : Covers (blocks_of fs) numbers second.numbers_after (blocks_of after.frames.items) (waits_by goes after.halt) (first.tasks ++ second.tasks) (o.begun ++ q.begun)
+    covered_then : Covers (blocks_of fs) numbers second.numbers_after (blocks_of after.frames.items) (waits_by goes after.halt)
+        (first.tasks ++ second.tasks) (o.begun ++ q.begun)
     covered_then id place number has at = by_second (second.covered id place number has at)
       where
-        by_first : (HasBlock id (blocks_of fs) × (slice_get (numbers id) place ≡ Some number)) ⊎ BeginsAt id place number first.tasks o.begun →
-            (HasBlock id (blocks_of fs) × (slice_get (numbers id) place ≡ Some number)) ⊎ BeginsAt id place number (first.tasks ++ second.tasks) (o.begun ++ q.begun)
+        by_first : (HasBlock id (blocks_of fs) × (slice_get (numbers id) place ≡ Some number))
+            ⊎ BeginsAt id place number first.tasks o.begun →
+            (HasBlock id (blocks_of fs) × (slice_get (numbers id) place ≡ Some number))
+                ⊎ BeginsAt id place number (first.tasks ++ second.tasks) (o.begun ++ q.begun)
         by_first (inl h) = inl h
         by_first (inr h) = inr (begins_more id place number first.tasks second.tasks o.begun q.begun h)
 
-        by_second : (HasBlock id (blocks_of mid.frames.items) × (slice_get (first.numbers_after id) place ≡ Some number)) ⊎ BeginsAt id place number second.tasks q.begun →
-            (HasBlock id (blocks_of fs) × (slice_get (numbers id) place ≡ Some number)) ⊎ BeginsAt id place number (first.tasks ++ second.tasks) (o.begun ++ q.begun)
+        by_second : (HasBlock id (blocks_of mid.frames.items) × (slice_get (first.numbers_after id) place ≡ Some number))
+            ⊎ BeginsAt id place number second.tasks q.begun →
+            (HasBlock id (blocks_of fs) × (slice_get (numbers id) place ≡ Some number))
+                ⊎ BeginsAt id place number (first.tasks ++ second.tasks) (o.begun ++ q.begun)
         by_second (inl h) = by_first (first.covered id place number (inl h.0) h.1)
         by_second (inr h) =
-            inr (begins_last id place number first.numbers_after w.book (blocks_of mid.frames.items) None first.tasks second.tasks o.begun q.begun first.begun h)
+            inr (begins_last id place number first.numbers_after w.book (blocks_of mid.frames.items) None first.tasks second.tasks o.begun
+                q.begun first.begun h)
 
     noted_there : AreNoted (buffer_of before.part) second.entries q.made
     noted_there = subst (λ (p : Part). AreNoted (buffer_of p) second.entries q.made) part second.shown
@@ -301,30 +336,38 @@ took_both fs before mid after old w new exc goes froms numbers o q first second 
         record {
           numbers_after = second.numbers_after;
           frames_after = second.frames_after;
-          places = subst (λ (f : Table). AreAt (label_at new) f (outer_of new.scopes (scope_of after)) q.places) (sym (froms_append o.made q.made froms)) second.places;
+          places = subst (λ (f : Table). AreAt (label_at new) f (outer_of new.scopes (scope_of after)) q.places)
+              (sym (froms_append o.made q.made froms)) second.places;
           moves = moves_then second.numbers_after new.book before.part mid.part goes after.halt o q part second.moves;
           entries = first.entries ++ second.entries;
-          noted = grew_twice before.entries.items mid.entries.items after.entries.items first.entries second.entries first.noted second.noted;
+          noted = grew_twice before.entries.items mid.entries.items after.entries.items first.entries second.entries first.noted
+              second.noted;
           shown = noted_append (buffer_of before.part) first.entries second.entries o.made q.made first.shown noted_there;
           tasks = first.tasks ++ second.tasks;
           started = grew_twice old.started.items w.started.items new.started.items first.tasks second.tasks first.started second.started;
           begun =
-              begun_append second.numbers_after new.book (blocks_of after.frames.items) (waits_by goes after.halt) first.tasks second.tasks o.begun q.begun
-              (all_begun_on mid.frames.items first.numbers_after second.numbers_after w.book new.book (blocks_of after.frames.items) (waits_by goes after.halt)
+              begun_append second.numbers_after new.book (blocks_of after.frames.items) (waits_by goes after.halt) first.tasks second.tasks
+                  o.begun q.begun
+              (all_begun_on mid.frames.items first.numbers_after second.numbers_after w.book new.book (blocks_of after.frames.items)
+                  (waits_by goes after.halt)
               second.grow second.kept first.tasks o.begun first.begun)
               second.begun;
-          grow = grow_then fs mid.frames.items numbers first.numbers_after second.numbers_after old.book w.book new.book first.grow kept second.grow;
+          grow = grow_then fs mid.frames.items numbers first.numbers_after second.numbers_after old.book w.book new.book first.grow kept
+              second.grow;
           kept = λ id has. second.kept id (kept id has);
           numbered = second.numbered;
           owned = owned_then;
           covered = covered_then;
           others = others_then;
-          acts = acts_append old.tick (scoping_of before old) (scoping_of mid w) (scoping_of after new) o.made q.made first.acts (subst (λ (t : ℕ). Acts t (scoping_of mid w) q.made (scoping_of after new)) tick second.acts);
+          acts = acts_append old.tick (scoping_of before old) (scoping_of mid w) (scoping_of after new) o.made q.made first.acts
+              (subst (λ (t : ℕ). Acts t (scoping_of mid w) q.made (scoping_of after new)) tick second.acts);
         }
 
 -- A move of the code after which the task goes on, and another from where it led, are the move of both.
-pub took_then : (fs : List Frame) (before mid after : Task) (old w new : World) (exc : Option held.Exc) (goes : Moved) (froms : Table) (numbers : Numbers) (o q : Move) →
-    (first : Took fs before mid old w (On exc) froms numbers o) → Took mid.frames.items mid after w new goes (froms_after froms o.made) first.numbers_after q →
+pub took_then : (fs : List Frame) (before mid after : Task) (old w new : World) (exc : Option held.Exc) (goes : Moved) (froms : Table)
+    (numbers : Numbers) (o q : Move) →
+    (first : Took fs before mid old w (On exc) froms numbers o) →
+        Took mid.frames.items mid after w new goes (froms_after froms o.made) first.numbers_after q →
     mid.part ≡ before.part → w.tick ≡ old.tick → Took fs before after old new goes froms numbers (then_move o.stopped o q)
 took_then fs before mid after old w new exc goes froms numbers o q first second part tick =
     subst (λ (s : Option Stopped). Took fs before after old new goes froms numbers (then_move s o q)) (sym first.moves.1)
@@ -333,10 +376,12 @@ took_then fs before mid after old w new exc goes froms numbers o q first second 
 -- ---- where a task stands after a step
 
 -- a task stands where a step led, whether it goes on or stops
-pub stands_where : (fs : List Frame) (before after : Task) (old new : World) (froms : Table) (numbers : Numbers) (ps : List Place) (t : ℕ) (here : Here) →
+pub stands_where : (fs : List Frame) (before after : Task) (old new : World) (froms : Table) (numbers : Numbers) (ps : List Place) (t : ℕ)
+    (here : Here) →
     Stands fs before old froms numbers None ps → (count : ℕ) (exc : Option Exc) (goes : Moved) →
     (let o = step_of froms t here (record { frames = frames_of numbers fs; places = ps; exc = exc; count = count }) in
-    (took : Took fs before after old new goes froms numbers o) → Stands after.frames.items after new (froms_after froms o.made) took.numbers_after o.stopped o.places)
+    (took : Took fs before after old new goes froms numbers o) →
+        Stands after.frames.items after new (froms_after froms o.made) took.numbers_after o.stopped o.places)
 stands_where fs before after old new froms numbers ps t here stands count exc goes took =
     let m : Midway = record { frames = frames_of numbers fs; places = ps; exc = exc; count = count } in
     let o = step_of froms t here m in
@@ -351,13 +396,16 @@ stands_where fs before after old new froms numbers ps t here stands count exc go
     }
 
 -- and one that goes on is in the middle of its turn there
-pub stands_after : (fs : List Frame) (before after : Task) (old new : World) (froms : Table) (numbers : Numbers) (ps : List Place) (t : ℕ) (here : Here) →
+pub stands_after : (fs : List Frame) (before after : Task) (old new : World) (froms : Table) (numbers : Numbers) (ps : List Place) (t : ℕ)
+    (here : Here) →
     Stands fs before old froms numbers None ps → (count : ℕ) (exc : Option Exc) (goes : Option held.Exc) →
     (let o = step_of froms t here (record { frames = frames_of numbers fs; places = ps; exc = exc; count = count }) in
-    (took : Took fs before after old new (On goes) froms numbers o) → Stands after.frames.items after new (froms_after froms o.made) took.numbers_after None o.places)
+    (took : Took fs before after old new (On goes) froms numbers o) →
+        Stands after.frames.items after new (froms_after froms o.made) took.numbers_after None o.places)
 stands_after fs before after old new froms numbers ps t here stands count exc goes took =
     let o = step_of froms t here (record { frames = frames_of numbers fs; places = ps; exc = exc; count = count }) in
-    subst (λ (s : Option Stopped). Stands after.frames.items after new (froms_after froms o.made) took.numbers_after s o.places) took.moves.1
+    subst (λ (s : Option Stopped). Stands after.frames.items after new (froms_after froms o.made) took.numbers_after s o.places)
+        took.moves.1
     (stands_where fs before after old new froms numbers ps t here stands count exc (On goes) took)
 
 -- ---- the steps of a turn of the code, one after another
@@ -377,11 +425,13 @@ not_grown n ns =
     }
 
 -- Before its first step a task has taken a turn of no steps.
-pub took_nothing : (task : Task) (world : World) (exc : Option held.Exc) (froms : Table) (numbers : Numbers) (t : ℕ) (here : Here) (ps : List Place) (count : ℕ) →
+pub took_nothing : (task : Task) (world : World) (exc : Option held.Exc) (froms : Table) (numbers : Numbers) (t : ℕ) (here : Here)
+    (ps : List Place) (count : ℕ) →
     Stands task.frames.items task world froms numbers None ps →
     (took :
     Took task.frames.items task task world world (On exc) froms numbers
-    (turn_of zero froms t here (record { frames = frames_of numbers task.frames.items; places = ps; exc = option_map exc_of exc; count = count })))
+    (turn_of zero froms t here (record { frames = frames_of numbers task.frames.items; places = ps; exc = option_map exc_of exc; count =
+        count })))
     × (took.numbers_after ≡ numbers)
 unfolding turn_of
 took_nothing task world exc froms numbers t here ps count stands = (
@@ -396,7 +446,8 @@ took_nothing task world exc froms numbers t here ps count stands = (
     tasks = [];
     started = sym (append-nil world.started.items);
     begun = tt;
-    grow = λ id has n e. subst (λ (o : Option Nursery). IsSomeAnd o (λ m. Grown n m (numbers id) (numbers id))) (sym e) (not_grown n (numbers id));
+    grow = λ id has n e. subst (λ (o : Option Nursery). IsSomeAnd o (λ m. Grown n m (numbers id) (numbers id))) (sym e)
+        (not_grown n (numbers id));
     kept = λ id has. inl has;
     numbered = λ id has. stands.numbered id (goes_with id (blocks_of task.frames.items) has);
     owned = λ id has. inl (goes_with id (blocks_of task.frames.items) has);
@@ -411,40 +462,54 @@ took_nothing task world exc froms numbers t here ps count stands = (
 one_more : (n : ℕ) (froms : Table) (t : ℕ) (here : Here) (m : Midway) (gs : List rest.Frame) (exc : Option Exc) →
     (let o = turn_of n froms t here m in
     gs ≡ o.frames → exc ≡ o.exc → o.stopped ≡ None →
-    then_move None o (step_of (froms_after froms o.made) t here (record { frames = gs; places = o.places; exc = exc; count = m.count + length o.begun }))
+    then_move None o (step_of (froms_after froms o.made) t here (record
+        { frames = gs; places = o.places; exc = exc; count = m.count + length o.begun }))
     ≡ turn_of (suc n) froms t here m)
 one_more n froms t here m gs exc frames raised going =
     let o = turn_of n froms t here m in
     let step : Midway → Move = λ k. step_of (froms_after froms o.made) t here k in
-    ap (λ (s : Option Stopped). then_move s o (step (record { frames = gs; places = o.places; exc = exc; count = m.count + length o.begun }))) (sym going)
-    ∙ ap (λ (fs : List rest.Frame). then_move o.stopped o (step (record { frames = fs; places = o.places; exc = exc; count = m.count + length o.begun }))) frames
-    ∙ ap (λ (e : Option Exc). then_move o.stopped o (step (record { frames = o.frames; places = o.places; exc = e; count = m.count + length o.begun }))) raised
+    ap (λ (s : Option Stopped). then_move s o
+        (step (record { frames = gs; places = o.places; exc = exc; count = m.count + length o.begun }))) (sym going)
+    ∙ ap (λ (fs : List rest.Frame).
+        then_move o.stopped o (step (record { frames = fs; places = o.places; exc = exc; count = m.count + length o.begun }))) frames
+    ∙ ap (λ (e : Option Exc). then_move o.stopped o
+        (step (record { frames = o.frames; places = o.places; exc = e; count = m.count + length o.begun }))) raised
     ∙ sym (turn_snoc n froms t here m)
 
 -- A turn of so many steps, and a step from where it led, are the turn of one step more, and the task stands where they led, with the same
 -- numbers, whether it goes on or stops.
-pub goes_and_stands : (n : ℕ) (fs : List Frame) (before mid after : Task) (old w new : World) (exc : Option held.Exc) (goes : Moved) (froms : Table) (numbers : Numbers)
+pub goes_and_stands : (n : ℕ) (fs : List Frame) (before mid after : Task) (old w new : World) (exc : Option held.Exc) (goes : Moved)
+    (froms : Table) (numbers : Numbers)
     (t : ℕ) (here : Here) (ps : List Place) (count : ℕ) (exc0 : Option Exc) →
     (let m : Midway = record { frames = frames_of numbers fs; places = ps; exc = exc0; count = count } in
     let o = turn_of n froms t here m in
     let more = turn_of (suc n) froms t here m in
-    (first : Took fs before mid old w (On exc) froms numbers o) → Stands mid.frames.items mid w (froms_after froms o.made) first.numbers_after None o.places →
+    (first : Took fs before mid old w (On exc) froms numbers o) →
+        Stands mid.frames.items mid w (froms_after froms o.made) first.numbers_after None o.places →
     mid.part ≡ before.part → w.tick ≡ old.tick →
     Took mid.frames.items mid after w new goes (froms_after froms o.made) first.numbers_after
     (step_of (froms_after froms o.made) t here
-    (record { frames = frames_of first.numbers_after mid.frames.items; places = o.places; exc = option_map exc_of exc; count = count + length o.begun })) →
-    (took : Took fs before after old new goes froms numbers more) × Stands after.frames.items after new (froms_after froms more.made) took.numbers_after more.stopped more.places)
+    (record { frames = frames_of first.numbers_after mid.frames.items; places = o.places; exc = option_map exc_of exc; count =
+        count + length o.begun })) →
+    (took : Took fs before after old new goes froms numbers more)
+        × Stands after.frames.items after new (froms_after froms more.made) took.numbers_after more.stopped more.places)
 goes_and_stands n fs before mid after old w new exc goes froms numbers t here ps count exc0 first stands part tick second =
     let m : Midway = record { frames = frames_of numbers fs; places = ps; exc = exc0; count = count } in
     let o = turn_of n froms t here m in
     let q = step_of (froms_after froms o.made) t here
-    (record { frames = frames_of first.numbers_after mid.frames.items; places = o.places; exc = option_map exc_of exc; count = count + length o.begun }) in
+    (record { frames = frames_of first.numbers_after mid.frames.items; places = o.places; exc = option_map exc_of exc; count =
+        count + length o.begun }) in
     let both = took_both fs before mid after old w new exc goes froms numbers o q first second part tick in
-    let there = stands_where mid.frames.items mid after w new (froms_after froms o.made) first.numbers_after o.places t here stands (count + length o.begun) _ goes second in
+    let there = stands_where mid.frames.items mid after w new (froms_after froms o.made) first.numbers_after o.places t here stands
+        (count + length o.begun) _ goes second in
     subst
-    (λ (p : Move). (took : Took fs before after old new goes froms numbers p) × Stands after.frames.items after new (froms_after froms p.made) took.numbers_after p.stopped p.places)
-    (one_more n froms t here m (frames_of first.numbers_after mid.frames.items) (option_map exc_of exc) first.frames_after first.moves.0 first.moves.1) (
+    (λ (p : Move). (took : Took fs before after old new goes froms numbers p)
+        × Stands after.frames.items after new (froms_after froms p.made) took.numbers_after p.stopped p.places)
+    (one_more n froms t here m (frames_of first.numbers_after mid.frames.items) (option_map exc_of exc) first.frames_after first.moves.0
+        first.moves.1) (
       both.0,
-      subst (λ (ns : Numbers). Stands after.frames.items after new (froms_after froms (o.made ++ q.made)) ns q.stopped q.places) (sym both.1)
-          (subst (λ (f : Table). Stands after.frames.items after new f second.numbers_after q.stopped q.places) (sym (froms_append o.made q.made froms)) there),
+      subst (λ (ns : Numbers). Stands after.frames.items after new (froms_after froms (o.made ++ q.made)) ns q.stopped q.places)
+          (sym both.1)
+          (subst (λ (f : Table). Stands after.frames.items after new f second.numbers_after q.stopped q.places)
+              (sym (froms_append o.made q.made froms)) there),
     )

@@ -53,33 +53,43 @@ no_block (Try handler cleanup) body e = absurd e
 no_block (Handler others cleanup) body e = absurd e
 no_block (Cleanup outcome) body e = absurd e
 
-pub entered_frames : (numbers : Numbers) (fs gs : List Frame) (exit top : Frame) (body : tree.Steps) → IsBlock top body → gs ≡ fs ++ exit ∷ top ∷ [] →
+pub entered_frames : (numbers : Numbers) (fs gs : List Frame) (exit top : Frame) (body : tree.Steps) → IsBlock top body →
+    gs ≡ fs ++ exit ∷ top ∷ [] →
     frames_of numbers gs ≡ rest.steps_left body ∷ frame_of numbers exit ∷ frames_of numbers fs
 entered_frames numbers fs gs exit top body block e =
     ap (frames_of numbers) (e ∙ sym (append_assoc fs (exit ∷ []) (top ∷ []))) ∙ frames_push numbers (fs ++ exit ∷ []) top
     ∙ ap (λ (f : rest.Frame). f ∷ frames_of numbers (fs ++ exit ∷ [])) (block_frame numbers top body block)
     ∙ ap (λ (hs : List rest.Frame). rest.steps_left body ∷ hs) (frames_push numbers fs exit)
 
-pub entered_blocks : (fs gs : List Frame) (exit top : Frame) (body : tree.Steps) → IsBlock top body → gs ≡ fs ++ exit ∷ top ∷ [] → blocks_of gs ≡ blocks_of fs ++ blocks_of (exit ∷ [])
+pub entered_blocks : (fs gs : List Frame) (exit top : Frame) (body : tree.Steps) → IsBlock top body → gs ≡ fs ++ exit ∷ top ∷ [] →
+    blocks_of gs ≡ blocks_of fs ++ blocks_of (exit ∷ [])
 entered_blocks fs gs exit top body block e =
     ap blocks_of e ∙ blocks_append fs (exit ∷ top ∷ [])
-    ∙ ap (λ (bs : List Block). blocks_of fs ++ bs) (blocks_append (exit ∷ []) (top ∷ []) ∙ ap (λ (bs : List Block). blocks_of (exit ∷ []) ++ bs)
+    ∙ ap (λ (bs : List Block). blocks_of fs ++ bs) (blocks_append (exit ∷ []) (top ∷ [])
+        ∙ ap (λ (bs : List Block). blocks_of (exit ∷ []) ++ bs)
     (no_block top body block) ∙ append-nil (blocks_of (exit ∷ [])))
 
 -- a scope is entered, whose name is none of those round it
-pub took_scope : (frames : List Frame) (before after : Task) (old new : World) (froms : Table) (numbers : Numbers) (stopped : Option Stopped) (ps : List Place) (label : Label)
+pub took_scope : (frames : List Frame) (before after : Task) (old new : World) (froms : Table) (numbers : Numbers)
+    (stopped : Option Stopped) (ps : List Place) (label : Label)
     (shield fail : Bool)
-    (deadline : Tick) (body : tree.Steps) → Stands frames before old froms numbers stopped ps → blocks_of before.frames.items ≡ blocks_of frames →
+    (deadline : Tick) (body : tree.Steps) → Stands frames before old froms numbers stopped ps →
+        blocks_of before.frames.items ≡ blocks_of frames →
     (IsName label.name (names_at ps) → ⊥) →
     after ≡ record before { frames = after.frames; own = after.own; froms = after.froms } → EntersBlock before after (Scope fail) body →
-    new ≡ record old { scopes = new.scopes; labels = new.labels } → EntersAt old new (scope_of before) (scope_of after) label shield deadline →
-    EntersOne before after old new label deadline → Took frames before after old new (On None) froms numbers (enters_block label shield deadline old.tick body (rest.in_scope fail) (frames_of numbers before.frames.items) ps)
-took_scope frames before after old new froms numbers stopped ps label shield fail deadline body stands same fresh stays block world enters one =
-    took_with frames before after old new (On None) froms numbers (enters_block label shield deadline old.tick body (rest.in_scope fail) (frames_of numbers before.frames.items) ps) []
+    new ≡ record old { scopes = new.scopes; labels = new.labels } →
+        EntersAt old new (scope_of before) (scope_of after) label shield deadline →
+    EntersOne before after old new label deadline → Took frames before after old new (On None) froms numbers
+        (enters_block label shield deadline old.tick body (rest.in_scope fail) (frames_of numbers before.frames.items) ps)
+took_scope frames before after old new froms numbers stopped ps label shield fail deadline body stands same fresh stays block world enters
+    one =
+    took_with frames before after old new (On None) froms numbers
+        (enters_block label shield deadline old.tick body (rest.in_scope fail) (frames_of numbers before.frames.items) ps) []
     stands.numbered (ap (λ (w : World). w.book) world) (ap (λ (w : World). w.started.items) world)
     (ap (λ (t : Task). t.entries.items) stays ∙ sym (append-nil before.entries.items))
     (record { shown = refl; slices = All-nil (IsSlice (buffer_of before.part)) }) refl kept back
-    (entered_frames numbers before.frames.items after.frames.items (Scope fail) block.top body block.block block.frames) (enters froms ps fresh stands.places) (refl, refl) refl
+    (entered_frames numbers before.frames.items after.frames.items (Scope fail) block.top body block.block block.frames)
+        (enters froms ps fresh stands.places) (refl, refl) refl
     (entered_acts before after old new label deadline one)
   where
     blocks : blocks_of after.frames.items ≡ blocks_of frames ++ a_scope ∷ []
@@ -117,37 +127,49 @@ numbers_else numbers id ns key differs = by_key (key == id) refl
     by_key true e = absurd (differs (eqb-true key id e))
     by_key false e = refl
 
-onto_others : (numbers more : Numbers) (fs : List Frame) (outer : List rest.Frame) → ((key : ℕ) → HasBlock key (blocks_of fs) → more key ≡ numbers key) →
+onto_others : (numbers more : Numbers) (fs : List Frame) (outer : List rest.Frame) →
+    ((key : ℕ) → HasBlock key (blocks_of fs) → more key ≡ numbers key) →
     frames_onto more fs outer ≡ frames_onto numbers fs outer
 onto_others numbers more [] outer same = refl
 onto_others numbers more (Steps steps ∷ fs) outer same = onto_others numbers more fs (frame_of numbers (Steps steps) ∷ outer) same
 onto_others numbers more (Scope fail ∷ fs) outer same = onto_others numbers more fs (rest.in_scope fail ∷ outer) same
 onto_others numbers more (Nursery id ∷ fs) outer same =
-    ap (λ (ns : List ℕ). frames_onto more fs (rest.in_nursery ns ∷ outer)) (same id (inl refl)) ∙ onto_others numbers more fs (rest.in_nursery (numbers id) ∷ outer)
+    ap (λ (ns : List ℕ). frames_onto more fs (rest.in_nursery ns ∷ outer)) (same id (inl refl))
+        ∙ onto_others numbers more fs (rest.in_nursery (numbers id) ∷ outer)
     (λ key h. same key (inr h))
-onto_others numbers more (Try handler cleanup ∷ fs) outer same = onto_others numbers more fs (frame_of numbers (Try handler cleanup) ∷ outer) same
-onto_others numbers more (Handler others cleanup ∷ fs) outer same = onto_others numbers more fs (frame_of numbers (Handler others cleanup) ∷ outer) same
+onto_others numbers more (Try handler cleanup ∷ fs) outer same =
+    onto_others numbers more fs (frame_of numbers (Try handler cleanup) ∷ outer) same
+onto_others numbers more (Handler others cleanup ∷ fs) outer same =
+    onto_others numbers more fs (frame_of numbers (Handler others cleanup) ∷ outer) same
 onto_others numbers more (Cleanup outcome ∷ fs) outer same = onto_others numbers more fs (frame_of numbers (Cleanup outcome) ∷ outer) same
 
 -- the frames are the same by numbers that are the same for their nurseries
-pub frames_others : (numbers more : Numbers) (fs : List Frame) → ((key : ℕ) → HasBlock key (blocks_of fs) → more key ≡ numbers key) → frames_of more fs ≡ frames_of numbers fs
+pub frames_others : (numbers more : Numbers) (fs : List Frame) → ((key : ℕ) → HasBlock key (blocks_of fs) → more key ≡ numbers key) →
+    frames_of more fs ≡ frames_of numbers fs
 frames_others numbers more fs same = onto_others numbers more fs [] same
 
 -- a nursery is entered, whose name is none of those round it: no child was started in it
-pub took_nursery : (me : ℕ) (frames : List Frame) (before after : Task) (old new : World) (froms : Table) (numbers : Numbers) (stopped : Option Stopped) (ps : List Place)
+pub took_nursery : (me : ℕ) (frames : List Frame) (before after : Task) (old new : World) (froms : Table) (numbers : Numbers)
+    (stopped : Option Stopped) (ps : List Place)
     (label : Label)
-    (body : tree.Steps) → Stands frames before old froms numbers stopped ps → blocks_of before.frames.items ≡ blocks_of frames → (IsName label.name (names_at ps) → ⊥) →
-    after ≡ record before { frames = after.frames; own = after.own; froms = after.froms } → EntersNursery me before after old new label body →
-    new ≡ record old { scopes = new.scopes; labels = new.labels; book = new.book } → EntersAt old new (scope_of before) (scope_of after) label false None →
-    EntersOne before after old new label None → Took frames before after old new (On None) froms numbers (enters_block label false None old.tick body (rest.in_nursery []) (frames_of numbers before.frames.items) ps)
+    (body : tree.Steps) → Stands frames before old froms numbers stopped ps → blocks_of before.frames.items ≡ blocks_of frames →
+        (IsName label.name (names_at ps) → ⊥) →
+    after ≡ record before { frames = after.frames; own = after.own; froms = after.froms } →
+        EntersNursery me before after old new label body →
+    new ≡ record old { scopes = new.scopes; labels = new.labels; book = new.book } →
+        EntersAt old new (scope_of before) (scope_of after) label false None →
+    EntersOne before after old new label None → Took frames before after old new (On None) froms numbers
+        (enters_block label false None old.tick body (rest.in_nursery []) (frames_of numbers before.frames.items) ps)
 took_nursery me frames before after old new froms numbers stopped ps label body stands same fresh stays n world enters one =
     record {
       numbers_after = more;
       frames_after =
           entered_frames more before.frames.items after.frames.items (Nursery n.id) n.frames.top body n.frames.block n.frames.frames
-          ∙ ap (λ (ns : List ℕ). rest.steps_left body ∷ rest.in_nursery ns ∷ frames_of more before.frames.items) (numbers_put numbers n.id [] n.id refl)
+          ∙ ap (λ (ns : List ℕ). rest.steps_left body ∷ rest.in_nursery ns ∷ frames_of more before.frames.items)
+              (numbers_put numbers n.id [] n.id refl)
           ∙ ap (λ (gs : List rest.Frame). rest.steps_left body ∷ rest.in_nursery [] ∷ gs)
-          (frames_others numbers more before.frames.items (λ key has. else_where key (subst (λ (bs : List Block). HasBlock key bs) same has)));
+          (frames_others numbers more before.frames.items (λ key has. else_where key
+              (subst (λ (bs : List Block). HasBlock key bs) same has)));
       places = enters froms ps fresh stands.places;
       moves = (refl, refl);
       entries = [];
@@ -158,13 +180,15 @@ took_nursery me frames before after old new froms numbers stopped ps label body 
       begun = tt;
       grow =
           λ key has m at.
-          updated_has old.book new.book n.id (Some (opens n.scope me label)) key (λ x. x ≡ m) (λ x. Grown m x (numbers key) (more key)) n.stands
+          updated_has old.book new.book n.id (Some (opens n.scope me label)) key (λ x. x ≡ m) (λ x. Grown m x (numbers key) (more key))
+              n.stands
           (λ is x found one. absurd (closed key x is found))
           (λ differs x found one.
           subst (λ (ns : List ℕ). Grown m x (numbers key) ns) (sym (numbers_else numbers n.id [] key differs))
           (subst (λ (y : Members). Grown y x (numbers key) (numbers key)) one (not_grown x (numbers key))))
           (is_at (nursery_at old.book key) m at);
-      kept = λ key has. inl (subst (λ (bs : List Block). HasBlock key bs) (sym blocks) (has_more key (blocks_of frames) (a_nursery n.id ∷ []) has));
+      kept = λ key has. inl (subst (λ (bs : List Block). HasBlock key bs) (sym blocks)
+          (has_more key (blocks_of frames) (a_nursery n.id ∷ []) has));
       numbered = λ key has. by_either key (old_or_new key has);
       owned = λ key has. by_owned key (old_or_new key has);
       covered = λ key place number has at. by_covered key place number (old_or_new key has) at;
@@ -187,14 +211,16 @@ took_nursery me frames before after old new froms numbers stopped ps label body 
     else_where : (key : ℕ) → HasBlock key (blocks_of frames) → more key ≡ numbers key
     else_where key has = numbers_else numbers n.id [] key (λ is. by_nursery is (nursery_at old.book key) refl (stands.numbered key has))
       where
-        by_nursery : key ≡ n.id → (o : Option Members) → nursery_at old.book key ≡ o → IsSomeAnd o (λ x. length (numbers key) ≡ length x.children) → ⊥
+        by_nursery : key ≡ n.id → (o : Option Members) → nursery_at old.book key ≡ o →
+            IsSomeAnd o (λ x. length (numbers key) ≡ length x.children) → ⊥
         by_nursery is None found h = h
         by_nursery is (Some x) found h = closed key x is found
 
     -- a nursery of the task is an old one, or the one entered
     old_or_new : (key : ℕ) → HasNurseryOf key (blocks_of after.frames.items) None → HasBlock key (blocks_of frames) ⊎ ((key ≡ n.id) ⊎ ⊥)
     old_or_new key has =
-        has_either key (blocks_of frames) (a_nursery n.id ∷ []) (subst (λ (bs : List Block). HasBlock key bs) blocks (block_of key (blocks_of after.frames.items) None refl has))
+        has_either key (blocks_of frames) (a_nursery n.id ∷ []) (subst (λ (bs : List Block). HasBlock key bs) blocks
+            (block_of key (blocks_of after.frames.items) None refl has))
 
     by_owned : (key : ℕ) → HasBlock key (blocks_of frames) ⊎ ((key ≡ n.id) ⊎ ⊥) →
         HasBlock key (blocks_of frames) ⊎ ((m : Members) → nursery_at old.book key ≡ Some m → IsOfOther before.own.items old.scopes m → ⊥)
@@ -206,7 +232,8 @@ took_nursery me frames before after old new froms numbers stopped ps label body 
         (HasBlock key (blocks_of frames) × (slice_get (numbers key) place ≡ Some number)) ⊎ ⊥
     by_covered key place number (inl has) at = inl (has, subst (λ (ns : List ℕ). slice_get ns place ≡ Some number) (else_where key has) at)
     by_covered key place number (inr (inl is)) at =
-        absurd (let e : None ≡ Some number = subst (λ (ns : List ℕ). slice_get ns place ≡ Some number) (numbers_put numbers n.id [] key is) at in cc)
+        absurd (let e : None ≡ Some number = subst (λ (ns : List ℕ). slice_get ns place ≡ Some number) (numbers_put numbers n.id [] key is)
+            at in cc)
     by_covered key place number (inr (inr h)) at = absurd h
 
     Numbered : ℕ → Members → Type 0
@@ -214,9 +241,12 @@ took_nursery me frames before after old new froms numbers stopped ps label body 
 
     by_either : (key : ℕ) → HasBlock key (blocks_of frames) ⊎ ((key ≡ n.id) ⊎ ⊥) → HasNursery new.book key (Numbered key)
     by_either key (inl has) =
-        updated_has old.book new.book n.id (Some (opens n.scope me label)) key (λ x. length (numbers key) ≡ length x.children) (Numbered key) n.stands
-        (λ is x found long. absurd (closed key x is found)) (λ differs x found long. ap (λ (ns : List ℕ). length ns) (else_where key has) ∙ long) (stands.numbered key has)
+        updated_has old.book new.book n.id (Some (opens n.scope me label)) key (λ x. length (numbers key) ≡ length x.children)
+            (Numbered key) n.stands
+        (λ is x found long. absurd (closed key x is found)) (λ differs x found long. ap (λ (ns : List ℕ). length ns) (else_where key has)
+            ∙ long) (stands.numbered key has)
     by_either key (inr (inl is)) =
-        subst (λ (o : Option Members). IsSomeAnd o (Numbered key)) (sym (ap (nursery_at new.book) is ∙ n.stands.changed)) (ap (λ (ns : List ℕ). length ns)
+        subst (λ (o : Option Members). IsSomeAnd o (Numbered key)) (sym (ap (nursery_at new.book) is ∙ n.stands.changed))
+            (ap (λ (ns : List ℕ). length ns)
         (numbers_put numbers n.id [] key is))
     by_either key (inr (inr h)) = absurd h

@@ -47,10 +47,12 @@ use Rattle.task_machine.proofs.Advances.{stands_as, took_as}
 
 -- ---- where a task stopped, by what it goes on with
 
-pub halts_asked : (numbers : Numbers) (book : NurseryBook) (kernel : Kernel) (purpose : Purpose) (stopped : Stopped) → IsHalt numbers book (Asked kernel purpose) stopped →
+pub halts_asked : (numbers : Numbers) (book : NurseryBook) (kernel : Kernel) (purpose : Purpose) (stopped : Stopped) →
+    IsHalt numbers book (Asked kernel purpose) stopped →
     stopped ≡ asking (kernel_in kernel) (purpose_in purpose)
 halts_asked numbers book kernel purpose to_begin h = absurd h
-halts_asked numbers book kernel purpose (asking k p) h = sym (ap (λ (x : ask.Kernel). asking x (purpose_in purpose)) h.0 ∙ ap (λ (x : ask.Purpose). asking k x) h.1)
+halts_asked numbers book kernel purpose (asking k p) h =
+    sym (ap (λ (x : ask.Kernel). asking x (purpose_in purpose)) h.0 ∙ ap (λ (x : ask.Purpose). asking k x) h.1)
 halts_asked numbers book kernel purpose (asleep n u) h = absurd h
 halts_asked numbers book kernel purpose (awaiting kids u exc) h = absurd h
 halts_asked numbers book kernel purpose (at_end u e) h = absurd h
@@ -61,7 +63,8 @@ pub record AwaitsSo (numbers : Numbers) (book : NurseryBook) (id since : ℕ) (s
   pub is : stopped ≡ awaiting (numbers id) since exc
   pub body : HasNursery book id (λ n. n.body ≡ Some exc)
 
-pub halts_awaits : (numbers : Numbers) (book : NurseryBook) (id since : ℕ) (stopped : Stopped) → IsHalt numbers book (Awaits id since) stopped → AwaitsSo numbers book id since stopped
+pub halts_awaits : (numbers : Numbers) (book : NurseryBook) (id since : ℕ) (stopped : Stopped) →
+    IsHalt numbers book (Awaits id since) stopped → AwaitsSo numbers book id since stopped
 halts_awaits numbers book id since to_begin h = absurd h
 halts_awaits numbers book id since (asking k p) h = absurd h
 halts_awaits numbers book id since (asleep n u) h = absurd h
@@ -72,36 +75,49 @@ halts_awaits numbers book id since (at_end u e) h = absurd h
 -- ---- a task that wakes
 
 -- its halt was taken
-stands_taken : (frames : List Frame) (task before : Task) (world : World) (froms : Table) (numbers : Numbers) (stopped : Option Stopped) (ps : List Place) →
-    before ≡ record task { halt = before.halt } → Stands frames task world froms numbers stopped ps → Stands frames before world froms numbers stopped ps
-stands_taken frames task before world froms numbers stopped ps same stands = stands_as frames task before world froms numbers stopped ps (ap (λ (t : Task). scope_of t) same) stands
+stands_taken : (frames : List Frame) (task before : Task) (world : World) (froms : Table) (numbers : Numbers) (stopped : Option Stopped)
+    (ps : List Place) →
+    before ≡ record task { halt = before.halt } → Stands frames task world froms numbers stopped ps →
+        Stands frames before world froms numbers stopped ps
+stands_taken frames task before world froms numbers stopped ps same stands =
+    stands_as frames task before world froms numbers stopped ps (ap (λ (t : Task). scope_of t) same) stands
 
-took_taken : (frames : List Frame) (task before after : Task) (old new : World) (goes : Moved) (froms : Table) (numbers : Numbers) (o : Move) →
+took_taken : (frames : List Frame) (task before after : Task) (old new : World) (goes : Moved) (froms : Table) (numbers : Numbers)
+    (o : Move) →
     before ≡ record task { halt = before.halt } →
     Took frames before after old new goes froms numbers o → Took frames task after old new goes froms numbers o
 took_taken frames task before after old new goes froms numbers o same took =
-    took_as frames task before after old new goes froms numbers o (ap (λ (t : Task). t.part) same) (ap (λ (t : Task). t.entries.items) same) (ap (λ (t : Task). scoping_of t old) same) took
+    took_as frames task before after old new goes froms numbers o (ap (λ (t : Task). t.part) same) (ap (λ (t : Task). t.entries.items) same)
+        (ap (λ (t : Task). scoping_of t old) same) took
 
 -- a wake that goes on, with that exception or well, wherever the task stopped
 wakes_onward : (task after : Task) (world : World) (exc : Option held.Exc) (w : Wake) → after ≡ record task { halt = after.halt } →
-    ((froms : Table) (numbers : Numbers) (stopped : Stopped) (fs : List rest.Frame) (ps : List Place) → IsHalt numbers world.book task.halt stopped →
-    wake_of froms world.tick (here_of task) w stopped fs ps ≡ onward fs ps (option_map exc_of exc)) → Wakens task after world world (On exc) w
+    ((froms : Table) (numbers : Numbers) (stopped : Stopped) (fs : List rest.Frame) (ps : List Place) →
+        IsHalt numbers world.book task.halt stopped →
+    wake_of froms world.tick (here_of task) w stopped fs ps ≡ onward fs ps (option_map exc_of exc)) →
+        Wakens task after world world (On exc) w
 wakes_onward task after world exc w stays is froms numbers stopped ps stands halt =
-    subst (λ (o : Move). Took task.frames.items task after world world (On exc) froms numbers o) (sym (is froms numbers stopped (frames_of numbers task.frames.items) ps halt))
-    (took_halts task.frames.items task after world (On exc) froms numbers (Some stopped) ps (onward (frames_of numbers task.frames.items) ps (option_map exc_of exc)) stands
-    (stays ∙ ap (λ (t : Task). record task { frames = t.frames; halt = after.halt }) (sym stays)) (ap (λ (t : Task). blocks_of t.frames.items) stays)
+    subst (λ (o : Move). Took task.frames.items task after world world (On exc) froms numbers o)
+        (sym (is froms numbers stopped (frames_of numbers task.frames.items) ps halt))
+    (took_halts task.frames.items task after world (On exc) froms numbers (Some stopped) ps
+        (onward (frames_of numbers task.frames.items) ps (option_map exc_of exc)) stands
+    (stays ∙ ap (λ (t : Task). record task { frames = t.frames; halt = after.halt }) (sym stays))
+        (ap (λ (t : Task). blocks_of t.frames.items) stays)
     (ap (λ (t : Task). frames_of numbers t.frames.items) (sym stays)) refl refl refl tt (refl, refl))
 
 -- it begins
-pub wakes_begin : (task after : Task) (world : World) → after ≡ record task { halt = after.halt } → Wakens task after world world (On None) begins
+pub wakes_begin : (task after : Task) (world : World) → after ≡ record task { halt = after.halt } →
+    Wakens task after world world (On None) begins
 wakes_begin task after world stays = wakes_onward task after world None begins stays (λ froms numbers stopped fs ps h. refl)
 
 -- its sleep is over
-pub wakes_due : (task after : Task) (world : World) → after ≡ record task { halt = after.halt } → Wakens task after world world (On None) is_due
+pub wakes_due : (task after : Task) (world : World) → after ≡ record task { halt = after.halt } →
+    Wakens task after world world (On None) is_due
 wakes_due task after world stays = wakes_onward task after world None is_due stays (λ froms numbers stopped fs ps h. refl)
 
 -- it sees a cancellation in its sleep
-pub wakes_seen : (task after : Task) (world : World) (exc : Option held.Exc) → after ≡ record task { halt = after.halt } → option_map exc_of exc ≡ Some cancelled →
+pub wakes_seen : (task after : Task) (world : World) (exc : Option held.Exc) → after ≡ record task { halt = after.halt } →
+    option_map exc_of exc ≡ Some cancelled →
     Wakens task after world world (On exc) sees
 wakes_seen task after world exc stays is =
     wakes_onward task after world exc sees stays (λ froms numbers stopped fs ps h. ap (λ (e : Option Exc). onward fs ps e) (sym is))
@@ -109,84 +125,108 @@ wakes_seen task after world exc stays is =
 -- ---- a kernel's answer
 
 -- what it does that asked is what it does with the answer for its purpose
-answered_as : (task : Task) (world : World) (froms : Table) (numbers : Numbers) (stopped : Stopped) (fs : List rest.Frame) (ps : List Place) (kernel : Kernel) (purpose : Purpose)
+answered_as : (task : Task) (world : World) (froms : Table) (numbers : Numbers) (stopped : Stopped) (fs : List rest.Frame) (ps : List Place)
+    (kernel : Kernel) (purpose : Purpose)
     (answer : ask.Answer) →
     task.halt ≡ Asked kernel purpose → IsHalt numbers world.book task.halt stopped →
-    wake_of froms world.tick (here_of task) (has_answer answer) stopped fs ps ≡ goes_on_with froms world.tick (here_of task) answer (purpose_in purpose) fs ps
+    wake_of froms world.tick (here_of task) (has_answer answer) stopped fs ps
+        ≡ goes_on_with froms world.tick (here_of task) answer (purpose_in purpose) fs ps
 answered_as task world froms numbers stopped fs ps kernel purpose answer asked h =
     ap (λ (s : Stopped). wake_of froms world.tick (here_of task) (has_answer answer) s fs ps)
     (halts_asked numbers world.book kernel purpose stopped (subst (λ (x : Halt). IsHalt numbers world.book x stopped) asked h))
 
 -- that there is nothing more to do with
-pub wakes_answered : (task after : Task) (world : World) (kernel : Kernel) (purpose : Purpose) (answer : ask.Answer) → after ≡ record task { halt = after.halt } →
+pub wakes_answered : (task after : Task) (world : World) (kernel : Kernel) (purpose : Purpose) (answer : ask.Answer) →
+    after ≡ record task { halt = after.halt } →
     task.halt ≡ Asked kernel purpose →
-    ((froms : Table) (fs : List rest.Frame) (ps : List Place) → goes_on_with froms world.tick (here_of task) answer (purpose_in purpose) fs ps ≡ onward fs ps None) →
+    ((froms : Table) (fs : List rest.Frame) (ps : List Place) → goes_on_with froms world.tick (here_of task) answer (purpose_in purpose) fs
+        ps ≡ onward fs ps None) →
     Wakens task after world world (On None) (has_answer answer)
 wakes_answered task after world kernel purpose answer stays asked is =
     wakes_onward task after world None (has_answer answer) stays
     (λ froms numbers stopped fs ps h. answered_as task world froms numbers stopped fs ps kernel purpose answer asked h ∙ is froms fs ps)
 
 -- no line was there that was needed: it raises
-pub wakes_missing : (task before after : Task) (world : World) (goes : Moved) (kernel : Kernel) (purpose : Purpose) (name : List ℕ) → before ≡ record task { halt = before.halt } →
+pub wakes_missing : (task before after : Task) (world : World) (goes : Moved) (kernel : Kernel) (purpose : Purpose) (name : List ℕ) →
+    before ≡ record task { halt = before.halt } →
     task.halt ≡ Asked kernel purpose → purpose_in purpose ≡ ask.needs name → after ≡ record before { halt = after.halt } →
     ((numbers : Numbers) (book : NurseryBook) (fs : List rest.Frame) (ps : List Place) →
-    MovesAs numbers book before.part goes after.halt (onward fs ps (Some (raised name before.label world.tick)))) → Wakens task after world world goes (has_answer ask.missing)
+    MovesAs numbers book before.part goes after.halt (onward fs ps (Some (raised name before.label world.tick)))) →
+        Wakens task after world world goes (has_answer ask.missing)
 wakes_missing task before after world goes kernel purpose name taken asked for_name stays raises froms numbers stopped ps stands halt =
     let gs = frames_of numbers task.frames.items in
     subst (λ (o : Move). Took task.frames.items task after world world goes froms numbers o)
     (sym (answered_as task world froms numbers stopped gs ps kernel purpose ask.missing asked halt
     ∙ ap (λ (p : ask.Purpose). goes_on_with froms world.tick (here_of task) ask.missing p gs ps) for_name
     ∙ ap (λ (t : Task). onward gs ps (Some (raised name t.label world.tick))) (sym taken)))
-    (took_taken task.frames.items task before after world world goes froms numbers (onward gs ps (Some (raised name before.label world.tick))) taken
-    (took_halts task.frames.items before after world goes froms numbers (Some stopped) ps (onward gs ps (Some (raised name before.label world.tick)))
+    (took_taken task.frames.items task before after world world goes froms numbers
+        (onward gs ps (Some (raised name before.label world.tick))) taken
+    (took_halts task.frames.items before after world goes froms numbers (Some stopped) ps
+        (onward gs ps (Some (raised name before.label world.tick)))
     (stands_taken task.frames.items task before world froms numbers (Some stopped) ps taken stands)
     (stays ∙ ap (λ (t : Task). record before { frames = t.frames; halt = after.halt }) (sym stays))
     (ap (λ (t : Task). blocks_of t.frames.items) stays ∙ ap (λ (t : Task). blocks_of t.frames.items) taken)
-    (sym (ap (λ (t : Task). frames_of numbers t.frames.items) stays ∙ ap (λ (t : Task). frames_of numbers t.frames.items) taken)) refl refl refl tt
+    (sym (ap (λ (t : Task). frames_of numbers t.frames.items) stays ∙ ap (λ (t : Task). frames_of numbers t.frames.items) taken)) refl refl
+        refl tt
     (raises numbers world.book gs ps)))
 
 -- lines were counted to sleep by
-pub wakes_counted : (task before after : Task) (world : World) (goes : Moved) (kernel : Kernel) (purpose : Purpose) (k n ticks : ℕ) → before ≡ record task { halt = before.halt } →
+pub wakes_counted : (task before after : Task) (world : World) (goes : Moved) (kernel : Kernel) (purpose : Purpose) (k n ticks : ℕ) →
+    before ≡ record task { halt = before.halt } →
     task.halt ≡ Asked kernel purpose → purpose_in purpose ≡ ask.paces k → ticks ≡ paced n k → after ≡ record before { halt = after.halt } →
-    ((froms : Table) (numbers : Numbers) (book : NurseryBook) (fs : List rest.Frame) (ps : List Place) → AreAt (label_at world) froms (outer_of world.scopes (scope_of before)) ps →
-    MovesAs numbers book before.part goes after.halt (sleeps froms ticks world.tick fs ps)) → Wakens task after world world goes (has_answer (ask.counted n))
-wakes_counted task before after world goes kernel purpose k n ticks taken asked by_count long stays sleep froms numbers stopped ps stands halt =
+    ((froms : Table) (numbers : Numbers) (book : NurseryBook) (fs : List rest.Frame) (ps : List Place) →
+        AreAt (label_at world) froms (outer_of world.scopes (scope_of before)) ps →
+    MovesAs numbers book before.part goes after.halt (sleeps froms ticks world.tick fs ps)) →
+        Wakens task after world world goes (has_answer (ask.counted n))
+wakes_counted task before after world goes kernel purpose k n ticks taken asked by_count long stays sleep froms numbers stopped ps stands
+    halt =
     let gs = frames_of numbers task.frames.items in
     subst (λ (o : Move). Took task.frames.items task after world world goes froms numbers o)
     (sym (answered_as task world froms numbers stopped gs ps kernel purpose (ask.counted n) asked halt
     ∙ ap (λ (p : ask.Purpose). goes_on_with froms world.tick (here_of task) (ask.counted n) p gs ps) by_count
-    ∙ ap (λ (x : ℕ). sleeps froms x world.tick gs ps) (sym long) ∙ ap (λ (t : Task). sleeps froms ticks world.tick (frames_of numbers t.frames.items) ps) (sym taken)))
-    (took_taken task.frames.items task before after world world goes froms numbers (sleeps froms ticks world.tick (frames_of numbers before.frames.items) ps) taken
-    (took_sleep task.frames.items before after world goes froms numbers (Some stopped) ps ticks (stands_taken task.frames.items task before world froms numbers
+    ∙ ap (λ (x : ℕ). sleeps froms x world.tick gs ps) (sym long)
+        ∙ ap (λ (t : Task). sleeps froms ticks world.tick (frames_of numbers t.frames.items) ps) (sym taken)))
+    (took_taken task.frames.items task before after world world goes froms numbers
+        (sleeps froms ticks world.tick (frames_of numbers before.frames.items) ps) taken
+    (took_sleep task.frames.items before after world goes froms numbers (Some stopped) ps ticks
+        (stands_taken task.frames.items task before world froms numbers
     (Some stopped) ps taken stands) stays
-    (ap (λ (t : Task). blocks_of t.frames.items) taken) (λ at. sleep froms numbers world.book (frames_of numbers before.frames.items) ps at)))
+    (ap (λ (t : Task). blocks_of t.frames.items) taken) (λ at. sleep froms numbers world.book (frames_of numbers before.frames.items) ps
+        at)))
 
 -- lines were found: it notes them
 pub wakes_lines : (task before after : Task) (world : World) (kernel : Kernel) (purpose : Purpose) (spans : List Span) (lines : List Line) →
     before ≡ record task { halt = before.halt } →
-    task.halt ≡ Asked kernel purpose → after ≡ record before { halt = after.halt; entries = after.entries } → after.entries.items ≡ before.entries.items ++ map entries.Line lines →
+    task.halt ≡ Asked kernel purpose → after ≡ record before { halt = after.halt; entries = after.entries } →
+        after.entries.items ≡ before.entries.items ++ map entries.Line lines →
     AreLinesAt (buffer_of before.part) spans lines → Wakens task after world world (On None) (has_answer (ask.lines spans))
 wakes_lines task before after world kernel purpose spans lines taken asked stays noted at froms numbers stopped ps stands halt =
     let gs = frames_of numbers task.frames.items in
     subst (λ (o : Move). Took task.frames.items task after world world (On None) froms numbers o)
     (sym (answered_as task world froms numbers stopped gs ps kernel purpose (ask.lines spans) asked halt))
     (took_taken task.frames.items task before after world world (On None) froms numbers (making (lines_made world.tick spans) gs ps) taken
-    (took_lines task.frames.items before after world froms numbers (Some stopped) ps spans lines (stands_taken task.frames.items task before world froms numbers
+    (took_lines task.frames.items before after world froms numbers (Some stopped) ps spans lines
+        (stands_taken task.frames.items task before world froms numbers
     (Some stopped) ps taken stands)
     (ap (λ (t : Task). t.frames.items) taken) stays noted at))
 
 -- ---- a nursery that is settled
 
 -- the nursery that it waits for is closed and left; none of its blocks has it
-pub wakes_settled : (id since : ℕ) (task before after : Task) (old mid new : World) (exc goes : Option held.Exc) → before ≡ record task { halt = before.halt } →
+pub wakes_settled : (id since : ℕ) (task before after : Task) (old mid new : World) (exc goes : Option held.Exc) →
+    before ≡ record task { halt = before.halt } →
     task.halt ≡ Awaits id since →
     (HasBlock id (blocks_of task.frames.items) → ⊥) → mid ≡ record old { book = mid.book } → Updates old.book mid.book id None →
-    after ≡ record before { own = after.own; froms = after.froms; entries = after.entries } → new ≡ record mid { scopes = new.scopes; labels = new.labels } →
+    after ≡ record before { own = after.own; froms = after.froms; entries = after.entries } →
+        new ≡ record mid { scopes = new.scopes; labels = new.labels } →
     ExitsAt before after mid new kind.Nursery (option_map exc_of exc) (option_map exc_of goes) → LeavesOne before after mid new →
-    ((n : Nursery) → nursery_at old.book id ≡ Some n → IsOfOther before.own.items old.scopes n → ⊥) → Wakens task after old new (On goes) (settles (option_map exc_of exc))
-wakes_settled id since task before after old mid new exc goes taken waits apart closed u stays world exits one mine froms numbers stopped ps stands halt =
+    ((n : Nursery) → nursery_at old.book id ≡ Some n → IsOfOther before.own.items old.scopes n → ⊥) →
+        Wakens task after old new (On goes) (settles (option_map exc_of exc))
+wakes_settled id since task before after old mid new exc goes taken waits apart closed u stays world exits one mine froms numbers stopped ps
+    stands halt =
     let w = halts_awaits numbers old.book id since stopped (subst (λ (x : Halt). IsHalt numbers old.book x stopped) waits halt) in
-    took_taken task.frames.items task before after old new (On goes) froms numbers (settled froms old.tick (option_map exc_of exc) (frames_of numbers task.frames.items) ps) taken
+    took_taken task.frames.items task before after old new (On goes) froms numbers
+        (settled froms old.tick (option_map exc_of exc) (frames_of numbers task.frames.items) ps) taken
     (took_settled task.frames.items id before after old mid new (numbers id) since w.exc exc goes froms numbers ps
     (stands_taken task.frames.items task before old froms numbers (Some (awaiting (numbers id) since w.exc)) ps taken
     (subst (λ (s : Stopped). Stands task.frames.items task old froms numbers (Some s) ps) w.is stands))

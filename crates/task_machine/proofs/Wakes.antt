@@ -22,7 +22,8 @@ use Rattle.line_kernels.specs.declared.kernel.Kernel.TheVariants.{Find, Head, Lo
 count_le : (input : List ℕ) (r : Range) → count_in input r ≤ length (bytes_of input r)
 count_le input r = length-lines_from r.from (bytes_of input r)
 
-pub count_few : (kernel : Kernel) (part : Part) (n : ℕ) → length (bytes_of (buffer_of part) (range_of part)) ≤ MOST_INPUT → IsAnswer kernel part (answers.Count n) → n ≤ MOST_INPUT
+pub count_few : (kernel : Kernel) (part : Part) (n : ℕ) → length (bytes_of (buffer_of part) (range_of part)) ≤ MOST_INPUT →
+    IsAnswer kernel part (answers.Count n) → n ≤ MOST_INPUT
 count_few (Find needle) part n small a = absurd a
 count_few (Head count) part n small a = absurd a
 count_few Longest part n small a = absurd a
@@ -35,13 +36,15 @@ raised_is None e h = absurd h
 raised_is (Some n) e h = sym h
 
 -- lines that a kernel answered stand where they say
-pub lines_at : (kernel : Kernel) (part : Part) (lines : List Line) → IsAnswer kernel part (answers.Lines lines) → AreLinesAt (buffer_of part) (map span_of lines) lines
+pub lines_at : (kernel : Kernel) (part : Part) (lines : List Line) → IsAnswer kernel part (answers.Lines lines) →
+    AreLinesAt (buffer_of part) (map span_of lines) lines
 lines_at (Find needle) part lines a = record { places = refl; texts = a.texts }
 lines_at (Head count) part lines a = record { places = refl; texts = a.texts }
 lines_at Longest part lines a = record { places = refl; texts = a.texts }
 lines_at (Need needle) part lines a = by_line (needed_in (buffer_of part) needle.now (range_of part)) a
   where
-    by_line : (o : Option Span) → MatchOption o ⊥ (λ l. AreLinesAt (buffer_of part) (l ∷ []) lines) → AreLinesAt (buffer_of part) (map span_of lines) lines
+    by_line : (o : Option Span) → MatchOption o ⊥ (λ l. AreLinesAt (buffer_of part) (l ∷ []) lines) →
+        AreLinesAt (buffer_of part) (map span_of lines) lines
     by_line None a = absurd a
     by_line (Some l) a = record { places = refl; texts = a.texts }
 lines_at Count part lines a = absurd a

@@ -33,7 +33,8 @@ use Rattle.task_machine.specs.Waking.{WakesFrom, wake_in}
 use Rattle.task_machine.proofs.Taking.{took_then}
 
 -- a wake that fits the halt can come of the stop
-pub can_wake : (halt : Halt) (part : Part) (book : NurseryBook) (numbers : Numbers) (w : Wake) (s : Stopped) → WakesFrom halt part book w → IsHalt numbers book halt s → CanWake (wake_in book halt w) s
+pub can_wake : (halt : Halt) (part : Part) (book : NurseryBook) (numbers : Numbers) (w : Wake) (s : Stopped) → WakesFrom halt part book w →
+    IsHalt numbers book halt s → CanWake (wake_in book halt w) s
 can_wake ToBegin part book numbers Begin to_begin f h = from_start
 can_wake ToBegin part book numbers Begin (asking l q) f h = absurd h
 can_wake ToBegin part book numbers Begin (asleep m v) f h = absurd h
@@ -83,32 +84,43 @@ can_wake Over part book numbers Settled s f h = absurd f
 -- ---- where the task stands that goes on behind its wake
 
 placed_on : (o : Move) (froms : Table) (t : ℕ) (here : Here) (count : ℕ) → o.stopped ≡ None →
-    (let p = then_move o.stopped o (turn_of zero froms t here (record { frames = o.frames; places = o.places; exc = o.exc; count = count })) in PlacedAfter p.stopped p.frames p.places) →
+    (let p = then_move o.stopped o (turn_of zero froms t here (record { frames = o.frames; places = o.places; exc = o.exc; count = count }))
+        in PlacedAfter p.stopped p.frames p.places) →
     PlacedAfter None o.frames o.places
 unfolding turn_of
 placed_on o froms t here count e h =
-    subst (λ (s : Option Stopped). (let p = then_move s o (turn_of zero froms t here (record { frames = o.frames; places = o.places; exc = o.exc; count = count })) in PlacedAfter p.stopped p.frames p.places)) e h
+    subst (λ (s : Option Stopped).
+        (let p = then_move s o (turn_of zero froms t here (record { frames = o.frames; places = o.places; exc = o.exc; count = count })) in
+        PlacedAfter p.stopped p.frames p.places)) e h
 
 names_on : (o : Move) (froms : Table) (t : ℕ) (here : Here) (count : ℕ) → o.stopped ≡ None →
-    StaysNew (then_move o.stopped o (turn_of zero froms t here (record { frames = o.frames; places = o.places; exc = o.exc; count = count }))) → NewIn o.frames o.places × OwnNames (names_at o.places)
+    StaysNew (then_move o.stopped o
+        (turn_of zero froms t here (record { frames = o.frames; places = o.places; exc = o.exc; count = count }))) → NewIn o.frames o.places
+        × OwnNames (names_at o.places)
 unfolding turn_of
 names_on o froms t here count e h =
-    let k = subst (λ (s : Option Stopped). StaysNew (then_move s o (turn_of zero froms t here (record { frames = o.frames; places = o.places; exc = o.exc; count = count })))) e h in (k.frames, k.own)
+    let k = subst (λ (s : Option Stopped). StaysNew (then_move s o
+        (turn_of zero froms t here (record { frames = o.frames; places = o.places; exc = o.exc; count = count })))) e h in (k.frames, k.own)
 
-pub wake_stands : (task after : Task) (old new : World) (exc : Option held.Exc) (froms : Table) (numbers : Numbers) (ps : List Place) (count : ℕ) (stopped : Stopped) (w : wakes.Wake) → CanWake w stopped →
-    Stands task.frames.items task old froms numbers (Some stopped) ps → (took : Took task.frames.items task after old new (On exc) froms numbers (wake_at task old w stopped froms numbers ps)) →
-    Stands after.frames.items after new (froms_after froms (wake_at task old w stopped froms numbers ps).made) took.numbers_after None (wake_at task old w stopped froms numbers ps).places
+pub wake_stands : (task after : Task) (old new : World) (exc : Option held.Exc) (froms : Table) (numbers : Numbers) (ps : List Place)
+    (count : ℕ) (stopped : Stopped) (w : wakes.Wake) → CanWake w stopped →
+    Stands task.frames.items task old froms numbers (Some stopped) ps →
+        (took : Took task.frames.items task after old new (On exc) froms numbers (wake_at task old w stopped froms numbers ps)) →
+    Stands after.frames.items after new (froms_after froms (wake_at task old w stopped froms numbers ps).made) took.numbers_after None
+        (wake_at task old w stopped froms numbers ps).places
 unfolding turn_from
 wake_stands task after old new exc froms numbers ps count stopped w can stands took =
     let o = wake_at task old w stopped froms numbers ps in
     let r : rest.Rest = record { stopped = stopped; frames = frames_of numbers task.frames.items } in
     let kept = (turned_from zero old.tick old.tick (here_of task) froms w r ps count can stands.placed).placed in
     let none : o.stopped ≡ None = took.moves.1 in
-    let names = names_on o _ old.tick (here_of task) _ none (turn_stays_new zero old.tick (here_of task) froms w r ps count can stands.new stands.own) in
+    let names = names_on o _ old.tick (here_of task) _ none (turn_stays_new zero old.tick (here_of task) froms w r ps count can stands.new
+        stands.own) in
     record {
       places = took.places;
       numbered = λ id has. took.numbered id (inl has);
-      placed = subst (λ (fs : List rest.Frame). PlacedAfter None fs o.places) (sym took.frames_after) (placed_on o _ old.tick (here_of task) _ none kept);
+      placed = subst (λ (fs : List rest.Frame). PlacedAfter None fs o.places) (sym took.frames_after)
+          (placed_on o _ old.tick (here_of task) _ none kept);
       new = subst (λ (fs : List rest.Frame). NewIn fs o.places) (sym took.frames_after) names.0;
       own = names.1;
     }
@@ -116,34 +128,51 @@ wake_stands task after old new exc froms numbers ps count stopped w can stands t
 -- ---- the whole turn
 
 -- it stopped in its wake
-pub turns_at_once : (task after : Task) (old new : World) (wake : Wake) (stop : Stop) (froms : Table) (numbers : Numbers) (ps : List Place) (count : ℕ) (stopped : Stopped) →
-    Took task.frames.items task after old new (Stops stop) froms numbers (wake_at task old (wake_in old.book task.halt wake) stopped froms numbers ps) → TookTurn task after old new wake stop froms numbers stopped ps count
+pub turns_at_once : (task after : Task) (old new : World) (wake : Wake) (stop : Stop) (froms : Table) (numbers : Numbers) (ps : List Place)
+    (count : ℕ) (stopped : Stopped) →
+    Took task.frames.items task after old new (Stops stop) froms numbers
+        (wake_at task old (wake_in old.book task.halt wake) stopped froms numbers ps) →
+        TookTurn task after old new wake stop froms numbers stopped ps count
 unfolding turn_from
 turns_at_once task after old new wake stop froms numbers ps count stopped took =
     let o = wake_at task old (wake_in old.book task.halt wake) stopped froms numbers ps in
-    record { steps = zero; took = subst (λ (p : Move). Took task.frames.items task after old new (Stops stop) froms numbers p) (sym (then_none o.stopped o _ took.moves.1)) took }
+    record { steps = zero; took = subst (λ (p : Move). Took task.frames.items task after old new (Stops stop) froms numbers p)
+        (sym (then_none o.stopped o _ took.moves.1)) took }
   where
     then_none : (s : Option Stopped) (o q : Move) → StopsAs took.numbers_after new.book task.part stop after.halt s → then_move s o q ≡ o
     then_none None o q h = absurd h
     then_none (Some s) o q h = refl
 
 -- it went on, and stopped later
-pub turns_later : (task mid after : Task) (old w new : World) (wake : Wake) (exc : Option held.Exc) (stop : Stop) (froms : Table) (numbers : Numbers) (ps : List Place) (count : ℕ) (stopped : Stopped) →
-    mid.part ≡ task.part → mid.label ≡ task.label → w.tick ≡ old.tick → CanWake (wake_in old.book task.halt wake) stopped → Stands task.frames.items task old froms numbers (Some stopped) ps →
-    Took task.frames.items task mid old w (On exc) froms numbers (wake_at task old (wake_in old.book task.halt wake) stopped froms numbers ps) → StopsAfter mid after w new (option_map exc_of exc) stop →
+pub turns_later : (task mid after : Task) (old w new : World) (wake : Wake) (exc : Option held.Exc) (stop : Stop) (froms : Table)
+    (numbers : Numbers) (ps : List Place) (count : ℕ) (stopped : Stopped) →
+    mid.part ≡ task.part → mid.label ≡ task.label → w.tick ≡ old.tick → CanWake (wake_in old.book task.halt wake) stopped →
+        Stands task.frames.items task old froms numbers (Some stopped) ps →
+    Took task.frames.items task mid old w (On exc) froms numbers
+        (wake_at task old (wake_in old.book task.halt wake) stopped froms numbers ps) →
+        StopsAfter mid after w new (option_map exc_of exc) stop →
     TookTurn task after old new wake stop froms numbers stopped ps count
 unfolding turn_from
 turns_later task mid after old w new wake exc stop froms numbers ps count stopped part label tick can stands took steps =
     let o = wake_at task old (wake_in old.book task.halt wake) stopped froms numbers ps in
-    let s = steps (froms_after froms o.made) took.numbers_after o.places (count + length o.begun) (wake_stands task mid old w exc froms numbers ps count stopped (wake_in old.book task.halt wake) can stands took) in
+    let s = steps (froms_after froms o.made) took.numbers_after o.places (count + length o.begun)
+        (wake_stands task mid old w exc froms numbers ps count stopped (wake_in old.book task.halt wake) can stands took) in
     record {
       steps = s.steps;
       took =
           took_then task.frames.items task mid after old w new exc (Stops stop) froms numbers o
-          (turn_of s.steps (froms_after froms o.made) old.tick (here_of task) (record { frames = o.frames; places = o.places; exc = o.exc; count = count + length o.begun })) took
-          (subst (λ (t : ℕ). Took mid.frames.items mid after w new (Stops stop) (froms_after froms o.made) took.numbers_after (turn_of s.steps (froms_after froms o.made) t (here_of task) (record { frames = o.frames; places = o.places; exc = o.exc; count = count + length o.begun }))) tick
-          (subst (λ (h : Here). Took mid.frames.items mid after w new (Stops stop) (froms_after froms o.made) took.numbers_after (turn_of s.steps (froms_after froms o.made) w.tick h (record { frames = o.frames; places = o.places; exc = o.exc; count = count + length o.begun }))) here
-          (subst (λ (m : Midway). Took mid.frames.items mid after w new (Stops stop) (froms_after froms o.made) took.numbers_after (turn_of s.steps (froms_after froms o.made) w.tick (here_of mid) m)) (same (frames_of took.numbers_after mid.frames.items) o.frames (option_map exc_of exc) o.exc took.frames_after took.moves.0) s.took)))
+          (turn_of s.steps (froms_after froms o.made) old.tick (here_of task)
+              (record { frames = o.frames; places = o.places; exc = o.exc; count = count + length o.begun })) took
+          (subst (λ (t : ℕ). Took mid.frames.items mid after w new (Stops stop) (froms_after froms o.made) took.numbers_after
+              (turn_of s.steps (froms_after froms o.made) t (here_of task)
+              (record { frames = o.frames; places = o.places; exc = o.exc; count = count + length o.begun }))) tick
+          (subst (λ (h : Here). Took mid.frames.items mid after w new (Stops stop) (froms_after froms o.made) took.numbers_after
+              (turn_of s.steps (froms_after froms o.made) w.tick h (record
+              { frames = o.frames; places = o.places; exc = o.exc; count = count + length o.begun }))) here
+          (subst (λ (m : Midway). Took mid.frames.items mid after w new (Stops stop) (froms_after froms o.made) took.numbers_after
+              (turn_of s.steps (froms_after froms o.made) w.tick (here_of mid) m))
+              (same (frames_of took.numbers_after mid.frames.items) o.frames (option_map exc_of exc) o.exc took.frames_after took.moves.0)
+              s.took)))
           part tick;
     }
   where
@@ -151,5 +180,6 @@ turns_later task mid after old w new wake exc stop froms numbers ps count stoppe
     here = cc
 
     same : {ps : List Place} {n : ℕ} (fs gs : List rest.Frame) (d e : Option Exc) → fs ≡ gs → d ≡ e →
-        (let m : Midway = record { frames = fs; places = ps; exc = d; count = n } in m) ≡ record { frames = gs; places = ps; exc = e; count = n }
+        (let m : Midway = record { frames = fs; places = ps; exc = d; count = n } in m)
+            ≡ record { frames = gs; places = ps; exc = e; count = n }
     same fs gs d e f g = cc

@@ -27,7 +27,8 @@ scoping_of task world = record { tree = world.scopes; labels = label_at world; o
 pub record Cancels (key tick : ℕ) (old new : Tree) : Type 0 where
   pub stacks : (other : ℕ) → stack_of new other ≡ option_map (after_cancel key tick) (stack_of old other)
   pub marks :
-      (other : ℕ) → ForSome (stack_of old other) (λ st. is_changed new other ≡ (is_changed old other || before (sight (after_cancel key tick st)) (sight st)))
+      (other : ℕ) → ForSome (stack_of old other) (λ st. is_changed new other
+          ≡ (is_changed old other || before (sight (after_cancel key tick st)) (sight st)))
 
 -- a scope of this label is cancelled in a tick
 pub record Signs (tick : ℕ) (label : Label) (old new : Scoping) : Type 0 where
@@ -76,7 +77,8 @@ pub data Acts (tick : ℕ) : Scoping → List Event → Scoping → Type 0 where
   act_noted : (s u : Scoping) (t : ℕ) (e : log.Entry) (es : List Event) → Acts tick s es u → Acts tick s (noted t e ∷ es) u
   act_starts : (s u : Scoping) (i : ℕ) (l : Label) (t : ℕ) (es : List Event) → Acts tick s es u → Acts tick s (starts i l t ∷ es) u
   act_signs : (s m u : Scoping) (l : Label) (es : List Event) → Signs tick l s m → Acts tick m es u → Acts tick s (signs l tick ∷ es) u
-  act_enters : (s m u : Scoping) (l : Label) (t : ℕ) (d : Tick) (es : List Event) → Enters l d s m → Acts tick m es u → Acts tick s (enters l t d ∷ es) u
+  act_enters : (s m u : Scoping) (l : Label) (t : ℕ) (d : Tick) (es : List Event) → Enters l d s m → Acts tick m es u →
+      Acts tick s (enters l t d ∷ es) u
   act_leaves : (s m u : Scoping) (es : List Event) → Leaves s m → Acts tick m es u → Acts tick s es u
 
 -- the scope of this key is cancelled in the tick of a world, or none is

@@ -25,7 +25,8 @@ use Rattle.task_machine.specs.Worlds.{label_at}
 -- The innermost place is left with an exception: what it leaves of that by the froms goes on, it is noted, and the task is in the
 -- places round it, with the same froms.
 pub record ExitsFrom
-    (before after : Task) (old new : World) (kind : meaning.Kind) (left : meaning.Left) (goes_on : Option Exc) (froms : Table) (p : Place) (ps : List Place) : Type 0
+    (before after : Task) (old new : World) (kind : meaning.Kind) (left : meaning.Left) (goes_on : Option Exc) (froms : Table) (p : Place)
+        (ps : List Place) : Type 0
   where
     pub exc : goes_on ≡ exc_after kind p.label old.tick left
     pub entry : Entry
@@ -36,7 +37,8 @@ pub record ExitsFrom
 abbrev pub ExitsAt : Task → Task → World → World → Kind → Option Exc → Option Exc → Type 0
 ExitsAt before after old new kind exc goes_on =
     (froms : Table) (p : Place) (ps : List Place) → AreAt (label_at old) froms (outer_of old.scopes (scope_of before)) (p ∷ ps) →
-    ExitsFrom before after old new (kind_of kind) (left_with (catches (froms p.label) p.shield (stack_at froms ps) old.tick) exc) goes_on froms p ps
+    ExitsFrom before after old new (kind_of kind) (left_with (catches (froms p.label) p.shield (stack_at froms ps) old.tick) exc) goes_on
+        froms p ps
 
 -- Who ends with an exception signs for the innermost scope, if there is one, and so lowers the from of the innermost place.
 pub record FailsAt (old new : World) (scope : Option ℕ) (exc : Option Exc) : Type 0 where

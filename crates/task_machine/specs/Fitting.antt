@@ -139,7 +139,8 @@ waits_of Over = None
 -- a scope that another task opened has one of this task's round it only where a child of the task runs in there
 abbrev pub OthersRun : Tree → NurseryBook → List Block → List Own → Option ℕ → Type 0
 OthersRun tree book bs own waits =
-    (key : ℕ) (st : Stack) → stack_of tree key ≡ Some st → AreOthers key own → (i : ℕ) (o : Own) → slice_get own i ≡ Some o → IsKey o.id st →
+    (key : ℕ) (st : Stack) → stack_of tree key ≡ Some st → AreOthers key own → (i : ℕ) (o : Own) → slice_get own i ≡ Some o →
+        IsKey o.id st →
     RunsIn book bs i waits
 
 -- each scope stays open, or closed, inside the same ones
@@ -149,7 +150,8 @@ SameKeys old new = (key : ℕ) → option_map keys_of (stack_of new key) ≡ opt
 -- What holds between moves of a task that is on this part, has these frames, opened these scopes inside its home's, and entered
 -- so many, in a world with these scopes, labels and nurseries. It waits for a nursery, or not.
 pub record FitsIn
-    (frames : List Frame) (part : Part) (within : Option ℕ) (own : List Own) (entered : ℕ) (tree : Tree) (labels : Labels) (book : NurseryBook) (waits : Option ℕ) : Type 0
+    (frames : List Frame) (part : Part) (within : Option ℕ) (own : List Own) (entered : ℕ) (tree : Tree) (labels : Labels)
+        (book : NurseryBook) (waits : Option ℕ) : Type 0
   where
     pub modest : AreModestFrames (frames_of (λ id. []) frames)
     pub starts : StartsFit (frames_of (λ id. []) frames)

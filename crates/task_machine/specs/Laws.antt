@@ -12,12 +12,14 @@ use Rattle.task_machine.specs.Stacked.{AreAt, IsKey, SameOn, FoundAs}
 
 -- the same is seen
 abbrev pub SeenAlike : Type 0
-SeenAlike = (labels : Labels) (froms : Table) (st : scopes.Stack) (ps : List Place) (t : ℕ) → AreAt labels froms st ps → seen st t ≡ seen (stack_at froms ps) t
+SeenAlike = (labels : Labels) (froms : Table) (st : scopes.Stack) (ps : List Place) (t : ℕ) → AreAt labels froms st ps →
+    seen st t ≡ seen (stack_at froms ps) t
 
 -- the innermost scope catches as its place does
 abbrev pub CatchAlike : Type 0
 CatchAlike =
-    (labels : Labels) (froms : Table) (l : Level ℕ) (ls : scopes.Stack) (p : Place) (ps : List Place) (t : ℕ) → AreAt labels froms (l ∷ ls) (p ∷ ps) →
+    (labels : Labels) (froms : Table) (l : Level ℕ) (ls : scopes.Stack) (p : Place) (ps : List Place) (t : ℕ) →
+        AreAt labels froms (l ∷ ls) (p ∷ ps) →
     scopes.catches (l ∷ ls) t ≡ catches (froms p.label) p.shield (stack_at froms ps) t
 
 -- a name finds the scope of the label that it finds among the places, and one of the stack
@@ -30,12 +32,15 @@ FoundAlike =
 -- scope has its label.
 abbrev pub SignedAlike : Type 0
 SignedAlike =
-    (labels : Labels) (froms : Table) (st : scopes.Stack) (ps : List Place) (key t : ℕ) (label : Label) → labels key ≡ Some label → IsKey key st →
+    (labels : Labels) (froms : Table) (st : scopes.Stack) (ps : List Place) (key t : ℕ) (label : Label) → labels key ≡ Some label →
+        IsKey key st →
     OwnNames (names_at ps) → AreAt labels froms st ps → AreAt labels (lowered froms label t) (scopes.after_cancel key t st) ps
 
 -- a scope that is entered opens its label, where its name is none of those round it
 abbrev pub EnteredAlike : Type 0
 EnteredAlike =
-    (labels more : Labels) (froms : Table) (st : scopes.Stack) (ps : List Place) (key : ℕ) (label : Label) (shield : Bool) (d : Tick) → more key ≡ Some label →
+    (labels more : Labels) (froms : Table) (st : scopes.Stack) (ps : List Place) (key : ℕ) (label : Label) (shield : Bool) (d : Tick) →
+        more key ≡ Some label →
     SameOn labels more st → (IsName label.name (names_at ps) → ⊥) → AreAt labels froms st ps →
-    AreAt more (opened froms label d) (record { label = key; shield = shield; from = d } ∷ st) (record { label = label; shield = shield } ∷ ps)
+    AreAt more (opened froms label d) (record { label = key; shield = shield; from = d } ∷ st)
+        (record { label = label; shield = shield } ∷ ps)

@@ -46,7 +46,8 @@ pub record LeavesOne (before after : Task) (old new : World) : Type 0 where
 
 -- The innermost place is left: the task is in those round it, with the same froms, and the scope that was left catches as
 -- its place does.
-pub record LeavesFrom (before after : World) (outer inner : Option ℕ) (closed : Closed) (froms : Table) (p : Place) (ps : List Place) : Type 0 where
+pub record LeavesFrom (before after : World) (outer inner : Option ℕ) (closed : Closed) (froms : Table) (p : Place) (ps : List Place) : Type
+    0 where
   pub label : closed.label ≡ p.label
   pub caught : closed.catches ≡ catches (froms p.label) p.shield (stack_at froms ps) before.tick
   pub round : AreAt (label_at after) froms (outer_of after.scopes inner) ps

@@ -39,7 +39,8 @@ pub record Apart (n : ℕ) (rows : List Row) (stack : List ℕ) : Type 0 where
   pub once : (c : ℕ) → times_all c rows stack ≤ 1
 
 -- what stands where, once a row has been replaced
-pub got_after : (rows : List Row) (s j : ℕ) (hollow held : Row) → slice_get (slice_set rows s hollow) j ≡ Some held → (held ≡ hollow) ⊎ (slice_get rows j ≡ Some held)
+pub got_after : (rows : List Row) (s j : ℕ) (hollow held : Row) → slice_get (slice_set rows s hollow) j ≡ Some held → (held ≡ hollow)
+    ⊎ (slice_get rows j ≡ Some held)
 got_after [] s j hollow held e = inr e
 got_after (x ∷ rows) zero zero hollow held e = inl (sym (same_Some _ _ e))
 got_after (x ∷ rows) zero (suc j) hollow held e = inr e
@@ -50,7 +51,8 @@ taken_le : (b : Bool) → taken_if b ≤ 1
 taken_le true = omega arith
 taken_le false = omega arith
 
-taken_after : (rows : List Row) (s c : ℕ) (hollow : Row) → taken_at (slice_get (slice_set rows s hollow) c) ≤ one_if (s == c) + taken_at (slice_get rows c)
+taken_after : (rows : List Row) (s c : ℕ) (hollow : Row) → taken_at (slice_get (slice_set rows s hollow) c) ≤ one_if (s == c) + taken_at
+    (slice_get rows c)
 taken_after [] s c hollow = omega arith
 taken_after (x ∷ rows) zero zero hollow = omega (arith, taken_le (is_some hollow.end))
 taken_after (x ∷ rows) zero (suc c) hollow = omega arith
@@ -63,21 +65,26 @@ times_reverse : (c : ℕ) (xs : List ℕ) → times c (reverse xs) ≡ times c x
 times_reverse c xs = sum_by-IsPermutation _ xs (reverse xs) (IsPermutation-reverse xs)
 
 -- no number stands more often once a row has been taken out, and its children are on the stack
-times_step : (c s : ℕ) (rows : List Row) (stack : List ℕ) (row hollow : Row) → slice_get rows s ≡ Some row → hollow.children.items ≡ [] → times_all c (slice_set rows s hollow) (stack ++ reverse row.children.items) ≤ times_all c rows (stack ++ s ∷ [])
+times_step : (c s : ℕ) (rows : List Row) (stack : List ℕ) (row hollow : Row) → slice_get rows s ≡ Some row → hollow.children.items ≡ [] →
+    times_all c (slice_set rows s hollow) (stack ++ reverse row.children.items) ≤ times_all c rows (stack ++ s ∷ [])
 times_step c s rows stack row hollow is none =
     let at : get_or rows s row ≡ row = get_or_from_slice_get rows s row row is in
-    let moved : times_child c (slice_set rows s hollow) + times c (get_or rows s row).children.items ≡ times_child c rows + times c hollow.children.items =
+    let moved : times_child c (slice_set rows s hollow) + times c (get_or rows s row).children.items
+        ≡ times_child c rows + times c hollow.children.items =
     sum_by-set (λ (r : Row). times c r.children.items) rows s hollow row (slice_get_within rows s row is) in
     let its : times c (get_or rows s row).children.items ≡ times c row.children.items = ap (λ (r : Row). times c r.children.items) at in
     let gone : times c hollow.children.items ≡ 0 = ap (times c) none in
     let before : times c (stack ++ s ∷ []) ≡ times c stack + one_if (s == c) = sum_by_push (λ n. one_if (n == c)) stack s in
-    let after : times c (stack ++ reverse row.children.items) ≡ times c stack + times c (reverse row.children.items) = sum_by-append (λ n. one_if (n == c)) stack (reverse row.children.items) in
+    let after : times c (stack ++ reverse row.children.items) ≡ times c stack + times c (reverse row.children.items) =
+        sum_by-append (λ n. one_if (n == c)) stack (reverse row.children.items) in
     let turned : times c (reverse row.children.items) ≡ times c row.children.items = times_reverse c row.children.items in
-    let taken : taken_at (slice_get (slice_set rows s hollow) c) ≤ one_if (s == c) + taken_at (slice_get rows c) = taken_after rows s c hollow in
+    let taken : taken_at (slice_get (slice_set rows s hollow) c) ≤ one_if (s == c) + taken_at (slice_get rows c) =
+        taken_after rows s c hollow in
     omega arith
 
 -- what is on the stack has not been taken
-pub top_has_ended : (n s : ℕ) (rows : List Row) (whole stack : List ℕ) (row : Row) → Apart n rows whole → whole ≡ stack ++ s ∷ [] → slice_get rows s ≡ Some row → row.end ≡ None → ⊥
+pub top_has_ended : (n s : ℕ) (rows : List Row) (whole stack : List ℕ) (row : Row) → Apart n rows whole → whole ≡ stack ++ s ∷ [] →
+    slice_get rows s ≡ Some row → row.end ≡ None → ⊥
 top_has_ended n s rows whole stack row a top is none =
     let a : Apart n rows (stack ++ s ∷ []) = rw top at a in
     let before : times s (stack ++ s ∷ []) ≡ times s stack + one_if (s == s) = sum_by_push (λ n. one_if (n == s)) stack s in
@@ -94,37 +101,49 @@ top_within n s rows whole stack a is =
     omega arith
 
 -- a step of the loop
-apart_next : (n s : ℕ) (rows : List Row) (stack : List ℕ) (row hollow : Row) → Apart n rows (stack ++ s ∷ []) → slice_get rows s ≡ Some row → hollow.children.items ≡ [] → Apart n (slice_set rows s hollow) (stack ++ reverse row.children.items)
+apart_next : (n s : ℕ) (rows : List Row) (stack : List ℕ) (row hollow : Row) → Apart n rows (stack ++ s ∷ []) →
+    slice_get rows s ≡ Some row → hollow.children.items ≡ [] → Apart n (slice_set rows s hollow) (stack ++ reverse row.children.items)
 apart_next n s rows stack row hollow a is none =
     let theirs : All (λ c. c < n) row.children.items =
-    subst (λ (r : Row). All (λ c. c < n) r.children.items) (get_or_from_slice_get rows s row row is) (All-get_or (λ (r : Row). All (λ c. c < n) r.children.items) rows s row (slice_get_within rows s row is) a.within) in
+    subst (λ (r : Row). All (λ c. c < n) r.children.items) (get_or_from_slice_get rows s row row is)
+        (All-get_or (λ (r : Row). All (λ c. c < n) r.children.items) rows s row (slice_get_within rows s row is) a.within) in
     record {
       len = length-set rows s hollow ∙ a.len;
       stacked =
-          All-append (λ c. c < n) stack (reverse row.children.items) (All-pop (λ c. c < n) (stack ++ s ∷ []) stack (Some s) refl a.stacked).0
+          All-append (λ c. c < n) stack (reverse row.children.items) (All-pop (λ c. c < n) (stack ++ s ∷ []) stack (Some s) refl
+              a.stacked).0
           (All-permutation (λ c. c < n) row.children.items (reverse row.children.items) (IsPermutation-reverse row.children.items) theirs);
-      within = All-set (λ (r : Row). All (λ c. c < n) r.children.items) rows s hollow (subst (All (λ c. c < n)) (sym none) (All-nil (λ c. c < n))) a.within;
-      once = λ c. let less = times_step c s rows stack row hollow is none in let once : times_all c rows (stack ++ s ∷ []) ≤ 1 = a.once c in omega arith;
+      within = All-set (λ (r : Row). All (λ c. c < n) r.children.items) rows s hollow
+          (subst (All (λ c. c < n)) (sym none) (All-nil (λ c. c < n))) a.within;
+      once = λ c. let less = times_step c s rows stack row hollow is none in let once : times_all c rows (stack ++ s ∷ []) ≤ 1 =
+          a.once c in omega arith;
     }
 
-pub apart_step : (n s : ℕ) (rows after : List Row) (stack popped grown : List ℕ) (row : Row) → Apart n rows stack → stack ≡ popped ++ s ∷ [] → slice_get rows s ≡ Some row → IsTakenOut rows s after → grown ≡ popped ++ reverse row.children.items → Apart n after grown
-apart_step n s rows after stack popped grown row a top is out grows = rw (out.set, grows) (apart_next n s rows popped row out.hollow (rw top at a) is out.childless)
+pub apart_step : (n s : ℕ) (rows after : List Row) (stack popped grown : List ℕ) (row : Row) → Apart n rows stack →
+    stack ≡ popped ++ s ∷ [] → slice_get rows s ≡ Some row → IsTakenOut rows s after → grown ≡ popped ++ reverse row.children.items →
+    Apart n after grown
+apart_step n s rows after stack popped grown row a top is out grows =
+    rw (out.set, grows) (apart_next n s rows popped row out.hollow (rw top at a) is out.childless)
 
 -- how many rows have not been taken
 abbrev pub rows_left : List Row → ℕ
 rows_left rows = count_by (λ r. is_some r.end) rows
 
-one_less : (s : ℕ) (rows : List Row) (row hollow : Row) (ended : Ended) → slice_get rows s ≡ Some row → row.end ≡ Some ended → hollow.end ≡ None → rows_left (slice_set rows s hollow) < rows_left rows
+one_less : (s : ℕ) (rows : List Row) (row hollow : Row) (ended : Ended) → slice_get rows s ≡ Some row → row.end ≡ Some ended →
+    hollow.end ≡ None → rows_left (slice_set rows s hollow) < rows_left rows
 one_less s rows row hollow ended is some none =
     let at : get_or rows s row ≡ row = get_or_from_slice_get rows s row row is in
-    let moved : rows_left (slice_set rows s hollow) + one_if (is_some (get_or rows s row).end) ≡ rows_left rows + one_if (is_some hollow.end) =
+    let moved : rows_left (slice_set rows s hollow) + one_if (is_some (get_or rows s row).end)
+        ≡ rows_left rows + one_if (is_some hollow.end) =
     sum_by-set (λ (r : Row). one_if (is_some r.end)) rows s hollow row (slice_get_within rows s row is) in
-    let one : one_if (is_some (get_or rows s row).end) ≡ 1 = ap (λ (r : Row). one_if (is_some r.end)) at ∙ ap (λ (e : Option Ended). one_if (is_some e)) some in
+    let one : one_if (is_some (get_or rows s row).end) ≡ 1 = ap (λ (r : Row). one_if (is_some r.end)) at
+        ∙ ap (λ (e : Option Ended). one_if (is_some e)) some in
     let gone : one_if (is_some hollow.end) ≡ 0 = ap (λ (e : Option Ended). one_if (is_some e)) none in
     omega arith
 
 -- it falls with each that is taken
-pub fewer_left : (s : ℕ) (rows after : List Row) (row : Row) (ended : Ended) → slice_get rows s ≡ Some row → row.end ≡ Some ended → IsTakenOut rows s after → rows_left after < rows_left rows
+pub fewer_left : (s : ℕ) (rows after : List Row) (row : Row) (ended : Ended) → slice_get rows s ≡ Some row → row.end ≡ Some ended →
+    IsTakenOut rows s after → rows_left after < rows_left rows
 fewer_left s rows after row ended is some out = rw out.set (one_less s rows row out.hollow ended is some out.endless)
 
 -- where no row has been taken, none counts as taken
@@ -150,18 +169,21 @@ pub no_child : (k : ℕ) (P : ℕ → Type 0) → (P k → ⊥) → (rows : List
 no_child k P never [] all = refl
 no_child k P never (x ∷ rows) all =
     let Q : Row → Type 0 = λ r. All P r.children.items in
-    let step : times_child k (x ∷ rows) ≡ times k x.children.items + times_child k rows = sum_by-cons (λ (r : Row). times k r.children.items) x rows in
+    let step : times_child k (x ∷ rows) ≡ times k x.children.items + times_child k rows =
+        sum_by-cons (λ (r : Row). times k r.children.items) x rows in
     let first : times k x.children.items ≡ 0 = not_among k P never x.children.items (All-head Q x rows all) in
     let others : times_child k rows ≡ 0 = no_child k P never rows (All-tail Q x rows all) in
     omega arith
 
 -- at first the root alone is on the stack
-pub apart_first : (rows : List Row) (stack : List ℕ) → stack ≡ 0 ∷ [] → All (λ r. IsSome r.end) rows → ChildrenAreApart rows → Apart (length rows) rows stack
+pub apart_first : (rows : List Row) (stack : List ℕ) → stack ≡ 0 ∷ [] → All (λ r. IsSome r.end) rows → ChildrenAreApart rows →
+    Apart (length rows) rows stack
 apart_first rows stack is all tree =
     rw is record {
       len = refl;
       stacked = All-cons (λ c. c < length rows) 0 [] tree.root (All-nil (λ c. c < length rows));
-      within = All-weaker (λ (r : Row). All (λ c. (0 < c) × (c < length rows)) r.children.items) (λ (r : Row). All (λ c. c < length rows) r.children.items)
+      within = All-weaker (λ (r : Row). All (λ c. (0 < c) × (c < length rows)) r.children.items)
+          (λ (r : Row). All (λ c. c < length rows) r.children.items)
           (λ r. All-weaker (λ c. (0 < c) × (c < length rows)) (λ c. c < length rows) (λ c both. both.1) r.children.items) rows tree.within;
       once = once;
     }

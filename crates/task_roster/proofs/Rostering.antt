@@ -51,7 +51,8 @@ module _ {X : Type 0} where
   push_old (x ∷ xs) y zero less = refl
   push_old (x ∷ xs) y (suc j) less = push_old xs y j (omega (arith, less))
 
-  push_back : (xs : List X) (y : X) (j : ℕ) (x : X) → slice_get (xs ++ y ∷ []) j ≡ Some x → (slice_get xs j ≡ Some x) ⊎ ((j ≡ length xs) × (x ≡ y))
+  push_back : (xs : List X) (y : X) (j : ℕ) (x : X) → slice_get (xs ++ y ∷ []) j ≡ Some x → (slice_get xs j ≡ Some x)
+      ⊎ ((j ≡ length xs) × (x ≡ y))
   push_back [] y zero x is = inr (refl, sym (same_Some _ _ is))
   push_back [] y (suc j) x is = absurd (nothing_at j x is)
   push_back (z ∷ xs) y zero x is = inl is
@@ -62,7 +63,8 @@ module _ {X : Type 0} where
       up (inr h) = inr (ap suc h.0, h.1)
 
   -- a slot of a value that was written
-  or_here : (xs : List (Option X)) (k : ℕ) (x y : X) → slice_index_or xs k None ≡ Some x → slice_index_or (slice_set xs k (Some y)) k None ≡ Some y
+  or_here : (xs : List (Option X)) (k : ℕ) (x y : X) → slice_index_or xs k None ≡ Some x →
+      slice_index_or (slice_set xs k (Some y)) k None ≡ Some y
   or_here [] k x y is = absurd (false≢true (ap is_some is))
   or_here (z ∷ xs) zero x y is = refl
   or_here (z ∷ xs) (suc k) x y is = or_here xs k x y is
@@ -76,7 +78,8 @@ module _ {X : Type 0} where
 
 module _ {X : Type 0} {A : Type 0} where
   -- what is the same of the value that was set and of the one that was there
-  set_keeps : (f : Option X → A) (xs : List X) (p : ℕ) (old new : X) → slice_get xs p ≡ Some old → f (Some new) ≡ f (Some old) → (j : ℕ) → f (slice_get (slice_set xs p new) j) ≡ f (slice_get xs j)
+  set_keeps : (f : Option X → A) (xs : List X) (p : ℕ) (old new : X) → slice_get xs p ≡ Some old → f (Some new) ≡ f (Some old) → (j : ℕ) →
+      f (slice_get (slice_set xs p new) j) ≡ f (slice_get xs j)
   set_keeps f [] p old new is same j = refl
   set_keeps f (z ∷ xs) zero old new is same zero = same ∙ sym (ap f is)
   set_keeps f (z ∷ xs) zero old new is same (suc j) = refl
@@ -84,7 +87,8 @@ module _ {X : Type 0} {A : Type 0} where
   set_keeps f (z ∷ xs) (suc p) old new is same (suc j) = set_keeps f xs p old new is same j
 
   -- what a value that was pushed says no more of than nothing does
-  push_keeps : (f : Option X → A) (xs : List X) (y : X) → f (Some y) ≡ f None → (j : ℕ) → f (slice_get (xs ++ y ∷ []) j) ≡ f (slice_get xs j)
+  push_keeps : (f : Option X → A) (xs : List X) (y : X) → f (Some y) ≡ f None → (j : ℕ) →
+      f (slice_get (xs ++ y ∷ []) j) ≡ f (slice_get xs j)
   push_keeps f [] y same zero = same
   push_keeps f [] y same (suc j) = refl
   push_keeps f (x ∷ xs) y same zero = refl
@@ -100,26 +104,31 @@ written live id x y is = record {
 }
 
 -- the task of a row that has not ended
-task_here : (live : Live Running) (row : Row) (x : Running) → row.end ≡ None → live_at live row.task ≡ Some x → task_by live (Some row) ≡ Some x.task
+task_here : (live : Live Running) (row : Row) (x : Running) → row.end ≡ None → live_at live row.task ≡ Some x →
+    task_by live (Some row) ≡ Some x.task
 task_here live row x none is = ap (λ (e : Option Ended). task_unless e (live_at live row.task)) none ∙ ap task_in is
 
 -- it stays where what lives under its id does
-task_kept : (old new : Live Running) (row : Option Row) → ((r : Row) → row ≡ Some r → r.end ≡ None → live_at new r.task ≡ live_at old r.task) → task_by new row ≡ task_by old row
+task_kept : (old new : Live Running) (row : Option Row) → ((r : Row) → row ≡ Some r → r.end ≡ None →
+    live_at new r.task ≡ live_at old r.task) → task_by new row ≡ task_by old row
 task_kept old new None same = refl
 task_kept old new (Some r) same = unless r.end (same r refl)
   where
-    unless : (e : Option Ended) → (e ≡ None → live_at new r.task ≡ live_at old r.task) → task_unless e (live_at new r.task) ≡ task_unless e (live_at old r.task)
+    unless : (e : Option Ended) → (e ≡ None → live_at new r.task ≡ live_at old r.task) →
+        task_unless e (live_at new r.task) ≡ task_unless e (live_at old r.task)
     unless None kept = ap task_in (kept refl)
     unless (Some ended) kept = refl
 
 -- a row of a task that has not ended has no id under which nothing lives
-not_fresh : (r : Roster) (id p : ℕ) (row : Row) → IsRoster r → running_at r id ≡ None → row_at r p ≡ Some row → row.end ≡ None → row.task ≢ id
+not_fresh : (r : Roster) (id p : ℕ) (row : Row) → IsRoster r → running_at r id ≡ None → row_at r p ≡ Some row → row.end ≡ None →
+    row.task ≢ id
 not_fresh r id p row ok fresh is none e =
     let l : Lives r p row = ok.lives p row is none in
     false≢true (sym (ap is_some fresh) ∙ ap (λ k. is_some (running_at r k)) (sym e) ∙ ap is_some l.is)
 
 -- and not the id of another row's task
-not_other : (r : Roster) (id p : ℕ) (x : Running) (row : Row) → IsRoster r → running_at r id ≡ Some x → p ≢ x.row → row_at r p ≡ Some row → row.end ≡ None → row.task ≢ id
+not_other : (r : Roster) (id p : ℕ) (x : Running) (row : Row) → IsRoster r → running_at r id ≡ Some x → p ≢ x.row → row_at r p ≡ Some row →
+    row.end ≡ None → row.task ≢ id
 not_other r id p x row ok lived other is none e =
     let l : Lives r p row = ok.lives p row is none in
     other (sym l.row_is ∙ ap (λ (y : Running). y.row) (same_Some _ _ (sym l.is ∙ ap (running_at r) e ∙ lived)))
@@ -164,11 +173,14 @@ module _ (old new : Roster) (p : ℕ) (child : Task) (tick id : ℕ) (ok : IsRos
 
   -- the new row
   add_here : row_at new (many old) ≡ Some a.row
-  add_here = ap (λ (xs : List Row). slice_get xs (many old)) a.rows ∙ subst (λ k. slice_get (slice_set old.rows.items p a.grown ++ a.row ∷ []) k ≡ Some a.row) add_len (push_here (slice_set old.rows.items p a.grown) a.row)
+  add_here = ap (λ (xs : List Row). slice_get xs (many old)) a.rows
+      ∙ subst (λ k. slice_get (slice_set old.rows.items p a.grown ++ a.row ∷ []) k ≡ Some a.row) add_len
+      (push_here (slice_set old.rows.items p a.grown) a.row)
 
   -- another row
   add_old : (j : ℕ) → j < many old → row_at new j ≡ slice_get (slice_set old.rows.items p a.grown) j
-  add_old j less = ap (λ (xs : List Row). slice_get xs j) a.rows ∙ push_old (slice_set old.rows.items p a.grown) a.row j (subst (λ k. j < k) (sym add_len) less)
+  add_old j less = ap (λ (xs : List Row). slice_get xs j) a.rows
+      ∙ push_old (slice_set old.rows.items p a.grown) a.row j (subst (λ k. j < k) (sym add_len) less)
 
   -- that of the parent
   add_parent : row_at new p ≡ Some a.grown
@@ -188,7 +200,8 @@ module _ (old new : Roster) (p : ℕ) (child : Task) (tick id : ℕ) (ok : IsRos
     child = ap children_by add_parent ∙ a.grows.children ∙ sym (ap (λ (o : Option Row). children_by o ++ many old ∷ []) a.is);
     same_task = λ j less. ap (task_by new.live) (add_old j less)
         ∙ set_keeps (task_by new.live) old.rows.items p a.before a.grown a.is
-        (ap (λ (e : Option Ended). task_unless e (live_at new.live a.grown.task)) a.grows.end ∙ ap (λ k. task_unless a.before.end (live_at new.live k)) a.grows.task) j
+        (ap (λ (e : Option Ended). task_unless e (live_at new.live a.grown.task)) a.grows.end
+            ∙ ap (λ k. task_unless a.before.end (live_at new.live k)) a.grows.task) j
         ∙ task_kept old.live new.live (row_at old j) (λ r is none. a.live.others r.task (not_fresh old id j r ok a.fresh is none));
     same_gone = λ j. ap (λ (xs : List Row). gone_by (slice_get xs j)) a.rows
         ∙ push_keeps gone_by (slice_set old.rows.items p a.grown) a.row (ap (option_map gone_from) a.begins.end) j
@@ -208,7 +221,8 @@ pub record Still (rows : List Row) (j : ℕ) (was : Row) : Type 0 where
   pub end : row.end ≡ was.end
   pub task : row.task ≡ was.task
 
-still_set : (rows : List Row) (p j : ℕ) (old new was : Row) → slice_get rows p ≡ Some old → new.end ≡ old.end → new.task ≡ old.task → slice_get rows j ≡ Some was → Still (slice_set rows p new) j was
+still_set : (rows : List Row) (p j : ℕ) (old new was : Row) → slice_get rows p ≡ Some old → new.end ≡ old.end → new.task ≡ old.task →
+    slice_get rows j ≡ Some was → Still (slice_set rows p new) j was
 still_set [] p j old new was is end task at = absurd (nothing_at j was at)
 still_set (z ∷ rows) zero zero old new was is end task at =
     let e : old ≡ was = same_Some _ _ (sym is ∙ at) in
@@ -220,7 +234,8 @@ still_set (z ∷ rows) (suc p) (suc j) old new was is end task at =
     record { row = s.row; is = s.is; end = s.end; task = s.task }
 
 -- and said so before
-was_set : (rows : List Row) (p j : ℕ) (old new held : Row) → slice_get rows p ≡ Some old → new.end ≡ old.end → new.task ≡ old.task → slice_get (slice_set rows p new) j ≡ Some held → Still rows j held
+was_set : (rows : List Row) (p j : ℕ) (old new held : Row) → slice_get rows p ≡ Some old → new.end ≡ old.end → new.task ≡ old.task →
+    slice_get (slice_set rows p new) j ≡ Some held → Still rows j held
 was_set [] p j old new held is end task at = absurd (nothing_at j held at)
 was_set (z ∷ rows) zero zero old new held is end task at =
     let e : new ≡ held = same_Some _ _ at in
@@ -238,11 +253,13 @@ module _ (old new : Roster) (p : ℕ) (child : Task) (tick id : ℕ) (ok : IsRos
       mine : Some x ≡ Some (record { task = child; row = many old }) → key ≡ id → HasRow new x.row key
       mine e k =
           let row : many old ≡ x.row = sym (ap (λ (y : Running). y.row) (same_Some _ _ e)) in
-          record { row = a.row; is = subst (λ n. row_at new n ≡ Some a.row) row (add_here old new p child tick id ok a); endless = a.begins.end; id_is = a.begins.task ∙ sym k }
+          record { row = a.row; is = subst (λ n. row_at new n ≡ Some a.row) row (add_here old new p child tick id ok a); endless =
+              a.begins.end; id_is = a.begins.task ∙ sym k }
 
       others : HasRow old x.row key → HasRow new x.row key
       others h =
-          let s : Still (slice_set old.rows.items p a.grown) x.row h.row = still_set old.rows.items p x.row a.before a.grown h.row a.is a.grows.end a.grows.task h.is in
+          let s : Still (slice_set old.rows.items p a.grown) x.row h.row =
+              still_set old.rows.items p x.row a.before a.grown h.row a.is a.grows.end a.grows.task h.is in
           record {
             row = s.row;
             is = add_old old new p child tick id ok a x.row (slice_get_within old.rows.items x.row h.row h.is) ∙ s.is;
@@ -255,15 +272,18 @@ module _ (old new : Roster) (p : ℕ) (child : Task) (tick id : ℕ) (ok : IsRos
       by (inr h) = others (ok.rows key x (sym (a.live.others key h.1) ∙ is))
 
   add_lives : (j : ℕ) (row : Row) → row_at new j ≡ Some row → row.end ≡ None → Lives new j row
-  add_lives j row is none = by (push_back (slice_set old.rows.items p a.grown) a.row j row (sym (ap (λ (xs : List Row). slice_get xs j) a.rows) ∙ is))
+  add_lives j row is none = by (push_back (slice_set old.rows.items p a.grown) a.row j row
+      (sym (ap (λ (xs : List Row). slice_get xs j) a.rows) ∙ is))
     where
       before : Still old.rows.items j row → Lives new j row
       before s =
           let l : Lives old j s.row = ok.lives j s.row s.is (s.end ∙ none) in
-          let kept : running_at new s.row.task ≡ running_at old s.row.task = a.live.others s.row.task (not_fresh old id j s.row ok a.fresh s.is (s.end ∙ none)) in
+          let kept : running_at new s.row.task ≡ running_at old s.row.task =
+              a.live.others s.row.task (not_fresh old id j s.row ok a.fresh s.is (s.end ∙ none)) in
           record { running = l.running; is = ap (running_at new) (sym s.task) ∙ kept ∙ l.is; row_is = l.row_is }
 
-      by : (slice_get (slice_set old.rows.items p a.grown) j ≡ Some row) ⊎ ((j ≡ length (slice_set old.rows.items p a.grown)) × (row ≡ a.row)) → Lives new j row
+      by : (slice_get (slice_set old.rows.items p a.grown) j ≡ Some row)
+          ⊎ ((j ≡ length (slice_set old.rows.items p a.grown)) × (row ≡ a.row)) → Lives new j row
       by (inl h) = before (was_set old.rows.items p j a.before a.grown row a.is a.grows.end a.grows.task h)
       by (inr h) = record {
         running = record { task = child; row = many old };
@@ -275,7 +295,8 @@ module _ (old new : Roster) (p : ℕ) (child : Task) (tick id : ℕ) (ok : IsRos
   agrees_started = record {
     rows = add_rows;
     lives = add_lives;
-    tree = subst ChildrenAreApart (sym a.rows) (tree_more old.rows.items p a.before a.grown a.row ok.tree a.is a.grows.children a.begins.children);
+    tree = subst ChildrenAreApart (sym a.rows) (tree_more old.rows.items p a.before a.grown a.row ok.tree a.is a.grows.children
+        a.begins.children);
   }
 
 -- ---- a task that has its turn
@@ -284,14 +305,16 @@ module _ (old new : Roster) (p : ℕ) (child : Task) (tick id : ℕ) (ok : IsRos
 abbrev pub rewritten : Roster → ℕ → Running → Roster
 rewritten r id y = record r { live = with_live r.live id y }
 
-module _ (old new : Roster) (id : ℕ) (x y : Running) (ok : IsRoster old) (lived : running_at old id ≡ Some x) (live : Updates old.live new.live id (Some y)) (row : y.row ≡ x.row) (rows : new.rows.items ≡ old.rows.items) where
+module _ (old new : Roster) (id : ℕ) (x y : Running) (ok : IsRoster old) (lived : running_at old id ≡ Some x)
+    (live : Updates old.live new.live id (Some y)) (row : y.row ≡ x.row) (rows : new.rows.items ≡ old.rows.items) where
   same_rows : (j : ℕ) → row_at new j ≡ row_at old j
   same_rows j = ap (λ (v : List Row). slice_get v j) rows
 
   pub turned_same : SameBut old new x.row
   turned_same = record {
     many = ap length rows;
-    task = λ j ne. ap (task_by new.live) (same_rows j) ∙ task_kept old.live new.live (row_at old j) (λ r is none. live.others r.task (not_other old id j x r ok lived ne is none));
+    task = λ j ne. ap (task_by new.live) (same_rows j) ∙ task_kept old.live new.live (row_at old j)
+        (λ r is none. live.others r.task (not_other old id j x r ok lived ne is none));
     gone = λ j ne. ap gone_by (same_rows j);
     start = λ j. ap start_by (same_rows j);
     children = λ j. ap children_by (same_rows j);
@@ -314,7 +337,8 @@ module _ (old new : Roster) (id : ℕ) (x y : Running) (ok : IsRoster old) (live
       carry k h e = record { row = h.row; is = same_rows z.row ∙ ap (row_at old) (sym e) ∙ h.is; endless = h.endless; id_is = h.id_is }
 
       by : (((key == id) ≡ true) × (key ≡ id)) ⊎ (((key == id) ≡ false) × (key ≢ id)) → HasRow new z.row key
-      by (inl h) = carry x.row (ok.rows key x (ap (running_at old) h.1 ∙ lived)) (sym row ∙ ap (λ (r : Running). r.row) (same_Some _ _ (sym live.changed ∙ ap (running_at new) (sym h.1) ∙ is)))
+      by (inl h) = carry x.row (ok.rows key x (ap (running_at old) h.1 ∙ lived))
+          (sym row ∙ ap (λ (r : Running). r.row) (same_Some _ _ (sym live.changed ∙ ap (running_at new) (sym h.1) ∙ is)))
       by (inr h) = carry z.row (ok.rows key z (sym (live.others key h.1) ∙ is)) refl
 
   turned_lives : (j : ℕ) (r : Row) → row_at new j ≡ Some r → r.end ≡ None → Lives new j r
@@ -363,13 +387,15 @@ module _ (old new : Roster) (id tick : ℕ) (exc : Option held.Exc) (x : Running
   close_keeps : {A : Type 0} (f : Option Row → A) → f (Some close_row) ≡ f (Some c.before) → (j : ℕ) → f (row_at new j) ≡ f (row_at old j)
   close_keeps f same j = ap (λ (xs : List Row). f (slice_get xs j)) c.rows ∙ set_keeps f old.rows.items x.row c.before close_row c.is same j
 
-  close_lives : (j : ℕ) (row : Row) → j ≢ x.row → row_at old j ≡ Some row → row.end ≡ None → live_at new.live row.task ≡ live_at old.live row.task
+  close_lives : (j : ℕ) (row : Row) → j ≢ x.row → row_at old j ≡ Some row → row.end ≡ None →
+      live_at new.live row.task ≡ live_at old.live row.task
   close_lives j row ne is none = c.live.others row.task (not_other old id j x row ok c.lived ne is none)
 
   ends_same : SameBut old new x.row
   ends_same = record {
     many = ap length c.rows ∙ length-set old.rows.items x.row close_row;
-    task = λ j ne. ap (task_by new.live) (close_other j ne) ∙ task_kept old.live new.live (row_at old j) (λ r is none. close_lives j r ne is none);
+    task = λ j ne. ap (task_by new.live) (close_other j ne) ∙ task_kept old.live new.live (row_at old j)
+        (λ r is none. close_lives j r ne is none);
     gone = λ j ne. ap gone_by (close_other j ne);
     start = λ j. close_keeps start_by refl j;
     children = λ j. close_keeps children_by refl j;
@@ -378,7 +404,8 @@ module _ (old new : Roster) (id tick : ℕ) (exc : Option held.Exc) (x : Running
   }
 
   abbrev close_kept : Gone
-  close_kept = record { label = x.task.label; end = tick; exc = option_map exc_of exc; entries = x.task.entries.items; froms = x.task.froms.items }
+  close_kept = record { label = x.task.label; end = tick; exc = option_map exc_of exc; entries = x.task.entries.items; froms =
+      x.task.froms.items }
 
   close_is : gone_from c.ended ≡ close_kept
   close_is = rw (c.label, c.tick_is, c.exc_is, c.entries, c.froms) refl
@@ -403,7 +430,8 @@ module _ (old new : Roster) (id tick : ℕ) (exc : Option held.Exc) (x : Running
 
       others : key ≢ id → HasRow old y.row key → HasRow new y.row key
       others ne h =
-          let apart : y.row ≢ x.row = λ e. ne (sym h.id_is ∙ ap (λ (r : Row). r.task) (same_Some _ _ (sym h.is ∙ ap (row_at old) e ∙ mine.is)) ∙ mine.id_is) in
+          let apart : y.row ≢ x.row = λ e. ne (sym h.id_is ∙ ap (λ (r : Row). r.task)
+              (same_Some _ _ (sym h.is ∙ ap (row_at old) e ∙ mine.is)) ∙ mine.id_is) in
           record { row = h.row; is = close_other y.row apart ∙ h.is; endless = h.endless; id_is = h.id_is }
 
       by : (((key == id) ≡ true) × (key ≡ id)) ⊎ (((key == id) ≡ false) × (key ≢ id)) → HasRow new y.row key
@@ -419,7 +447,8 @@ module _ (old new : Roster) (id tick : ℕ) (exc : Option held.Exc) (x : Running
           record { running = l.running; is = close_lives j row ne at none ∙ l.is; row_is = l.row_is }
 
       by : (((j == x.row) ≡ true) × (j ≡ x.row)) ⊎ (((j == x.row) ≡ false) × (j ≢ x.row)) → Lives new j row
-      by (inl h) = absurd (false≢true (sym (ap is_some none) ∙ ap (λ (r : Row). is_some r.end) (same_Some _ _ (sym is ∙ ap (row_at new) h.1 ∙ close_here))))
+      by (inl h) = absurd (false≢true (sym (ap is_some none) ∙ ap (λ (r : Row). is_some r.end)
+          (same_Some _ _ (sym is ∙ ap (row_at new) h.1 ∙ close_here))))
       by (inr h) = others h.1 (sym (close_other j h.1) ∙ is)
 
   pub agrees_ended : IsRoster new
@@ -496,7 +525,9 @@ module _ (r : Roster) (root : Task) (id : ℕ) (f : First r root id) where
 -- ---- a root that has one child
 
 -- it lives when the child has ended
-pub root_stays : (before started after : Roster) (root child : Task) (id other tick last : ℕ) (exc : Option held.Exc) → HasRoot before root id → Starts before started 0 child tick other → Ends started after other last exc → IsSome (running_at after id)
+pub root_stays : (before started after : Roster) (root child : Task) (id other tick last : ℕ) (exc : Option held.Exc) →
+    HasRoot before root id → Starts before started 0 child tick other → Ends started after other last exc → IsSome (running_at after id)
 root_stays before started after root child id other tick last exc h s e =
-    let apart : id ≢ other = λ same. false≢true (sym (ap is_some s.fresh) ∙ ap (λ k. is_some (running_at before k)) (sym same) ∙ ap is_some h.lives) in
+    let apart : id ≢ other = λ same. false≢true (sym (ap is_some s.fresh) ∙ ap (λ k. is_some (running_at before k)) (sym same)
+        ∙ ap is_some h.lives) in
     ap is_some (e.others id apart ∙ s.others id apart ∙ h.lives)

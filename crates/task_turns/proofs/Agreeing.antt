@@ -19,7 +19,8 @@ near_stacks t table froms [] a = tt
 near_stacks t table froms (p ∷ ps) a = (refl, refl, a.0, near_stacks t table froms ps a.1)
 
 -- so the same is seen now
-pub seen_alike : (t : ℕ) (table froms : Table) (ps : List Place) → AgreesOn t table froms ps → seen (stack_at table ps) t ≡ seen (stack_at froms ps) t
+pub seen_alike : (t : ℕ) (table froms : Table) (ps : List Place) → AgreesOn t table froms ps →
+    seen (stack_at table ps) t ≡ seen (stack_at froms ps) t
 seen_alike t table froms ps a = seen_near (suc t) (stack_at table ps) (stack_at froms ps) t (near_stacks t table froms ps a) (omega arith)
 
 -- and the innermost place catches alike
@@ -34,7 +35,8 @@ catches_alike t table froms p ps a =
 -- the label of a name is the same on the stack as among the places
 pub label_at_places : (table : Table) (name : List ℕ) (ps : List Place) → label_on name (stack_at table ps) ≡ label_among name ps
 label_at_places table name [] = refl
-label_at_places table name (p ∷ ps) = ap (λ (o : Option Label). label_if (bytes_eq name p.label.name) p.label o) (label_at_places table name ps)
+label_at_places table name (p ∷ ps) =
+    ap (λ (o : Option Label). label_if (bytes_eq name p.label.name) p.label o) (label_at_places table name ps)
 
 -- ---- sleeps
 
@@ -88,6 +90,7 @@ module _ (t : ℕ) (table : Table) where
   agrees_own froms m d e = e ∙ ap (λ (b : Bool). upto (suc t) (opened_if b d (froms m))) (sym (same_label_itself m))
 
   -- what holds of each label holds of each place
-  pub each_place : (f g : Table) → ((l : Label) → SameFrom f l → SameFrom g l) → (ps : List Place) → AgreesOn t table f ps → AgreesOn t table g ps
+  pub each_place : (f g : Table) → ((l : Label) → SameFrom f l → SameFrom g l) → (ps : List Place) → AgreesOn t table f ps →
+      AgreesOn t table g ps
   each_place f g h [] a = tt
   each_place f g h (p ∷ ps) a = (h p.label a.0, each_place f g h ps a.1)

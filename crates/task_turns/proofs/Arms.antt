@@ -14,7 +14,8 @@ use Rattle.task_turns.specs.Turned.{Goes}
 use Rattle.task_turns.proofs.Turns.{turned_step}
 
 -- a move that is the step keeps the promise
-pub goes_by : (t : ℕ) (here : Here) (froms : Table) (m : Midway) (o : Move) → step_of froms t here m ≡ o → Placed m.frames m.places → Goes t here froms m o
+pub goes_by : (t : ℕ) (here : Here) (froms : Table) (m : Midway) (o : Move) → step_of froms t here m ≡ o → Placed m.frames m.places →
+    Goes t here froms m o
 goes_by t here froms m o e p = subst (λ (x : Move). Goes t here froms m x) e (turned_step t here froms m p)
 
 module _ (t : ℕ) (here : Here) (froms : Table) (ps : List Place) (count : ℕ) where
@@ -23,7 +24,8 @@ module _ (t : ℕ) (here : Here) (froms : Table) (ps : List Place) (count : ℕ)
   with_frames fs exc = record { frames = fs; places = ps; exc = exc; count = count }
 
   -- a sleep where a cancellation is seen
-  pub sleep_raises : (n : ℕ) (ss : Steps) (fs : List Frame) → Placed (steps_left (step (sleep n) ss) ∷ fs) ps → seen (stack_at froms ps) t ≡ true →
+  pub sleep_raises : (n : ℕ) (ss : Steps) (fs : List Frame) → Placed (steps_left (step (sleep n) ss) ∷ fs) ps →
+      seen (stack_at froms ps) t ≡ true →
       Goes t here froms (with_frames (steps_left (step (sleep n) ss) ∷ fs) None) (onward (steps_left ss ∷ fs) ps (Some cancelled))
   unfolding step_of
   sleep_raises n ss fs p e =
@@ -39,7 +41,8 @@ module _ (t : ℕ) (here : Here) (froms : Table) (ps : List Place) (count : ℕ)
       (ap (λ (b : Bool). falls_asleep b 0 t (steps_left ss ∷ fs) ps) e) p
 
   -- a sleep that stops the task
-  pub sleep_stops : (n : ℕ) (ss : Steps) (fs : List Frame) → Placed (steps_left (step (sleep (suc n)) ss) ∷ fs) ps → seen (stack_at froms ps) t ≡ false →
+  pub sleep_stops : (n : ℕ) (ss : Steps) (fs : List Frame) → Placed (steps_left (step (sleep (suc n)) ss) ∷ fs) ps →
+      seen (stack_at froms ps) t ≡ false →
       Goes t here froms (with_frames (steps_left (step (sleep (suc n)) ss) ∷ fs) None) (halts (asleep (suc n) t) (steps_left ss ∷ fs) ps)
   unfolding step_of
   sleep_stops n ss fs p e =
@@ -47,17 +50,22 @@ module _ (t : ℕ) (here : Here) (froms : Table) (ps : List Place) (count : ℕ)
       (ap (λ (b : Bool). falls_asleep b (suc n) t (steps_left ss ∷ fs) ps) e) p
 
   -- a handler whose name some leaf has
-  pub handler_runs : (name : List ℕ) (body : Steps) (cleanup : Cleaned) (fs : List Frame) (e x : Exc) → Placed (in_try (except name body) cleanup ∷ fs) ps → keep (named name) e ≡ Some x →
-      Goes t here froms (with_frames (in_try (except name body) cleanup ∷ fs) (Some e)) (onward (steps_left body ∷ in_handler (drop (named name) e) cleanup ∷ fs) ps None)
+  pub handler_runs : (name : List ℕ) (body : Steps) (cleanup : Cleaned) (fs : List Frame) (e x : Exc) →
+      Placed (in_try (except name body) cleanup ∷ fs) ps → keep (named name) e ≡ Some x →
+      Goes t here froms (with_frames (in_try (except name body) cleanup ∷ fs) (Some e))
+          (onward (steps_left body ∷ in_handler (drop (named name) e) cleanup ∷ fs) ps None)
   unfolding step_of
   handler_runs name body cleanup fs e x p k =
-      goes_by t here froms (with_frames (in_try (except name body) cleanup ∷ fs) (Some e)) (onward (steps_left body ∷ in_handler (drop (named name) e) cleanup ∷ fs) ps None)
+      goes_by t here froms (with_frames (in_try (except name body) cleanup ∷ fs) (Some e))
+          (onward (steps_left body ∷ in_handler (drop (named name) e) cleanup ∷ fs) ps None)
       (ap (λ (o : Option Exc). handler_if o (drop (named name) e) e body cleanup fs ps) k) p
 
   -- and one whose name none has
-  pub handler_passes : (name : List ℕ) (body : Steps) (cleanup : Cleaned) (fs : List Frame) (e : Exc) → Placed (in_try (except name body) cleanup ∷ fs) ps → keep (named name) e ≡ None →
+  pub handler_passes : (name : List ℕ) (body : Steps) (cleanup : Cleaned) (fs : List Frame) (e : Exc) →
+      Placed (in_try (except name body) cleanup ∷ fs) ps → keep (named name) e ≡ None →
       Goes t here froms (with_frames (in_try (except name body) cleanup ∷ fs) (Some e)) (onward (in_try unhandled cleanup ∷ fs) ps (Some e))
   unfolding step_of
   handler_passes name body cleanup fs e p k =
-      goes_by t here froms (with_frames (in_try (except name body) cleanup ∷ fs) (Some e)) (onward (in_try unhandled cleanup ∷ fs) ps (Some e))
+      goes_by t here froms (with_frames (in_try (except name body) cleanup ∷ fs) (Some e))
+          (onward (in_try unhandled cleanup ∷ fs) ps (Some e))
       (ap (λ (o : Option Exc). handler_if o (drop (named name) e) e body cleanup fs ps) k) p

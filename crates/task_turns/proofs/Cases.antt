@@ -76,29 +76,37 @@ still_known ps es = all_grow (labels_of ps) (known_after (labels_of ps) es) (λ 
 -- ---- shapes of moves
 
 -- a move that goes on, and makes nothing
-pub onward_case : (t : ℕ) (froms : Table) (w : ℕ) (home : List Place) (fs : List Frame) (ps : List Place) (exc : Option Exc) (count : ℕ) → Placed fs ps → home_places fs ps ≡ home → frames_weight fs ≤ w → Case t froms w home ps count (onward fs ps exc)
+pub onward_case : (t : ℕ) (froms : Table) (w : ℕ) (home : List Place) (fs : List Frame) (ps : List Place) (exc : Option Exc) (count : ℕ) →
+    Placed fs ps → home_places fs ps ≡ home → frames_weight fs ≤ w → Case t froms w home ps count (onward fs ps exc)
 onward_case t froms w home fs ps exc count p h le =
-    record { placed = p; at_home = h; made_now = tt; places = all_own ps; starts_made = tt; begun_in = tt; stops = tt; weight = omega arith }
+    record { placed = p; at_home = h; made_now = tt; places = all_own ps; starts_made = tt; begun_in = tt; stops = tt; weight =
+        omega arith }
 
 -- a sleep
-pub sleep_case : (t : ℕ) (froms : Table) (n w : ℕ) (home : List Place) (fs : List Frame) (ps : List Place) (count : ℕ) → Placed fs ps → home_places fs ps ≡ home → 1 + frames_weight fs ≤ w → Case t froms w home ps count (sleeps froms n t fs ps)
+pub sleep_case : (t : ℕ) (froms : Table) (n w : ℕ) (home : List Place) (fs : List Frame) (ps : List Place) (count : ℕ) → Placed fs ps →
+    home_places fs ps ≡ home → 1 + frames_weight fs ≤ w → Case t froms w home ps count (sleeps froms n t fs ps)
 sleep_case t froms n w home fs ps count p h le = by_sight (seen (stack_at froms ps) t) refl n
   where
     by_sight : (b : Bool) → seen (stack_at froms ps) t ≡ b → (n : ℕ) → Case t froms w home ps count (falls_asleep b n t fs ps)
     by_sight true e n = onward_case t froms w home fs ps (Some cancelled) count p h (omega arith)
     by_sight false e zero = onward_case t froms w home fs ps None count p h (omega arith)
     by_sight false e (suc n) =
-        record { placed = p; at_home = h; made_now = tt; places = all_own ps; starts_made = tt; begun_in = tt; stops = (refl, omega arith, e); weight = omega arith }
+        record { placed = p; at_home = h; made_now = tt; places = all_own ps; starts_made = tt; begun_in = tt; stops =
+            (refl, omega arith, e); weight = omega arith }
 
-asks_case : (t : ℕ) (froms : Table) (kernel : Kernel) (purpose : Purpose) (w : ℕ) (home : List Place) (fs : List Frame) (ps : List Place) (count : ℕ) →
+asks_case : (t : ℕ) (froms : Table) (kernel : Kernel) (purpose : Purpose) (w : ℕ) (home : List Place) (fs : List Frame) (ps : List Place)
+    (count : ℕ) →
     Suits kernel purpose → Placed fs ps → home_places fs ps ≡ home → weight_of_stop (Some (asking kernel purpose)) + frames_weight fs ≤ w →
     Case t froms w home ps count (halts (asking kernel purpose) fs ps)
 asks_case t froms kernel purpose w home fs ps count suits p h le =
-    record { placed = (suits, p); at_home = h; made_now = tt; places = all_own ps; starts_made = tt; begun_in = tt; stops = tt; weight = omega arith }
+    record { placed = (suits, p); at_home = h; made_now = tt; places = all_own ps; starts_made = tt; begun_in = tt; stops = tt; weight =
+        omega arith }
 
-enter_case : (t : ℕ) (froms : Table) (label : Label) (shield : Bool) (deadline : Tick) (body : Steps) (exit : Frame) (w : ℕ) (home : List Place) (fs : List Frame) (ps : List Place) (count : ℕ) →
+enter_case : (t : ℕ) (froms : Table) (label : Label) (shield : Bool) (deadline : Tick) (body : Steps) (exit : Frame) (w : ℕ)
+    (home : List Place) (fs : List Frame) (ps : List Place) (count : ℕ) →
     Placed (steps_left body ∷ exit ∷ fs) (record { label = label; shield = shield } ∷ ps) →
-    home_places (steps_left body ∷ exit ∷ fs) (record { label = label; shield = shield } ∷ ps) ≡ home → frames_weight (steps_left body ∷ exit ∷ fs) ≤ w →
+    home_places (steps_left body ∷ exit ∷ fs) (record { label = label; shield = shield } ∷ ps) ≡ home →
+        frames_weight (steps_left body ∷ exit ∷ fs) ≤ w →
     Case t froms w home ps count (enters_block label shield deadline t body exit fs ps)
 enter_case t froms label shield deadline body exit w home fs ps count p h le =
     record {
@@ -113,7 +121,8 @@ enter_case t froms label shield deadline body exit w home fs ps count p h le =
     }
 
 -- a scope or nursery that is left
-pub leaves_case : (t : ℕ) (froms : Table) (kind : Kind) (w : ℕ) (home : List Place) (fs : List Frame) (p : Place) (ps : List Place) (exc : Option Exc) (count : ℕ) → Placed fs ps → home_places fs ps ≡ home → frames_weight fs ≤ w →
+pub leaves_case : (t : ℕ) (froms : Table) (kind : Kind) (w : ℕ) (home : List Place) (fs : List Frame) (p : Place) (ps : List Place)
+    (exc : Option Exc) (count : ℕ) → Placed fs ps → home_places fs ps ≡ home → frames_weight fs ≤ w →
     Case t froms w home (p ∷ ps) count (leaves froms t kind fs p ps exc)
 leaves_case t froms kind w home fs p ps exc count q h le =
     record {
@@ -184,12 +193,14 @@ over_starts : (name : List ℕ) (here : Here) (t of : ℕ) (body : Steps) (ps : 
 over_starts name here t of body ps first zero = tt
 over_starts name here t of body ps first (suc k) =
     let b = begun_one (first + k) (here_in (label_over name here k) (cut_of here.input here.part of k) here) body ps in
-    starts_append (starts_over name here t first k) (starts (first + k) (label_over name here k) t ∷ []) first (begun_over name here of body ps first k) (b ∷ [])
+    starts_append (starts_over name here t first k) (starts (first + k) (label_over name here k) t ∷ []) first
+        (begun_over name here of body ps first k) (b ∷ [])
     (over_starts name here t of body ps first k)
     (last (sym (over_length name here of body ps first k)))
   where
     last : {n : ℕ} → k ≡ n →
-        Starts (first + n) (starts (first + k) (label_over name here k) t ∷ []) (begun_one (first + k) (here_in (label_over name here k) (cut_of here.input here.part of k) here) body ps ∷ [])
+        Starts (first + n) (starts (first + k) (label_over name here k) t ∷ [])
+            (begun_one (first + k) (here_in (label_over name here k) (cut_of here.input here.part of k) here) body ps ∷ [])
     last e = (ap (λ (n : ℕ). first + n) e, ap (λ (n : ℕ). first + n) e, refl, tt)
 
 over_begun : (name : List ℕ) (here : Here) (of : ℕ) (body : Steps) (ps : List Place) (first : ℕ) (ls : List Label) → AllKnown ps ls →
@@ -214,11 +225,14 @@ over_weight name here of body ps first (suc k) =
 over_made : (name : List ℕ) (here : Here) (t first : ℕ) (ls : List Label) (k : ℕ) → MadeAt t ls (starts_over name here t first k)
 over_made name here t first ls zero = tt
 over_made name here t first ls (suc k) =
-    made_append t (starts_over name here t first k) (starts (first + k) (label_over name here k) t ∷ []) ls (over_made name here t first ls k) (refl, tt)
+    made_append t (starts_over name here t first k) (starts (first + k) (label_over name here k) t ∷ []) ls
+        (over_made name here t first ls k) (refl, tt)
 
-start_case : (t : ℕ) (froms : Table) (here : Here) (name : List ℕ) (over : Option ℕ) (body ss : Steps) (fs : List Frame) (ps : List Place) (count : ℕ) →
+start_case : (t : ℕ) (froms : Table) (here : Here) (name : List ℕ) (over : Option ℕ) (body ss : Steps) (fs : List Frame) (ps : List Place)
+    (count : ℕ) →
     StartsIn false body → StartsIn (in_body fs) ss → Placed fs ps →
-    Case t froms (frames_weight (steps_left (step (start name over body) ss) ∷ fs)) (home_places fs ps) ps count (step_on froms t here (start name over body) ss fs ps count)
+    Case t froms (frames_weight (steps_left (step (start name over body) ss) ∷ fs)) (home_places fs ps) ps count
+        (step_on froms t here (start name over body) ss fs ps count)
 start_case t froms here name None body ss fs ps count i b p =
     record {
       placed = (subst (λ (x : Bool). StartsIn x ss) (sym (body_started (count ∷ []) fs)) b, placed_started (count ∷ []) fs ps p);
@@ -232,12 +246,14 @@ start_case t froms here name None body ss fs ps count i b p =
     }
 start_case t froms here name (Some k) body ss fs ps count i b p =
     record {
-      placed = (subst (λ (x : Bool). StartsIn x ss) (sym (body_started (numbered count k) fs)) b, placed_started (numbered count k) fs ps p);
+      placed = (subst (λ (x : Bool). StartsIn x ss) (sym (body_started (numbered count k) fs)) b,
+          placed_started (numbered count k) fs ps p);
       at_home = home_started (numbered count k) fs ps;
       made_now = over_made name here t count (labels_of ps) k;
       places = still_known ps (starts_over name here t count k);
       starts_made = over_starts name here t k body ps count k;
-      begun_in = over_begun name here k body ps count (known_after (labels_of ps) (starts_over name here t count k)) (still_known ps (starts_over name here t count k)) i k;
+      begun_in = over_begun name here k body ps count (known_after (labels_of ps) (starts_over name here t count k))
+          (still_known ps (starts_over name here t count k)) i k;
       stops = tt;
       weight = let e = weight_started (numbered count k) fs in let h = over_weight name here k body ps count k in omega arith;
     }
@@ -249,7 +265,8 @@ step_case : (t : ℕ) (froms : Table) (here : Here) (s : Step) (ss : Steps) (fs 
     Case t froms (frames_weight (steps_left (step s ss) ∷ fs)) (home_places fs ps) ps count (step_on froms t here s ss fs ps count)
 step_case t froms here (sleep n) ss fs ps count a b p = sleep_case t froms n _ _ (steps_left ss ∷ fs) ps count (b, p) refl (omega arith)
 step_case t froms here checkpoint ss fs ps count a b p = sleep_case t froms 0 _ _ (steps_left ss ∷ fs) ps count (b, p) refl (omega arith)
-step_case t froms here forever ss fs ps count a b p = sleep_case t froms (far - t) _ _ (steps_left ss ∷ fs) ps count (b, p) refl (omega arith)
+step_case t froms here forever ss fs ps count a b p =
+    sleep_case t froms (far - t) _ _ (steps_left ss ∷ fs) ps count (b, p) refl (omega arith)
 step_case t froms here (pace k) ss fs ps count a b p =
     asks_case t froms ask.count (paces k) _ _ (steps_left ss ∷ fs) ps count tt (b, p) refl (omega arith)
 step_case t froms here (find text) ss fs ps count a b p =
@@ -273,29 +290,39 @@ step_case t froms here (cancel name) ss fs ps count a b p =
       weight = omega arith;
     }
 step_case t froms here (scope name d shield fail body) ss fs ps count a b p =
-    enter_case t froms (label_here name here) shield (due d t) body (in_scope fail) _ _ (steps_left ss ∷ fs) ps count (a, (b, p)) refl (omega arith)
+    enter_case t froms (label_here name here) shield (due d t) body (in_scope fail) _ _ (steps_left ss ∷ fs) ps count (a, (b, p)) refl
+        (omega arith)
 step_case t froms here (nursery name d shield body) ss fs ps count a b p =
-    enter_case t froms (label_here name here) shield (due d t) body (in_nursery []) _ _ (steps_left ss ∷ fs) ps count (a, (b, p)) refl (omega arith)
+    enter_case t froms (label_here name here) shield (due d t) body (in_nursery []) _ _ (steps_left ss ∷ fs) ps count (a, (b, p)) refl
+        (omega arith)
 step_case t froms here (start name over body) ss fs ps count a b p = start_case t froms here name over body ss fs ps count a.1 b p
 step_case t froms here (attempt body handler cleanup) ss fs ps count a b p =
-    onward_case t froms _ _ (steps_left body ∷ in_try handler cleanup ∷ steps_left ss ∷ fs) ps None count (a.0, (a.1, a.2, (b, p))) refl (omega arith)
+    onward_case t froms _ _ (steps_left body ∷ in_try handler cleanup ∷ steps_left ss ∷ fs) ps None count (a.0, (a.1, a.2, (b, p))) refl
+        (omega arith)
 
 steps_case : (t : ℕ) (froms : Table) (here : Here) (ss : Steps) (fs : List Frame) (ps : List Place) (exc : Option Exc) (count : ℕ) →
-    StartsIn (in_body fs) ss → Placed fs ps → Case t froms (frames_weight (steps_left ss ∷ fs)) (home_places fs ps) ps count (step_steps froms t here ss fs ps exc count)
+    StartsIn (in_body fs) ss → Placed fs ps → Case t froms (frames_weight (steps_left ss ∷ fs)) (home_places fs ps) ps count
+        (step_steps froms t here ss fs ps exc count)
 steps_case t froms here ss fs ps (Some e) count b p = onward_case t froms _ _ fs ps (Some e) count p refl (omega arith)
 steps_case t froms here stop fs ps None count b p = onward_case t froms _ _ fs ps None count p refl (omega arith)
 steps_case t froms here (step s ss) fs ps None count b p = step_case t froms (inside fs here) s ss fs ps count b.0 b.1 p
 
-try_case : (t : ℕ) (froms : Table) (handler : Handled) (cleanup : Cleaned) (fs : List Frame) (ps : List Place) (exc : Option Exc) (count : ℕ) →
-    HandlerStarts handler → CleanupStarts cleanup → Placed fs ps → Case t froms (frames_weight (in_try handler cleanup ∷ fs)) (home_places fs ps) ps count (step_try handler cleanup fs ps exc)
+try_case : (t : ℕ) (froms : Table) (handler : Handled) (cleanup : Cleaned) (fs : List Frame) (ps : List Place) (exc : Option Exc)
+    (count : ℕ) →
+    HandlerStarts handler → CleanupStarts cleanup → Placed fs ps →
+        Case t froms (frames_weight (in_try handler cleanup ∷ fs)) (home_places fs ps) ps count (step_try handler cleanup fs ps exc)
 try_case t froms unhandled uncleaned fs ps exc count a b p = onward_case t froms _ _ fs ps exc count p refl (omega arith)
-try_case t froms unhandled (finally body) fs ps exc count a b p = onward_case t froms _ _ (steps_left body ∷ in_cleanup exc ∷ fs) ps None count (b, p) refl (omega arith)
-try_case t froms (except name body) cleanup fs ps None count a b p = onward_case t froms _ _ (in_try unhandled cleanup ∷ fs) ps None count (tt, b, p) refl (omega arith)
+try_case t froms unhandled (finally body) fs ps exc count a b p =
+    onward_case t froms _ _ (steps_left body ∷ in_cleanup exc ∷ fs) ps None count (b, p) refl (omega arith)
+try_case t froms (except name body) cleanup fs ps None count a b p =
+    onward_case t froms _ _ (in_try unhandled cleanup ∷ fs) ps None count (tt, b, p) refl (omega arith)
 try_case t froms (except name body) cleanup fs ps (Some e) count a b p = by_match (keep (named name) e)
   where
-    by_match : (o : Option Exc) → Case t froms (frames_weight (in_try (except name body) cleanup ∷ fs)) (home_places fs ps) ps count (handler_if o (drop (named name) e) e body cleanup fs ps)
+    by_match : (o : Option Exc) → Case t froms (frames_weight (in_try (except name body) cleanup ∷ fs)) (home_places fs ps) ps count
+        (handler_if o (drop (named name) e) e body cleanup fs ps)
     by_match None = onward_case t froms _ _ (in_try unhandled cleanup ∷ fs) ps (Some e) count (tt, b, p) refl (omega arith)
-    by_match (Some x) = onward_case t froms _ _ (steps_left body ∷ in_handler (drop (named name) e) cleanup ∷ fs) ps None count (a, (b, p)) refl (omega arith)
+    by_match (Some x) = onward_case t froms _ _ (steps_left body ∷ in_handler (drop (named name) e) cleanup ∷ fs) ps None count (a, (b, p))
+        refl (omega arith)
 
 frames_case : (t : ℕ) (froms : Table) (here : Here) (fs : List Frame) (ps : List Place) (exc : Option Exc) (count : ℕ) → Placed fs ps →
     Case t froms (frames_weight fs) (home_places fs ps) ps count (step_frames froms t here fs ps exc count)
@@ -312,7 +339,8 @@ frames_case t froms here [] ps exc count p =
     }
 frames_case t froms here (steps_left ss ∷ fs) ps exc count p = steps_case t froms here ss fs ps exc count p.0 p.1
 frames_case t froms here (in_scope fail ∷ fs) [] exc count p = absurd p
-frames_case t froms here (in_scope fail ∷ fs) (q ∷ ps) exc count p = leaves_case t froms (a_scope fail) _ _ fs q ps exc count p refl (omega arith)
+frames_case t froms here (in_scope fail ∷ fs) (q ∷ ps) exc count p =
+    leaves_case t froms (a_scope fail) _ _ fs q ps exc count p refl (omega arith)
 frames_case t froms here (in_nursery children ∷ fs) [] exc count p = absurd p
 frames_case t froms here (in_nursery children ∷ fs) (q ∷ ps) exc count p =
     record {
@@ -326,10 +354,12 @@ frames_case t froms here (in_nursery children ∷ fs) (q ∷ ps) exc count p =
       weight = omega arith;
     }
 frames_case t froms here (in_try handler cleanup ∷ fs) ps exc count p = try_case t froms handler cleanup fs ps exc count p.0 p.1 p.2
-frames_case t froms here (in_handler rest cleanup ∷ fs) ps exc count p = onward_case t froms _ _ (in_try unhandled cleanup ∷ fs) ps _ count (tt, p.0, p.1) refl (omega arith)
+frames_case t froms here (in_handler rest cleanup ∷ fs) ps exc count p =
+    onward_case t froms _ _ (in_try unhandled cleanup ∷ fs) ps _ count (tt, p.0, p.1) refl (omega arith)
 frames_case t froms here (in_cleanup outcome ∷ fs) ps exc count p = onward_case t froms _ _ fs ps _ count p refl (omega arith)
 
 -- one step of a turn
-pub step_cases : (t : ℕ) (froms : Table) (here : Here) (m : Midway) → Placed m.frames m.places → Case t froms (frames_weight m.frames) (home_places m.frames m.places) m.places m.count (step_of froms t here m)
+pub step_cases : (t : ℕ) (froms : Table) (here : Here) (m : Midway) → Placed m.frames m.places →
+    Case t froms (frames_weight m.frames) (home_places m.frames m.places) m.places m.count (step_of froms t here m)
 unfolding step_of
 step_cases t froms here m p = frames_case t froms here m.frames m.places m.exc m.count p

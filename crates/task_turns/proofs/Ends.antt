@@ -36,7 +36,8 @@ length_started more (in_handler rest cleanup ∷ fs) = refl
 length_started more (in_cleanup outcome ∷ fs) = refl
 
 module _ (t : ℕ) (froms : Table) (here : Here) where
-  shrinks_sleeps : (n before : ℕ) (fs : List Frame) (ps : List Place) → frames_length fs < before → MoveShrinks before (sleeps froms n t fs ps)
+  shrinks_sleeps : (n before : ℕ) (fs : List Frame) (ps : List Place) → frames_length fs < before →
+      MoveShrinks before (sleeps froms n t fs ps)
   shrinks_sleeps n before fs ps lt = by_sight (seen (stack_at froms ps) t) n
     where
       by_sight : (b : Bool) (n : ℕ) → MoveShrinks before (falls_asleep b n t fs ps)
@@ -62,22 +63,26 @@ module _ (t : ℕ) (froms : Table) (here : Here) where
   shrinks_step at (start name (Some k) body) ss fs ps count = let e = length_started (numbered count k) fs in omega arith
   shrinks_step at (attempt body handler cleanup) ss fs ps count = omega arith
 
-  shrinks_steps : (ss : Steps) (fs : List Frame) (ps : List Place) (exc : Option Exc) (count : ℕ) → MoveShrinks (frames_length (steps_left ss ∷ fs)) (step_steps froms t here ss fs ps exc count)
+  shrinks_steps : (ss : Steps) (fs : List Frame) (ps : List Place) (exc : Option Exc) (count : ℕ) →
+      MoveShrinks (frames_length (steps_left ss ∷ fs)) (step_steps froms t here ss fs ps exc count)
   shrinks_steps ss fs ps (Some e) count = let h = steps_positive ss in omega arith
   shrinks_steps stop fs ps None count = omega arith
   shrinks_steps (step s ss) fs ps None count = shrinks_step (inside fs here) s ss fs ps count
 
-  shrinks_try : (handler : Handled) (cleanup : Cleaned) (fs : List Frame) (ps : List Place) (exc : Option Exc) → MoveShrinks (frames_length (in_try handler cleanup ∷ fs)) (step_try handler cleanup fs ps exc)
+  shrinks_try : (handler : Handled) (cleanup : Cleaned) (fs : List Frame) (ps : List Place) (exc : Option Exc) →
+      MoveShrinks (frames_length (in_try handler cleanup ∷ fs)) (step_try handler cleanup fs ps exc)
   shrinks_try unhandled uncleaned fs ps exc = omega arith
   shrinks_try unhandled (finally body) fs ps exc = omega arith
   shrinks_try (except name body) cleanup fs ps None = omega arith
   shrinks_try (except name body) cleanup fs ps (Some e) = by_match (keep (named name) e)
     where
-      by_match : (o : Option Exc) → MoveShrinks (frames_length (in_try (except name body) cleanup ∷ fs)) (handler_if o (drop (named name) e) e body cleanup fs ps)
+      by_match : (o : Option Exc) → MoveShrinks (frames_length (in_try (except name body) cleanup ∷ fs))
+          (handler_if o (drop (named name) e) e body cleanup fs ps)
       by_match None = omega arith
       by_match (Some x) = omega arith
 
-  shrinks_frames : (fs : List Frame) (ps : List Place) (exc : Option Exc) (count : ℕ) → MoveShrinks (frames_length fs) (step_frames froms t here fs ps exc count)
+  shrinks_frames : (fs : List Frame) (ps : List Place) (exc : Option Exc) (count : ℕ) →
+      MoveShrinks (frames_length fs) (step_frames froms t here fs ps exc count)
   shrinks_frames [] ps exc count = tt
   shrinks_frames (steps_left ss ∷ fs) ps exc count = shrinks_steps ss fs ps exc count
   shrinks_frames (in_scope fail ∷ fs) [] exc count = omega arith
@@ -94,7 +99,8 @@ unfolding step_of
 step_shrinks t froms here m = shrinks_frames t froms here m.frames m.places m.exc m.count
 
 -- so a turn of more steps than are left has stopped
-pub turn_ends : (n t : ℕ) (froms : Table) (here : Here) (m : Midway) → frames_length m.frames < n → IsSome (turn_of n froms t here m).stopped
+pub turn_ends : (n t : ℕ) (froms : Table) (here : Here) (m : Midway) → frames_length m.frames < n →
+    IsSome (turn_of n froms t here m).stopped
 unfolding turn_of
 turn_ends zero t froms here m lt = absurd (omega arith)
 turn_ends (suc n) t froms here m lt =
@@ -104,7 +110,8 @@ turn_ends (suc n) t froms here m lt =
     q : Move
     q = turn_of n (froms_after froms (step_of froms t here m).made) t here (moved m (step_of froms t here m))
 
-    by_stop : (s : Option Stopped) → (step_of froms t here m).stopped ≡ s → Shrinks s (frames_length (step_of froms t here m).frames) (frames_length m.frames) →
+    by_stop : (s : Option Stopped) → (step_of froms t here m).stopped ≡ s →
+        Shrinks s (frames_length (step_of froms t here m).frames) (frames_length m.frames) →
         (frames_length (step_of froms t here m).frames < n → IsSome q.stopped) → IsSome (then_move s (step_of froms t here m) q).stopped
     by_stop (Some s) e h go = subst (λ (z : Option Stopped). IsSome z) (sym e) tt
     by_stop None e h go = go (omega arith)

@@ -23,7 +23,8 @@ known_stays l (enters m t d ∷ es) ls k = known_stays l es (m ∷ ls) (inr k)
 known_stays l (starts i m t ∷ es) ls k = known_stays l es ls k
 
 -- more labels known before, more after
-pub known_grows : (ls ms : List Label) → ((l : Label) → Known l ls → Known l ms) → (es : List Event) → (l : Label) → Known l (known_after ls es) → Known l (known_after ms es)
+pub known_grows : (ls ms : List Label) → ((l : Label) → Known l ls → Known l ms) → (es : List Event) → (l : Label) →
+    Known l (known_after ls es) → Known l (known_after ms es)
 known_grows ls ms h [] l k = h l k
 known_grows ls ms h (noted t e ∷ es) l k = known_grows ls ms h es l k
 known_grows ls ms h (signs m t ∷ es) l k = known_grows ls ms h es l k
@@ -71,7 +72,8 @@ begun_append ls (x ∷ bs) cs a b = (a.0, a.1, begun_append ls bs cs a.2 b)
 -- ---- events made at one tick
 
 -- signs for labels that are known are for known ones of more
-pub made_grows : (t : ℕ) (ls ms : List Label) → ((l : Label) → Known l ls → Known l ms) → (es : List Event) → MadeAt t ls es → MadeAt t ms es
+pub made_grows : (t : ℕ) (ls ms : List Label) → ((l : Label) → Known l ls → Known l ms) → (es : List Event) → MadeAt t ls es →
+    MadeAt t ms es
 made_grows t ls ms h [] a = tt
 made_grows t ls ms h (noted u e ∷ es) a = (a.0, made_grows t ls ms h es a.1)
 made_grows t ls ms h (signs l u ∷ es) a = (a.0, h l a.1, made_grows t ls ms h es a.2)
@@ -93,7 +95,8 @@ made_append t (starts i l u ∷ es) fs ls a b = (a.0, made_append t es fs ls a.1
 -- ---- starts
 
 -- starts of children, and more of them
-pub starts_append : (es fs : List Event) (n : ℕ) (bs cs : List Begun) → Starts n es bs → Starts (n + length bs) fs cs → Starts n (es ++ fs) (bs ++ cs)
+pub starts_append : (es fs : List Event) (n : ℕ) (bs cs : List Begun) → Starts n es bs → Starts (n + length bs) fs cs →
+    Starts n (es ++ fs) (bs ++ cs)
 starts_append [] fs n [] cs a b = subst (λ (k : ℕ). Starts k fs cs) (omega arith) b
 starts_append [] fs n (x ∷ bs) cs a b = absurd a
 starts_append (noted t e ∷ es) fs n bs cs a b = starts_append es fs n bs cs a b
@@ -123,8 +126,10 @@ froms_append (starts i l t ∷ es) fs froms = froms_append es fs froms
 
 -- A table that agrees at t with the froms of known labels, and with the deadlines of those entered, agrees after the
 -- events too: a sign made at t acts from the next tick on.
-pub known_agree : (t : ℕ) (table : Table) (told : Telling) (es : List Event) (ls : List Label) (froms : Table) → MadeAt t ls es → AgreesIn t table (fill told es) →
-    ((l : Label) → Known l ls → SameFrom t table froms l) → (l : Label) → Known l (known_after ls es) → SameFrom t table (froms_after froms es) l
+pub known_agree : (t : ℕ) (table : Table) (told : Telling) (es : List Event) (ls : List Label) (froms : Table) → MadeAt t ls es →
+    AgreesIn t table (fill told es) →
+    ((l : Label) → Known l ls → SameFrom t table froms l) → (l : Label) → Known l (known_after ls es) →
+        SameFrom t table (froms_after froms es) l
 known_agree t table told [] ls froms a b h l k = h l k
 known_agree t table told (noted u e ∷ es) ls froms a b h l k = known_agree t table told es ls froms a.1 b h l k
 known_agree t table told (signs m u ∷ es) ls froms a b h l k =
@@ -138,18 +143,22 @@ known_agree t table told (enters m u d ∷ es) ls froms a b h l k = known_agree 
 known_agree t table told (starts i m u ∷ es) ls froms a b h l k = known_agree t table told es ls froms a.1 b h l k
 
 -- who agrees on places agrees on each of their labels
-pub on_places : (t : ℕ) (table froms : Table) (ps : List Place) → AgreesOn t table froms ps → (l : Label) → Known l (labels_of ps) → SameFrom t table froms l
+pub on_places : (t : ℕ) (table froms : Table) (ps : List Place) → AgreesOn t table froms ps → (l : Label) → Known l (labels_of ps) →
+    SameFrom t table froms l
 on_places t table froms [] a l k = absurd k
 on_places t table froms (p ∷ ps) a l (inl e) = subst (λ (x : Label). SameFrom t table froms x) (sym e) a.0
 on_places t table froms (p ∷ ps) a l (inr k) = on_places t table froms ps a.1 l k
 
 -- and who agrees on known labels agrees on places that are known
-pub by_known : (t : ℕ) (table froms : Table) (ls : List Label) → ((l : Label) → Known l ls → SameFrom t table froms l) → (ps : List Place) → AllKnown ps ls → AgreesOn t table froms ps
+pub by_known : (t : ℕ) (table froms : Table) (ls : List Label) → ((l : Label) → Known l ls → SameFrom t table froms l) → (ps : List Place) →
+    AllKnown ps ls → AgreesOn t table froms ps
 by_known t table froms ls h [] a = tt
 by_known t table froms ls h (p ∷ ps) a = (h p.label a.0, by_known t table froms ls h ps a.1)
 
 -- so it agrees with the froms after the events, on places that were there before or were entered
-pub agrees_after : (t : ℕ) (table : Table) (told : Telling) (es : List Event) (ps qs : List Place) (froms : Table) → MadeAt t (labels_of ps) es → AllKnown qs (known_after (labels_of ps) es) →
+pub agrees_after : (t : ℕ) (table : Table) (told : Telling) (es : List Event) (ps qs : List Place) (froms : Table) →
+    MadeAt t (labels_of ps) es → AllKnown qs (known_after (labels_of ps) es) →
     AgreesOn t table froms ps → AgreesIn t table (fill told es) → AgreesOn t table (froms_after froms es) qs
 agrees_after t table told es ps qs froms a k h b =
-    by_known t table (froms_after froms es) (known_after (labels_of ps) es) (known_agree t table told es (labels_of ps) froms a b (on_places t table froms ps h)) qs k
+    by_known t table (froms_after froms es) (known_after (labels_of ps) es)
+        (known_agree t table told es (labels_of ps) froms a b (on_places t table froms ps h)) qs k

@@ -17,7 +17,8 @@ earlier_assoc (Some x) None c = refl
 earlier_assoc (Some x) (Some y) None = refl
 earlier_assoc (Some x) (Some y) (Some z) = ap (λ (n : ℕ). Some n) (least x y z)
   where
-    least : (x y z : ℕ) → (if nat_lt z (if nat_lt y x then y else x) then z else (if nat_lt y x then y else x)) ≡ (if nat_lt (if nat_lt z y then z else y) x then (if nat_lt z y then z else y) else x)
+    least : (x y z : ℕ) → (if nat_lt z (if nat_lt y x then y else x) then z else (if nat_lt y x then y else x))
+        ≡ (if nat_lt (if nat_lt z y then z else y) x then (if nat_lt z y then z else y) else x)
     least x y z = grind (arith, nat_tests)
 
 next_earlier : (a b : Tick) → next (earlier a b) ≡ earlier (next a) (next b)
@@ -41,7 +42,8 @@ same_differs l m h = by_test (same_label l m) refl
     by_test false e = refl
 
 -- the from of a label that was not entered is lowered by just the signs made
-pub from_lowered : (es : List Event) (froms : Table) (l : Label) → (EntersIn l es → ⊥) → froms_after froms es l ≡ from_by (froms l) (made_sign l es)
+pub from_lowered : (es : List Event) (froms : Table) (l : Label) → (EntersIn l es → ⊥) →
+    froms_after froms es l ≡ from_by (froms l) (made_sign l es)
 from_lowered [] froms l h = sym (earlier_never (froms l))
 from_lowered (noted t e ∷ es) froms l h = from_lowered es froms l h
 from_lowered (signs m t ∷ es) froms l h = from_lowered es (lowered froms m t) l h ∙ one_sign (same_label l m) t (froms l) (made_sign l es)
@@ -51,7 +53,8 @@ from_lowered (enters m t d ∷ es) froms l h =
 from_lowered (starts i m t ∷ es) froms l h = from_lowered es froms l h
 
 -- the from of a label that was entered once, and was not known before, is its deadline, lowered likewise
-pub from_opened : (t : ℕ) (es : List Event) (ls : List Label) (froms : Table) (l : Label) (d : Tick) → MadeAt t ls es → (Known l ls → ⊥) → EntersOnceWith l d es →
+pub from_opened : (t : ℕ) (es : List Event) (ls : List Label) (froms : Table) (l : Label) (d : Tick) → MadeAt t ls es → (Known l ls → ⊥) →
+    EntersOnceWith l d es →
     froms_after froms es l ≡ from_by d (made_sign l es)
 from_opened t [] ls froms l d a k o = absurd o
 from_opened t (noted u e ∷ es) ls froms l d a k o = from_opened t es ls froms l d a.1 k o
@@ -63,7 +66,8 @@ from_opened t (signs m u ∷ es) ls froms l d a k o =
     differs e = k (subst (λ (x : Label). Known x ls) (sym e) a.1)
 from_opened t (enters m u c ∷ es) ls froms l d a k (inl o) =
     from_lowered es (opened froms m c) l o.2
-    ∙ (ap (λ (b : Bool). from_by (opened_if b c (froms l)) (made_sign l es)) (ap (λ (x : Label). same_label l x) (sym o.0) ∙ same_label_itself l)
+    ∙ (ap (λ (b : Bool). from_by (opened_if b c (froms l)) (made_sign l es))
+        (ap (λ (x : Label). same_label l x) (sym o.0) ∙ same_label_itself l)
     ∙ ap (λ (x : Tick). from_by x (made_sign l es)) (sym o.1))
 from_opened t (enters m u c ∷ es) ls froms l d a k (inr o) = from_opened t es (m ∷ ls) (opened froms m c) l d a.1 new o.1
   where
@@ -86,11 +90,13 @@ signed_now t (enters m v d ∷ es) ls l u a e = signed_now t es (m ∷ ls) l u a
 signed_now t (starts i m v ∷ es) ls l u a e = signed_now t es ls l u a.1 e
 
 -- and there is one only for a label that was known, or was entered
-pub unsigned : (t : ℕ) (es : List Event) (ls : List Label) (l : Label) → MadeAt t ls es → (Known l ls → ⊥) → (EntersIn l es → ⊥) → made_sign l es ≡ None
+pub unsigned : (t : ℕ) (es : List Event) (ls : List Label) (l : Label) → MadeAt t ls es → (Known l ls → ⊥) → (EntersIn l es → ⊥) →
+    made_sign l es ≡ None
 unsigned t [] ls l a k h = refl
 unsigned t (noted v x ∷ es) ls l a k h = unsigned t es ls l a.1 k h
 unsigned t (signs m v ∷ es) ls l a k h =
-    ap (λ (b : Bool). earlier (tick_if b v) (made_sign l es)) (same_differs l m (λ e. k (subst (λ (x : Label). Known x ls) (sym e) a.1))) ∙ unsigned t es ls l a.2 k h
+    ap (λ (b : Bool). earlier (tick_if b v) (made_sign l es)) (same_differs l m (λ e. k (subst (λ (x : Label). Known x ls) (sym e) a.1)))
+        ∙ unsigned t es ls l a.2 k h
 unsigned t (enters m v d ∷ es) ls l a k h = unsigned t es (m ∷ ls) l a.1 new (λ i. h (inr i))
   where
     new : Known l (m ∷ ls) → ⊥

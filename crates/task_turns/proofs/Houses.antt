@@ -28,7 +28,8 @@ numbered_has : (first i k : ℕ) → i < k → IsAmong (first + i) (numbered fir
 numbered_has first i zero lt = absurd (omega arith)
 numbered_has first i (suc k) lt = by_last (last_or_before i k lt) (λ l. numbered_has first i k l)
   where
-    by_last : (i ≡ k) ⊎ (i < k) → (i < k → IsAmong (first + i) (numbered first k)) → IsAmong (first + i) (numbered first k ++ (first + k) ∷ [])
+    by_last : (i ≡ k) ⊎ (i < k) → (i < k → IsAmong (first + i) (numbered first k)) →
+        IsAmong (first + i) (numbered first k ++ (first + k) ∷ [])
     by_last (inl e) more = among_right (first + i) (numbered first k) ((first + k) ∷ []) (inl (ap (λ (n : ℕ). first + n) e))
     by_last (inr l) more = among_left (first + i) (numbered first k) ((first + k) ∷ []) (more l)
 
@@ -94,12 +95,14 @@ module _ (t : ℕ) (froms : Table) (here : Here) (i : ℕ) (home : List Place) w
   stays_step at (start name (Some c) body) ss fs ps n h = inr (stays_started (numbered n c) fs ps h)
   stays_step at (attempt body handler cleanup) ss fs ps n h = inr h
 
-  stays_steps : (ss : Steps) (fs : List Frame) (ps : List Place) (exc : Option Exc) (n : ℕ) → HasChild i home fs ps → Stays (step_steps froms t here ss fs ps exc n)
+  stays_steps : (ss : Steps) (fs : List Frame) (ps : List Place) (exc : Option Exc) (n : ℕ) → HasChild i home fs ps →
+      Stays (step_steps froms t here ss fs ps exc n)
   stays_steps ss fs ps (Some e) n h = inr h
   stays_steps stop fs ps None n h = inr h
   stays_steps (step s ss) fs ps None n h = stays_step (inside fs here) s ss fs ps n h
 
-  stays_try : (handler : Handled) (cleanup : Cleaned) (fs : List Frame) (ps : List Place) (exc : Option Exc) → HasChild i home fs ps → Stays (step_try handler cleanup fs ps exc)
+  stays_try : (handler : Handled) (cleanup : Cleaned) (fs : List Frame) (ps : List Place) (exc : Option Exc) → HasChild i home fs ps →
+      Stays (step_try handler cleanup fs ps exc)
   stays_try unhandled uncleaned fs ps exc h = inr h
   stays_try unhandled (finally body) fs ps exc h = inr h
   stays_try (except name body) cleanup fs ps None h = inr h
@@ -176,7 +179,8 @@ module _ (t : ℕ) (froms : Table) (here : Here) where
   housed_start : (at : Here) (name : List ℕ) (over : Option ℕ) (body ss : Steps) (fs : List Frame) (ps : List Place) (n : ℕ) →
       IsTrue (in_body fs) → Placed fs ps →
       Housed (step_on froms t at (start name over body) ss fs ps n)
-  housed_start at name None body ss (in_nursery children ∷ fs) (p ∷ ps) n b w = (inr (inl (among_right n children (n ∷ []) (inl refl), refl)), tt)
+  housed_start at name None body ss (in_nursery children ∷ fs) (p ∷ ps) n b w =
+      (inr (inl (among_right n children (n ∷ []) (inl refl), refl)), tt)
   housed_start at name (Some k) body ss (in_nursery children ∷ fs) (p ∷ ps) n b w =
       over_housed name at k body (p ∷ ps) n (steps_left ss ∷ in_nursery (children ++ numbered n k) ∷ fs) k
       (λ i lt. inl (among_right (n + i) children (numbered n k) (numbered_has n i k lt), refl))
@@ -205,12 +209,14 @@ module _ (t : ℕ) (froms : Table) (here : Here) where
   housed_step at (start name over body) ss fs ps n b p = housed_start at name over body ss fs ps n b.0 p
   housed_step at (attempt body handler cleanup) ss fs ps n b p = tt
 
-  housed_steps : (ss : Steps) (fs : List Frame) (ps : List Place) (exc : Option Exc) (n : ℕ) → StartsIn (in_body fs) ss → Placed fs ps → Housed (step_steps froms t here ss fs ps exc n)
+  housed_steps : (ss : Steps) (fs : List Frame) (ps : List Place) (exc : Option Exc) (n : ℕ) → StartsIn (in_body fs) ss → Placed fs ps →
+      Housed (step_steps froms t here ss fs ps exc n)
   housed_steps ss fs ps (Some e) n b p = tt
   housed_steps stop fs ps None n b p = tt
   housed_steps (step s ss) fs ps None n b p = housed_step (inside fs here) s ss fs ps n b.0 p
 
-  housed_try : (handler : Handled) (cleanup : Cleaned) (fs : List Frame) (ps : List Place) (exc : Option Exc) → Housed (step_try handler cleanup fs ps exc)
+  housed_try : (handler : Handled) (cleanup : Cleaned) (fs : List Frame) (ps : List Place) (exc : Option Exc) →
+      Housed (step_try handler cleanup fs ps exc)
   housed_try unhandled uncleaned fs ps exc = tt
   housed_try unhandled (finally body) fs ps exc = tt
   housed_try (except name body) cleanup fs ps None = tt
@@ -220,7 +226,8 @@ module _ (t : ℕ) (froms : Table) (here : Here) where
       by_match None = tt
       by_match (Some x) = tt
 
-  housed_frames : (fs : List Frame) (ps : List Place) (exc : Option Exc) (n : ℕ) → Placed fs ps → Housed (step_frames froms t here fs ps exc n)
+  housed_frames : (fs : List Frame) (ps : List Place) (exc : Option Exc) (n : ℕ) → Placed fs ps →
+      Housed (step_frames froms t here fs ps exc n)
   housed_frames [] ps exc n p = tt
   housed_frames (steps_left ss ∷ fs) ps exc n p = housed_steps ss fs ps exc n p.0 p.1
   housed_frames (in_scope fail ∷ fs) [] exc n p = tt
@@ -236,7 +243,8 @@ module _ (t : ℕ) (froms : Table) (here : Here) where
   unfolding step_of
   step_housed m p = housed_frames m.frames m.places m.exc m.count p
 
-  housed_answered : (a : Answer) (purpose : Purpose) (fs : List Frame) (ps : List Place) → Housed (goes_on_with froms t here a purpose fs ps)
+  housed_answered : (a : Answer) (purpose : Purpose) (fs : List Frame) (ps : List Place) →
+      Housed (goes_on_with froms t here a purpose fs ps)
   housed_answered (lines ls) purpose fs ps = tt
   housed_answered missing (needs name) fs ps = tt
   housed_answered missing shows fs ps = tt

@@ -27,7 +27,8 @@ fill_signs_to : (told : Telling) (o : Option Label) (t : ℕ) → fill told (sig
 fill_signs_to told None t = refl
 fill_signs_to told (Some l) t = refl
 
-fill_home : (told : Telling) (table : Table) (e : Option Exc) (ps : List Place) (t : ℕ) → fill told (signs_home e ps t) ≡ sign_if e (home_of (stack_at table ps)) t
+fill_home : (told : Telling) (table : Table) (e : Option Exc) (ps : List Place) (t : ℕ) →
+    fill told (signs_home e ps t) ≡ sign_if e (home_of (stack_at table ps)) t
 fill_home told table None ps t = refl
 fill_home told table (Some e) [] t = refl
 fill_home told table (Some e) (p ∷ ps) t = refl
@@ -64,19 +65,25 @@ module _ (table froms : Table) (told : Telling) (t : ℕ) (here : Here) where
   -- a step that opens no frame, by what it comes to
   first_step : (s : Step) (ss : Steps) (fs : List Frame) (ps : List Place) (r : Result) →
       walk_step (by_table table) s (inside fs here) (stack_at table ps) t ≡ r →
-      going_to table told here t (steps_left (step s ss) ∷ fs) ps None ≡ finish (by_table table) told (steps_left ss ∷ fs) here (stack_at table ps) r
+      going_to table told here t (steps_left (step s ss) ∷ fs) ps None
+          ≡ finish (by_table table) told (steps_left ss ∷ fs) here (stack_at table ps) r
   first_step s ss fs ps r e =
-      finish_step fs (by_table table) told s ss here (stack_at table ps) t ∙ ap (λ (x : Result). finish (by_table table) told (steps_left ss ∷ fs) here (stack_at table ps) x) e
+      finish_step fs (by_table table) told s ss here (stack_at table ps) t
+          ∙ ap (λ (x : Result). finish (by_table table) told (steps_left ss ∷ fs) here (stack_at table ps) x) e
 
   -- what is left with a sleep to come
   pub keeps_sleeps : (n : ℕ) (fs : List Frame) (ps : List Place) → AgreesOn t table froms ps →
-      finish (by_table table) told fs here (stack_at table ps) (sleeping (stack_at table ps) n t) ≡ behind told (sleeps froms n t fs ps).made (left_after table told here t (sleeps froms n t fs ps))
+      finish (by_table table) told fs here (stack_at table ps) (sleeping (stack_at table ps) n t)
+          ≡ behind told (sleeps froms n t fs ps).made (left_after table told here t (sleeps froms n t fs ps))
   keeps_sleeps n fs ps a = by_sight (seen (stack_at froms ps) t) (seen_alike t table froms ps a) n
     where
       by_sight : (b : Bool) → seen (stack_at table ps) t ≡ b → (n : ℕ) →
-          finish (by_table table) told fs here (stack_at table ps) (sleeping (stack_at table ps) n t) ≡ behind told (falls_asleep b n t fs ps).made (left_after table told here t (falls_asleep b n t fs ps))
-      by_sight true e n = ap (λ (x : Result). finish (by_table table) told fs here (stack_at table ps) x) (sleep_seen (stack_at table ps) n t e)
-      by_sight false e zero = ap (λ (x : Result). finish (by_table table) told fs here (stack_at table ps) x) (sleep_none (stack_at table ps) t e)
+          finish (by_table table) told fs here (stack_at table ps) (sleeping (stack_at table ps) n t)
+              ≡ behind told (falls_asleep b n t fs ps).made (left_after table told here t (falls_asleep b n t fs ps))
+      by_sight true e n = ap (λ (x : Result). finish (by_table table) told fs here (stack_at table ps) x)
+          (sleep_seen (stack_at table ps) n t e)
+      by_sight false e zero = ap (λ (x : Result). finish (by_table table) told fs here (stack_at table ps) x)
+          (sleep_none (stack_at table ps) t e)
       by_sight false e (suc n) = refl
 
   -- a sleep
@@ -92,15 +99,18 @@ module _ (table froms : Table) (told : Telling) (t : ℕ) (here : Here) where
   keeps_cancel name ss fs ps =
       first_step (cancel name) ss fs ps (after (fill told (signs_to (label_among name ps) t)) (done_at t))
       (ap (λ (x : Log). record (done_at t) { log = x })
-      (ap (λ (o : Option Label). sign_of o t) (label_at_places table name ps) ∙ sym (fill_signs_to told (label_among name ps) t) ∙ sym (followed_nil (fill told (signs_to (label_among name ps) t)))))
-      ∙ finish_after (steps_left ss ∷ fs) (fill told (signs_to (label_among name ps) t)) (by_table table) told here (stack_at table ps) (done_at t)
+      (ap (λ (o : Option Label). sign_of o t) (label_at_places table name ps) ∙ sym (fill_signs_to told (label_among name ps) t)
+          ∙ sym (followed_nil (fill told (signs_to (label_among name ps) t)))))
+      ∙ finish_after (steps_left ss ∷ fs) (fill told (signs_to (label_among name ps) t)) (by_table table) told here (stack_at table ps)
+          (done_at t)
 
   -- children of a `start .. over` at a place are told of by their numbers
   over_told : (at : Here) (name : List ℕ) (of : ℕ) (body : Steps) (ps : List Place) (first k : ℕ) →
       AllTold t table told (begun_over name at of body ps first k) →
       (i : ℕ) → i < k →
       told (first + i)
-      ≡ signed (stack_at table ps) (walk (by_table table) body (here_in (label_over name at i) (cut_of at.input at.part of i) at) (stack_at table ps) t)
+      ≡ signed (stack_at table ps) (walk (by_table table) body (here_in (label_over name at i) (cut_of at.input at.part of i) at)
+          (stack_at table ps) t)
   over_told at name of body ps first zero h i lt = absurd (omega arith)
   over_told at name of body ps first (suc k) h i lt =
       by_last (last_or_before i k lt) (λ l. over_told at name of body ps first k (told_first t table told front (one ∷ []) h) i l)
@@ -114,18 +124,22 @@ module _ (table froms : Table) (told : Telling) (t : ℕ) (here : Here) where
       Tells : ℕ → Type 0
       Tells i =
           told (first + i)
-          ≡ signed (stack_at table ps) (walk (by_table table) body (here_in (label_over name at i) (cut_of at.input at.part of i) at) (stack_at table ps) t)
+          ≡ signed (stack_at table ps) (walk (by_table table) body (here_in (label_over name at i) (cut_of at.input at.part of i) at)
+              (stack_at table ps) t)
 
       by_last : (i ≡ k) ⊎ (i < k) → (i < k → Tells i) → Tells i
       by_last (inl e) more = subst Tells (sym e) ((told_second t table told front (one ∷ []) h).0 ∙ begun_walk table t one)
       by_last (inr l) more = more l
 
   -- a child, or several, are started
-  keeps_start : (name : List ℕ) (over : Option ℕ) (body ss : Steps) (fs : List Frame) (ps : List Place) (count : ℕ) → IsTrue (in_body fs) → Placed fs ps →
+  keeps_start : (name : List ℕ) (over : Option ℕ) (body ss : Steps) (fs : List Frame) (ps : List Place) (count : ℕ) → IsTrue (in_body fs) →
+      Placed fs ps →
       AllTold t table told (step_on froms t (inside fs here) (start name over body) ss fs ps count).begun →
-      Keeps (steps_left (step (start name over body) ss) ∷ fs) ps None (step_on froms t (inside fs here) (start name over body) ss fs ps count)
+      Keeps (steps_left (step (start name over body) ss) ∷ fs) ps None
+          (step_on froms t (inside fs here) (start name over body) ss fs ps count)
   keeps_start name None body ss (in_nursery children ∷ fs) (p ∷ ps) count b w h =
-      finish_start fs (by_table table) told count name body ss children here (record { label = p.label; shield = p.shield; from = table p.label })
+      finish_start fs (by_table table) told count name body ss children here
+          (record { label = p.label; shield = p.shield; from = table p.label })
       (stack_at table ps) t
       (h.0 ∙ begun_walk table t (begun_one count (here_in (label_here name (inside fs here)) here.part here) body (p ∷ ps)))
   keeps_start name (Some k) body ss (in_nursery children ∷ fs) (p ∷ ps) count b w h =
@@ -143,13 +157,15 @@ module _ (table froms : Table) (told : Telling) (t : ℕ) (here : Here) where
   -- `need` asks for a line
   keeps_need : (o : Option Span) (name : List ℕ) (ss : Steps) (fs : List Frame) (ps : List Place) →
       finish (by_table table) told (steps_left ss ∷ fs) here (stack_at table ps) (needing o name here.task t)
-      ≡ finish (by_table table) told (steps_left ss ∷ fs) here (stack_at table ps) (answered (one_line o) (needs name) here (stack_at table ps) t)
+      ≡ finish (by_table table) told (steps_left ss ∷ fs) here (stack_at table ps)
+          (answered (one_line o) (needs name) here (stack_at table ps) t)
   unfolding needing
   keeps_need None name ss fs ps = refl
   keeps_need (Some l) name ss fs ps = refl
 
   -- each kind of step
-  keeps_step : (s : Step) (ss : Steps) (fs : List Frame) (ps : List Place) (count : ℕ) → AgreesOn t table froms ps → StartsAt (in_body fs) s → Placed fs ps →
+  keeps_step : (s : Step) (ss : Steps) (fs : List Frame) (ps : List Place) (count : ℕ) → AgreesOn t table froms ps →
+      StartsAt (in_body fs) s → Placed fs ps →
       AllTold t table told (step_on froms t (inside fs here) s ss fs ps count).begun →
       Keeps (steps_left (step s ss) ∷ fs) ps None (step_on froms t (inside fs here) s ss fs ps count)
   unfolding walk
@@ -165,13 +181,17 @@ module _ (table froms : Table) (told : Telling) (t : ℕ) (here : Here) where
       ∙ keeps_need (needed_in here.input text here.part) name ss fs ps
   keeps_step (raise name) ss fs ps count a b w h = finish_step fs (by_table table) told (raise name) ss here (stack_at table ps) t
   keeps_step (cancel name) ss fs ps count a b w h = keeps_cancel name ss fs ps
-  keeps_step (scope name d shield fail body) ss fs ps count a b w h = finish_scope fs table told name d shield fail body ss here (stack_at table ps) t
-  keeps_step (nursery name d shield body) ss fs ps count a b w h = finish_nursery fs table told name d shield body ss here (stack_at table ps) t
+  keeps_step (scope name d shield fail body) ss fs ps count a b w h =
+      finish_scope fs table told name d shield fail body ss here (stack_at table ps) t
+  keeps_step (nursery name d shield body) ss fs ps count a b w h =
+      finish_nursery fs table told name d shield body ss here (stack_at table ps) t
   keeps_step (start name over body) ss fs ps count a b w h = keeps_start name over body ss fs ps count b.0 w h
-  keeps_step (attempt body handler cleanup) ss fs ps count a b w h = finish_try fs (by_table table) told body handler cleanup ss here (stack_at table ps) t
+  keeps_step (attempt body handler cleanup) ss fs ps count a b w h =
+      finish_try fs (by_table table) told body handler cleanup ss here (stack_at table ps) t
 
   -- steps of a block
-  keeps_steps : (ss : Steps) (fs : List Frame) (ps : List Place) (exc : Option Exc) (count : ℕ) → AgreesOn t table froms ps → StartsIn (in_body fs) ss → Placed fs ps →
+  keeps_steps : (ss : Steps) (fs : List Frame) (ps : List Place) (exc : Option Exc) (count : ℕ) → AgreesOn t table froms ps →
+      StartsIn (in_body fs) ss → Placed fs ps →
       AllTold t table told (step_steps froms t here ss fs ps exc count).begun →
       Keeps (steps_left ss ∷ fs) ps exc (step_steps froms t here ss fs ps exc count)
   keeps_steps ss fs ps (Some e) count a b w h = finish_raised fs (by_table table) told ss here (stack_at table ps) (so_far (Some e) t) e
@@ -180,17 +200,22 @@ module _ (table froms : Table) (told : Telling) (t : ℕ) (here : Here) where
 
   -- a block is left, whatever made it end
   pub block_leaves : (kind : Kind) (fs : List Frame) (p : Place) (ps : List Place) (exc : Option Exc) → AgreesOn t table froms (p ∷ ps) →
-      finish (by_table table) told fs here (stack_at table ps) (block_left kind (record { label = p.label; shield = p.shield; from = table p.label }) (stack_at table ps) (so_far exc t))
+      finish (by_table table) told fs here (stack_at table ps) (block_left kind
+          (record { label = p.label; shield = p.shield; from = table p.label }) (stack_at table ps) (so_far exc t))
       ≡ behind told (leaves froms t kind fs p ps exc).made (left_after table told here t (leaves froms t kind fs p ps exc))
   block_leaves kind fs p ps exc a =
-      ap (λ (b : Bool). finish (by_table table) told fs here (stack_at table ps) (leaving_log kind p.label (left_with b exc) (so_far exc t))) (catches_alike t table froms p ps a)
-      ∙ finish_after fs (fill told (leaves froms t kind fs p ps exc).made) (by_table table) told here (stack_at table ps) (so_far (leaves froms t kind fs p ps exc).exc t)
+      ap (λ (b : Bool). finish (by_table table) told fs here (stack_at table ps)
+          (leaving_log kind p.label (left_with b exc) (so_far exc t))) (catches_alike t table froms p ps a)
+      ∙ finish_after fs (fill told (leaves froms t kind fs p ps exc).made) (by_table table) told here (stack_at table ps)
+          (so_far (leaves froms t kind fs p ps exc).exc t)
 
   -- the body of a `try` has ended
-  keeps_try : (handler : Handled) (cleanup : Cleaned) (fs : List Frame) (ps : List Place) (exc : Option Exc) → Keeps (in_try handler cleanup ∷ fs) ps exc (step_try handler cleanup fs ps exc)
+  keeps_try : (handler : Handled) (cleanup : Cleaned) (fs : List Frame) (ps : List Place) (exc : Option Exc) →
+      Keeps (in_try handler cleanup ∷ fs) ps exc (step_try handler cleanup fs ps exc)
   keeps_try unhandled uncleaned fs ps exc = finish_uncleaned fs (by_table table) told here (stack_at table ps) (so_far exc t)
   keeps_try unhandled (finally body) fs ps exc = finish_cleanup fs (by_table table) told body here (stack_at table ps) (so_far exc t)
-  keeps_try (except name body) cleanup fs ps None = finish_no_handler fs (by_table table) told (except name body) cleanup here (stack_at table ps) (so_far None t)
+  keeps_try (except name body) cleanup fs ps None =
+      finish_no_handler fs (by_table table) told (except name body) cleanup here (stack_at table ps) (so_far None t)
   keeps_try (except name body) cleanup fs ps (Some e) = by_match (keep (named name) e) refl
     where
       by_match : (o : Option Exc) → keep (named name) e ≡ o →
@@ -202,18 +227,21 @@ module _ (table froms : Table) (told : Telling) (t : ℕ) (here : Here) where
   keeps_end : (ps : List Place) (exc : Option Exc) (count : ℕ) → Keeps [] ps exc (step_frames froms t here [] ps exc count)
   unfolding finish signed
   keeps_end ps exc count =
-      ap (λ (x : Log). record (so_far exc t) { log = x }) (sym (fill_home told table exc ps t) ∙ sym (followed_nil (fill told (signs_home exc ps t))))
+      ap (λ (x : Log). record (so_far exc t) { log = x }) (sym (fill_home told table exc ps t)
+          ∙ sym (followed_nil (fill told (signs_home exc ps t))))
 
   -- the body of a nursery has ended
   keeps_wait : (children : List ℕ) (fs : List Frame) (p : Place) (ps : List Place) (exc : Option Exc) (count : ℕ) →
       Keeps (in_nursery children ∷ fs) (p ∷ ps) exc (step_frames froms t here (in_nursery children ∷ fs) (p ∷ ps) exc count)
   keeps_wait children fs p ps exc count =
-      finish_wait fs (by_table table) told children here (record { label = p.label; shield = p.shield; from = table p.label }) (stack_at table ps) t exc
+      finish_wait fs (by_table table) told children here (record { label = p.label; shield = p.shield; from = table p.label })
+          (stack_at table ps) t exc
       ∙ ap
       (λ (x : Log).
       after x
       (finish (by_table table) told fs here (stack_at table ps)
-      (waited (told_members told children) t exc (record { label = p.label; shield = p.shield; from = table p.label }) (stack_at table ps))))
+      (waited (told_members told children) t exc (record { label = p.label; shield = p.shield; from = table p.label })
+          (stack_at table ps))))
       (sym (fill_home told table exc (p ∷ ps) t))
 
   -- each kind of frame
@@ -223,13 +251,16 @@ module _ (table froms : Table) (told : Telling) (t : ℕ) (here : Here) where
   keeps_frames (steps_left ss ∷ fs) ps exc count a w h = keeps_steps ss fs ps exc count a w.0 w.1 h
   keeps_frames (in_scope fail ∷ fs) [] exc count a w h = absurd w
   keeps_frames (in_scope fail ∷ fs) (p ∷ ps) exc count a w h =
-      finish_leave fs (by_table table) told fail here (record { label = p.label; shield = p.shield; from = table p.label }) (stack_at table ps) (so_far exc t)
+      finish_leave fs (by_table table) told fail here (record { label = p.label; shield = p.shield; from = table p.label })
+          (stack_at table ps) (so_far exc t)
       ∙ block_leaves (a_scope fail) fs p ps exc a
   keeps_frames (in_nursery children ∷ fs) [] exc count a w h = absurd w
   keeps_frames (in_nursery children ∷ fs) (p ∷ ps) exc count a w h = keeps_wait children fs p ps exc count
   keeps_frames (in_try handler cleanup ∷ fs) ps exc count a w h = keeps_try handler cleanup fs ps exc
-  keeps_frames (in_handler rest cleanup ∷ fs) ps exc count a w h = finish_handled fs (by_table table) told rest cleanup here (stack_at table ps) (so_far exc t)
-  keeps_frames (in_cleanup outcome ∷ fs) ps exc count a w h = finish_cleaned fs (by_table table) told outcome here (stack_at table ps) (so_far exc t)
+  keeps_frames (in_handler rest cleanup ∷ fs) ps exc count a w h =
+      finish_handled fs (by_table table) told rest cleanup here (stack_at table ps) (so_far exc t)
+  keeps_frames (in_cleanup outcome ∷ fs) ps exc count a w h =
+      finish_cleaned fs (by_table table) told outcome here (stack_at table ps) (so_far exc t)
 
   -- One step: for a table that agrees with the froms on the task's places, and a telling that fits the children begun,
   -- what is left of the task comes to the events made, and then to what is left after the step.

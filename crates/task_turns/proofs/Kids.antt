@@ -39,12 +39,15 @@ all_append n (i ∷ is) js a b = (a.0, all_append n is js a.1 b)
 numbered_below : (first k : ℕ) → AllBelow (first + k) (numbered first k)
 numbered_below first zero = tt
 numbered_below first (suc k) =
-    all_append (first + suc k) (numbered first k) ((first + k) ∷ []) (all_grow (first + k) (first + suc k) (omega arith) (numbered first k) (numbered_below first k)) (omega arith, tt)
+    all_append (first + suc k) (numbered first k) ((first + k) ∷ [])
+        (all_grow (first + k) (first + suc k) (omega arith) (numbered first k) (numbered_below first k)) (omega arith, tt)
 
 -- children that are started now are below the new count
-kids_started : (n m : ℕ) → n ≤ m → (more : List ℕ) → AllBelow m more → (fs : List Frame) → KidsBelow n fs → KidsBelow m (with_started more fs)
+kids_started : (n m : ℕ) → n ≤ m → (more : List ℕ) → AllBelow m more → (fs : List Frame) → KidsBelow n fs →
+    KidsBelow m (with_started more fs)
 kids_started n m le more a [] k = tt
-kids_started n m le more a (in_nursery children ∷ fs) k = (all_append m children more (all_grow n m le children k.0) a, kids_grow n m le fs k.1)
+kids_started n m le more a (in_nursery children ∷ fs) k =
+    (all_append m children more (all_grow n m le children k.0) a, kids_grow n m le fs k.1)
 kids_started n m le more a (steps_left ss ∷ fs) k = kids_grow n m le fs k
 kids_started n m le more a (in_scope fail ∷ fs) k = kids_grow n m le fs k
 kids_started n m le more a (in_try handler cleanup ∷ fs) k = kids_grow n m le fs k
@@ -94,12 +97,14 @@ module _ (t : ℕ) (froms : Table) (here : Here) (n : ℕ) where
       (subst (λ (z : ℕ). AllBelow (n + z) (numbered n c)) (sym e) (numbered_below n c)) fs k
   kids_step at (attempt body handler cleanup) ss fs ps k = same_kids n fs k
 
-  kids_steps : (ss : Steps) (fs : List Frame) (ps : List Place) (exc : Option Exc) → KidsBelow n fs → Kept (step_steps froms t here ss fs ps exc n)
+  kids_steps : (ss : Steps) (fs : List Frame) (ps : List Place) (exc : Option Exc) → KidsBelow n fs →
+      Kept (step_steps froms t here ss fs ps exc n)
   kids_steps ss fs ps (Some e) k = same_kids n fs k
   kids_steps stop fs ps None k = same_kids n fs k
   kids_steps (step s ss) fs ps None k = kids_step (inside fs here) s ss fs ps k
 
-  kids_try : (handler : Handled) (cleanup : Cleaned) (fs : List Frame) (ps : List Place) (exc : Option Exc) → KidsBelow n fs → Kept (step_try handler cleanup fs ps exc)
+  kids_try : (handler : Handled) (cleanup : Cleaned) (fs : List Frame) (ps : List Place) (exc : Option Exc) → KidsBelow n fs →
+      Kept (step_try handler cleanup fs ps exc)
   kids_try unhandled uncleaned fs ps exc k = same_kids n fs k
   kids_try unhandled (finally body) fs ps exc k = same_kids n fs k
   kids_try (except name body) cleanup fs ps None k = same_kids n fs k
@@ -157,5 +162,6 @@ step_kids t froms here m k = kids_frames t froms here m.count m.frames m.places 
 -- a wake
 pub wake_kids : (t : ℕ) (froms : Table) (here : Here) (w : Wake) (s : Stopped) (fs : List Frame) (ps : List Place) (n : ℕ) →
     KidsAfter n (Some s) fs →
-    KidsAfter (n + length (wake_of froms t here w s fs ps).begun) (wake_of froms t here w s fs ps).stopped (wake_of froms t here w s fs ps).frames
+    KidsAfter (n + length (wake_of froms t here w s fs ps).begun) (wake_of froms t here w s fs ps).stopped
+        (wake_of froms t here w s fs ps).frames
 wake_kids t froms here w s fs ps n k = kids_woken t froms here n w s fs ps (kids_left n (Some s) fs k)

@@ -53,9 +53,11 @@ mutual
   new_step (attempt body handler cleanup) round d h =
       let front = distinct_left (names_of body ++ handled_names handler) (cleaned_names cleanup) d in (
         new_steps body round (distinct_left (names_of body) (handled_names handler) front)
-            (λ n i. h n (among_left n (names_of body ++ handled_names handler) (cleaned_names cleanup) (among_left n (names_of body) (handled_names handler) i))),
+            (λ n i. h n (among_left n (names_of body ++ handled_names handler) (cleaned_names cleanup)
+                (among_left n (names_of body) (handled_names handler) i))),
         new_handler handler round (distinct_right (names_of body) (handled_names handler) front)
-            (λ n i. h n (among_left n (names_of body ++ handled_names handler) (cleaned_names cleanup) (among_right n (names_of body) (handled_names handler) i))),
+            (λ n i. h n (among_left n (names_of body ++ handled_names handler) (cleaned_names cleanup)
+                (among_right n (names_of body) (handled_names handler) i))),
         new_cleanup cleanup round (distinct_right (names_of body ++ handled_names handler) (cleaned_names cleanup) d)
             (λ n i. h n (among_right n (names_of body ++ handled_names handler) (cleaned_names cleanup) i)),
       )
@@ -74,12 +76,14 @@ new_job job once = (new_steps job.steps [] (distinct_by_bytes (job.name ∷ name
 
 -- ---- steps of a task
 
-asleep_new : (b : Bool) (n t : ℕ) (fs : List Frame) (ps : List Place) → NewIn fs ps → OwnNames (names_at ps) → StaysNew (falls_asleep b n t fs ps)
+asleep_new : (b : Bool) (n t : ℕ) (fs : List Frame) (ps : List Place) → NewIn fs ps → OwnNames (names_at ps) →
+    StaysNew (falls_asleep b n t fs ps)
 asleep_new true n t fs ps h own = record { frames = h; own = own; begun = tt }
 asleep_new false zero t fs ps h own = record { frames = h; own = own; begun = tt }
 asleep_new false (suc n) t fs ps h own = record { frames = h; own = own; begun = tt }
 
-sleeps_new : (froms : Table) (n t : ℕ) (fs : List Frame) (ps : List Place) → NewIn fs ps → OwnNames (names_at ps) → StaysNew (sleeps froms n t fs ps)
+sleeps_new : (froms : Table) (n t : ℕ) (fs : List Frame) (ps : List Place) → NewIn fs ps → OwnNames (names_at ps) →
+    StaysNew (sleeps froms n t fs ps)
 sleeps_new froms n t fs ps h own = asleep_new (seen (stack_at froms ps) t) n t fs ps h own
 
 started_new : (more : List ℕ) (fs : List Frame) (ps : List Place) → NewIn fs ps → NewIn (with_started more fs) ps
@@ -96,12 +100,15 @@ all_new_append : (a b : List Begun) → AllNew a → AllNew b → AllNew (a ++ b
 all_new_append [] b h k = k
 all_new_append (x ∷ a) b h k = (h.0, h.1, all_new_append a b h.2 k)
 
-over_new : (name : List ℕ) (here : Here) (of : ℕ) (body : Steps) (ps : List Place) (first k : ℕ) → AreNew (names_at ps) body → OwnNames (names_at ps) →
+over_new : (name : List ℕ) (here : Here) (of : ℕ) (body : Steps) (ps : List Place) (first k : ℕ) → AreNew (names_at ps) body →
+    OwnNames (names_at ps) →
     AllNew (begun_over name here of body ps first k)
 over_new name here of body ps first zero h own = tt
-over_new name here of body ps first (suc k) h own = all_new_append (begun_over name here of body ps first k) _ (over_new name here of body ps first k h own) (h, own, tt)
+over_new name here of body ps first (suc k) h own =
+    all_new_append (begun_over name here of body ps first k) _ (over_new name here of body ps first k h own) (h, own, tt)
 
-step_new : (froms : Table) (t : ℕ) (here : Here) (s : Step) (ss : Steps) (fs : List Frame) (ps : List Place) (count : ℕ) → IsNew (names_at ps) s → AreNew (names_at ps) ss →
+step_new : (froms : Table) (t : ℕ) (here : Here) (s : Step) (ss : Steps) (fs : List Frame) (ps : List Place) (count : ℕ) →
+    IsNew (names_at ps) s → AreNew (names_at ps) ss →
     NewIn fs ps → OwnNames (names_at ps) → StaysNew (step_on froms t here s ss fs ps count)
 step_new froms t here (sleep n) ss fs ps count i a h own = sleeps_new froms n t (steps_left ss ∷ fs) ps (a, h) own
 step_new froms t here checkpoint ss fs ps count i a h own = sleeps_new froms 0 t (steps_left ss ∷ fs) ps (a, h) own
@@ -113,33 +120,41 @@ step_new froms t here longest ss fs ps count i a h own = record { frames = (a, h
 step_new froms t here (need text name) ss fs ps count i a h own = record { frames = (a, h); own = own; begun = tt }
 step_new froms t here (raise name) ss fs ps count i a h own = record { frames = (a, h); own = own; begun = tt }
 step_new froms t here (cancel name) ss fs ps count i a h own = record { frames = (a, h); own = own; begun = tt }
-step_new froms t here (scope name deadline shield fail body) ss fs ps count i a h own = record { frames = (i.1, (a, h)); own = (i.0, own); begun = tt }
-step_new froms t here (nursery name deadline shield body) ss fs ps count i a h own = record { frames = (i.1, (a, h)); own = (i.0, own); begun = tt }
+step_new froms t here (scope name deadline shield fail body) ss fs ps count i a h own =
+    record { frames = (i.1, (a, h)); own = (i.0, own); begun = tt }
+step_new froms t here (nursery name deadline shield body) ss fs ps count i a h own =
+    record { frames = (i.1, (a, h)); own = (i.0, own); begun = tt }
 step_new froms t here (start name None body) ss fs ps count i a h own =
     record { frames = (a, started_new (count ∷ []) fs ps h); own = own; begun = (i, own, tt) }
 step_new froms t here (start name (Some k) body) ss fs ps count i a h own =
     record { frames = (a, started_new _ fs ps h); own = own; begun = over_new name here k body ps count k i own }
-step_new froms t here (attempt body handler cleanup) ss fs ps count i a h own = record { frames = (i.0, (i.1, i.2, (a, h))); own = own; begun = tt }
+step_new froms t here (attempt body handler cleanup) ss fs ps count i a h own =
+    record { frames = (i.0, (i.1, i.2, (a, h))); own = own; begun = tt }
 
-steps_new : (froms : Table) (t : ℕ) (here : Here) (ss : Steps) (fs : List Frame) (ps : List Place) (exc : Option Exc) (count : ℕ) → AreNew (names_at ps) ss →
+steps_new : (froms : Table) (t : ℕ) (here : Here) (ss : Steps) (fs : List Frame) (ps : List Place) (exc : Option Exc) (count : ℕ) →
+    AreNew (names_at ps) ss →
     NewIn fs ps → OwnNames (names_at ps) → StaysNew (step_steps froms t here ss fs ps exc count)
 steps_new froms t here ss fs ps (Some e) count a h own = record { frames = h; own = own; begun = tt }
 steps_new froms t here stop fs ps None count a h own = record { frames = h; own = own; begun = tt }
 steps_new froms t here (step s ss) fs ps None count a h own = step_new froms t (inside fs here) s ss fs ps count a.0 a.1 h own
 
-handler_new : (matched rest : Option Exc) (e : Exc) (body : Steps) (cleanup : Cleaned) (fs : List Frame) (ps : List Place) → AreNew (names_at ps) body →
+handler_new : (matched rest : Option Exc) (e : Exc) (body : Steps) (cleanup : Cleaned) (fs : List Frame) (ps : List Place) →
+    AreNew (names_at ps) body →
     IsNewCleanup (names_at ps) cleanup → NewIn fs ps → OwnNames (names_at ps) → StaysNew (handler_if matched rest e body cleanup fs ps)
 handler_new None rest e body cleanup fs ps a c h own = record { frames = (tt, c, h); own = own; begun = tt }
 handler_new (Some m) rest e body cleanup fs ps a c h own = record { frames = (a, (c, h)); own = own; begun = tt }
 
-try_new : (handler : Handled) (cleanup : Cleaned) (fs : List Frame) (ps : List Place) (exc : Option Exc) → IsNewHandler (names_at ps) handler →
+try_new : (handler : Handled) (cleanup : Cleaned) (fs : List Frame) (ps : List Place) (exc : Option Exc) →
+    IsNewHandler (names_at ps) handler →
     IsNewCleanup (names_at ps) cleanup → NewIn fs ps → OwnNames (names_at ps) → StaysNew (step_try handler cleanup fs ps exc)
 try_new unhandled uncleaned fs ps exc a c h own = record { frames = h; own = own; begun = tt }
 try_new unhandled (finally body) fs ps exc a c h own = record { frames = (c, h); own = own; begun = tt }
 try_new (except name body) cleanup fs ps None a c h own = record { frames = (tt, c, h); own = own; begun = tt }
-try_new (except name body) cleanup fs ps (Some e) a c h own = handler_new (keep (named name) e) (drop (named name) e) e body cleanup fs ps a c h own
+try_new (except name body) cleanup fs ps (Some e) a c h own =
+    handler_new (keep (named name) e) (drop (named name) e) e body cleanup fs ps a c h own
 
-frames_new : (froms : Table) (t : ℕ) (here : Here) (fs : List Frame) (ps : List Place) (exc : Option Exc) (count : ℕ) → NewIn fs ps → OwnNames (names_at ps) →
+frames_new : (froms : Table) (t : ℕ) (here : Here) (fs : List Frame) (ps : List Place) (exc : Option Exc) (count : ℕ) → NewIn fs ps →
+    OwnNames (names_at ps) →
     StaysNew (step_frames froms t here fs ps exc count)
 frames_new froms t here [] ps exc count h own = record { frames = tt; own = own; begun = tt }
 frames_new froms t here (steps_left ss ∷ fs) ps exc count h own = steps_new froms t here ss fs ps exc count h.0 h.1 own
@@ -152,13 +167,15 @@ frames_new froms t here (in_handler rest cleanup ∷ fs) ps exc count h own = re
 frames_new froms t here (in_cleanup outcome ∷ fs) ps exc count h own = record { frames = h; own = own; begun = tt }
 
 -- a step of a task keeps it
-pub step_stays_new : (froms : Table) (t : ℕ) (here : Here) (m : Midway) → NewIn m.frames m.places → OwnNames (names_at m.places) → StaysNew (step_of froms t here m)
+pub step_stays_new : (froms : Table) (t : ℕ) (here : Here) (m : Midway) → NewIn m.frames m.places → OwnNames (names_at m.places) →
+    StaysNew (step_of froms t here m)
 unfolding step_of
 step_stays_new froms t here m h own = frames_new froms t here m.frames m.places m.exc m.count h own
 
 -- ---- a turn
 
-answer_new : (froms : Table) (t : ℕ) (here : Here) (a : Answer) (purpose : Purpose) (fs : List Frame) (ps : List Place) → NewIn fs ps → OwnNames (names_at ps) →
+answer_new : (froms : Table) (t : ℕ) (here : Here) (a : Answer) (purpose : Purpose) (fs : List Frame) (ps : List Place) → NewIn fs ps →
+    OwnNames (names_at ps) →
     StaysNew (goes_on_with froms t here a purpose fs ps)
 answer_new froms t here (lines ls) purpose fs ps h own = record { frames = h; own = own; begun = tt }
 answer_new froms t here missing shows fs ps h own = record { frames = h; own = own; begun = tt }
@@ -169,12 +186,14 @@ answer_new froms t here (counted n) (needs name) fs ps h own = record { frames =
 answer_new froms t here (counted n) (paces k) fs ps h own = sleeps_new froms _ t fs ps h own
 
 -- a nursery whose last member ended is left
-settled_new : (froms : Table) (t : ℕ) (exc : Option Exc) (children : List ℕ) (ended : ℕ) (e : Option Exc) (fs : List Frame) (ps : List Place) →
+settled_new : (froms : Table) (t : ℕ) (exc : Option Exc) (children : List ℕ) (ended : ℕ) (e : Option Exc) (fs : List Frame)
+    (ps : List Place) →
     NewIn fs (places_behind (Some (awaiting children ended e)) ps) → OwnNames (names_at ps) → StaysNew (settled froms t exc fs ps)
 settled_new froms t exc children ended e fs [] h own = record { frames = h; own = own; begun = tt }
 settled_new froms t exc children ended e fs (p ∷ ps) h own = record { frames = h; own = own.1; begun = tt }
 
-wake_new : (froms : Table) (t : ℕ) (here : Here) {w : Wake} {s : Stopped} → CanWake w s → (fs : List Frame) (ps : List Place) → NewIn fs (places_behind (Some s) ps) →
+wake_new : (froms : Table) (t : ℕ) (here : Here) {w : Wake} {s : Stopped} → CanWake w s → (fs : List Frame) (ps : List Place) →
+    NewIn fs (places_behind (Some s) ps) →
     OwnNames (names_at ps) → StaysNew (wake_of froms t here w s fs ps)
 wake_new froms t here from_start fs ps h own = record { frames = h; own = own; begun = tt }
 wake_new froms t here (from_asking {a} {kernel} {purpose}) fs ps h own = answer_new froms t here a purpose fs ps h own
@@ -184,13 +203,15 @@ wake_new froms t here (from_wait {exc} {children} {ended} {e}) fs ps h own = set
 
 then_new : (s : Option Stopped) (o q : Move) → o.stopped ≡ s → StaysNew o → (s ≡ None → StaysNew q) → StaysNew (then_move s o q)
 then_new (Some s) o q e h k = h
-then_new None o q e h k = let g = k refl in record { frames = g.frames; own = g.own; begun = all_new_append o.begun q.begun h.begun g.begun }
+then_new None o q e h k = let g =
+    k refl in record { frames = g.frames; own = g.own; begun = all_new_append o.begun q.begun h.begun g.begun }
 
 -- the frames of a task that did not stop
 not_stopped : (o : Move) → o.stopped ≡ None → NewIn o.frames (places_behind o.stopped o.places) → NewIn o.frames o.places
 not_stopped o e h = subst (λ (s : Option Stopped). NewIn o.frames (places_behind s o.places)) e h
 
-turn_new : (n : ℕ) (froms : Table) (t : ℕ) (here : Here) (m : Midway) → NewIn m.frames m.places → OwnNames (names_at m.places) → StaysNew (turn_of n froms t here m)
+turn_new : (n : ℕ) (froms : Table) (t : ℕ) (here : Here) (m : Midway) → NewIn m.frames m.places → OwnNames (names_at m.places) →
+    StaysNew (turn_of n froms t here m)
 unfolding turn_of
 turn_new zero froms t here m h own = record { frames = h; own = own; begun = tt }
 turn_new (suc n) froms t here m h own =
@@ -200,11 +221,14 @@ turn_new (suc n) froms t here m h own =
     (λ e. turn_new n (froms_after froms o.made) t here (moved m o) (not_stopped o e one.frames) one.own)
 
 -- a whole turn keeps it
-pub turn_stays_new : (n t : ℕ) (here : Here) (froms : Table) (w : Wake) (rest : Rest) (ps : List Place) (count : ℕ) → CanWake w rest.stopped →
-    NewIn rest.frames (places_behind (Some rest.stopped) ps) → OwnNames (names_at ps) → StaysNew (turn_from n froms t here w rest.stopped rest.frames ps count)
+pub turn_stays_new : (n t : ℕ) (here : Here) (froms : Table) (w : Wake) (rest : Rest) (ps : List Place) (count : ℕ) →
+    CanWake w rest.stopped →
+    NewIn rest.frames (places_behind (Some rest.stopped) ps) → OwnNames (names_at ps) →
+        StaysNew (turn_from n froms t here w rest.stopped rest.frames ps count)
 unfolding turn_from
 turn_stays_new n t here froms w rest ps count c h own =
     let o = wake_of froms t here w rest.stopped rest.frames ps in
     let one : StaysNew o = wake_new froms t here c rest.frames ps h own in
     then_new o.stopped o _ refl one
-    (λ e. turn_new n (froms_after froms o.made) t here (record { frames = o.frames; places = o.places; exc = o.exc; count = count + length o.begun }) (not_stopped o e one.frames) one.own)
+    (λ e. turn_new n (froms_after froms o.made) t here (record { frames = o.frames; places = o.places; exc = o.exc; count =
+        count + length o.begun }) (not_stopped o e one.frames) one.own)

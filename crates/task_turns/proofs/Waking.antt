@@ -66,16 +66,19 @@ lines_start t n (l ∷ ls) = lines_start t n ls
 module _ (table froms : Table) (told : Telling) (t : ℕ) (here : Here) where
   -- lines are noted, and the task goes on in the same tick
   wakes_lines : (ls : List Span) (fs : List Frame) (ps : List Place) →
-      finish (by_table table) told fs here (stack_at table ps) (showing ls t) ≡ behind told (lines_made t ls) (left_after table told here t (making (lines_made t ls) fs ps))
+      finish (by_table table) told fs here (stack_at table ps) (showing ls t)
+          ≡ behind told (lines_made t ls) (left_after table told here t (making (lines_made t ls) fs ps))
   unfolding showing
   wakes_lines ls fs ps =
-      ap (λ (x : Log). finish (by_table table) told fs here (stack_at table ps) (record (done_at t) { log = x })) (sym (fill_lines told t ls) ∙ sym (followed_nil (fill told (lines_made t ls))))
+      ap (λ (x : Log). finish (by_table table) told fs here (stack_at table ps) (record (done_at t) { log = x }))
+          (sym (fill_lines told t ls) ∙ sym (followed_nil (fill told (lines_made t ls))))
       ∙ finish_after fs (fill told (lines_made t ls)) (by_table table) told here (stack_at table ps) (done_at t)
 
   -- an answer, by what it is for
   wakes_answer : (a : Answer) (purpose : Purpose) (fs : List Frame) (ps : List Place) → AgreesOn t table froms ps →
       finish (by_table table) told fs here (stack_at table ps) (answered a purpose here (stack_at table ps) t)
-      ≡ behind told (goes_on_with froms t here a purpose fs ps).made (left_after table told here t (goes_on_with froms t here a purpose fs ps))
+      ≡ behind told (goes_on_with froms t here a purpose fs ps).made
+          (left_after table told here t (goes_on_with froms t here a purpose fs ps))
   wakes_answer (lines ls) purpose fs ps g = wakes_lines ls fs ps
   wakes_answer missing (needs name) fs ps g = refl
   wakes_answer missing shows fs ps g = refl
@@ -91,7 +94,8 @@ module _ (table froms : Table) (told : Telling) (t : ℕ) (here : Here) where
       ≡ behind told (settled froms t exc fs ps).made (left_after table told here t (settled froms t exc fs ps))
   unfolding gathered
   wakes_settled exc children ended e u fs (p ∷ ps) g s =
-      at_last (latest ended (told_members told children)) (group_of (by_nursery p.label) (parts_of (with_exc e (excs_of (told_members told children))))) s.0 s.1
+      at_last (latest ended (told_members told children)) (group_of (by_nursery p.label)
+          (parts_of (with_exc e (excs_of (told_members told children))))) s.0 s.1
       ∙ block_leaves table froms told t here a_nursery fs p ps exc g
     where
       left : Result → Result
@@ -110,14 +114,17 @@ module _ (table froms : Table) (told : Telling) (t : ℕ) (here : Here) where
       ≡ behind told (wake_of froms t here w s fs ps).made (left_after table told here t (wake_of froms t here w s fs ps))
   wake_keeps u from_start fs ps g e = ap (λ (v : ℕ). finish (by_table table) told fs here (stack_at table ps) (done_at v)) e
   wake_keeps u (from_asking {a} {kernel} {purpose}) fs ps g e =
-      ap (λ (v : ℕ). finish (by_table table) told fs here (stack_at table ps) (answered (answer_of kernel here) purpose here (stack_at table ps) v)) e.0
-      ∙ (ap (λ (b : Answer). finish (by_table table) told fs here (stack_at table ps) (answered b purpose here (stack_at table ps) t)) (sym e.1)
+      ap (λ (v : ℕ). finish (by_table table) told fs here (stack_at table ps)
+          (answered (answer_of kernel here) purpose here (stack_at table ps) v)) e.0
+      ∙ (ap (λ (b : Answer). finish (by_table table) told fs here (stack_at table ps) (answered b purpose here (stack_at table ps) t))
+          (sym e.1)
       ∙ wakes_answer a purpose fs ps g)
   wake_keeps u (from_sleep {n} {since}) fs ps g e =
       ap (λ (r : Result). finish (by_table table) told fs here (stack_at table ps) r) (slept_seen (stack_at table ps) n since t e.0 e.1 e.2)
   wake_keeps u (from_due {n} {since}) fs ps g e =
       ap (λ (r : Result). finish (by_table table) told fs here (stack_at table ps) r)
-      (slept_due (stack_at table ps) n since (subst (λ (v : ℕ). seen (stack_at table ps) v ≡ false) (sym e.0) e.1) ∙ ap (λ (v : ℕ). done_at v) e.0)
+      (slept_due (stack_at table ps) n since (subst (λ (v : ℕ). seen (stack_at table ps) v ≡ false) (sym e.0) e.1)
+          ∙ ap (λ (v : ℕ). done_at v) e.0)
   wake_keeps u (from_wait {exc} {children} {ended} {e}) fs ps g h = wakes_settled exc children ended e u fs ps g h
 
 -- ---- what a wake makes and leaves
@@ -128,14 +135,16 @@ asking_weighs shows = omega arith
 asking_weighs (needs name) = omega arith
 asking_weighs (paces k) = omega arith
 
-lines_case : (t : ℕ) (froms : Table) (w : ℕ) (ls : List Span) (fs : List Frame) (ps : List Place) (count : ℕ) → Placed fs ps → frames_weight fs ≤ w →
+lines_case : (t : ℕ) (froms : Table) (w : ℕ) (ls : List Span) (fs : List Frame) (ps : List Place) (count : ℕ) → Placed fs ps →
+    frames_weight fs ≤ w →
     Case t froms w (home_places fs ps) ps count (making (lines_made t ls) fs ps)
 lines_case t froms w ls fs ps count p le =
     record {
       placed = p;
       at_home = refl;
       made_now = lines_now t (labels_of ps) ls;
-      places = all_grow (labels_of ps) (known_after (labels_of ps) (lines_made t ls)) (λ l k. known_stays l (lines_made t ls) (labels_of ps) k) ps (all_own ps);
+      places = all_grow (labels_of ps) (known_after (labels_of ps) (lines_made t ls))
+          (λ l k. known_stays l (lines_made t ls) (labels_of ps) k) ps (all_own ps);
       starts_made = lines_start t count ls;
       begun_in = tt;
       stops = tt;
@@ -155,13 +164,15 @@ answered_case t froms here (counted n) (paces k) fs ps count w p e = sleep_case 
 answered_case t froms here (counted n) shows fs ps count w p e = onward_case t froms w _ fs ps _ count p refl (omega arith)
 answered_case t froms here (counted n) (needs name) fs ps count w p e = onward_case t froms w _ fs ps _ count p refl (omega arith)
 
-settled_case : (t : ℕ) (froms : Table) (exc : Option Exc) (children : List ℕ) (ended : ℕ) (x : Option Exc) (fs : List Frame) (ps : List Place) (count w : ℕ) →
+settled_case : (t : ℕ) (froms : Table) (exc : Option Exc) (children : List ℕ) (ended : ℕ) (x : Option Exc) (fs : List Frame)
+    (ps : List Place) (count w : ℕ) →
     PlacedStop (awaiting children ended x) fs ps → 1 + w ≡ 1 + frames_weight fs →
     Case t froms w (home_after (Some (awaiting children ended x)) fs ps) ps count (settled froms t exc fs ps)
 settled_case t froms exc children ended x fs (p ∷ ps) count w q e = leaves_case t froms a_nursery w _ fs p ps exc count q refl (omega arith)
 settled_case t froms exc children ended x fs [] count w q e = absurd q
 
-wake_case : (t : ℕ) (froms : Table) (here : Here) {w : Wake} {s : Stopped} → CanWake w s → (fs : List Frame) (ps : List Place) (count b : ℕ) →
+wake_case : (t : ℕ) (froms : Table) (here : Here) {w : Wake} {s : Stopped} → CanWake w s →
+    (fs : List Frame) (ps : List Place) (count b : ℕ) →
     PlacedStop s fs ps → 1 + b ≡ stop_weight s + frames_weight fs →
     Case t froms b (home_after (Some s) fs ps) ps count (wake_of froms t here w s fs ps)
 wake_case t froms here from_start fs ps count b p e = onward_case t froms b _ fs ps _ count p refl (omega arith)
@@ -180,7 +191,8 @@ wakes_weigh (from_due {n} {since}) fs = omega arith
 wakes_weigh (from_wait {exc} {children} {ended} {e}) fs = omega arith
 
 -- the wake keeps the whole promise
-pub turned_wake : (u t : ℕ) (here : Here) (froms : Table) (w : Wake) (rest : Rest) (ps : List Place) (count : ℕ) → CanWake w rest.stopped → PlacedStop rest.stopped rest.frames ps →
+pub turned_wake : (u t : ℕ) (here : Here) (froms : Table) (w : Wake) (rest : Rest) (ps : List Place) (count : ℕ) → CanWake w rest.stopped →
+    PlacedStop rest.stopped rest.frames ps →
     TurnsOver u t here froms w rest ps count (wake_of froms t here w rest.stopped rest.frames ps)
 turned_wake u t here froms w rest ps count c p =
     record {
@@ -201,17 +213,20 @@ turned_wake u t here froms w rest ps count c p =
     one_less : (n : ℕ) → 1 ≤ n → 1 + (n - 1) ≡ n
     one_less n le = omega arith
 
-    all : Case t froms (rest_weight rest - 1) (home_after (Some rest.stopped) rest.frames ps) ps count (wake_of froms t here w rest.stopped rest.frames ps)
+    all : Case t froms (rest_weight rest - 1) (home_after (Some rest.stopped) rest.frames ps) ps count
+        (wake_of froms t here w rest.stopped rest.frames ps)
     all = wake_case t froms here c rest.frames ps count (rest_weight rest - 1) p (one_less (rest_weight rest) (wakes_weigh c rest.frames))
 
 -- A whole turn: the wake, and then as many steps as it takes to the next stop.
-pub turned_from : (n : ℕ) (u t : ℕ) (here : Here) (froms : Table) (w : Wake) (rest : Rest) (ps : List Place) (count : ℕ) → CanWake w rest.stopped → PlacedStop rest.stopped rest.frames ps →
+pub turned_from : (n : ℕ) (u t : ℕ) (here : Here) (froms : Table) (w : Wake) (rest : Rest) (ps : List Place) (count : ℕ) →
+    CanWake w rest.stopped → PlacedStop rest.stopped rest.frames ps →
     TurnsOver u t here froms w rest ps count (turn_from n froms t here w rest.stopped rest.frames ps count)
 unfolding turn_from
 turned_from n u t here froms w rest ps count c p =
     let o = wake_of froms t here w rest.stopped rest.frames ps in
     let m : Midway = record { frames = o.frames; places = o.places; exc = o.exc; count = count + length o.begun } in
-    turned_on t here froms (λ table told. WakesBy table told here u t w rest.stopped ps) (λ table told. rest_comes_to (by_table table) told rest here (stack_at table ps) u)
+    turned_on t here froms (λ table told. WakesBy table told here u t w rest.stopped ps)
+        (λ table told. rest_comes_to (by_table table) told rest here (stack_at table ps) u)
     (rest_weight rest) (Some rest.stopped) rest.frames ps count
     o.stopped o (turn_of n (froms_after froms o.made) t here m) refl (turned_wake u t here froms w rest ps count c p)
     (λ q. turned_turn n t here (froms_after froms o.made) m q)

@@ -15,7 +15,8 @@ use Rattle.task_turns.proofs.Turns.{behind_append}
 
 -- A whole turn leaves what the task comes to as it was: with what it made before, its stop and its frames before the
 -- turn, as with what it has made, its stop and its frames after it.
-pub turn_comes_to : (u t : ℕ) (here : Here) (froms : Table) (w : Wake) (rest : Rest) (ps : List Place) (count : ℕ) (o : Move) (made : List Event) (s : Stopped) →
+pub turn_comes_to : (u t : ℕ) (here : Here) (froms : Table) (w : Wake) (rest : Rest) (ps : List Place) (count : ℕ) (o : Move)
+    (made : List Event) (s : Stopped) →
     TurnsOver u t here froms w rest ps count o → o.stopped ≡ Some s → (table : Table) (told : Telling) →
     WakesBy table told here u t w rest.stopped ps →
     AgreesOn t table froms ps → AgreesIn t table (rest_comes_to (by_table table) told rest here (stack_at table ps) u).log →
@@ -28,7 +29,8 @@ turn_comes_to u t here froms w rest ps count o made s x e table told g a b h =
     ∙ ap (λ (z : Option Stopped). behind told (made ++ o.made) (stop_comes_to z table told here t o.frames o.places o.exc)) e)
 
 -- a task that was started, and whose block is no nursery's body, may begin in any places
-pub start_placed : (body : Steps) (ps : List Place) → StartsIn false body → PlacedStop (rest_at_start body).stopped (rest_at_start body).frames ps
+pub start_placed : (body : Steps) (ps : List Place) → StartsIn false body →
+    PlacedStop (rest_at_start body).stopped (rest_at_start body).frames ps
 start_placed body ps h = (h, tt)
 
 -- each of these children may begin

@@ -22,32 +22,39 @@ EachStepGoes = (t : ℕ) (here : Here) (froms : Table) (m : Midway) → Placed m
 -- each turn keeps it, from the wake to the next stop, and comes to a stop
 abbrev pub EachTurnKeeps : Type 0
 EachTurnKeeps =
-    (n u t : ℕ) (here : Here) (froms : Table) (w : Wake) (rest : Rest) (ps : List Place) (count : ℕ) → CanWake w rest.stopped → PlacedStop rest.stopped rest.frames ps →
+    (n u t : ℕ) (here : Here) (froms : Table) (w : Wake) (rest : Rest) (ps : List Place) (count : ℕ) → CanWake w rest.stopped →
+        PlacedStop rest.stopped rest.frames ps →
     TurnsOver u t here froms w rest ps count (turn_from n froms t here w rest.stopped rest.frames ps count)
 
 abbrev pub EachTurnStops : Type 0
 EachTurnStops =
     (n t : ℕ) (here : Here) (froms : Table) (w : Wake) (rest : Rest) (ps : List Place) (count : ℕ) →
-    frames_length (wake_of froms t here w rest.stopped rest.frames ps).frames < n → IsSome (turn_from n froms t here w rest.stopped rest.frames ps count).stopped
+    frames_length (wake_of froms t here w rest.stopped rest.frames ps).frames < n →
+        IsSome (turn_from n froms t here w rest.stopped rest.frames ps count).stopped
 
 -- A turn that keeps the promise leaves what the task comes to as it was: with what it made before, its stop and its frames
 -- before the turn, as with what it has made, its stop and its frames after it.
 abbrev pub TaskComesToTheSame : Type 0
 TaskComesToTheSame =
-    (u t : ℕ) (here : Here) (froms : Table) (w : Wake) (rest : Rest) (ps : List Place) (count : ℕ) (o : Move) (made : List Event) (s : Stopped) →
-    TurnsOver u t here froms w rest ps count o → o.stopped ≡ Some s → (table : Table) (told : Telling) → WakesBy table told here u t w rest.stopped ps →
-    AgreesOn t table froms ps → AgreesIn t table (rest_comes_to (by_table table) told rest here (stack_at table ps) u).log → AllTold t table told o.begun →
+    (u t : ℕ) (here : Here) (froms : Table) (w : Wake) (rest : Rest) (ps : List Place) (count : ℕ) (o : Move) (made : List Event)
+        (s : Stopped) →
+    TurnsOver u t here froms w rest ps count o → o.stopped ≡ Some s → (table : Table) (told : Telling) →
+        WakesBy table told here u t w rest.stopped ps →
+    AgreesOn t table froms ps → AgreesIn t table (rest_comes_to (by_table table) told rest here (stack_at table ps) u).log →
+        AllTold t table told o.begun →
     task_comes_to (by_table table) told made rest here (stack_at table ps) u
     ≡ task_comes_to (by_table table) told (made ++ o.made) (record { stopped = s; frames = o.frames }) here (stack_at table o.places) t
 
 -- a from is lowered by just the signs made for its label, where the label was not entered
 abbrev pub FromsAreLowered : Type 0
-FromsAreLowered = (es : List Event) (froms : Table) (l : Label) → (EntersIn l es → ⊥) → froms_after froms es l ≡ from_by (froms l) (made_sign l es)
+FromsAreLowered = (es : List Event) (froms : Table) (l : Label) → (EntersIn l es → ⊥) →
+    froms_after froms es l ≡ from_by (froms l) (made_sign l es)
 
 -- and that of a label that was entered once, and was none of those before, from its deadline
 abbrev pub FromsAreOpened : Type 0
 FromsAreOpened =
-    (t : ℕ) (es : List Event) (ls : List Label) (froms : Table) (l : Label) (d : Tick) → MadeAt t ls es → (Known l ls → ⊥) → EntersOnceWith l d es →
+    (t : ℕ) (es : List Event) (ls : List Label) (froms : Table) (l : Label) (d : Tick) → MadeAt t ls es → (Known l ls → ⊥) →
+        EntersOnceWith l d es →
     froms_after froms es l ≡ from_by d (made_sign l es)
 
 -- in a job whose names are given once, none is the name of a scope round it
@@ -56,9 +63,11 @@ JobsBeginNew = (job : Tree) → GivesNamesOnce job → NewIn (steps_left job.ste
 
 -- and each step and each turn keep that, so that the scopes round a task have labels of their own
 abbrev pub EachStepStaysNew : Type 0
-EachStepStaysNew = (froms : Table) (t : ℕ) (here : Here) (m : Midway) → NewIn m.frames m.places → OwnNames (names_at m.places) → StaysNew (step_of froms t here m)
+EachStepStaysNew = (froms : Table) (t : ℕ) (here : Here) (m : Midway) → NewIn m.frames m.places → OwnNames (names_at m.places) →
+    StaysNew (step_of froms t here m)
 
 abbrev pub EachTurnStaysNew : Type 0
 EachTurnStaysNew =
     (n t : ℕ) (here : Here) (froms : Table) (w : Wake) (rest : Rest) (ps : List Place) (count : ℕ) → CanWake w rest.stopped →
-    NewIn rest.frames (places_behind (Some rest.stopped) ps) → OwnNames (names_at ps) → StaysNew (turn_from n froms t here w rest.stopped rest.frames ps count)
+    NewIn rest.frames (places_behind (Some rest.stopped) ps) → OwnNames (names_at ps) →
+        StaysNew (turn_from n froms t here w rest.stopped rest.frames ps count)

@@ -104,7 +104,8 @@ caught_then_asks = refl
 
 -- the answer to `find` is noted, and the child that has no more to do ends
 pub answer_is_noted :
-    later_turn never 2 (codes "a") (has_answer (lines (record { at = 0; len = 1 } ∷ []))) (asking (ask.find (codes "a")) shows) (steps_left stop ∷ []) (place (codes "n") ∷ [])
+    later_turn never 2 (codes "a") (has_answer (lines (record { at = 0; len = 1 } ∷ []))) (asking (ask.find (codes "a")) shows)
+        (steps_left stop ∷ []) (place (codes "n") ∷ [])
     ≡ record {
       frames = [];
       places = place (codes "n") ∷ [];
@@ -118,7 +119,8 @@ answer_is_noted = refl
 
 -- a `need` that misses raises, and the failed child signs for its home nursery as its last event
 pub need_misses :
-    later_turn never 2 [] (has_answer missing) (asking (ask.need (codes "a")) (needs (codes "E"))) (steps_left stop ∷ []) (place (codes "n") ∷ [])
+    later_turn never 2 [] (has_answer missing) (asking (ask.need (codes "a")) (needs (codes "E"))) (steps_left stop ∷ [])
+        (place (codes "n") ∷ [])
     ≡ record {
       frames = [];
       places = place (codes "n") ∷ [];
@@ -151,7 +153,8 @@ caught_at_one =
       end = 1;
       exc = None;
       members = [];
-      log = entered (label_named (codes "s")) 0 None (sign (label_named (codes "s")) 0 (entry 1 (scope_left (label_named (codes "s")) true) nil));
+      log = entered (label_named (codes "s")) 0 None (sign (label_named (codes "s")) 0
+          (entry 1 (scope_left (label_named (codes "s")) true) nil));
     }
 
 -- scope s { cancel s; sleep 3; }, before its first turn

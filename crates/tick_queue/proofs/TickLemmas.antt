@@ -66,7 +66,8 @@ tick_upto tick key later other upto =
     elim (cases_cmp tick later) [
       | inl less ↦ omega (arith, less)
       | inr (inl same) ↦ omega (arith, same)
-      | inr (inr more) ↦ absurd (let above : is_gt (pair_cmp (tick, key) (later, other)) ≡ true = rw (cmp-greater tick later more) refl in cc)
+      | inr (inr more) ↦ absurd (let above : is_gt (pair_cmp (tick, key) (later, other)) ≡ true = rw (cmp-greater tick later more) refl in
+          cc)
     ]
 
 key_upto : (tick key later other : ℕ) → is_gt (pair_cmp (tick, key) (later, other)) ≡ false → later ≤ tick → key ≤ other
@@ -74,7 +75,8 @@ key_upto tick key later other upto by =
     elim (cases_lt other key) [
       | inl less ↦
           let same : tick ≡ later = omega (arith, by, tick_upto tick key later other upto) in
-          absurd (let above : is_gt (pair_cmp (tick, key) (later, other)) ≡ true = rw (cmp-same tick later same, cmp-greater key other less) refl in cc)
+          absurd (let above : is_gt (pair_cmp (tick, key) (later, other)) ≡ true =
+              rw (cmp-same tick later same, cmp-greater key other less) refl in cc)
       | inr more ↦ more
     ]
 
@@ -109,21 +111,28 @@ agree_but ticks later_ticks order later_order key tick agree keys pairs here sta
     ]
 
 -- a key that had no tick has one
-pub agree_added : (ticks later_ticks : BTreeMap ℕ ℕ) (order later_order : BTreeSet (ℕ × ℕ)) (key tick : ℕ) → Agree ticks order → get nat_cmp ticks key ≡ None → sorted.Updates pair_cmp order later_order (tick, key) true → tree.Updates nat_cmp ticks later_ticks key (Some tick) → Agree later_ticks later_order
+pub agree_added : (ticks later_ticks : BTreeMap ℕ ℕ) (order later_order : BTreeSet (ℕ × ℕ)) (key tick : ℕ) → Agree ticks order →
+    get nat_cmp ticks key ≡ None → sorted.Updates pair_cmp order later_order (tick, key) true →
+    tree.Updates nat_cmp ticks later_ticks key (Some tick) → Agree later_ticks later_order
 agree_added ticks later_ticks order later_order key tick agree none pairs keys =
     agree_but ticks later_ticks order later_order key tick agree keys.2 pairs.2
     (pairs.1 ∙ rw keys.1 (sym (is_tick-same tick)))
     (λ later late. rw (none, keys.1) (sym (is_tick-other tick later late)))
 
 -- a key was given the tick that it has
-pub agree_again : (ticks later_ticks : BTreeMap ℕ ℕ) (order later_order : BTreeSet (ℕ × ℕ)) (key tick : ℕ) → Agree ticks order → get nat_cmp ticks key ≡ Some tick → sorted.Updates pair_cmp order later_order (tick, key) true → tree.Updates nat_cmp ticks later_ticks key (Some tick) → Agree later_ticks later_order
+pub agree_again : (ticks later_ticks : BTreeMap ℕ ℕ) (order later_order : BTreeSet (ℕ × ℕ)) (key tick : ℕ) → Agree ticks order →
+    get nat_cmp ticks key ≡ Some tick → sorted.Updates pair_cmp order later_order (tick, key) true →
+    tree.Updates nat_cmp ticks later_ticks key (Some tick) → Agree later_ticks later_order
 agree_again ticks later_ticks order later_order key tick agree has pairs keys =
     agree_but ticks later_ticks order later_order key tick agree keys.2 pairs.2
     (pairs.1 ∙ rw keys.1 (sym (is_tick-same tick)))
     (λ later late. rw (has, keys.1) refl)
 
 -- a key has another tick than it had
-pub agree_moved : (ticks later_ticks : BTreeMap ℕ ℕ) (order more later_order : BTreeSet (ℕ × ℕ)) (key old tick : ℕ) → Agree ticks order → get nat_cmp ticks key ≡ Some old → old ≢ tick → sorted.Updates pair_cmp order more (tick, key) true → tree.Updates nat_cmp ticks later_ticks key (Some tick) → sorted.Updates pair_cmp more later_order (old, key) false → Agree later_ticks later_order
+pub agree_moved : (ticks later_ticks : BTreeMap ℕ ℕ) (order more later_order : BTreeSet (ℕ × ℕ)) (key old tick : ℕ) → Agree ticks order →
+    get nat_cmp ticks key ≡ Some old → old ≢ tick → sorted.Updates pair_cmp order more (tick, key) true →
+    tree.Updates nat_cmp ticks later_ticks key (Some tick) → sorted.Updates pair_cmp more later_order (old, key) false →
+    Agree later_ticks later_order
 agree_moved ticks later_ticks order more later_order key old tick agree has apart added keys removed other later =
     elim (cases_eq other key) [
       | inl same ↦ rw same (at_key later)
@@ -150,14 +159,18 @@ agree_moved ticks later_ticks order more later_order key old tick agree has apar
         ]
 
 -- a key's tick is taken away
-pub agree_removed : (ticks later_ticks : BTreeMap ℕ ℕ) (order later_order : BTreeSet (ℕ × ℕ)) (key tick : ℕ) → Agree ticks order → Some tick ≡ get nat_cmp ticks key → sorted.Updates pair_cmp order later_order (tick, key) false → tree.Updates nat_cmp ticks later_ticks key None → Agree later_ticks later_order
+pub agree_removed : (ticks later_ticks : BTreeMap ℕ ℕ) (order later_order : BTreeSet (ℕ × ℕ)) (key tick : ℕ) → Agree ticks order →
+    Some tick ≡ get nat_cmp ticks key → sorted.Updates pair_cmp order later_order (tick, key) false →
+    tree.Updates nat_cmp ticks later_ticks key None → Agree later_ticks later_order
 agree_removed ticks later_ticks order later_order key tick agree has pairs keys =
     agree_but ticks later_ticks order later_order key tick agree keys.2 pairs.2
     (pairs.1 ∙ rw keys.1 refl)
     (λ later late. rw (← has, keys.1) (is_tick-other tick later late))
 
 -- a tick more in the order alone, which is taken back
-pub agree_undone : (ticks later_ticks : BTreeMap ℕ ℕ) (order more later_order : BTreeSet (ℕ × ℕ)) (key tick : ℕ) → Agree ticks order → get nat_cmp ticks key ≡ None → sorted.Updates pair_cmp order more (tick, key) true → tree.IsUnchanged ticks later_ticks → sorted.Updates pair_cmp more later_order (tick, key) false → Agree later_ticks later_order
+pub agree_undone : (ticks later_ticks : BTreeMap ℕ ℕ) (order more later_order : BTreeSet (ℕ × ℕ)) (key tick : ℕ) → Agree ticks order →
+    get nat_cmp ticks key ≡ None → sorted.Updates pair_cmp order more (tick, key) true → tree.IsUnchanged ticks later_ticks →
+    sorted.Updates pair_cmp more later_order (tick, key) false → Agree later_ticks later_order
 agree_undone ticks later_ticks order more later_order key tick agree none added stay removed =
     let same : (other : ℕ) → get nat_cmp later_ticks other ≡ get nat_cmp ticks other = λ other. ap (λ es. tick_in es other) stay in
     agree_but ticks later_ticks order later_order key tick agree (λ other apart. same other)
@@ -179,9 +192,11 @@ none_first ticks order agree empty key = none_at (get nat_cmp ticks key) refl
         )
 
 -- the least of the order: its first tick and key
-is_first : (ticks : BTreeMap ℕ ℕ) (order : BTreeSet (ℕ × ℕ)) (first : ℕ × ℕ) → Agree ticks order → contains pair_cmp order first ≡ true → sorted.IsLowerBound pair_cmp order first → IsFirst ticks.entries first.0 first.1
+is_first : (ticks : BTreeMap ℕ ℕ) (order : BTreeSet (ℕ × ℕ)) (first : ℕ × ℕ) → Agree ticks order → contains pair_cmp order first ≡ true →
+    sorted.IsLowerBound pair_cmp order first → IsFirst ticks.entries first.0 first.1
 is_first ticks order first agree among below =
-    let upto = λ (other later : ℕ) (has : get nat_cmp ticks other ≡ Some later). below (later, other) (agree other later ∙ ap (λ o. is_tick o later) has ∙ is_tick-same later) in
+    let upto = λ (other later : ℕ) (has : get nat_cmp ticks other ≡ Some later).
+        below (later, other) (agree other later ∙ ap (λ o. is_tick o later) has ∙ is_tick-same later) in
     record {
       has = is_tick-is _ first.0 (sym (agree first.1 first.0) ∙ among);
       earliest = λ other later has. tick_upto first.0 first.1 later other (upto other later has);
@@ -189,7 +204,10 @@ is_first ticks order first agree among below =
     }
 
 -- what `first` answers
-pub first_seen : (ticks : BTreeMap ℕ ℕ) (order : BTreeSet (ℕ × ℕ)) (o : Option (Bor (ℕ × ℕ))) → Agree ticks order → IsSome o ↔ (0 < length order.keys) → IfSome o (λ k. IsTrue (contains pair_cmp order k.now)) → IfSome o (λ k. sorted.IsLowerBound pair_cmp order k.now) → MatchOption (option_copied o) (HasNone ticks.entries) (λ first. IsFirst ticks.entries first.0 first.1)
+pub first_seen : (ticks : BTreeMap ℕ ℕ) (order : BTreeSet (ℕ × ℕ)) (o : Option (Bor (ℕ × ℕ))) → Agree ticks order →
+    IsSome o ↔ (0 < length order.keys) → IfSome o (λ k. IsTrue (contains pair_cmp order k.now)) →
+    IfSome o (λ k. sorted.IsLowerBound pair_cmp order k.now) → MatchOption (option_copied o) (HasNone ticks.entries)
+    (λ first. IsFirst ticks.entries first.0 first.1)
 first_seen ticks order None agree some among below = none_first ticks order agree (empty_keys order.keys some.1)
   where
     empty_keys : (ks : List (ℕ × ℕ)) → (0 < length ks → IsSome {T = Bor (ℕ × ℕ)} None) → ks ≡ []

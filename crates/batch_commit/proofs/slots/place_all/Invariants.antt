@@ -5,6 +5,7 @@ use Rattle.batch_commit.proofs.slots.place_all.Given as goal
 
 abbrev pub invariant-slots : goal.invariant-slots
 invariant-slots l = record {
-  placed : slots_placed l.fn.slots l.fn.answers.items ≡ take l.slot-index l.slots ++ slots_placed (drop l.slot-index l.slots) (into_iter_items l.answers);
+  placed : slots_placed l.fn.slots l.fn.answers.items ≡ take l.slot-index l.slots
+      ++ slots_placed (drop l.slot-index l.slots) (into_iter_items l.answers);
   len : into_iter_len l.answers ≡ length (into_iter_items l.answers);
 }

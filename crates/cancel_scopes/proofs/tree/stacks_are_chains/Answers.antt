@@ -10,4 +10,5 @@ pub returns-clause-chain : goal.returns-clause-chain
 returns-clause-chain c = subst IsChain c.tree.view_is (is_chain c.tree.inside.store.scopes.slots c.tree.invariant.tree)
 
 pub returns-clause-apart : goal.returns-clause-apart
-returns-clause-apart c = is_apart c.args.tree.now (subst IsChain c.tree.view_is (is_chain c.tree.inside.store.scopes.slots c.tree.invariant.tree))
+returns-clause-apart c = is_apart c.args.tree.now (subst IsChain c.tree.view_is
+    (is_chain c.tree.inside.store.scopes.slots c.tree.invariant.tree))

@@ -6,7 +6,8 @@ use Rattle.exc_groups.specs.Weigh.{weight_of, weight_in}
 use Rattle.exc_groups.proofs.leaves.+prune.Given as goal
 
 abbrev pub invariant-prune_parts-parts : goal.invariant-prune_parts-parts
-invariant-prune_parts-parts l = excs_of l.left.items ≡ pruned_parts (side l.keeps (wanted_of l.wanted)) (excs_of (take l.part-index l.parts))
+invariant-prune_parts-parts l =
+    excs_of l.left.items ≡ pruned_parts (side l.keeps (wanted_of l.wanted)) (excs_of (take l.part-index l.parts))
 
 abbrev pub decreases-prune : goal.decreases-prune
 decreases-prune l = 2 * weight_in (exc_of l.exc.now)

@@ -11,4 +11,6 @@ push_steps-push_step-requires t c =
     (omega (arith, weight, c.decreases), tt)
 
 pub push_steps-returns : goal.push_steps-returns
-push_steps-returns t c = closed (steps_pieces (steps_of c.args.steps.now)) c.args.shapes.now.items c.steps.shapes.items c.push.new.self.items c.args.steps.now c.steps.step-index (omega (arith, c.steps-test.false)) c.steps.invariant c.in_ok-push.ensures.items
+push_steps-returns t c = closed (steps_pieces (steps_of c.args.steps.now)) c.args.shapes.now.items c.steps.shapes.items
+    c.push.new.self.items c.args.steps.now c.steps.step-index (omega (arith, c.steps-test.false)) c.steps.invariant
+    c.in_ok-push.ensures.items

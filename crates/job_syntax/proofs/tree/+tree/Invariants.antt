@@ -35,4 +35,5 @@ abbrev pub decreases-body_at : goal.decreases-body_at
 decreases-body_at l = 8 * l.depth + 1
 
 abbrev pub invariant-steps_with-steps : goal.invariant-steps_with-steps
-invariant-steps_with-steps l = with_front l.steps.items (steps_with (blocks_at l.depth) (length l.tokens - l.counter) (shapes_of l.rest)) ≡ steps_with (blocks_at l.depth) (length l.tokens) (shapes_of l.tokens)
+invariant-steps_with-steps l = with_front l.steps.items (steps_with (blocks_at l.depth) (length l.tokens - l.counter) (shapes_of l.rest))
+    ≡ steps_with (blocks_at l.depth) (length l.tokens) (shapes_of l.tokens)

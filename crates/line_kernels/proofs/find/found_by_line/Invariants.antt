@@ -7,6 +7,7 @@ use Rattle.line_kernels.proofs.find.found_by_line.Given as goal
 abbrev pub invariant-loop-line : goal.invariant-loop-line
 invariant-loop-line l = record {
   source : source_of l.line-iterator ≡ buffer_of l.part;
-  found : found_in (buffer_of l.part) l.needle (range_of l.part) ≡ map span_of l.lines.items ++ filter (stands_in (buffer_of l.part) l.needle) (lines_left l.line-iterator);
+  found : found_in (buffer_of l.part) l.needle (range_of l.part) ≡ map span_of l.lines.items
+      ++ filter (stands_in (buffer_of l.part) l.needle) (lines_left l.line-iterator);
   texts : All (IsLineOf (buffer_of l.part)) l.lines.items;
 }

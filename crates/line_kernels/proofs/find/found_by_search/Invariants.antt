@@ -7,7 +7,8 @@ use Rattle.line_kernels.proofs.find.found_by_search.Given as goal
 abbrev pub invariant-lines : goal.invariant-lines
 invariant-lines l = record {
   source : source_of l.left ≡ buffer_of l.part;
-  found : found_in (buffer_of l.part) l.needle (range_of l.part) ≡ map span_of l.lines.items ++ filter (stands_in (buffer_of l.part) l.needle) (lines_left l.left);
+  found : found_in (buffer_of l.part) l.needle (range_of l.part) ≡ map span_of l.lines.items
+      ++ filter (stands_in (buffer_of l.part) l.needle) (lines_left l.left);
   texts : All (IsLineOf (buffer_of l.part)) l.lines.items;
 }
 

@@ -8,7 +8,8 @@ pub longer-smaller : goal.longer-smaller
 longer-smaller c =
     let before = span_of c.longer.longest in
     let steps = c.in-Some.ensures in
-    longer-fewer before.len (lines_left c.longer.left) (span_of c.in-Some.line) (lines_left c.next_longer_than.new.self) (ap (λ n. from_longer n (lines_left c.longer.left)) (sym (ap length c.text.ensures)) ∙ steps.first)
+    longer-fewer before.len (lines_left c.longer.left) (span_of c.in-Some.line) (lines_left c.next_longer_than.new.self)
+        (ap (λ n. from_longer n (lines_left c.longer.left)) (sym (ap length c.text.ensures)) ∙ steps.first)
 
 pub longer-preserved : goal.longer-preserved
 longer-preserved c =
@@ -17,7 +18,8 @@ longer-preserved c =
     let first = ap (λ n. from_longer n (lines_left c.longer.left)) (sym (ap length c.text.ensures)) ∙ steps.first in
     record {
       source = steps.same_source ∙ c.longer.invariant.source;
-      best = c.longer.invariant.best ∙ longest-longer before (lines_left c.longer.left) (span_of c.in-Some.line) (lines_left c.next_longer_than.new.self) first;
+      best = c.longer.invariant.best ∙ longest-longer before (lines_left c.longer.left) (span_of c.in-Some.line)
+          (lines_left c.next_longer_than.new.self) first;
       text = subst (λ b. IsLineOf b c.in-Some.line) c.longer.invariant.source steps.placed;
     }
 

@@ -20,12 +20,14 @@ returns-clause-fit c = crew_fits
 pub returns-clause-turn : goal.returns-clause-turn
 returns-clause-turn c =
     λ k job input t m s old new before after wake stop settled names starting is x.
-    stepped k job input t m s old new before after wake stop settled names starting is x (may_wake k job input t m old settled names starting is s before x.task wake x.goes)
+    stepped k job input t m s old new before after wake stop settled names starting is x
+        (may_wake k job input t m old settled names starting is s before x.task wake x.goes)
 
 pub returns-clause-stop : goal.returns-clause-stop
 returns-clause-stop c =
     λ k job input t m s old new before after wake stop settled names starting is x.
-    stop_says k job input t m s old new before after wake stop settled names starting is x (may_wake k job input t m old settled names starting is s before x.task wake x.goes)
+    stop_says k job input t m s old new before after wake stop settled names starting is x
+        (may_wake k job input t m old settled names starting is s before x.task wake x.goes)
 
 pub returns-clause-leave : goal.returns-clause-leave
 returns-clause-leave c = crew_left
@@ -34,7 +36,8 @@ pub returns-clause-take : goal.returns-clause-take
 returns-clause-take c = crew_takes
 
 pub returns-clause-jump : goal.returns-clause-jump
-returns-clause-jump c = λ k job input t u m old new le same world is stay. crew_jumps k job input t u m old new le same world is (crew_blocked k job input t m old is u stay)
+returns-clause-jump c = λ k job input t u m old new le same world is stay.
+    crew_jumps k job input t u m old new le same world is (crew_blocked k job input t m old is u stay)
 
 pub returns-clause-sleep : goal.returns-clause-sleep
 returns-clause-sleep c = crew_sleeps

@@ -11,5 +11,6 @@ loop-i-preserved c =
     let slot = c.computed.result in
     record {
       count = length-set row i slot ∙ before.count;
-      done = computed-one_more c.args.requests.now row i c.index-requests-i.result slot (omega arith) (omega arith) c.index-requests-i.is before.done c.computed.ensures;
+      done = computed-one_more c.args.requests.now row i c.index-requests-i.result slot (omega arith) (omega arith) c.index-requests-i.is
+          before.done c.computed.ensures;
     }

@@ -31,5 +31,6 @@ loop-station-preserved c =
       answered =
           λ fits.
           let was = c.in_ok-take.ensures.refused fits in
-          gathered-one_more requests passes _ station.pass _ _ station.answered.items (before.answered was.0) (this.answered was.1) pushed c.in_ok-take.ensures.answered;
+          gathered-one_more requests passes _ station.pass _ _ station.answered.items (before.answered was.0) (this.answered was.1) pushed
+              c.in_ok-take.ensures.answered;
     }

@@ -15,7 +15,8 @@ loop-numbered-init c =
     record {
       count = sym c.requires.paired;
       right = subst (All (IsRight requests)) (sym all) c.requires.answers.right;
-      computed = subst (λ (left : List Numbered). ComputedBut requests left row) (sym all) (placed-none requests answered row c.requires.answers);
+      computed = subst (λ (left : List Numbered). ComputedBut requests left row) (sym all)
+          (placed-none requests answered row c.requires.answers);
     }
 
 pub put-requires : goal.put-requires
@@ -23,7 +24,8 @@ put-requires c =
     let before = c.loop-numbered.invariant in
     let requests = c.args.requests.now in
     let count = before.count in
-    let this = All-head (IsRight requests) c.in-Some.numbered c.next.new.self.rest.items (subst (All (IsRight requests)) c.in-Some.ensures.steps.0 before.right) in
+    let this = All-head (IsRight requests) c.in-Some.numbered c.next.new.self.rest.items
+        (subst (All (IsRight requests)) c.in-Some.ensures.steps.0 before.right) in
     let inside = this.0 in
     omega arith
 

@@ -11,22 +11,26 @@ use Rattle.task_roster.proofs.tests.rows_come_depth_first.Goals as goal
 one_of_two : (j k x : ℕ) → (j ≡ k → ⊥) → one_if (j == x) + one_if (k == x) ≤ 1
 one_of_two j k x other = at (eqb_tells j x) (eqb_tells k x)
   where
-    at : (((j == x) ≡ true) × (j ≡ x)) ⊎ (((j == x) ≡ false) × (j ≢ x)) → (((k == x) ≡ true) × (k ≡ x)) ⊎ (((k == x) ≡ false) × (k ≢ x)) → one_if (j == x) + one_if (k == x) ≤ 1
+    at : (((j == x) ≡ true) × (j ≡ x)) ⊎ (((j == x) ≡ false) × (j ≢ x)) → (((k == x) ≡ true) × (k ≡ x)) ⊎ (((k == x) ≡ false) × (k ≢ x)) →
+        one_if (j == x) + one_if (k == x) ≤ 1
     at (inl h) (inl i) = absurd (other (h.1 ∙ sym i.1))
     at (inl h) (inr i) = let one : one_if (j == x) ≡ 1 = ap one_if h.0 in let none : one_if (k == x) ≡ 0 = ap one_if i.0 in omega arith
     at (inr h) (inl i) = let none : one_if (j == x) ≡ 0 = ap one_if h.0 in let one : one_if (k == x) ≡ 1 = ap one_if i.0 in omega arith
     at (inr h) (inr i) = let none : one_if (j == x) ≡ 0 = ap one_if h.0 in let neither : one_if (k == x) ≡ 0 = ap one_if i.0 in omega arith
 
 -- a row of two children, one of which has a child
-four_apart : (a b c d : Row) → a.children.items ≡ 1 ∷ 2 ∷ [] → b.children.items ≡ 3 ∷ [] → c.children.items ≡ [] → d.children.items ≡ [] → ChildrenAreApart (a ∷ b ∷ c ∷ d ∷ [])
+four_apart : (a b c d : Row) → a.children.items ≡ 1 ∷ 2 ∷ [] → b.children.items ≡ 3 ∷ [] → c.children.items ≡ [] → d.children.items ≡ [] →
+    ChildrenAreApart (a ∷ b ∷ c ∷ d ∷ [])
 four_apart a b c d as_a as_b as_c as_d = record {
   root = omega arith;
-  within = All-cons In a (b ∷ c ∷ d ∷ []) (subst (All P) (sym as_a) (All-cons P 1 (2 ∷ []) (omega arith, omega arith) (All-cons P 2 [] (omega arith, omega arith) (All-nil P))))
+  within = All-cons In a (b ∷ c ∷ d ∷ []) (subst (All P) (sym as_a)
+      (All-cons P 1 (2 ∷ []) (omega arith, omega arith) (All-cons P 2 [] (omega arith, omega arith) (All-nil P))))
       (All-cons In b (c ∷ d ∷ []) (subst (All P) (sym as_b) (All-cons P 3 [] (omega arith, omega arith) (All-nil P)))
       (All-cons In c (d ∷ []) (subst (All P) (sym as_c) (All-nil P))
       (All-cons In d [] (subst (All P) (sym as_d) (All-nil P)) (All-nil In))));
   once = λ x.
-      let all : times_child x (a ∷ b ∷ c ∷ d ∷ []) ≡ 0 + times x a.children.items + times x b.children.items + times x c.children.items + times x d.children.items = refl in
+      let all : times_child x (a ∷ b ∷ c ∷ d ∷ []) ≡ 0 + times x a.children.items + times x b.children.items + times x c.children.items
+          + times x d.children.items = refl in
       let of_a : times x a.children.items ≡ 0 + one_if (1 == x) + one_if (2 == x) = ap (times x) as_a in
       let of_b : times x b.children.items ≡ 0 + one_if (3 == x) = ap (times x) as_b in
       let of_c : times x c.children.items ≡ 0 = ap (times x) as_c in
@@ -45,10 +49,12 @@ four_apart a b c d as_a as_b as_c as_d = record {
 
 pub records_of-requires-clause-tree : goal.records_of-requires-clause-tree
 records_of-requires-clause-tree g c =
-    let items : c.push-4.new.self.items ≡ c.in_ok-ended.field-0 ∷ c.in_ok-ended-2.field-0 ∷ c.in_ok-ended-3.field-0 ∷ c.in_ok-ended-4.field-0 ∷ [] =
+    let items : c.push-4.new.self.items ≡ c.in_ok-ended.field-0 ∷ c.in_ok-ended-2.field-0 ∷ c.in_ok-ended-3.field-0
+        ∷ c.in_ok-ended-4.field-0 ∷ [] =
     c.in_ok-push-4.ensures.items
     ∙ ap (λ (x : List Row). x ++ c.in_ok-ended-4.field-0 ∷ []) (c.in_ok-push-3.ensures.items
     ∙ ap (λ (x : List Row). x ++ c.in_ok-ended-3.field-0 ∷ []) (c.in_ok-push-2.ensures.items
     ∙ ap (λ (x : List Row). x ++ c.in_ok-ended-2.field-0 ∷ []) (c.in_ok-push.ensures.items
     ∙ ap (λ (x : List Row). x ++ c.in_ok-ended.field-0 ∷ []) c.new-rows.ensures.items))) in
-    rw items (four_apart _ _ _ _ c.in_ok-ended.ensures.children c.in_ok-ended-2.ensures.children c.in_ok-ended-3.ensures.children c.in_ok-ended-4.ensures.children)
+    rw items (four_apart _ _ _ _ c.in_ok-ended.ensures.children c.in_ok-ended-2.ensures.children c.in_ok-ended-3.ensures.children
+        c.in_ok-ended-4.ensures.children)

@@ -10,8 +10,10 @@ returns-in-Some-clause-steps c =
     let k = c.in-Some.length in
     let found = lines_of-newline s.buffer.now s.next s.end k s.within c.in-Some.ensures in
     let fits : s.next + k + 1 ≤ s.end = found.0 in
-    let text : take k (slice_range s.buffer.now s.next s.end) ≡ slice_range s.buffer.now s.next (s.next + k) = take-slice_range s.buffer.now s.next s.end k (omega arith) in
-    let long : length (slice_range s.buffer.now s.next (s.next + k)) ≡ s.next + k - s.next = length-slice_range s.buffer.now s.next (s.next + k) (omega arith) in
+    let text : take k (slice_range s.buffer.now s.next s.end) ≡ slice_range s.buffer.now s.next (s.next + k) =
+        take-slice_range s.buffer.now s.next s.end k (omega arith) in
+    let long : length (slice_range s.buffer.now s.next (s.next + k)) ≡ s.next + k - s.next =
+        length-slice_range s.buffer.now s.next (s.next + k) (omega arith) in
     let len : length (take k (slice_range s.buffer.now s.next s.end)) ≡ k = omega (arith, ap length text) in
     record {
       first = found.1 ∙ ap (λ n. span s.next n ∷ lines_of s.buffer.now (range (s.next + k + 1) s.end)) (sym len);
@@ -33,7 +35,8 @@ returns-in-None-clause-steps c =
     let len : length (slice_range s.buffer.now s.next s.end) ≡ s.end - s.next = length-slice_range s.buffer.now s.next s.end s.within in
     let end : s.next + (s.end - s.next) ≡ s.end = omega arith in
     record {
-      first = lines_of-last s.buffer.now s.next s.end s.within (omega arith) c.in-None.ensures ∙ ap (λ n. span s.next n ∷ lines_of s.buffer.now (range s.end s.end)) (sym len);
+      first = lines_of-last s.buffer.now s.next s.end s.within (omega arith) c.in-None.ensures
+          ∙ ap (λ n. span s.next n ∷ lines_of s.buffer.now (range s.end s.end)) (sym len);
       placed = record { within = omega arith; text = ap (slice_range s.buffer.now s.next) (sym (ap (λ n. s.next + n) len ∙ end)) };
       same_source = refl;
       same_end = refl;

@@ -33,9 +33,11 @@ remove_child-requires c =
     let family = family-same slots unmarked same.places same.children c.self.invariant.family in
     record {
       lost = rw c.key_of.ensures
-          (lost unmarked c.remove-scope.new.self.slots key c.remove-scope.result tree family gone.value gone.updates.changed gone.updates.others
+          (lost unmarked c.remove-scope.new.self.slots key c.remove-scope.result tree family gone.value gone.updates.changed
+              gone.updates.others
           (childless unmarked key c.remove-scope.result tree family
-          (innermost_kept c.args.self.now slots unmarked key c.args.id c.self.view_is c.id.view_is (same_find slots unmarked same.finds) c.requires.innermost) gone.value));
+          (innermost_kept c.args.self.now slots unmarked key c.args.id c.self.view_is c.id.view_is (same_find slots unmarked same.finds)
+              c.requires.innermost) gone.value));
     }
 
 pub invariant_of-self : goal.invariant_of-self
@@ -56,7 +58,8 @@ invariant_of-self c =
     (closed-finds slots unmarked gone new key s marks removed.updates.others child.same) c.requires.innermost in
     rw (child.changed, child.lowered, c.unmark.ensures.room, c.unmark.ensures.lowered)
     (closed-ready slots unmarked gone new key s c.self.inside.store.changed.items c.unmark.new.self.changed.items _ _ _
-    c.self.invariant marks c.unmark.ensures.listed closed (rw removed.slots (length-set unmarked key None)) removed.updates.changed removed.updates.others child.same child.family)
+    c.self.invariant marks c.unmark.ensures.listed closed (rw removed.slots (length-set unmarked key None)) removed.updates.changed
+        removed.updates.others child.same child.family)
 
 pub returns-clause-closed : goal.returns-clause-closed
 returns-clause-closed c =
@@ -92,6 +95,7 @@ returns-clause-from c stack is =
 
 pub returns-clause-marks : goal.returns-clause-marks
 returns-clause-marks c =
-    closed-marks c.self.inside.store.scopes.slots c.unmark.new.self.scopes.slots c.remove-scope.new.self.slots c.remove_child.new.self.scopes.slots
+    closed-marks c.self.inside.store.scopes.slots c.unmark.new.self.scopes.slots c.remove-scope.new.self.slots
+        c.remove_child.new.self.scopes.slots
     c.id.inside.key c.remove-scope.result c.args.self.now c.args.id c.self.view_is c.id.view_is
     c.unmark.ensures.marks c.remove-scope.ensures.updates.others c.remove_child.ensures.same

@@ -7,21 +7,25 @@ use Rattle.task_machine.proofs.TaskFits.{started_fits}
 use Rattle.task_machine.proofs.task.Task.begin_children.Goals as goal
 
 pub start-requires : goal.start-requires
-start-requires c = body_runs (label_at c.args.world.now) c.args.world.now.book c.args.self.now.frames.items c.nursery-nursery.result c.args.self.now.own.items c.nursery-nursery.ensures c.requires.fits.opened
+start-requires c = body_runs (label_at c.args.world.now) c.args.world.now.book c.args.self.now.frames.items c.nursery-nursery.result
+    c.args.self.now.own.items c.nursery-nursery.ensures c.requires.fits.opened
 
 pub start_over-requires-clause-nursery : goal.start_over-requires-clause-nursery
 start_over-requires-clause-nursery c =
-    body_runs (label_at c.args.world.now) c.args.world.now.book c.args.self.now.frames.items c.nursery-nursery.result c.args.self.now.own.items c.nursery-nursery.ensures c.requires.fits.opened
+    body_runs (label_at c.args.world.now) c.args.world.now.book c.args.self.now.frames.items c.nursery-nursery.result
+        c.args.self.now.own.items c.nursery-nursery.ensures c.requires.fits.opened
 
 pub returns-in_ok-start-in-None-clause-fits : goal.returns-in_ok-start-in-None-clause-fits
 returns-in_ok-start-in-None-clause-fits c =
     let s = c.in_ok-start-in-None.ensures.started in
-    started_fits c.nursery-nursery.result s.nursery (None ∷ []) c.args.self.now c.args.world.now c.start.new.world c.requires.fits s.was s.book c.in_ok-start-in-None.ensures.rest
+    started_fits c.nursery-nursery.result s.nursery (None ∷ []) c.args.self.now c.args.world.now c.start.new.world c.requires.fits s.was
+        s.book c.in_ok-start-in-None.ensures.rest
 
 pub returns-in_ok-start_over-in-Some-clause-fits : goal.returns-in_ok-start_over-in-Some-clause-fits
 returns-in_ok-start_over-in-Some-clause-fits c =
     let s = c.in_ok-start_over-in-Some.ensures.started in
-    started_fits c.nursery-nursery.result s.nursery (running c.in-Some.copies) c.args.self.now c.args.world.now c.start_over.new.world c.requires.fits s.was s.book c.in_ok-start_over-in-Some.ensures.rest
+    started_fits c.nursery-nursery.result s.nursery (running c.in-Some.copies) c.args.self.now c.args.world.now c.start_over.new.world
+        c.requires.fits s.was s.book c.in_ok-start_over-in-Some.ensures.rest
 
 pub returns-in_ok-start-in-None-clause-children : goal.returns-in_ok-start-in-None-clause-children
 returns-in_ok-start-in-None-clause-children c =
@@ -29,8 +33,10 @@ returns-in_ok-start-in-None-clause-children c =
       id = c.nursery-nursery.result;
       at = c.nursery-nursery.ensures;
       started =
-          subst (λ (o : Option ℕ). StartsAll c.args.self.now c.args.world.now c.start.new.world c.nursery-nursery.result c.args.name o c.args.body.now) (sym c.in-None.is)
-          (subst (λ (l : Label). StartsOne c.args.world.now c.start.new.world c.nursery-nursery.result l c.args.self.now.part c.args.body.now) c.in_ok-label-in-None.ensures
+          subst (λ (o : Option ℕ). StartsAll c.args.self.now c.args.world.now c.start.new.world c.nursery-nursery.result c.args.name o
+              c.args.body.now) (sym c.in-None.is)
+          (subst (λ (l : Label). StartsOne c.args.world.now c.start.new.world c.nursery-nursery.result l c.args.self.now.part
+              c.args.body.now) c.in_ok-label-in-None.ensures
           c.in_ok-start-in-None.ensures.started);
     }
 
@@ -40,6 +46,7 @@ returns-in_ok-start_over-in-Some-clause-children c =
       id = c.nursery-nursery.result;
       at = c.nursery-nursery.ensures;
       started =
-          subst (λ (o : Option ℕ). StartsAll c.args.self.now c.args.world.now c.start_over.new.world c.nursery-nursery.result c.args.name o c.args.body.now) (sym c.in-Some.is)
+          subst (λ (o : Option ℕ). StartsAll c.args.self.now c.args.world.now c.start_over.new.world c.nursery-nursery.result c.args.name o
+              c.args.body.now) (sym c.in-Some.is)
           c.in_ok-start_over-in-Some.ensures.started;
     }

@@ -12,9 +12,11 @@ returns-clause-at c =
     let world = c.args.world.now in
     let entered = c.in_ok-id.ensures in
     λ froms ps named a.
-    enters_at (label_at world) (label_at c.enter.new.self) world.scopes c.enter.new.self.scopes _ _ c.in_ok-id.id _ c.args.shield c.args.deadline
+    enters_at (label_at world) (label_at c.enter.new.self) world.scopes c.enter.new.self.scopes _ _ c.in_ok-id.id _ c.args.shield
+        c.args.deadline
     c.stacks_are_chains.ensures.chain entered.fresh
-    (entered.opened ∙ ap (λ (s : Option ℕ). Some (record { label = c.in_ok-id.id; shield = c.args.shield; from = c.args.deadline } ∷ outer_of world.scopes s)) c.scope.ensures)
+    (entered.opened ∙ ap (λ (s : Option ℕ). Some (record { label = c.in_ok-id.id; shield = c.args.shield; from = c.args.deadline }
+        ∷ outer_of world.scopes s)) c.scope.ensures)
     (subst (λ (l : Label). Updates (label_at world) (label_at c.enter.new.self) c.in_ok-id.id (Some l)) c.in_ok-label.ensures entered.label)
     (last_pushed _ _ _ _ c.in_ok-push-2.ensures.items) froms ps named a
 
@@ -29,13 +31,16 @@ returns-clause-own c =
       own = record { id = c.in_ok-id.id; at = c.len-at.result };
       opened = c.in_ok-push-2.ensures.items;
       place = (let e = c.len-at.ensures in let f = c.args.self.now.froms.ok in cc);
-      froms = c.in_ok-push.ensures.items ∙ ap (λ (l : Label). c.args.self.now.froms.items ++ record { label = l; seen = None } ∷ []) c.in_ok-named.ensures;
+      froms = c.in_ok-push.ensures.items ∙ ap (λ (l : Label). c.args.self.now.froms.items ++ record { label = l; seen = None } ∷ [])
+          c.in_ok-named.ensures;
       fresh = entered.fresh;
       level = record { label = c.in_ok-id.id; shield = c.args.shield; from = c.args.deadline };
-      stack = entered.opened ∙ ap (λ (s : Option ℕ). Some (record { label = c.in_ok-id.id; shield = c.args.shield; from = c.args.deadline } ∷ outer_of world.scopes s)) c.scope.ensures;
+      stack = entered.opened ∙ ap (λ (s : Option ℕ). Some (record { label = c.in_ok-id.id; shield = c.args.shield; from = c.args.deadline }
+          ∷ outer_of world.scopes s)) c.scope.ensures;
       named = refl;
       from = refl;
       others = entered.others;
       marks = c.enter.ensures.marks;
-      labelled = subst (λ (l : Label). Updates (label_at world) (label_at c.enter.new.self) c.in_ok-id.id (Some l)) c.in_ok-label.ensures entered.label;
+      labelled = subst (λ (l : Label). Updates (label_at world) (label_at c.enter.new.self) c.in_ok-id.id (Some l)) c.in_ok-label.ensures
+          entered.label;
     }

@@ -11,7 +11,8 @@ use Rattle.task_machine.proofs.task.Task.go_to_stop.Goals as goal
 
 pub steps-init : goal.steps-init
 steps-init c =
-    (c.requires.fits, c.requires.halt, refl, refl, λ froms numbers ps count stands. goes_nothing c.args.self.now c.args.world.now c.args.exc froms numbers ps count stands)
+    (c.requires.fits, c.requires.halt, refl, refl, λ froms numbers ps count stands.
+        goes_nothing c.args.self.now c.args.world.now c.args.exc froms numbers ps count stands)
 
 pub steps-preserved : goal.steps-preserved
 steps-preserved c =
@@ -19,7 +20,8 @@ steps-preserved c =
     let world = c.args.world.now in
     let i = c.steps.invariant in
     let e = c.in_ok-next.ensures in (
-      subst (λ (m : Moved). Fits c.advance.new.self.frames.items c.advance.new.self c.advance.new.world (waits_by m c.advance.new.self.halt)) c.in-On.is e.fits,
+      subst (λ (m : Moved). Fits c.advance.new.self.frames.items c.advance.new.self c.advance.new.world
+          (waits_by m c.advance.new.self.halt)) c.in-On.is e.fits,
       e.halt,
       e.stays
           ∙ ap
@@ -42,9 +44,12 @@ steps-preserved c =
           }) i.3,
       λ froms numbers ps count stands.
           let g = i.4 froms numbers ps count stands in
-          goes_on self c.advance.new.self world c.advance.new.world (option_map exc_of c.args.exc) c.in-On.next froms numbers ps count (suc g.steps)
-          (subst (λ (m : Moved). MoreGone self c.advance.new.self world c.advance.new.world (option_map exc_of c.args.exc) m froms numbers ps count (suc g.steps)) c.in-On.is
-          (goes_further self c.steps.self c.advance.new.self world c.steps.world c.advance.new.world (option_map exc_of c.args.exc) c.steps.exc c.in_ok-next.field-0 froms numbers ps count
+          goes_on self c.advance.new.self world c.advance.new.world (option_map exc_of c.args.exc) c.in-On.next froms numbers ps count
+              (suc g.steps)
+          (subst (λ (m : Moved). MoreGone self c.advance.new.self world c.advance.new.world (option_map exc_of c.args.exc) m froms numbers
+              ps count (suc g.steps)) c.in-On.is
+          (goes_further self c.steps.self c.advance.new.self world c.steps.world c.advance.new.world (option_map exc_of c.args.exc)
+              c.steps.exc c.in_ok-next.field-0 froms numbers ps count
           (ap (λ (t : Task). t.part) i.2) (ap (λ (t : Task). t.label) i.2) (ap (λ (w : World). w.tick) i.3) g e.step)),
     )
 
@@ -56,7 +61,9 @@ returns-in-Stops-clause-steps c =
     λ froms numbers ps count stands.
     let g = i.4 froms numbers ps count stands in
     let m =
-    subst (λ (m : Moved). MoreGone self c.advance.new.self world c.advance.new.world (option_map exc_of c.args.exc) m froms numbers ps count (suc g.steps)) c.in-Stops.is
-    (goes_further self c.steps.self c.advance.new.self world c.steps.world c.advance.new.world (option_map exc_of c.args.exc) c.steps.exc c.in_ok-next.field-0 froms numbers ps count
+    subst (λ (m : Moved). MoreGone self c.advance.new.self world c.advance.new.world (option_map exc_of c.args.exc) m froms numbers ps count
+        (suc g.steps)) c.in-Stops.is
+    (goes_further self c.steps.self c.advance.new.self world c.steps.world c.advance.new.world (option_map exc_of c.args.exc) c.steps.exc
+        c.in_ok-next.field-0 froms numbers ps count
     (ap (λ (t : Task). t.part) i.2) (ap (λ (t : Task). t.label) i.2) (ap (λ (w : World). w.tick) i.3) g c.in_ok-next.ensures.step) in
     record { steps = suc g.steps; took = m.took }

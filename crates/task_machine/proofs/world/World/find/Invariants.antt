@@ -8,7 +8,8 @@ use Rattle.task_machine.proofs.world.World.find.Given as goal
 abbrev pub invariant-outwards : goal.invariant-outwards
 invariant-outwards l = record {
   lives : ForSome l.at (IsOpen l.self.scopes);
-  same : scope_named (label_at l.self) l.name (outer_of l.self.scopes l.fn.scope) ≡ scope_named (label_at l.self) l.name (outer_of l.self.scopes l.at);
+  same : scope_named (label_at l.self) l.name (outer_of l.self.scopes l.fn.scope)
+      ≡ scope_named (label_at l.self) l.name (outer_of l.self.scopes l.at);
 }
 
 abbrev pub decreases-outwards : goal.decreases-outwards

@@ -14,7 +14,8 @@ returns-clause-turn c =
     let x : Running = c.in-Some.running.now in
     let y : Running = record { task = c.turn.new.self; row = x.row } in
     let lived : running_at c.args.self.now c.args.id ≡ Some x = sym c.in-Some.ensures.value in
-    let live : Updates c.args.self.now.live (with_live c.args.self.now.live c.args.id y) c.args.id (Some y) = written c.args.self.now.live c.args.id x y lived in
+    let live : Updates c.args.self.now.live (with_live c.args.self.now.live c.args.id y) c.args.id (Some y) =
+        written c.args.self.now.live c.args.id x y lived in
     record {
       row = x.row;
       before = x.task;
@@ -37,4 +38,5 @@ returns-clause-agree c =
     let x : Running = c.in-Some.running.now in
     let y : Running = record { task = c.turn.new.self; row = x.row } in
     let lived : running_at c.args.self.now c.args.id ≡ Some x = sym c.in-Some.ensures.value in
-    agrees_turned c.args.self.now (rewritten c.args.self.now c.args.id y) c.args.id x y c.requires.agree lived (written c.args.self.now.live c.args.id x y lived) refl refl
+    agrees_turned c.args.self.now (rewritten c.args.self.now c.args.id y) c.args.id x y c.requires.agree lived
+        (written c.args.self.now.live c.args.id x y lived) refl refl
