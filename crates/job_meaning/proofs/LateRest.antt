@@ -4,7 +4,7 @@ use Rattle.exc_groups.specs.Exceptions.{Label, Exc}
 use Rattle.cancel_scopes.specs.Sight.{Level, catches}
 use Rattle.job_meaning.specs.Log.{entry, nil, Member, Result}
 use Rattle.job_meaning.specs.Walk.{Stack, Mode, Here, walk, Kind, a_scope, a_nursery, left_as, left_with, latest, gathered, signed, with_outcome, handler_exc, outcome_after}
-use Rattle.job_meaning.specs.Rest.{Telling, told_members, Frame, steps_left, in_scope, in_nursery, in_try, in_handler, in_cleanup, inside, block_left, with_children, waited, finish}
+use Rattle.job_meaning.specs.Rest.{Telling, told_members, Frame, steps_left, in_scope, in_nursery, in_repeat, in_try, in_handler, in_cleanup, inside, block_left, with_children, waited, finish}
 use Rattle.job_meaning.proofs.Late.{Late, late, late_and_then, late_handler, late_cleanup, late_signed, late_gathered, timed_followed}
 
 -- a block that is left ends with what was in it

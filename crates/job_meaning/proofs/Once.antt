@@ -1,7 +1,7 @@
 -- Where names are given once, no label of a scope, nursery or task is given twice. It holds in both modes.
 use Rattle.std.proofs.Common.{◌≡◌, ℕ, zero, suc, ◌+◌, ◌<◌, ◌≤◌, Bool, true, false, Option, Some, None, List, [], ◌∷◌, ◌++◌, refl, subst, ◌⊎◌, inl, inr, arith, nat_le, if◌then◌else◌}
 use Rattle.std.proofs.lemmas.Bool.{cases_lt}
-use Rattle.job_tree.specs.Tree.{Step, sleep, checkpoint, forever, pace, find, head, longest, need, raise, cancel, scope, nursery, start, attempt, Steps, stop, step, Handled, unhandled, except, Cleaned, uncleaned, finally, Tree}
+use Rattle.job_tree.specs.Tree.{Step, sleep, checkpoint, forever, pace, find, head, longest, need, raise, cancel, scope, nursery, start, repeat, attempt, Steps, stop, step, Handled, unhandled, except, Cleaned, uncleaned, finally, Tree}
 use Rattle.job_tree.specs.Names.{names_of, names_in, handled_names, cleaned_names, GivesNamesOnce}
 use Rattle.buffer_parts.specs.Lines.{Span}
 use Rattle.buffer_parts.specs.Cuts.{cut_of}

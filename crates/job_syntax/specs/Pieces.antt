@@ -3,7 +3,7 @@
 use Rattle.std.specs.Prelude.{◌≡◌, ℕ, List, [], ◌∷◌, map, Bool, true, false, Option, Some, None}
 use Rattle.job_tree.specs.declared.deadline.Deadline.{Deadline}
 use Rattle.job_tree.specs.declared.deadline.Deadline.TheVariants.{Never, After, At}
-use Rattle.job_tree.specs.Tree.{Step, sleep, checkpoint, forever, pace, find, head, longest, need, raise, cancel, scope, nursery, start, attempt, Steps, stop, step, Handled, unhandled, except, Cleaned, uncleaned, finally, Tree}
+use Rattle.job_tree.specs.Tree.{Step, sleep, checkpoint, forever, pace, find, head, longest, need, raise, cancel, scope, nursery, start, repeat, attempt, Steps, stop, step, Handled, unhandled, except, Cleaned, uncleaned, finally, Tree}
 use Rattle.job_tokens.specs.declared.token.Mark.{Mark}
 use Rattle.job_tokens.specs.declared.token.Mark.TheVariants as mark
 use Rattle.job_tokens.specs.declared.token.Shape.{Shape}

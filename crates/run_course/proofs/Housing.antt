@@ -6,7 +6,7 @@ use Rattle.job_tree.specs.Tree.{Tree}
 use Rattle.job_tree.specs.Starting.{StartsInNurseries}
 use Rattle.exc_groups.specs.Exceptions.{Label}
 use Rattle.job_meaning.specs.Log.{Table}
-use Rattle.job_meaning.specs.Rest.{Event, noted, signs, enters, starts, Frame, steps_left, in_scope, in_nursery, in_try, in_handler, in_cleanup, Stopped, to_begin, asking, asleep, awaiting, at_end}
+use Rattle.job_meaning.specs.Rest.{Event, noted, signs, enters, starts, Frame, steps_left, in_scope, in_nursery, in_repeat, in_try, in_handler, in_cleanup, Stopped, to_begin, asking, asleep, awaiting, at_end}
 use Rattle.task_turns.specs.Midway.{Place, Begun, Move}
 use Rattle.task_turns.specs.Steps.{froms_after}
 use Rattle.task_turns.specs.Placed.{PlacedStop, PlacedAfter, places_behind, home_after, AllBelow, KidsBelow, KidsAfter, IsAmong, HasChild, WaitsFor, HasChildAfter, AllHoused}

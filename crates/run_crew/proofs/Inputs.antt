@@ -4,11 +4,11 @@ use Rattle.std.specs.Prelude.{slice_get}
 use Rattle.exc_groups.specs.Exceptions.{Exc}
 use Rattle.exc_groups.specs.Split.{named, keep, drop}
 use Rattle.cancel_scopes.specs.Sight.{seen}
-use Rattle.job_tree.specs.Tree.{Step, sleep, checkpoint, forever, pace, find, head, longest, need, raise, cancel, scope, nursery, start, attempt, Steps, stop, step, Handled, unhandled, except, Cleaned, uncleaned, finally}
+use Rattle.job_tree.specs.Tree.{Step, sleep, checkpoint, forever, pace, find, head, longest, need, raise, cancel, scope, nursery, start, repeat, attempt, Steps, stop, step, Handled, unhandled, except, Cleaned, uncleaned, finally}
 use Rattle.job_meaning.specs.Asking.{Answer, lines, missing, counted, shows, needs, paces}
 use Rattle.job_meaning.specs.Log.{Table}
 use Rattle.job_meaning.specs.Walk.{Here, far, paced}
-use Rattle.job_meaning.specs.Rest.{Frame, steps_left, in_scope, in_nursery, in_try, in_handler, in_cleanup, Stopped, to_begin, asking, asleep, awaiting, at_end, inside}
+use Rattle.job_meaning.specs.Rest.{Frame, steps_left, in_scope, in_nursery, in_repeat, in_try, in_handler, in_cleanup, Stopped, to_begin, asking, asleep, awaiting, at_end, inside}
 use Rattle.task_turns.specs.Midway.{Place, stack_at, Midway, Begun, Move, moved, then_move}
 use Rattle.task_turns.specs.Steps.{froms_after, falls_asleep, begun_over, step_on, step_steps, handler_if, step_try, step_frames, step_of, turn_of}
 use Rattle.task_turns.specs.Wakes.{Wake, begins, sees, is_due, has_answer, settles, with_answer, wake_of, turn_from}

@@ -1,7 +1,7 @@
 -- What each step of a turn makes, begins and leaves, case by case.
 use Rattle.std.proofs.Common.{◌≡◌, inl, inr, ℕ, zero, suc, ◌+◌, ◌-◌, ◌*◌, ◌≤◌, Bool, true, false, Option, Some, None, List, [], ◌∷◌, ◌++◌, length, refl, ap, sym, ◌∙◌, subst, arith}
 use Rattle.std.specs.Str.{bytes_eq}
-use Rattle.job_tree.specs.Tree.{Step, sleep, checkpoint, forever, pace, find, head, longest, need, raise, cancel, scope, nursery, start, attempt, Steps, stop, step, Handled, unhandled, except, Cleaned, uncleaned, finally}
+use Rattle.job_tree.specs.Tree.{Step, sleep, checkpoint, forever, pace, find, head, longest, need, raise, cancel, scope, nursery, start, repeat, attempt, Steps, stop, step, Handled, unhandled, except, Cleaned, uncleaned, finally}
 use Rattle.job_tree.specs.Names.{size_of}
 use Rattle.job_tree.specs.Starting.{StartsIn, StartsAt, HandlerStarts, CleanupStarts}
 use Rattle.buffer_parts.specs.Cuts.{cut_of}
@@ -10,7 +10,7 @@ use Rattle.exc_groups.specs.Split.{named, keep, drop}
 use Rattle.cancel_scopes.specs.Sight.{Tick, seen}
 use Rattle.job_meaning.specs.Log.{Table}
 use Rattle.job_meaning.specs.Walk.{Here, far, due, here_in, label_here, label_over, label_if, Kind, a_scope}
-use Rattle.job_meaning.specs.Rest.{Event, starts, starts_over, numbered, Frame, steps_left, in_scope, in_nursery, in_try, in_handler, in_cleanup, inside, asking, frames_weight}
+use Rattle.job_meaning.specs.Rest.{Event, starts, starts_over, numbered, Frame, steps_left, in_scope, in_nursery, in_repeat, in_try, in_handler, in_cleanup, inside, asking, frames_weight}
 use Rattle.job_meaning.specs.Asking.{Kernel, Purpose, Suits, shows, needs, paces}
 use Rattle.job_meaning.specs.Asking as ask
 use Rattle.task_turns.specs.Midway.{Place, stack_at, Midway, Begun, Move}
