@@ -9,11 +9,11 @@ use Rattle.exc_groups.specs.Exceptions.{Label, Exc, cancelled}
 use Rattle.exc_groups.specs.Split.{Wanted, keep, drop}
 use Rattle.cancel_scopes.specs.Sight.{Tick, sight}
 use Rattle.job_meaning.specs.Log.{Log, nil, entry, sign, entered, task, followed_by, Result, same_label, times_entered, times_given}
-use Rattle.job_meaning.specs.Walk.{Stack, Mode, Here, walk, walk_step, walk_handler, walk_cleanup, done_at, raised_at, joined, and_then, then_if, slept, sleeping, log_of_lines, showing, needing, sign_of, cancelling, Kind, from_of, block, left_from, within, signed, sign_if, home_of, gathered, child, each, handled, handled_exc, handled_if, cleaned, label_here, label_over, here_in}
+use Rattle.job_meaning.specs.Walk.{Stack, Mode, Here, walk, walk_step, walk_handler, walk_cleanup, done_at, raised_at, joined, and_then, then_if, slept, sleeping, log_of_lines, showing, needing, sign_of, cancelling, Kind, from_of, block, left_from, within, signed, sign_if, home_of, gathered, child, each, passes, handled, handled_exc, handled_if, cleaned, label_here, label_over, here_in, in_pass}
 use Rattle.job_meaning.specs.Meaning.{root_walk, root_here, root_label, root_log}
 use Rattle.job_meaning.proofs.Distinct.{Distinct, distinct_left, distinct_right, distinct_apart, distinct_by_bytes, same_label_equal, Belongs, behind_other}
 use Rattle.job_meaning.proofs.Touched.{Gives, gives_followed}
-use Rattle.job_meaning.proofs.Tidy.{Tidy, tidy, tidy_step, tidy_handler, tidy_in, tidy_each, tidy_signed, tidy_gathered, tidy_over, gives_home}
+use Rattle.job_meaning.proofs.Tidy.{Tidy, tidy, tidy_step, tidy_handler, tidy_in, tidy_each, tidy_passes, tidy_signed, tidy_gathered, tidy_over, gives_home}
 
 -- no label is given twice in a log
 abbrev pub GivesOnce : Log → Type 0
@@ -110,8 +110,12 @@ unique_block m kind label t d shield st inside h own = at_from (from_of m label 
   where
     at_from : (f : Tick) → Unique (left_from kind label t d shield st f (inside f))
     at_from f =
-        record { once = (λ i. not_there (gives_followed label (inside f).log _ i),
-            once_followed (inside f).log _ (h f).once tt (λ l i j. j)) }
+        record {
+          once = (
+            λ i. not_there (gives_followed label (inside f).log _ i),
+            once_followed (inside f).log _ (h f).once tt (λ l i j. j),
+          );
+        }
       where
         not_there : Gives label (inside f).log ⊎ ⊥ → ⊥
         not_there (inl i) = own f i
@@ -120,8 +124,9 @@ unique_block m kind label t d shield st inside h own = at_from (from_of m label 
 unique_signed : (st : Stack) (r : Result) → Unique r → Unique (signed st r)
 unfolding signed
 unique_signed st r h =
-    record { once = once_followed r.log (sign_if r.exc (home_of st) r.end) h.once (once_home r.exc) (λ l i j. gives_home st r.exc r.end l j)
-        }
+    record {
+      once = once_followed r.log (sign_if r.exc (home_of st) r.end) h.once (once_home r.exc) (λ l i j. gives_home st r.exc r.end l j);
+    }
   where
     once_home : (o : Option Exc) → GivesOnce (sign_if o (home_of st) r.end)
     once_home None = tt
@@ -158,6 +163,29 @@ unique_each st names path (suc n) go t h k = unique_joined (each n go t) (go n) 
       where
         apart : Before l → Belongs names (path ++ n ∷ []) l → ⊥
         apart b c = behind_other names names path b.0 n l b.1 b.2 c
+
+-- labels given in a pass, and in those behind it
+unique_passes : (st : Stack) (names : List (List ℕ)) (path : List ℕ) (k first : ℕ) (go : ℕ → ℕ → Result) (t : ℕ) →
+    ((i u : ℕ) → Tidy st (Belongs names (path ++ i ∷ [])) (go i u)) → ((i u : ℕ) → Unique (go i u)) → Unique (passes first k go t)
+unique_passes st names path zero first go t h k = unique_done t
+unique_passes st names path (suc n) first go t h k =
+    unique_and_then (go first t) _ (k first t) (λ u. unique_passes st names path n (suc first) go u h k) differ
+  where
+    Behind : Label → Type 0
+    Behind l = (i : ℕ) × (first < i) × Belongs names (path ++ i ∷ []) l
+
+    behind : (i : ℕ) → suc first ≤ i → (l : Label) → Belongs names (path ++ i ∷ []) l → Behind l
+    behind i le l b = (i, omega arith, b)
+
+    later_ones : (u : ℕ) → Tidy st Behind (passes (suc first) n go u)
+    later_ones u =
+        tidy_passes st Behind n (suc first) go u (λ i v le. tidy_in st (Belongs names (path ++ i ∷ [])) Behind (go i v) (behind i le) (h i v))
+
+    apart : (l : Label) → Belongs names (path ++ first ∷ []) l → Behind l → ⊥
+    apart l b c = behind_other names names path first c.0 l c.1 b c.2
+
+    differ : (u : ℕ) (l : Label) → Gives l (go first t).log → Gives l (passes (suc first) n go u).log → ⊥
+    differ u l i j = apart l ((h first t).gives l i) ((later_ones u).gives l j)
 
 unique_handled : (wanted : Wanted) (r : Result) (go : ℕ → Result) → Unique r → ((u : ℕ) → Unique (go u)) →
     ((u : ℕ) (l : Label) → Gives l r.log → Gives l (go u).log → ⊥) → Unique (handled wanted r go)
@@ -224,7 +252,7 @@ mutual
       (λ f i. distinct.0
       ((tidy_gathered (within (label_here name here) shield f st) (Belongs (names_of body) here.path) (label_here name here) _
       (tidy_signed (within (label_here name here) shield f st) _ _ (tidy m body here (within (label_here name here) shield f st) t))).gives
-          _ i).named)
+      _ i).named)
   unique_step m (start name None body) here st t distinct =
       unique_child _ t _
       (λ i. distinct.0 ((tidy_signed st _ _ (tidy m body (here_in (label_here name here) here.part here) st t)).gives _ i).named)
@@ -234,8 +262,11 @@ mutual
       (λ i. tidy_over m name body here (cut_of here.input here.part k i) i st t)
       (λ i. unique_child _ t _
       (λ j. distinct.0 ((tidy_signed st _ _ (tidy m body (here_in (label_over name here i) (cut_of here.input here.part k i) here) st
-          t)).gives _ j).named)
+      t)).gives _ j).named)
       (unique_signed st _ (unique m body _ st t distinct.1)))
+  unique_step m (repeat count body) here st t distinct =
+      unique_passes st (names_of body) here.path count 0 _ t (λ i u. tidy m body (in_pass i here) st u)
+      (λ i u. unique m body (in_pass i here) st u distinct)
   unique_step m (attempt body handler cleanup) here st t distinct =
       unique_cleanup m cleanup here st _ (names_of body ++ handled_names handler)
       (tidy_handler m handler here st _ (names_of body) (tidy m body here st t)) distinct
@@ -243,7 +274,7 @@ mutual
       (distinct_left (names_of body ++ handled_names handler) (cleaned_names cleanup) distinct)
       (unique m body here st t
       (distinct_left (names_of body) (handled_names handler) (distinct_left (names_of body ++ handled_names handler) (cleaned_names cleanup)
-          distinct))))
+      distinct))))
 
   pub unique_handler : (m : Mode) (x : Handled) (here : Here) (st : Stack) (r : Result) (names : List (List ℕ)) →
       Tidy st (Belongs names here.path) r →

@@ -8,7 +8,7 @@ use Rattle.exc_groups.specs.Exceptions.{Label, Exc, cancelled, hold_cancelled, p
 use Rattle.exc_groups.specs.Split.{Wanted, keep, drop}
 use Rattle.cancel_scopes.specs.Sight.{Tick, sight, seen, reached, catches}
 use Rattle.job_meaning.specs.Log.{Member, Result}
-use Rattle.job_meaning.specs.Walk.{Stack, Mode, Here, walk, walk_step, walk_handler, walk_cleanup, done_at, raised_at, joined, and_then, then_if, slept, sleeping, showing, needing, cancelling, Kind, from_of, block, within, left_with, exc_after, signed, latest, with_exc, excs_of, gathered, child, each, handled, handled_exc, handled_if, handler_exc, cleaned, outcome_after}
+use Rattle.job_meaning.specs.Walk.{Stack, Mode, Here, walk, walk_step, walk_handler, walk_cleanup, done_at, raised_at, joined, and_then, then_if, slept, sleeping, showing, needing, cancelling, Kind, from_of, block, within, left_with, exc_after, signed, latest, with_exc, excs_of, gathered, child, each, passes, handled, handled_exc, handled_if, handler_exc, cleaned, outcome_after}
 use Rattle.job_meaning.specs.Meaning.{root_walk, root_here}
 use Rattle.job_meaning.specs.Laws.{some_cancelled, CancelledIsSeen, NoneReachesTheRoot}
 use Rattle.job_meaning.proofs.Ticks.{seen_cons, stays_seen}
@@ -121,8 +121,11 @@ members_hold st t (m ∷ ms) h k =
 pub root_gathered : (st : Stack) (label : Label) (r : Result) → Rooted st r → Rooted st (gathered label r)
 unfolding gathered
 root_gathered st label r h =
-    record { exc = λ k. either_one (or_cases _ _ (sym (with_exc_holds r.exc (excs_of r.members))
-        ∙ (sym (group_holds (by_nursery label) (parts_of (with_exc r.exc (excs_of r.members)))) ∙ k))); members = tt }
+    record {
+      exc = λ k. either_one (or_cases _ _ (sym (with_exc_holds r.exc (excs_of r.members))
+          ∙ (sym (group_holds (by_nursery label) (parts_of (with_exc r.exc (excs_of r.members)))) ∙ k)));
+      members = tt;
+    }
   where
     either_one : IsTrue (some_cancelled r.exc) ⊎ IsTrue (hold_cancelled (parts_of (excs_of r.members))) →
         IsTrue (seen st (latest r.end r.members))
@@ -136,6 +139,12 @@ root_child st label t r h = record { exc = λ k. absurd (false≢true k); member
 pub root_each : (st : Stack) (k : ℕ) (go : ℕ → Result) (t : ℕ) → ((i : ℕ) → Rooted st (go i)) → Rooted st (each k go t)
 root_each st zero go t h = root_done st t
 root_each st (suc k) go t h = root_joined st (each k go t) (go k) (root_each st k go t h) (h k)
+
+-- passes of a `repeat`
+pub root_passes : (st : Stack) (k first : ℕ) (go : ℕ → ℕ → Result) (t : ℕ) → ((i u : ℕ) → Rooted st (go i u)) →
+    Rooted st (passes first k go t)
+root_passes st zero first go t h = root_done st t
+root_passes st (suc k) first go t h = root_and_then st (go first t) _ (h first t) (λ u. root_passes st k (suc first) go u h)
 
 -- a handler ends no earlier than the body, so what the body's rest holds is still seen
 pub root_handled : (st : Stack) (wanted : Wanted) (r : Result) (go : ℕ → Result) → Rooted st r → ((u : ℕ) → Rooted st (go u)) →
@@ -164,8 +173,11 @@ root_handled st wanted r go h k later = by_exc r.exc h.exc
     by_match : (o rest : Option Exc) → (IsTrue (some_cancelled rest) → IsTrue (seen st r.end)) → Rooted st (handled_if o rest r go)
     by_match None rest old = h
     by_match (Some e) rest old =
-        record { exc = outcome (go r.end).exc rest (k r.end).exc old; members =
-            members_append st r.members (go r.end).members h.members (k r.end).members }
+        record {
+          exc = outcome (go r.end).exc rest (k r.end).exc old;
+          members =
+              members_append st r.members (go r.end).members h.members (k r.end).members;
+        }
 
     by_exc : (o : Option Exc) → (IsTrue (some_cancelled o) → IsTrue (seen st r.end)) → Rooted st (handled_exc o wanted r go)
     by_exc None old = h
@@ -175,8 +187,11 @@ pub root_cleaned : (st : Stack) (r : Result) (go : ℕ → Result) → Rooted st
     Rooted st (cleaned r go)
 unfolding cleaned
 root_cleaned st r go h k later =
-    record { exc = outcome (go r.end).exc (k r.end).exc; members =
-        members_append st r.members (go r.end).members h.members (k r.end).members }
+    record {
+      exc = outcome (go r.end).exc (k r.end).exc;
+      members =
+          members_append st r.members (go r.end).members h.members (k r.end).members;
+    }
   where
     outcome : (o : Option Exc) → (IsTrue (some_cancelled o) → IsTrue (seen st (go r.end).end)) →
         IsTrue (some_cancelled (outcome_after r.exc o)) → IsTrue (seen st (go r.end).end)
@@ -210,6 +225,7 @@ mutual
       root_child st _ t _ (root_signed st _ (root m body _ st t))
   root_step m (start name (Some k) body) here st t =
       root_each st k _ t (λ i. root_child st _ t _ (root_signed st _ (root m body _ st t)))
+  root_step m (repeat count body) here st t = root_passes st count 0 _ t (λ i u. root m body _ st u)
   root_step m (attempt body handler cleanup) here st t =
       root_cleanup m cleanup here st _ (root_handler m handler here st _ (root m body here st t))
 
