@@ -23,7 +23,7 @@ use Rattle.task_machine.specs.declared.entry.Entry.{Entry}
 use Rattle.task_turns.specs.Midway.{Place, Move}
 use Rattle.task_turns.specs.Steps.{onward, handler_if, step_try, step_frames, step_of}
 use Rattle.task_machine.specs.declared.frame.Frame.{Frame}
-use Rattle.task_machine.specs.declared.frame.Frame.TheVariants.{Steps, Scope, Nursery, Try, Handler, Cleanup}
+use Rattle.task_machine.specs.declared.frame.Frame.TheVariants.{Steps, Scope, Nursery, Repeat, Try, Handler, Cleanup}
 use Rattle.task_machine.specs.declared.outcome.Kind.TheVariants as kind
 use Rattle.task_machine.specs.declared.stop.Halt.TheVariants.{Awaits, Over}
 use Rattle.task_machine.specs.declared.stop.Moved.{Moved}
@@ -134,6 +134,7 @@ blocks_onto [] bs = bs
 blocks_onto (rest.steps_left ss ∷ fs) bs = blocks_onto fs bs
 blocks_onto (rest.in_scope fail ∷ fs) bs = blocks_onto fs (a_scope ∷ bs)
 blocks_onto (rest.in_nursery ns ∷ fs) bs = blocks_onto fs (key_in ns ++ bs)
+blocks_onto (rest.in_repeat pass left body ∷ fs) bs = blocks_onto fs bs
 blocks_onto (rest.in_try handler cleanup ∷ fs) bs = blocks_onto fs bs
 blocks_onto (rest.in_handler others cleanup ∷ fs) bs = blocks_onto fs bs
 blocks_onto (rest.in_cleanup outcome ∷ fs) bs = blocks_onto fs bs
@@ -147,6 +148,7 @@ onto_keys [] outer bs = refl
 onto_keys (Steps steps ∷ fs) outer bs = onto_keys fs (frame_of own_keys (Steps steps) ∷ outer) bs
 onto_keys (Scope fail ∷ fs) outer bs = onto_keys fs (rest.in_scope fail ∷ outer) bs
 onto_keys (Nursery id ∷ fs) outer bs = onto_keys fs (rest.in_nursery (id ∷ []) ∷ outer) bs
+onto_keys (Repeat pass left body ∷ fs) outer bs = onto_keys fs (frame_of own_keys (Repeat pass left body) ∷ outer) bs
 onto_keys (Try handler cleanup ∷ fs) outer bs = onto_keys fs (frame_of own_keys (Try handler cleanup) ∷ outer) bs
 onto_keys (Handler others cleanup ∷ fs) outer bs = onto_keys fs (frame_of own_keys (Handler others cleanup) ∷ outer) bs
 onto_keys (Cleanup outcome ∷ fs) outer bs = onto_keys fs (frame_of own_keys (Cleanup outcome) ∷ outer) bs

@@ -1,10 +1,12 @@
 -- Frames that the code holds, the innermost last.
-use Rattle.std.proofs.Common.{◌≡◌, ℕ, List, [], ◌∷◌, ◌++◌, refl, ap, ◌∙◌}
+use Rattle.std.proofs.Common.{◌≡◌, ℕ, Bor, List, [], ◌∷◌, ◌++◌, refl, ap, ◌∙◌}
+use Rattle.job_tree.specs.Tree as tree
 use Rattle.job_meaning.specs.Rest as rest
+use Rattle.job_meaning.specs.Rest.{path_in}
 use Rattle.task_machine.specs.declared.frame.Frame.{Frame}
-use Rattle.task_machine.specs.declared.frame.Frame.TheVariants.{Steps, Scope, Nursery, Try, Handler, Cleanup}
+use Rattle.task_machine.specs.declared.frame.Frame.TheVariants.{Steps, Scope, Nursery, Repeat, Try, Handler, Cleanup}
 use Rattle.task_machine.specs.Fitting.{Block, a_scope, a_nursery, blocks_of, block_in}
-use Rattle.task_machine.specs.Frames.{frame_of, frames_onto, frames_of}
+use Rattle.task_machine.specs.Frames.{frame_of, frames_onto, frames_of, passes_onto}
 
 onto_push : (children : ℕ → List ℕ) (fs : List Frame) (f : Frame) (outer : List rest.Frame) →
     frames_onto children (fs ++ f ∷ []) outer ≡ frame_of children f ∷ frames_onto children fs outer
@@ -28,6 +30,7 @@ blocks_pushed fs gs f e = ap blocks_of e ∙ by_frames fs
     by_frame (Steps steps) = refl
     by_frame (Scope fail) = refl
     by_frame (Nursery id) = refl
+    by_frame (Repeat pass left body) = refl
     by_frame (Try handler cleanup) = refl
     by_frame (Handler others cleanup) = refl
     by_frame (Cleanup outcome) = refl
@@ -36,6 +39,7 @@ blocks_pushed fs gs f e = ap blocks_of e ∙ by_frames fs
     block_behind b (Steps steps) bs = refl
     block_behind b (Scope fail) bs = refl
     block_behind b (Nursery id) bs = refl
+    block_behind b (Repeat pass left body) bs = refl
     block_behind b (Try handler cleanup) bs = refl
     block_behind b (Handler others cleanup) bs = refl
     block_behind b (Cleanup outcome) bs = refl
@@ -45,6 +49,35 @@ blocks_pushed fs gs f e = ap blocks_of e ∙ by_frames fs
     by_frames (Steps steps ∷ hs) = by_frames hs
     by_frames (Scope fail ∷ hs) = ap (λ (bs : List Block). a_scope ∷ bs) (by_frames hs) ∙ block_behind a_scope f (blocks_of hs)
     by_frames (Nursery id ∷ hs) = ap (λ (bs : List Block). a_nursery id ∷ bs) (by_frames hs) ∙ block_behind (a_nursery id) f (blocks_of hs)
+    by_frames (Repeat pass left body ∷ hs) = by_frames hs
     by_frames (Try handler cleanup ∷ hs) = by_frames hs
     by_frames (Handler others cleanup ∷ hs) = by_frames hs
     by_frames (Cleanup outcome ∷ hs) = by_frames hs
+
+path_onto : (numbers : ℕ → List ℕ) (fs : List Frame) (outer : List rest.Frame) (path : List ℕ) →
+    path_in (frames_onto numbers fs outer) path ≡ passes_onto fs (path_in outer path)
+path_onto numbers [] outer path = refl
+path_onto numbers (Steps steps ∷ fs) outer path = path_onto numbers fs (frame_of numbers (Steps steps) ∷ outer) path
+path_onto numbers (Scope fail ∷ fs) outer path = path_onto numbers fs (frame_of numbers (Scope fail) ∷ outer) path
+path_onto numbers (Nursery id ∷ fs) outer path = path_onto numbers fs (frame_of numbers (Nursery id) ∷ outer) path
+path_onto numbers (Repeat pass left body ∷ fs) outer path =
+    path_onto numbers fs (frame_of numbers (Repeat pass left body) ∷ outer) path
+path_onto numbers (Try handler cleanup ∷ fs) outer path = path_onto numbers fs (frame_of numbers (Try handler cleanup) ∷ outer) path
+path_onto numbers (Handler others cleanup ∷ fs) outer path =
+    path_onto numbers fs (frame_of numbers (Handler others cleanup) ∷ outer) path
+path_onto numbers (Cleanup outcome ∷ fs) outer path = path_onto numbers fs (frame_of numbers (Cleanup outcome) ∷ outer) path
+
+-- the path inside frames that the code holds is that inside the definitions' frames, however children are numbered
+pub path_inside : (numbers : ℕ → List ℕ) (fs : List Frame) (path : List ℕ) → path_in (frames_of numbers fs) path ≡ passes_onto fs path
+path_inside numbers fs path = path_onto numbers fs [] path
+
+-- a frame that is no pass adds nothing to the path
+pub path_plain : (f : Frame) (fs : List Frame) (path : List ℕ) →
+    ((pass left : ℕ) (body : Bor tree.Steps) → f ≡ Repeat pass left body → ⊥) → passes_onto (f ∷ fs) path ≡ passes_onto fs path
+path_plain (Steps steps) fs path other = refl
+path_plain (Scope fail) fs path other = refl
+path_plain (Nursery id) fs path other = refl
+path_plain (Repeat pass left body) fs path other = absurd (other pass left body refl)
+path_plain (Try handler cleanup) fs path other = refl
+path_plain (Handler others cleanup) fs path other = refl
+path_plain (Cleanup outcome) fs path other = refl

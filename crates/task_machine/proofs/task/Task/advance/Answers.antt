@@ -4,7 +4,7 @@ use Rattle.exc_groups.specs.Held.{exc_of}
 use Rattle.job_tree.specs.Blocks.{handled_of, cleaned_of}
 use Rattle.task_turns.specs.Bound.{frames_length}
 use Rattle.task_turns.specs.Midway.{Move}
-use Rattle.task_machine.specs.declared.frame.Frame.TheVariants.{Scope, Nursery, Try, Handler, Cleanup}
+use Rattle.task_machine.specs.declared.frame.Frame.TheVariants.{Scope, Nursery, Repeat, Try, Handler, Cleanup}
 use Rattle.task_machine.specs.declared.frame.Frame.{Frame}
 use Rattle.task_machine.specs.declared.stop.Halt.{Halt}
 use Rattle.task_machine.specs.declared.stop.Moved.{Moved}
