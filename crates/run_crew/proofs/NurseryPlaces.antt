@@ -393,10 +393,10 @@ housed_onto labels book f numbers [] own waits stopped keys outer st ps opened s
 housed_onto labels book f numbers (Steps steps ∷ fs) own waits stopped keys outer st ps opened stop at e id i has among =
     housed_onto labels book f numbers fs own waits stopped keys (frame_of numbers (Steps steps) ∷ outer) st ps opened stop at e id i has
         among
-housed_onto labels book f numbers (Try handler cleanup ∷ fs) own waits stopped keys outer st ps opened stop at e id i has among =
 housed_onto labels book f numbers (Repeat pass left body ∷ fs) own waits stopped keys outer st ps opened stop at e id i has among =
-    housed_onto labels book f numbers fs own waits stopped keys (frame_of numbers (Repeat pass left body) ∷ outer) st ps opened stop at e id i has
-        among
+    housed_onto labels book f numbers fs own waits stopped keys (frame_of numbers (Repeat pass left body) ∷ outer) st ps opened stop at e id
+        i has among
+housed_onto labels book f numbers (Try handler cleanup ∷ fs) own waits stopped keys outer st ps opened stop at e id i has among =
     housed_onto labels book f numbers fs own waits stopped keys (frame_of numbers (Try handler cleanup) ∷ outer) st ps opened stop at e id i
         has among
 housed_onto labels book f numbers (Handler others cleanup ∷ fs) own waits stopped keys outer st ps opened stop at e id i has among =

@@ -84,9 +84,9 @@ keyed_onto P now labels book (Nursery id ∷ fs) (o ∷ own) waits outer ks has 
     (keyed_onto P now labels book fs own waits (rest.in_nursery (now id) ∷ outer) (o.id ∷ ks)
     (λ key x i n. has key x (one_behind key id (blocks_of fs) waits i) n) h.2
     ((id, refl, has id o (inl (inl refl)) (is_scope labels (λ n. n.body ≡ None) (nursery_at book id) o h.0)), k))
-keyed_onto P now labels book (Try handler cleanup ∷ fs) own waits outer ks has h k =
 keyed_onto P now labels book (Repeat pass left body ∷ fs) own waits outer ks has h k =
     keyed_onto P now labels book fs own waits (frame_of now (Repeat pass left body) ∷ outer) ks has h k
+keyed_onto P now labels book (Try handler cleanup ∷ fs) own waits outer ks has h k =
     keyed_onto P now labels book fs own waits (frame_of now (Try handler cleanup) ∷ outer) ks has h k
 keyed_onto P now labels book (Handler others cleanup ∷ fs) own waits outer ks has h k =
     keyed_onto P now labels book fs own waits (frame_of now (Handler others cleanup) ∷ outer) ks has h k

@@ -1,6 +1,5 @@
 -- Frames that the code holds, the innermost last.
-use Rattle.std.proofs.Common.{◌≡◌, ℕ, Bor, List, [], ◌∷◌, ◌++◌, refl, ap, ◌∙◌}
-use Rattle.job_tree.specs.Tree as tree
+use Rattle.std.proofs.Common.{◌≡◌, ℕ, List, [], ◌∷◌, ◌++◌, refl, ap, ◌∙◌}
 use Rattle.job_meaning.specs.Rest as rest
 use Rattle.job_meaning.specs.Rest.{path_in}
 use Rattle.task_machine.specs.declared.frame.Frame.{Frame}
@@ -71,13 +70,13 @@ path_onto numbers (Cleanup outcome ∷ fs) outer path = path_onto numbers fs (fr
 pub path_inside : (numbers : ℕ → List ℕ) (fs : List Frame) (path : List ℕ) → path_in (frames_of numbers fs) path ≡ passes_onto fs path
 path_inside numbers fs path = path_onto numbers fs [] path
 
--- a frame that is no pass adds nothing to the path
-pub path_plain : (f : Frame) (fs : List Frame) (path : List ℕ) →
-    ((pass left : ℕ) (body : Bor tree.Steps) → f ≡ Repeat pass left body → ⊥) → passes_onto (f ∷ fs) path ≡ passes_onto fs path
-path_plain (Steps steps) fs path other = refl
-path_plain (Scope fail) fs path other = refl
-path_plain (Nursery id) fs path other = refl
-path_plain (Repeat pass left body) fs path other = absurd (other pass left body refl)
-path_plain (Try handler cleanup) fs path other = refl
-path_plain (Handler others cleanup) fs path other = refl
-path_plain (Cleanup outcome) fs path other = refl
+-- the path inside frames that are behind others is their path on that of the others
+pub path_append : (fs gs : List Frame) (path : List ℕ) → passes_onto (fs ++ gs) path ≡ passes_onto gs (passes_onto fs path)
+path_append [] gs path = refl
+path_append (Steps steps ∷ fs) gs path = path_append fs gs path
+path_append (Scope fail ∷ fs) gs path = path_append fs gs path
+path_append (Nursery id ∷ fs) gs path = path_append fs gs path
+path_append (Repeat pass left body ∷ fs) gs path = path_append fs gs (path ++ pass ∷ [])
+path_append (Try handler cleanup ∷ fs) gs path = path_append fs gs path
+path_append (Handler others cleanup ∷ fs) gs path = path_append fs gs path
+path_append (Cleanup outcome ∷ fs) gs path = path_append fs gs path

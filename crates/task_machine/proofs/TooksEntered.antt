@@ -139,9 +139,9 @@ onto_others numbers more (Nursery id ∷ fs) outer same =
     ap (λ (ns : List ℕ). frames_onto more fs (rest.in_nursery ns ∷ outer)) (same id (inl refl))
         ∙ onto_others numbers more fs (rest.in_nursery (numbers id) ∷ outer)
     (λ key h. same key (inr h))
-onto_others numbers more (Try handler cleanup ∷ fs) outer same =
 onto_others numbers more (Repeat pass left body ∷ fs) outer same =
     onto_others numbers more fs (frame_of numbers (Repeat pass left body) ∷ outer) same
+onto_others numbers more (Try handler cleanup ∷ fs) outer same =
     onto_others numbers more fs (frame_of numbers (Try handler cleanup) ∷ outer) same
 onto_others numbers more (Handler others cleanup ∷ fs) outer same =
     onto_others numbers more fs (frame_of numbers (Handler others cleanup) ∷ outer) same

@@ -54,8 +54,9 @@ impl<'a> Task<'a> {
         let label = self.label_here(name)?;
         let id = world.enter(self.scope(), label, shield, deadline)?;
         let at = self.froms.len();
+        let kept = self.label_here(name)?;
         self.froms.push(ScopeFrom {
-            label: self.label_here(name)?,
+            label: kept,
             seen: None,
         })?;
         self.own.push(Own { id, at })?;

@@ -1,4 +1,4 @@
-ghost use Rattle.std.specs.Prelude.{◌≡◌, ◌+◌, ◌≤◌, List, None, OnOk, IfOk};
+ghost use Rattle.std.specs.Prelude.{◌≡◌, ◌+◌, ◌≤◌, List, [], ◌∷◌, None, OnOk, IfOk};
 ghost use Rattle.std.specs.Option.{option_map};
 ghost use Rattle.exc_groups.specs.Held.{exc_of};
 ghost use Rattle.job_tree.specs.declared.limits.TheConstants.{MOST_PASSES};
@@ -45,7 +45,7 @@ impl<'a> Task<'a> {
         body: &'a Body,
         exc: Option<Exc>,
     ) -> Result<Option<Exc>, AllocError>
-        requires few { pass + left ≤ MOST_PASSES }
+        requires { pass + left ≤ MOST_PASSES }
         ensures stays { OnOk result (self.new ≡ record self.old { frames = self.new.frames }) }
         ensures blocks { OnOk result (blocks_of self.new.frames.items ≡ blocks_of self.old.frames.items) }
         ensures step { IfOk result (λ after. (numbers : Numbers) (ps : List Place) →
@@ -82,12 +82,19 @@ fn label_inside(label: Label, frames: &[Frame]) -> Result<Label, AllocError>
     ensures { IfOk result (λ inner. inner ≡ record { name = label.name; indices = passes_onto frames.now label.indices }) }
 {
     let mut inner = label;
-    let mut left = frames;
-    'frames: while let Some((frame, others)) = left.split_first() {
-        if let Frame::Repeat { pass, .. } = frame {
-            inner = inner.indexed(*pass)?;
-        }
-        left = others;
+    'frames: for frame in frames {
+        inner = label_in_frame(inner, frame)?;
     }
+    Ok(inner)
+}
+
+// The label with the number of the pass, if the frame is that of a `repeat`.
+fn label_in_frame(label: Label, frame: &Frame) -> Result<Label, AllocError>
+    ensures { IfOk result (λ inner. inner ≡ record { name = label.name; indices = passes_onto (frame.now ∷ []) label.indices }) }
+{
+    let Frame::Repeat { pass, .. } = frame else {
+        return Ok(label);
+    };
+    let inner = label.indexed(*pass)?;
     Ok(inner)
 }

@@ -1,5 +1,0 @@
-pub mod Passing
-pub mod Arms
-pub mod Canonical
-pub mod Sound_jobs
-pub mod Writing_blocks
