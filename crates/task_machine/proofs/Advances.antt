@@ -227,7 +227,7 @@ pass_blocks pass left body fs ps (Some e) = refl
 pass_blocks pass zero body fs ps None = refl
 pass_blocks pass (suc k) body fs ps None = refl
 
--- the pass has ended
+-- a pass of the code that has ended is one step of the definitions: the next one begins, or none
 pub takes_pass : (frames : List Frame) (pass left : ℕ) (body : Bor tree.Steps) (task before after : Task) (world : World)
     (exc goes : Option held.Exc) →
     frames ≡ before.frames.items ++ Repeat pass left body ∷ [] → before ≡ record task { frames = before.frames } →

@@ -391,6 +391,7 @@ takes_attempt frames first task before after world body handler cleanup a is sta
 
 -- ---- a `repeat` begins
 
+-- a `repeat` of the code that begins is one step of the definitions, whether it has a pass or not
 pub takes_repeat : (frames : List Frame) (first : Step) (task before after : Task) (world : World) (count : ℕ) (body : tree.Steps) →
     AtStep frames task before first → first ≡ code.Repeat count body → after ≡ record before { frames = after.frames } →
     blocks_of after.frames.items ≡ blocks_of before.frames.items →

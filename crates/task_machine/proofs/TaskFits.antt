@@ -368,7 +368,7 @@ passes_shorter : (count : ℕ) (body : Steps) (fs : List rest.Frame) (ps : List 
 passes_shorter zero body fs ps = omega arith
 passes_shorter (suc k) body fs ps = let e = suc-mul k (1 + turn_length body) in omega (arith, e)
 
--- it begins
+-- a `repeat` has begun: the task still fits
 pub repeat_fits : (count : ℕ) (body : Steps) (before after : Task) (world : World) → Fits before.frames.items before world None →
     count ≤ MOST_PASSES → AreModest body → StartsIn false body → blocks_of after.frames.items ≡ blocks_of before.frames.items →
     begins_passes count body (frames_of (λ id. []) before.frames.items) [] ≡ onward (frames_of (λ id. []) after.frames.items) [] None →
@@ -381,6 +381,7 @@ repeat_fits count body before after world fits few b s blocks step stays =
         (passes_starts count body (frames_of (λ id. []) before.frames.items) [] s fits.starts))
     (stays ∙ ap (λ (t : Task). record before { frames = after.frames; halt = t.halt }) (sym stays))
 
+-- a `repeat` that has begun has fewer steps left than its step had
 pub repeat_length : (count : ℕ) (body : Steps) (before after : Task) →
     begins_passes count body (frames_of (λ id. []) before.frames.items) [] ≡ onward (frames_of (λ id. []) after.frames.items) [] None →
     frames_length (frames_of (λ id. []) after.frames.items)
@@ -402,13 +403,14 @@ pass_starts pass left body fs ps (Some e) b m = m
 pass_starts pass zero body fs ps None b m = m
 pass_starts pass (suc k) body fs ps None b m = (b, (b, m))
 
+-- a pass that has ended leaves fewer steps
 pub pass_shorter : (pass left : ℕ) (body : Steps) (fs : List rest.Frame) (ps : List Place) (exc : Option Exc) →
     frames_length (step_pass pass left body fs ps exc).frames < frames_length (rest.in_repeat pass left body ∷ fs)
 pass_shorter pass left body fs ps (Some e) = omega arith
 pass_shorter pass zero body fs ps None = omega arith
 pass_shorter pass (suc k) body fs ps None = let e = suc-mul k (1 + turn_length body) in omega (arith, e)
 
--- one of its passes has ended
+-- a pass of a `repeat` has ended: the task still fits
 pub passed_fits : (pass left : ℕ) (body : Steps) (fs : List Frame) (f : Frame) (exc after_exc : Option Exc) (before after : Task)
     (world : World) → blocks_of (f ∷ []) ≡ [] →
     frame_of (λ id. []) f ≡ rest.in_repeat pass left body → Fits (fs ++ f ∷ []) before world None →
