@@ -1,0 +1,192 @@
+-- What each arm of the reading answers.
+use Rattle.std.proofs.Common.{◌≡◌, ℕ, ◌<◌, ◌≤◌, List, [], length, Option, Some, None, inr, refl, sym, ap, subst, ◌∙◌, arith}
+use Rattle.std.specs.Prelude.{Result, Ok, Err, IfErr}
+use Rattle.job_tree.specs.Tree.{Tree}
+use Rattle.job_tokens.specs.declared.token.Token.{Token}
+use Rattle.job_tokens.specs.Shapes.{shapes_of}
+use Rattle.job_tree.specs.Names.{size_of}
+use Rattle.job_tokens.specs.Lexing.{Gives}
+use Rattle.job_syntax.specs.declared.role.Role.{Role}
+use Rattle.job_syntax.specs.Syntax.{fault_at, roles_at, whole_job}
+use Rattle.job_syntax.specs.Ranges.{number_fault}
+use Rattle.job_syntax.specs.Depth.{depth_fault}
+use Rattle.job_syntax.specs.Reading.{job_at}
+use Rattle.job_syntax.proofs.Places.{IsFault, fault_at-means}
+use Rattle.job_syntax.proofs.Names.{roles_of_job, job_of_text}
+use Rattle.job_syntax.proofs.Again.{job_again}
+use Rattle.job_checks.specs.Given.{twice_in}
+use Rattle.job_checks.specs.Reserved.{reserved_in}
+use Rattle.job_grammar.specs.declared.fault.JobKind.{JobKind}
+use Rattle.job_grammar.specs.declared.fault.JobKind.TheVariants as kind
+use Rattle.job_grammar.specs.declared.fault.JobFault.{JobFault}
+use Rattle.job_grammar.specs.declared.draft.Draft.{Draft}
+use Rattle.job_grammar.specs.Refusals.{most_steps, HasTokens, AreTokensOf, IsOf, IsOfSomeJob, IsReadTo, roles_of, stray_of, Passes, IsRefused, IsFair, Spells}
+use Rattle.job_grammar.specs.Drafts.{IsDraftTo, tree_of}
+use Rattle.job_grammar.proofs.Passing.{within, refused_after, passes_tokens, passes_numbers, passes_syntax, passes_depth, passes_given, passes_cancels, passes_reserved, passes_size, passes_all}
+
+-- what `refuse_at` answers: a refusal of that kind, at the place that a pass found
+abbrev pub IsRefusalAt : Option ℕ → JobKind → JobFault → Type 0
+IsRefusalAt found k fault = (found ≡ Some fault.at) × (fault.kind ≡ k)
+
+-- such a refusal is fair where the pass finds nothing but refusals of the text
+pub fair_refusal : (text : List ℕ) (k : JobKind) (found : Option ℕ) (fault : JobFault) → ((at : ℕ) → found ≡ Some at → IsRefused text k at)
+    → IsRefusalAt found k fault → IsFair text fault
+fair_refusal text k found fault refuses is = inr (subst (λ (j : JobKind). IsRefused text j fault.at) (sym is.1) (refuses fault.at is.0))
+
+-- the same of an answer that may be no refusal
+pub fair_answer : (text : List ℕ) (k : JobKind) (found : Option ℕ) (r : Result (Unit {0}) JobFault)
+    → ((at : ℕ) → found ≡ Some at → IsRefused text k at) → IfErr r (IsRefusalAt found k) → IfErr r (IsFair text)
+fair_answer text k found (Ok u) refuses is = tt
+fair_answer text k found (Err fault) refuses is = fair_refusal text k found fault refuses is
+
+pub token_refused : (text : List ℕ) (tokens : List Token) (at : ℕ) → Passes text 3 → HasTokens text tokens (Some at) →
+    IsRefused text kind.Token at
+token_refused text tokens at before lexed = refused_after text 3 kind.Token at before refl (tokens, lexed)
+
+pub tokens_read : (text : List ℕ) (tokens : List Token) → Passes text 3 → HasTokens text tokens None → IsReadTo 4 text tokens
+tokens_read text tokens before lexed = record { tokens_are = lexed; passes = passes_tokens text tokens before lexed }
+
+pub number_refused : (text : List ℕ) (tokens : List Token) (at : ℕ) → IsReadTo 4 text tokens → number_fault None tokens ≡ Some at →
+    IsRefused text kind.Number at
+number_refused text tokens at read found = refused_after text 4 kind.Number at read.passes refl (tokens, read.tokens_are, found)
+
+pub numbers_read : (text : List ℕ) (tokens : List Token) → IsReadTo 4 text tokens → number_fault None tokens ≡ None → IsReadTo 5 text tokens
+numbers_read text tokens read none =
+    record { tokens_are = read.tokens_are; passes = passes_numbers text tokens read.passes read.tokens_are none }
+
+pub syntax_refused : (text : List ℕ) (tokens : List Token) (at : ℕ) → IsReadTo 5 text tokens →
+    fault_at (length text) whole_job tokens ≡ Some at → IsRefused text kind.Syntax at
+syntax_refused text tokens at read found =
+    refused_after text 5 kind.Syntax at read.passes refl (tokens, read.tokens_are,
+        subst (λ (o : Option ℕ). IsFault (length text) whole_job tokens o) found (fault_at-means (length text) whole_job tokens))
+
+-- the job whose tokens leave the grammar nowhere
+some_job : (text : List ℕ) (tokens : List Token) (roles : List Role) → fault_at (length text) whole_job tokens ≡ None →
+    roles ≡ roles_at whole_job tokens → IsOfSomeJob tokens roles
+some_job text tokens roles none are =
+    let job = job_of_text (shapes_of tokens) (subst (λ (o : Option ℕ). IsFault (length text) whole_job tokens o) none
+        (fault_at-means (length text) whole_job tokens)) in
+    (job.0, (job.1, job.2), are ∙ roles_of_job job.0 tokens job.1 job.2)
+
+pub course_read : (text : List ℕ) (tokens : List Token) (roles : List Role) → IsReadTo 5 text tokens →
+    fault_at (length text) whole_job tokens ≡ None → roles ≡ roles_at whole_job tokens → IsReadTo 6 text tokens × IsOfSomeJob tokens roles
+course_read text tokens roles read none are =
+    (record { tokens_are = read.tokens_are; passes = passes_syntax text tokens read.passes read.tokens_are none },
+        some_job text tokens roles none are)
+
+pub depth_refused : (text : List ℕ) (tokens : List Token) (at : ℕ) → IsReadTo 6 text tokens → depth_fault 0 tokens ≡ Some at →
+    IsRefused text kind.Depth at
+depth_refused text tokens at read found = refused_after text 6 kind.Depth at read.passes refl (tokens, read.tokens_are, found)
+
+pub depth_read : (text : List ℕ) (tokens : List Token) → IsReadTo 6 text tokens → depth_fault 0 tokens ≡ None → IsReadTo 7 text tokens
+depth_read text tokens read none =
+    record { tokens_are = read.tokens_are; passes = passes_depth text tokens read.passes read.tokens_are none }
+
+-- ---- the tree
+
+some_same : (a b : Tree) → Some a ≡ Some b → a ≡ b
+some_same a b e = cc
+
+none_is_some : (o : Option Tree) (job : Tree) → o ≡ Some job → o ≡ None → ⊥
+none_is_some o job p q = cc
+
+-- the tree is read from the tokens of a job
+job_is : (text : List ℕ) (tokens : List Token) (job : Tree) → IsReadTo 7 text tokens → AreTokensOf tokens job →
+    job_at (shapes_of tokens) ≡ Some job
+job_is text tokens job read are =
+    ap job_at are.1 ∙ job_again job are.0 (within text tokens job (read.tokens_are, are) (λ at. read.passes kind.Depth at (omega arith)))
+
+pub job_is_there : (text : List ℕ) (tokens : List Token) (roles : List Role) → IsReadTo 7 text tokens → IsOfSomeJob tokens roles →
+    None ≡ job_at (shapes_of tokens) → ⊥
+job_is_there text tokens roles read (job, are, roles_are) none =
+    none_is_some (job_at (shapes_of tokens)) job (job_is text tokens job read are) (sym none)
+
+pub job_found : (text : List ℕ) (tokens : List Token) (roles : List Role) (job : Tree) → IsReadTo 7 text tokens → IsOfSomeJob tokens roles →
+    Some job ≡ job_at (shapes_of tokens) → IsOf text tokens job × (roles ≡ roles_of job)
+job_found text tokens roles job read (other, are, roles_are) found =
+    let same : other ≡ job = some_same other job (sym (job_is text tokens other read are) ∙ sym found) in
+    subst (λ (j : Tree). IsOf text tokens j × (roles ≡ roles_of j)) same ((read.tokens_are, are), roles_are)
+
+gives_none : {X : Type 0} (view : X → Tree) (o : Option X) (read : Option Tree) → o ≡ None → Gives view o read → read ≡ None
+gives_none view None read e gives = gives
+gives_none view (Some x) read e gives = absurd cc
+
+gives_some : {X : Type 0} (view : X → Tree) (x : X) (o : Option X) (read : Option Tree) → o ≡ Some x → Gives view o read →
+    read ≡ Some (view x)
+gives_some {X = X} view x None read e gives = absurd cc
+gives_some {X = X} view x (Some y) read e gives = subst (λ (o : Option X). Gives view o read) e gives
+
+-- what was read of the tokens that were lent
+pub never_none : {X : Type 0} (view : X → Tree) (text : List ℕ) (tokens lent : List Token) (roles : List Role) (o : Option X) →
+    IsReadTo 7 text tokens → IsOfSomeJob tokens roles → lent ≡ tokens → Gives view o (job_at (shapes_of lent)) → o ≡ None → ⊥
+never_none view text tokens lent roles o read of_some same gives e =
+    job_is_there text tokens roles read of_some (sym (ap (λ (ts : List Token). job_at (shapes_of ts)) (sym same)
+        ∙ gives_none view o (job_at (shapes_of lent)) e gives))
+
+pub drafted : {X : Type 0} (view : X → Tree) (x : X) (text : List ℕ) (d : Draft) (lent : List Token) (o : Option X) →
+    IsReadTo 7 text d.tokens.items → IsOfSomeJob d.tokens.items d.roles.items → lent ≡ d.tokens.items →
+    Gives view o (job_at (shapes_of lent)) → o ≡ Some x
+    → d.text.now ≡ text → view x ≡ tree_of d → IsDraftTo 7 text d
+drafted view x text d lent o read of_some same gives e text_is is =
+    let found : Some (tree_of d) ≡ job_at (shapes_of d.tokens.items) =
+        sym (ap (λ (ts : List Token). job_at (shapes_of ts)) (sym same) ∙ gives_some view x o (job_at (shapes_of lent)) e gives
+        ∙ ap some_of is) in
+    let job = job_found text d.tokens.items d.roles.items (tree_of d) read of_some found in
+    record { text_is = text_is; is_of = job.0; roles_are = job.1; passes = read.passes }
+  where
+    some_of : Tree → Option Tree
+    some_of j = Some j
+
+-- ---- the last passes
+
+-- what a pass along the tokens finds, and what they are for by the job
+by_roles : (d : Draft) (pass : List Token → List Role → Option ℕ) (found : Option ℕ) → d.roles.items ≡ roles_of (tree_of d) →
+    pass d.tokens.items d.roles.items ≡ found → pass d.tokens.items (roles_of (tree_of d)) ≡ found
+by_roles d pass found are e = ap (pass d.tokens.items) (sym are) ∙ e
+
+-- what a pass found along what was lent to it
+pub found_by : (pass : List Token → List Role → Option ℕ) (ts us : List Token) (rs qs : List Role) (found answer : Option ℕ) → us ≡ ts →
+    qs ≡ rs → found ≡ pass us qs → found ≡ answer → pass ts rs ≡ answer
+found_by pass ts us rs qs found answer same same' is e = (λ i. pass (sym same i) (sym same' i)) ∙ sym is ∙ e
+
+next_draft : (n m : ℕ) (text : List ℕ) (d : Draft) → IsDraftTo n text d → Passes text m → IsDraftTo m text d
+next_draft n m text d h passes = record { text_is = h.text_is; is_of = h.is_of; roles_are = h.roles_are; passes = passes }
+
+pub given_refused : (text : List ℕ) (d : Draft) (at : ℕ) → IsDraftTo 7 text d → twice_in [] d.tokens.items d.roles.items ≡ Some at →
+    IsRefused text kind.Twice at
+given_refused text d at h e = refused_after text 7 kind.Twice at h.passes refl
+    (d.tokens.items, tree_of d, h.is_of, by_roles d (twice_in []) (Some at) h.roles_are e)
+
+pub given_passed : (text : List ℕ) (d : Draft) → IsDraftTo 7 text d → twice_in [] d.tokens.items d.roles.items ≡ None → IsDraftTo 8 text d
+given_passed text d h e = next_draft 7 8 text d h (passes_given text d.tokens.items (tree_of d) h.passes h.is_of
+    (by_roles d (twice_in []) None h.roles_are e))
+
+pub stray_refused : (text : List ℕ) (d : Draft) (at : ℕ) → IsDraftTo 8 text d →
+    stray_of (tree_of d) d.tokens.items d.roles.items ≡ Some at → IsRefused text kind.NotEnclosing at
+stray_refused text d at h e = refused_after text 8 kind.NotEnclosing at h.passes refl
+    (d.tokens.items, tree_of d, h.is_of, by_roles d (stray_of (tree_of d)) (Some at) h.roles_are e)
+
+pub stray_passed : (text : List ℕ) (d : Draft) → IsDraftTo 8 text d → stray_of (tree_of d) d.tokens.items d.roles.items ≡ None →
+    IsDraftTo 9 text d
+stray_passed text d h e = next_draft 8 9 text d h (passes_cancels text d.tokens.items (tree_of d) h.passes h.is_of
+    (by_roles d (stray_of (tree_of d)) None h.roles_are e))
+
+pub reserved_refused : (text : List ℕ) (d : Draft) (at : ℕ) → IsDraftTo 9 text d → reserved_in d.tokens.items d.roles.items ≡ Some at →
+    IsRefused text kind.Reserved at
+reserved_refused text d at h e =
+    refused_after text 9 kind.Reserved at h.passes refl (d.tokens.items, tree_of d, h.is_of, by_roles d reserved_in (Some at) h.roles_are e)
+
+pub reserved_passed : (text : List ℕ) (d : Draft) → IsDraftTo 9 text d → reserved_in d.tokens.items d.roles.items ≡ None →
+    IsDraftTo 10 text d
+reserved_passed text d h e = next_draft 9 10 text d h (passes_reserved text d.tokens.items (tree_of d) h.passes h.is_of
+    (by_roles d reserved_in None h.roles_are e))
+
+pub size_refused : (text : List ℕ) (d : Draft) → IsDraftTo 10 text d → most_steps < size_of d.steps → IsRefused text kind.TooLarge 0
+size_refused text d h lt = refused_after text 10 kind.TooLarge 0 h.passes refl (d.tokens.items, tree_of d, h.is_of, lt, refl)
+
+pub size_passed : (text : List ℕ) (d : Draft) → IsDraftTo 10 text d → size_of d.steps ≤ most_steps → IsDraftTo 11 text d
+size_passed text d h le = next_draft 10 11 text d h (passes_size text d.tokens.items (tree_of d) h.passes h.is_of le)
+
+-- a job that all passes have seen is spelled
+pub is_spelled : (text : List ℕ) (d : Draft) → IsDraftTo 11 text d → Spells text (tree_of d)
+is_spelled text d h = (d.tokens.items, h.is_of, passes_all text h.passes)

@@ -1,0 +1,5 @@
+pub mod Passing
+pub mod Arms
+pub mod Canonical
+pub mod Sound_jobs
+pub mod Writing_blocks

@@ -1,0 +1,30 @@
+-- What is known of a job that a text spells.
+use Rattle.std.proofs.Common.{ℕ, List, [], false, None, refl}
+use Rattle.job_tree.specs.Tree.{Tree}
+use Rattle.job_tree.specs.Names.{GivesNamesOnce, size_of}
+use Rattle.job_tree.specs.Starting.{StartsInNurseries}
+use Rattle.job_tree.specs.Modest.{IsModest}
+use Rattle.job_syntax.specs.Ranges.{number_fault}
+use Rattle.job_syntax.proofs.Modest.{modest_numbers}
+use Rattle.job_syntax.proofs.Starting.{starts_in}
+use Rattle.job_checks.specs.Given.{twice_in}
+use Rattle.job_checks.proofs.Distinct_names.{names_once}
+use Rattle.job_grammar.specs.declared.fault.JobKind.TheVariants as kind
+use Rattle.job_grammar.specs.Refusals.{roles_of, Spells}
+use Rattle.job_grammar.proofs.Passing.{none_of, small_enough}
+
+-- its names are given once
+pub gives_names_once : (text : List ℕ) (job : Tree) → Spells text job → GivesNamesOnce job
+gives_names_once text job (ts, is_of, none) =
+    names_once job ts is_of.1.1 (none_of (twice_in [] ts (roles_of job)) (λ at e. none kind.Twice at (ts, job, is_of, e)))
+
+-- each start stands directly in a nursery
+pub starts_in_nurseries : (text : List ℕ) (job : Tree) → Spells text job → StartsInNurseries job
+starts_in_nurseries text job (ts, is_of, none) = starts_in false job.steps is_of.1.0
+
+-- its numbers are in their ranges, and it has not too many steps
+pub is_modest : (text : List ℕ) (job : Tree) → Spells text job → IsModest job
+is_modest text job (ts, is_of, none) = record {
+  numbers = modest_numbers job ts is_of.1.0 is_of.1.1 (none_of (number_fault None ts) (λ at e. none kind.Number at (ts, is_of.0, e)));
+  size = small_enough (size_of job.steps) (λ lt. none kind.TooLarge 0 (ts, job, is_of, lt, refl));
+}

@@ -1,0 +1,42 @@
+-- Tokens appended one after the other.
+use Rattle.std.proofs.Common.{◌≡◌, ℕ, ◌+◌, ◌<◌, ◌≤◌, List, [], ◌∷◌, ◌++◌, length, get_or, drop, refl, sym, ap, ◌∙◌, append_assoc}
+use Rattle.std.proofs.lemmas.List.{at_drop_more, drop_all}
+use Rattle.job_tree.specs.declared.step.Step.{Step}
+use Rattle.job_tree.specs.Tree.{stop}
+use Rattle.job_tree.specs.Blocks.{step_of, steps_of}
+use Rattle.job_tokens.specs.declared.token.Shape.{Shape}
+use Rattle.job_tokens.specs.declared.token.Shape.TheVariants as shape
+use Rattle.job_tokens.specs.declared.token.Mark.TheVariants as mark
+use Rattle.job_syntax.specs.Pieces.{Piece, shapes_in, step_pieces, steps_pieces}
+use Rattle.job_grammar.specs.Printing.{Appends}
+
+abbrev Print : Type 0
+Print = List Piece → List Piece
+
+-- a list of tokens behind those that are there
+pub pushed : (print : Print) (old new more : List Shape) → new ≡ old ++ more →
+    ((rest : List Piece) → shapes_in (print rest) ≡ more ++ shapes_in rest) → Appends print old new
+pushed print old new more is prints =
+    λ rest. ap (λ (x : List Shape). old ++ x) (prints rest) ∙ sym (append_assoc old more (shapes_in rest))
+        ∙ ap (λ (x : List Shape). x ++ shapes_in rest) (sym is)
+
+-- what was appended, and what is left to append
+abbrev pub Left : Print → List Shape → Print → List Shape → Type 0
+Left whole old left now = (rest : List Piece) → old ++ shapes_in (whole rest) ≡ now ++ shapes_in (left rest)
+
+abbrev pub left_from : List Step → ℕ → Print
+left_from steps i = steps_pieces (steps_of (drop i steps))
+
+pub one_step : (whole : Print) (old now next : List Shape) (steps : List Step) (i : ℕ) (s : Step) → i < length steps →
+    s ≡ get_or steps i s → Appends (step_pieces (step_of s)) now next
+    → Left whole old (left_from steps i) now → Left whole old (left_from steps (i + 1)) next
+one_step whole old now next steps i s lt is pushes so_far = λ rest.
+    so_far rest ∙ ap (λ (x : List Piece). now ++ shapes_in x) (at_drop_more (λ (ss : List Step). steps_pieces (steps_of ss) rest) steps i s
+        lt ∙ ap (λ (x : Step). steps_pieces (steps_of (x ∷ drop (i + 1) steps)) rest) (sym is)) ∙ pushes (left_from steps (i + 1) rest)
+
+-- the mark behind the last step
+pub closed : (whole : Print) (old now new : List Shape) (steps : List Step) (i : ℕ) → length steps ≤ i →
+    Left whole old (left_from steps i) now → new ≡ now ++ shape.Mark mark.Close ∷ [] → Appends whole old new
+closed whole old now new steps i le so_far is = λ rest.
+    so_far rest ∙ ap (λ (ss : List Step). now ++ shapes_in (steps_pieces (steps_of ss) rest)) (drop_all i steps le)
+    ∙ pushed (steps_pieces stop) now new (shape.Mark mark.Close ∷ []) is (λ others. refl) rest

@@ -1,0 +1,11 @@
+use Rattle.job_grammar.proofs.Sound_jobs.{gives_names_once, starts_in_nurseries, is_modest}
+use Rattle.job_grammar.proofs.laws.spelled_jobs_are_sound.Goals as goal
+
+pub returns-clause-names : goal.returns-clause-names
+returns-clause-names c = gives_names_once
+
+pub returns-clause-starts : goal.returns-clause-starts
+returns-clause-starts c = starts_in_nurseries
+
+pub returns-clause-modest : goal.returns-clause-modest
+returns-clause-modest c = is_modest

@@ -1,0 +1,16 @@
+use Rattle.std.proofs.Common.{arith}
+use Rattle.job_tree.specs.Blocks.{steps_of}
+use Rattle.job_syntax.specs.Pieces.{steps_pieces}
+use Rattle.job_tree.proofs.Weights.{weight_at}
+use Rattle.job_grammar.proofs.Writing_blocks.{closed}
+use Rattle.job_grammar.proofs.writing.+writing.Goals as goal
+
+pub push_steps-push_step-requires : goal.push_steps-push_step-requires
+push_steps-push_step-requires t c =
+    let weight = weight_at c.args.steps.now c.steps.step-index c.step-item.result c.steps-test.true c.step-item.is in
+    (omega (arith, weight, c.decreases), tt)
+
+pub push_steps-returns : goal.push_steps-returns
+push_steps-returns t c = closed (steps_pieces (steps_of c.args.steps.now)) c.args.shapes.now.items c.steps.shapes.items
+    c.push.new.self.items c.args.steps.now c.steps.step-index (omega (arith, c.steps-test.false)) c.steps.invariant
+    c.in_ok-push.ensures.items

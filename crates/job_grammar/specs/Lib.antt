@@ -1,0 +1,6 @@
+pub mod Kinds
+pub mod Refusals
+pub mod Drafts
+pub mod Canon
+pub mod Jobs
+pub mod Printing

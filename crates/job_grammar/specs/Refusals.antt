@@ -1,0 +1,102 @@
+-- What a job text spells, and why one is refused.
+use Rattle.std.specs.Prelude.{◌≡◌, ◌≢◌, ◌⊎◌, ℕ, ◌<◌, ◌≤◌, Bool, false, nat_lt, List, [], length, take, drop, Option, Some, None, Result, Err, codes}
+use Rattle.std.specs.List.{prefix_len}
+use Rattle.job_tree.specs.Tree.{Tree}
+use Rattle.job_tree.specs.Names.{size_of}
+use Rattle.job_tokens.specs.declared.token.Token.{Token}
+use Rattle.job_tokens.specs.Shapes.{shapes_of}
+use Rattle.job_tokens.specs.Lexing.{Lexes}
+use Rattle.job_syntax.specs.declared.role.Role.{Role}
+use Rattle.job_syntax.specs.Pieces.{shapes_in, roles_in, job_pieces, AreSteps}
+use Rattle.job_syntax.specs.Syntax.{LeavesAt, whole_job}
+use Rattle.job_syntax.specs.Ranges.{number_fault}
+use Rattle.job_syntax.specs.Depth.{depth_fault}
+use Rattle.job_checks.specs.Given.{twice_in}
+use Rattle.job_checks.specs.Cancels.{cancels_of, targets_in, stray_in}
+use Rattle.job_checks.specs.Reserved.{reserved_in}
+use Rattle.job_grammar.specs.declared.fault.JobKind.{JobKind}
+use Rattle.job_grammar.specs.declared.fault.JobKind.TheVariants as kind
+use Rattle.job_grammar.specs.declared.fault.JobFault.{JobFault}
+use Rattle.job_grammar.specs.Kinds.{number_of, no_memory}
+
+-- the greatest number of bytes of a job text
+abbrev pub most_bytes : ℕ
+most_bytes = 65536
+
+-- the greatest number of step instances of a job
+abbrev pub most_steps : ℕ
+most_steps = 100000
+
+-- `trio-job 1` and a newline
+abbrev pub first_line : List ℕ
+first_line = codes "trio-job 1\n"
+
+abbrev pub is_ascii : ℕ → Bool
+is_ascii b = nat_lt b 128
+
+-- the tokens behind the first line, up to a place from which none can be read
+abbrev pub HasTokens : List ℕ → List Token → Option ℕ → Type 0
+HasTokens text tokens fault = Lexes (length text) (drop 11 text) tokens fault
+
+-- these are the tokens of this job
+abbrev pub AreTokensOf : List Token → Tree → Type 0
+AreTokensOf tokens job = AreSteps false job.steps × (shapes_of tokens ≡ shapes_in (job_pieces job))
+
+-- the text is of the grammar: it has these tokens, and they are those of this job
+abbrev pub IsOf : List ℕ → List Token → Tree → Type 0
+IsOf text tokens job = HasTokens text tokens None × AreTokensOf tokens job
+
+-- what each token of a job is for
+abbrev pub roles_of : Tree → List Role
+roles_of job = roles_in (job_pieces job)
+
+-- the place of the first `cancel` that names nothing round it
+abbrev pub stray_of : Tree → List Token → List Role → Option ℕ
+stray_of job tokens roles = stray_in (cancels_of [] job.steps) (targets_in tokens roles)
+
+-- what the pass for a kind finds, and where
+abbrev pub Finds : JobKind → List ℕ → ℕ → Type 0
+Finds kind.TooLong text at = (most_bytes < length text) × (at ≡ most_bytes)
+Finds kind.NotAscii text at = (prefix_len is_ascii text ≡ at) × (at < length text)
+Finds kind.Version text at = (take 11 text ≢ first_line) × (at ≡ 0)
+Finds kind.Token text at = (tokens : List Token) × HasTokens text tokens (Some at)
+Finds kind.Number text at = (tokens : List Token) × HasTokens text tokens None × (number_fault None tokens ≡ Some at)
+Finds kind.Syntax text at = (tokens : List Token) × HasTokens text tokens None × LeavesAt (length text) whole_job tokens at
+Finds kind.Depth text at = (tokens : List Token) × HasTokens text tokens None × (depth_fault 0 tokens ≡ Some at)
+Finds kind.Twice text at = (tokens : List Token) × (job : Tree) × IsOf text tokens job × (twice_in [] tokens (roles_of job) ≡ Some at)
+Finds kind.NotEnclosing text at = (tokens : List Token) × (job : Tree) × IsOf text tokens job
+    × (stray_of job tokens (roles_of job) ≡ Some at)
+Finds kind.Reserved text at = (tokens : List Token) × (job : Tree) × IsOf text tokens job × (reserved_in tokens (roles_of job) ≡ Some at)
+Finds kind.TooLarge text at = (tokens : List Token) × (job : Tree) × IsOf text tokens job × (most_steps < size_of job.steps) × (at ≡ 0)
+Finds kind.NoMemory text at = ⊥
+
+-- the first so many passes find nothing
+abbrev pub Passes : List ℕ → ℕ → Type 0
+Passes text n = (k : JobKind) (at : ℕ) → number_of k ≤ n → Finds k text at → ⊥
+
+-- a refusal: a pass finds it, and no earlier pass finds anything
+abbrev pub IsRefused : List ℕ → JobKind → ℕ → Type 0
+IsRefused text k at = Finds k text at × ((other : JobKind) (place : ℕ) → number_of other < number_of k → Finds other text place → ⊥)
+
+-- a text spells a job: its tokens are those of the job, and no pass finds anything
+abbrev pub Spells : List ℕ → Tree → Type 0
+Spells text job = (tokens : List Token) × IsOf text tokens job × ((k : JobKind) (at : ℕ) → Finds k text at → ⊥)
+
+-- want of memory, or a refusal
+abbrev pub IsFair : List ℕ → JobFault → Type 0
+IsFair text fault = (fault ≡ no_memory) ⊎ IsRefused text fault.kind fault.at
+
+-- this answer, or want of memory
+abbrev pub AnswersUnlessMemory : {X : Type 0} → Result X JobFault → Result X JobFault → Type 0
+AnswersUnlessMemory result answer = (result ≡ answer) ⊎ (result ≡ Err no_memory)
+
+-- ---- what holds between two passes
+
+-- these are the tokens of the text, and the first so many passes find nothing
+pub record IsReadTo (n : ℕ) (text : List ℕ) (tokens : List Token) : Type 0 where
+  pub tokens_are : HasTokens text tokens None
+  pub passes : Passes text n
+
+-- these are the tokens of some job, and this is what each is for
+abbrev pub IsOfSomeJob : List Token → List Role → Type 0
+IsOfSomeJob tokens roles = (job : Tree) × AreTokensOf tokens job × (roles ≡ roles_of job)

@@ -1,0 +1,103 @@
+ghost use Rattle.std.specs.Prelude.{◌≡◌, IfOk, IfErr, OnOk};
+ghost use Rattle.job_grammar.specs.Refusals.{IsReadTo, IsOfSomeJob, IsFair, Spells};
+ghost use Rattle.job_grammar.specs.Drafts.{IsDraftTo};
+
+use crate::fault::{JobFault, JobKind, refuse_at};
+use crate::job::Job;
+use job_checks::{given_twice, reserved_name, size_of, stray_cancel};
+use job_syntax::{Role, job_at};
+use job_tokens::Token;
+use job_tree::{Body, Name};
+use std::alloc::{AllocError, Global};
+
+/// The most step instances of a job.
+pub const MOST_STEPS: u64 = 100_000;
+
+/// A job that the last passes have not seen yet, with its text, its tokens and what each is for.
+#[derive(Drop)]
+pub struct Draft<'t> {
+    text: &'t [u8],
+    tokens: Vec<Token>,
+    roles: Vec<Role>,
+    name: Name,
+    steps: Body,
+}
+
+impl<'t> Draft<'t> {
+    /// The job whose tokens these are.
+    pub fn new(
+        alloc: Global,
+        text: &'t [u8],
+        tokens: Vec<Token>,
+        roles: Vec<Role>,
+    ) -> Result<Draft<'t>, AllocError>
+        requires read { IsReadTo 7 text.now tokens.items }
+        requires of_some_job { IsOfSomeJob tokens.items roles.items }
+        ensures draft { IfOk result (λ draft. IsDraftTo 7 text.now draft) }
+    {
+        let Some(job) = job_at(alloc, &tokens)? else {
+            unreachable!()
+        };
+        let (name, steps) = job;
+        Ok(Draft {
+            text,
+            tokens,
+            roles,
+            name,
+            steps,
+        })
+    }
+
+    /// No name is given twice.
+    pub fn check_given(&self, alloc: Global) -> Result<(), JobFault>
+        requires { IsDraftTo 7 self.now.text.now self.now }
+        ensures ok { OnOk result (IsDraftTo 8 self.now.text.now self.now) }
+        ensures err { IfErr result (IsFair self.now.text.now) }
+    {
+        let found = given_twice(alloc, &self.tokens, &self.roles)?;
+        refuse_at(found, JobKind::Twice)
+    }
+
+    /// Each `cancel` names a scope or nursery round it.
+    pub fn check_cancels(&self) -> Result<(), JobFault>
+        requires { IsDraftTo 8 self.now.text.now self.now }
+        ensures ok { OnOk result (IsDraftTo 9 self.now.text.now self.now) }
+        ensures err { IfErr result (IsFair self.now.text.now) }
+    {
+        let found = stray_cancel(self.steps.as_slice(), &self.tokens, &self.roles);
+        refuse_at(found, JobKind::NotEnclosing)
+    }
+
+    /// No name is reserved.
+    pub fn check_reserved(&self) -> Result<(), JobFault>
+        requires { IsDraftTo 9 self.now.text.now self.now }
+        ensures ok { OnOk result (IsDraftTo 10 self.now.text.now self.now) }
+        ensures err { IfErr result (IsFair self.now.text.now) }
+    {
+        let found = reserved_name(&self.tokens, &self.roles);
+        refuse_at(found, JobKind::Reserved)
+    }
+
+    /// The job has not too many step instances.
+    pub fn check_size(&self) -> Result<(), JobFault>
+        requires { IsDraftTo 10 self.now.text.now self.now }
+        ensures ok { OnOk result (IsDraftTo 11 self.now.text.now self.now) }
+        ensures err { IfErr result (IsFair self.now.text.now) }
+    {
+        if size_of(self.steps.as_slice()) > MOST_STEPS {
+            return Err(JobFault {
+                at: 0,
+                kind: JobKind::TooLarge,
+            });
+        }
+        Ok(())
+    }
+
+    /// The job, which all passes have seen.
+    pub fn into_job(self) -> Job
+        requires { IsDraftTo 11 self.text.now self }
+        ensures { Spells self.entry.text.now result }
+    {
+        Job::new(self.name, self.steps)
+    }
+}

@@ -1,0 +1,113 @@
+ghost use Rattle.std.specs.Prelude.{◌≡◌, Some, None, IfErr, OnOk};
+ghost use Rattle.job_grammar.specs.Kinds.{number_of, name_of};
+
+use std::alloc::AllocError;
+use thiserror::Error;
+
+/// Why a job text was refused, in the order in which it is looked for.
+#[derive(Clone, Copy, Debug, PartialEq, Eq)]
+pub enum JobKind {
+    /// The text has more than 65,536 bytes. The place is 65536.
+    TooLong,
+    /// A byte is above 127. The place is that byte.
+    NotAscii,
+    /// The text does not begin with the line `trio-job 1`. The place is 0.
+    Version,
+    /// A byte begins no token, a word has more than 32 bytes, a letter or `_` stands directly behind digits, or a string has
+    /// no or too many units, a wrong unit or no end. The place is the first byte of what is no token.
+    Token,
+    /// A number has a leading zero or is out of its range: 1 to 64 behind `over`, 1 to 1,000,000 behind `pace`, and else 0 to
+    /// 1,000,000,000. The place is its first digit.
+    Number,
+    /// The tokens are no text of the grammar. The place is the first token that no text of the grammar continues with, or
+    /// the text's length where the tokens end too early.
+    Syntax,
+    /// A block stands at depth 33, the job's own block being depth 1. The place is its `{`.
+    Depth,
+    /// A job, scope, nursery or start has a name that was given before. The place is the later name.
+    Twice,
+    /// A `cancel` names no scope or nursery round it. The place is that name.
+    NotEnclosing,
+    /// A name is a keyword or `Cancelled`, or `TooSlow` anywhere but behind `except`. The place is that name.
+    Reserved,
+    /// The job has more than 100,000 step instances, the copies that `over` makes counted. The place is 0.
+    TooLarge,
+    /// A growth was refused. The place is 0.
+    NoMemory,
+}
+
+impl JobKind {
+    /// The kind's number, as refusals show it behind a `J`.
+    pub fn number(self) -> u64
+        ensures { result ≡ number_of self }
+    {
+        match self {
+            JobKind::TooLong => 1,
+            JobKind::NotAscii => 2,
+            JobKind::Version => 3,
+            JobKind::Token => 4,
+            JobKind::Number => 5,
+            JobKind::Syntax => 6,
+            JobKind::Depth => 7,
+            JobKind::Twice => 8,
+            JobKind::NotEnclosing => 9,
+            JobKind::Reserved => 10,
+            JobKind::TooLarge => 11,
+            JobKind::NoMemory => 12,
+        }
+    }
+
+    /// The kind's name.
+    pub fn name(self) -> &'static str
+        ensures { result.now ≡ name_of self }
+    {
+        match self {
+            JobKind::TooLong => "TooLong",
+            JobKind::NotAscii => "NotAscii",
+            JobKind::Version => "Version",
+            JobKind::Token => "Token",
+            JobKind::Number => "Number",
+            JobKind::Syntax => "Syntax",
+            JobKind::Depth => "Depth",
+            JobKind::Twice => "Twice",
+            JobKind::NotEnclosing => "NotEnclosing",
+            JobKind::Reserved => "Reserved",
+            JobKind::TooLarge => "TooLarge",
+            JobKind::NoMemory => "NoMemory",
+        }
+    }
+}
+
+/// A refusal of a job text.
+#[derive(Clone, Copy, Debug, PartialEq, Eq, Error)]
+#[error("refused J{number} {name} at {at}", number = .kind.number(), name = .kind.name())]
+pub struct JobFault {
+    /// The place of the fault, in bytes from the start of the text.
+    pub at: usize,
+    /// Why the text was refused.
+    pub kind: JobKind,
+}
+
+impl From<AllocError> for JobFault {
+    ghost use Rattle.job_grammar.specs.Kinds.{no_memory};
+
+    ghost from_gives = { λ _ e. e ≡ no_memory };
+
+    fn from(_e: AllocError) -> JobFault {
+        JobFault {
+            at: 0,
+            kind: JobKind::NoMemory,
+        }
+    }
+}
+
+/// Refuses for that kind, at the place that a pass found, if it found one.
+pub(crate) fn refuse_at(found: Option<usize>, kind: JobKind) -> Result<(), JobFault>
+    ensures ok { OnOk result (found ≡ None) }
+    ensures err { IfErr result (λ fault. (found ≡ Some fault.at) × (fault.kind ≡ kind)) }
+{
+    match found {
+        Some(at) => Err(JobFault { at, kind }),
+        None => Ok(()),
+    }
+}

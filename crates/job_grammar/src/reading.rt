@@ -1,0 +1,128 @@
+ghost use Rattle.std.specs.Prelude.{◌≡◌, ℕ, drop, Ok, Err, IfOk, IfErr, OnOk, MatchResult};
+ghost use Rattle.std.specs.List.{prefix_len};
+ghost use Rattle.job_tree.specs.Tree.{Tree};
+ghost use Rattle.job_grammar.specs.declared.fault.JobKind.{JobKind};
+ghost use Rattle.job_grammar.specs.Refusals.{is_ascii, IsReadTo, Passes, IsRefused, IsFair, IsOfSomeJob, Spells, AnswersUnlessMemory};
+
+use crate::draft::Draft;
+use crate::fault::{JobFault, JobKind, refuse_at};
+use crate::job::Job;
+use job_syntax::{Course, Role, depth_fault, follow, number_fault};
+use job_tokens::{Lexed, Token, lex};
+use std::alloc::Global;
+
+/// The most bytes of a job text.
+pub const MOST_BYTES: usize = 65_536;
+
+/// The line with which each job text begins.
+pub const FIRST_LINE: [u8; 11] = *b"trio-job 1\n";
+
+/// The job that a text spells, or why the text is refused.
+pub fn read_job(alloc: Global, text: &[u8]) -> Result<Job, JobFault>
+    // What is found is spelled so.
+    ensures found { IfOk result (λ job. Spells text.now job) }
+    // What is refused has that fault at that place, and no fault of an earlier kind.
+    ensures refused { IfErr result (IsFair text.now) }
+    // What is spelled so is found, unless a growth is refused.
+    ensures only { (job : Tree) → Spells text.now job → AnswersUnlessMemory result (Ok job) }
+    // Where a refusal's condition holds it is that refusal, unless a growth is refused.
+    ensures exact { (kind : JobKind) (at : ℕ) → IsRefused text.now kind at
+        → AnswersUnlessMemory result (Err (record { at = at; kind = kind })) }
+{
+    read(alloc, text)
+}
+
+// The passes, one after the other. No tree is built before the depth of the blocks is known.
+fn read(alloc: Global, text: &[u8]) -> Result<Job, JobFault>
+    ensures { MatchResult result (Spells text.now) (IsFair text.now) }
+{
+    let body = check_bytes(text)?;
+    let tokens = tokens_of(alloc, text, body)?;
+    check_numbers(text, &tokens)?;
+    let roles = roles_of(alloc, text, &tokens)?;
+    check_depth(text, &tokens)?;
+    let draft = Draft::new(alloc, text, tokens, roles)?;
+    draft.check_given(alloc)?;
+    draft.check_cancels()?;
+    draft.check_reserved()?;
+    draft.check_size()?;
+    Ok(draft.into_job())
+}
+
+// The bytes behind the first line.
+fn check_bytes(text: &[u8]) -> Result<&[u8], JobFault>
+    ensures ok { IfOk result (λ body. (body.now ≡ drop 11 text.now) × Passes text.now 3) }
+    ensures err { IfErr result (IsFair text.now) }
+{
+    if text.len() > MOST_BYTES {
+        return Err(JobFault {
+            at: MOST_BYTES,
+            kind: JobKind::TooLong,
+        });
+    }
+    let ascii = count_ascii(text);
+    if ascii < text.len() {
+        return Err(JobFault {
+            at: ascii,
+            kind: JobKind::NotAscii,
+        });
+    }
+    let Some(body) = text.strip_prefix(&FIRST_LINE) else {
+        return Err(JobFault {
+            at: 0,
+            kind: JobKind::Version,
+        });
+    };
+    Ok(body)
+}
+
+// How many bytes stand before the first that is above 127.
+fn count_ascii(text: &[u8]) -> usize
+    ensures { result ≡ prefix_len is_ascii text.now }
+{
+    for (n, b) in text.iter().enumerate() {
+        if *b >= 128 {
+            return n;
+        }
+    }
+    text.len()
+}
+
+// The tokens of the text, whose first line is behind us.
+fn tokens_of(alloc: Global, text: &[u8], body: &[u8]) -> Result<Vec<Token>, JobFault>
+    requires behind { body.now ≡ drop 11 text.now }
+    requires earlier { Passes text.now 3 }
+    ensures ok { IfOk result (λ tokens. IsReadTo 4 text.now tokens.items) }
+    ensures err { IfErr result (IsFair text.now) }
+{
+    let Lexed { tokens, fault } = lex(alloc, body, text.len())?;
+    refuse_at(fault, JobKind::Token)?;
+    Ok(tokens)
+}
+
+fn check_numbers(text: &[u8], tokens: &[Token]) -> Result<(), JobFault>
+    requires { IsReadTo 4 text.now tokens.now }
+    ensures ok { OnOk result (IsReadTo 5 text.now tokens.now) }
+    ensures err { IfErr result (IsFair text.now) }
+{
+    refuse_at(number_fault(tokens), JobKind::Number)
+}
+
+// What each token is for, where the tokens are those of a job.
+fn roles_of(alloc: Global, text: &[u8], tokens: &[Token]) -> Result<Vec<Role>, JobFault>
+    requires { IsReadTo 5 text.now tokens.now }
+    ensures ok { IfOk result (λ roles. IsReadTo 6 text.now tokens.now × IsOfSomeJob tokens.now roles.items) }
+    ensures err { IfErr result (IsFair text.now) }
+{
+    let Course { fault, roles } = follow(alloc, tokens, text.len())?;
+    refuse_at(fault, JobKind::Syntax)?;
+    Ok(roles)
+}
+
+fn check_depth(text: &[u8], tokens: &[Token]) -> Result<(), JobFault>
+    requires { IsReadTo 6 text.now tokens.now }
+    ensures ok { OnOk result (IsReadTo 7 text.now tokens.now) }
+    ensures err { IfErr result (IsFair text.now) }
+{
+    refuse_at(depth_fault(tokens), JobKind::Depth)
+}

@@ -1,0 +1,240 @@
+use super::*;
+use std::alloc::{AllocError, Global};
+use std::test::*;
+
+// The number of a refusal and its place, and two zeros for a job. Want of memory is an error.
+fn answer(alloc: Global, text: &[u8]) -> Result<(u64, usize), JobFault> {
+    match read_job(alloc, text) {
+        Ok(_) => Ok((0, 0)),
+        Err(fault) if matches!(fault.kind, JobKind::NoMemory) => Err(fault),
+        Err(fault) => Ok((fault.kind.number(), fault.at)),
+    }
+}
+
+#[test]
+fn refusals(rt: HostRuntime) -> Result<(), Fail> {
+    let rows = [
+        (b"".as_slice(), 3, 0),
+        (b"trio-job 3\njob main { }".as_slice(), 3, 0),
+        (b"trio-job 1\njob main \xff".as_slice(), 2, 20),
+        (b"trio-job 1\njob main { find \"a }".as_slice(), 4, 27),
+        (b"trio-job 1\njob main { find \"\"; }".as_slice(), 4, 27),
+        (
+            b"trio-job 1\njob main { find \"\\x4G\"; }".as_slice(),
+            4,
+            27,
+        ),
+        (b"trio-job 1\njob main { sleep 5a; }".as_slice(), 4, 28),
+        (
+            b"trio-job 1\njob aaaaaaaaaaaaaaaaaaaaaaaaaaaaaaaaa { }".as_slice(),
+            4,
+            15,
+        ),
+        (
+            b"trio-job 1\njob main { nursery n { start p over 65 { } } }".as_slice(),
+            5,
+            47,
+        ),
+        (
+            b"trio-job 1\njob main { nursery n { start p over 064 { } } }".as_slice(),
+            5,
+            47,
+        ),
+        (b"trio-job 1\njob main { pace 0; }".as_slice(), 5, 27),
+        (
+            b"trio-job 1\njob main { sleep 1000000001; }".as_slice(),
+            5,
+            28,
+        ),
+        (b"trio-job 1\njob main { start a { } }".as_slice(), 6, 22),
+        (b"trio-job 1\njob main { repeat 2 { } }".as_slice(), 6, 22),
+        (b"trio-job 1\njob main { sleep".as_slice(), 6, 27),
+        (b"trio-job 1\njob main { } }".as_slice(), 6, 24),
+    ];
+    for (text, number, at) in rows {
+        assert_eq!(rt; answer(rt.alloc(), text)?, (number, at));
+    }
+    Ok(())
+}
+
+#[test]
+fn refusals_of_names(rt: HostRuntime) -> Result<(), Fail> {
+    let rows = [
+        (
+            b"trio-job 1\njob main { scope s { } scope s { } }".as_slice(),
+            8,
+            40,
+        ),
+        (
+            b"trio-job 1\njob main { nursery n { start main { } } }".as_slice(),
+            8,
+            40,
+        ),
+        (
+            b"trio-job 1\njob main { raise job; scope main { } }".as_slice(),
+            8,
+            39,
+        ),
+        (b"trio-job 1\njob main { cancel x; }".as_slice(), 9, 29),
+        (b"trio-job 1\njob main { cancel main; }".as_slice(), 9, 29),
+        (
+            b"trio-job 1\njob main { scope s { } cancel s; }".as_slice(),
+            9,
+            41,
+        ),
+        (
+            b"trio-job 1\njob main { raise Cancelled; }".as_slice(),
+            10,
+            28,
+        ),
+        (
+            b"trio-job 1\njob main { raise TooSlow; }".as_slice(),
+            10,
+            28,
+        ),
+        (b"trio-job 1\njob over { raise raise; }".as_slice(), 10, 15),
+        (
+            b"trio-job 1\njob main { try { } except Cancelled { } }".as_slice(),
+            10,
+            37,
+        ),
+    ];
+    for (text, number, at) in rows {
+        assert_eq!(rt; answer(rt.alloc(), text)?, (number, at));
+    }
+    Ok(())
+}
+
+#[test]
+fn too_large(rt: HostRuntime) -> Result<(), Fail> {
+    let text =
+        b"trio-job 1\njob main { nursery n { start a over 64 { nursery m { start b over 64 { nursery q { start c over 64 { } } } } } } }".as_slice();
+    assert_eq!(rt; answer(rt.alloc(), text)?, (11, 0));
+    Ok(())
+}
+
+#[test]
+fn accepted(rt: HostRuntime) -> Result<(), Fail> {
+    let rows = [
+        b"trio-job 1\njob main{sleep 5;find\"\\x00\\\\\";raise A;}".as_slice(),
+        b"trio-job 1\njob main { scope a { raise a; } }".as_slice(),
+        b"trio-job 1\njob main { try { } except TooSlow { } }".as_slice(),
+        b"trio-job 1\njob main { scope s { nursery n { start a { cancel s; cancel n; } } } }".as_slice(),
+    ];
+    for text in rows {
+        assert_eq!(rt; answer(rt.alloc(), text)?, (0, 0));
+    }
+    Ok(())
+}
+
+// A job of so many blocks in one another, each with these bytes in front and behind.
+fn nested(alloc: Global, depth: usize, front: &[u8], behind: &[u8]) -> Result<Vec<u8>, AllocError> {
+    let mut text = Vec::from_slice(alloc, b"trio-job 1\njob main {")?;
+    for _ in 0..depth {
+        text.extend_from_slice(front)?;
+    }
+    for _ in 0..depth {
+        text.extend_from_slice(behind)?;
+    }
+    text.extend_from_slice(b" }")?;
+    Ok(text)
+}
+
+#[test]
+fn depth(rt: HostRuntime) -> Result<(), Fail> {
+    let rows = [(31, 0, 0), (32, 7, 212), (3_000, 7, 212)];
+    for (depth, number, at) in rows {
+        let text = nested(rt.alloc(), depth, b" try {", b" } finally { }")?;
+        assert_eq!(rt; answer(rt.alloc(), &text)?, (number, at));
+    }
+    let mut scopes = Vec::from_slice(rt.alloc(), b"trio-job 1\njob main {")?;
+    for i in 1..33u64 {
+        let scope = format!(in rt.alloc(); " scope s{}{} {{", i / 10, i % 10)?;
+        scopes.extend_from_slice(scope.as_bytes())?;
+    }
+    for _ in 0..33u64 {
+        scopes.extend_from_slice(b" }")?;
+    }
+    assert_eq!(rt; answer(rt.alloc(), &scopes)?, (7, 404));
+    Ok(())
+}
+
+#[test]
+fn too_long(rt: HostRuntime) -> Result<(), Fail> {
+    let text = vec![in rt.alloc(); b' '; 65_537]?;
+    assert_eq!(rt; answer(rt.alloc(), &text)?, (1, 65_536));
+    assert_eq!(rt; answer(rt.alloc(), &text[..65_536])?, (3, 0));
+    Ok(())
+}
+
+#[test]
+fn prefixes(rt: HostRuntime) -> Result<(), Fail> {
+    let whole = b"trio-job 1\njob main{find\"er\";}".as_slice();
+    for len in 0..31 {
+        let wanted = match len {
+            0..11 => (3, 0),
+            11..14 => (6, 11),
+            14..21 => (6, len),
+            21..24 => (6, 20),
+            24 => (6, 24),
+            25..28 => (4, 24),
+            28..30 => (6, len),
+            _ => (0, 0),
+        };
+        assert_eq!(rt; answer(rt.alloc(), &whole[..len])?, wanted);
+    }
+    Ok(())
+}
+
+#[test]
+fn canonical_texts(rt: HostRuntime) -> Result<(), Fail> {
+    let rows = [
+        (
+            b"trio-job 1\njob main { find \"er\"; }".as_slice(),
+            b"trio-job 1\njob main{find\"er\";}".as_slice(),
+        ),
+        (
+            b"trio-job 1\n\tjob  m{sleep 0 ;raise B_2; find \"\\\"\\\\\\x41\\x0a\";}\r\n".as_slice(),
+            b"trio-job 1\njob m{sleep 0;raise B_2;find\"\\\"\\\\A\\x0a\";}".as_slice(),
+        ),
+        (
+            b"trio-job 1\njob m { scope s after 5 shield fail { checkpoint; } scope t at 7 { cancel t; head 2; longest; } }".as_slice(),
+            b"trio-job 1\njob m{scope s after 5 shield fail{checkpoint;}scope t at 7{cancel t;head 2;longest;}}".as_slice(),
+        ),
+        (
+            b"trio-job 1\njob m { nursery n { start p over 3 { pace 2; } start q { need \"x\" Gone; } } }".as_slice(),
+            b"trio-job 1\njob m{nursery n{start p over 3{pace 2;}start q{need\"x\"Gone;}}}".as_slice(),
+        ),
+        (
+            b"trio-job 1\njob m { try { raise A; } except A { forever; } finally { } try { } finally { } }".as_slice(),
+            b"trio-job 1\njob m{try{raise A;}except A{forever;}finally{}try{}finally{}}".as_slice(),
+        ),
+    ];
+    for (text, wanted) in rows {
+        let job = read_job(rt.alloc(), text)?;
+        let written = write_job(rt.alloc(), &job)?;
+        assert_eq!(rt; written.as_slice(), wanted);
+    }
+    Ok(())
+}
+
+#[test]
+fn parts_of_a_job(rt: HostRuntime) -> Result<(), Fail> {
+    let text = b"trio-job 1\njob main { sleep 1; nursery n { start p over 3 { sleep 1; } } }";
+    let job = read_job(rt.alloc(), text)?;
+    assert_eq!(rt; job.name().bytes(), b"main".as_slice());
+    assert_eq!(rt; job.steps().len(), 2);
+    assert_eq!(rt; job.size(), 8);
+    Ok(())
+}
+
+#[test]
+fn line_of_a_refusal(rt: HostRuntime) -> Result<(), Fail> {
+    let fault = JobFault {
+        at: 27,
+        kind: JobKind::Syntax,
+    };
+    let line = fault.to_string(rt.alloc())?;
+    assert_eq!(rt; line.as_str(), "refused J6 Syntax at 27");
+    Ok(())
+}
