@@ -35,7 +35,8 @@ all_in_range format before (t ∷ ts) none = by_test (all_in_range format (keywo
     by_test others true is none' = (is, others none')
     by_test others false is none' = absurd cc
 
-no_fault : (format : Format) (before : Option Keyword) (tokens : List Token) → AllInRange format before (shapes_of tokens) → number_fault format before tokens ≡ None
+-- where all numbers are in their ranges no fault is found
+pub no_fault : (format : Format) (before : Option Keyword) (tokens : List Token) → AllInRange format before (shapes_of tokens) → number_fault format before tokens ≡ None
 no_fault format before [] all = refl
 no_fault format before (t ∷ ts) all = rw all.0 (no_fault format (keyword_in t.shape) ts all.1)
 
