@@ -140,8 +140,12 @@ mutual
       let shielded = flag_pieces word.Shield s flagged in
       let passed = past_deadline d shielded ∙ past_flag word.Shield s flagged ∙ past_flag word.Fail f block in
       behind_name n (passed ∙ steps_give body rest)
-  step_gives (nursery n d s body) rest = behind_name n (steps_give body rest)
+  step_gives (nursery n d s body) rest =
+      let block = opens ∷ steps_pieces body rest in
+      let passed = past_deadline d (flag_pieces word.Shield s block) ∙ past_flag word.Shield s block in
+      behind_name n (passed ∙ steps_give body rest)
   step_gives (start n o body) rest = behind_name n (past_over o (opens ∷ steps_pieces body rest) ∙ steps_give body rest)
+  step_gives (repeat n body) rest = steps_give body rest
   step_gives (attempt body h c) rest =
       let cleaned = cleanup_pieces c rest in
       let inner = steps_give body (handler_pieces h cleaned) in

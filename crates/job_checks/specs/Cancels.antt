@@ -31,6 +31,7 @@ abbrev mutual
   cancels_in round (scope name deadline shield fail body) = cancels_of (name ∷ round) body
   cancels_in round (nursery name deadline shield body) = cancels_of (name ∷ round) body
   cancels_in round (start name over body) = cancels_of round body
+  cancels_in round (repeat count body) = cancels_of round body
   cancels_in round (attempt body handler cleanup) =
       cancels_of round body ++ (handled_cancels round handler ++ cleaned_cancels round cleanup)
 

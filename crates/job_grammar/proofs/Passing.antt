@@ -3,7 +3,10 @@ use Rattle.std.proofs.Common.{◌≡◌, ℕ, ◌+◌, ◌<◌, ◌≤◌, List,
 use Rattle.std.specs.Prelude.{Result, Ok, Err, MatchResult, ◌==◌, if◌then◌else◌}
 use Rattle.std.specs.List.{prefix_len}
 use Rattle.std.proofs.lemmas.Bool.{cases_lt}
+use Rattle.job_tree.specs.declared.format.Format.{Format}
+use Rattle.job_tree.specs.declared.format.Format.TheVariants.{One, Two}
 use Rattle.job_tree.specs.Tree.{Tree}
+use Rattle.job_tree.specs.Modest.{most_steps}
 use Rattle.job_tokens.specs.declared.token.Token.{Token}
 use Rattle.job_tokens.specs.Shapes.{shapes_of}
 use Rattle.job_tokens.proofs.Course.{Lexes-unique}
@@ -24,7 +27,7 @@ use Rattle.job_grammar.specs.declared.fault.JobKind.{JobKind}
 use Rattle.job_grammar.specs.declared.fault.JobKind.TheVariants as kind
 use Rattle.job_grammar.specs.declared.fault.JobFault.{JobFault}
 use Rattle.job_grammar.specs.Kinds.{number_of}
-use Rattle.job_grammar.specs.Refusals.{most_bytes, most_steps, first_line, is_ascii, HasTokens, IsOf, roles_of, stray_of, Finds, Passes, IsRefused, IsFair, AnswersUnlessMemory, Spells}
+use Rattle.job_grammar.specs.Refusals.{most_bytes, first_line, format_of, IsHeadless, is_ascii, HasTokens, IsOf, roles_of, stray_of, Finds, Passes, IsRefused, IsFair, AnswersUnlessMemory, Spells}
 
 next_pass : (text : List ℕ) (n : ℕ) → Passes text n → ((k : JobKind) (at : ℕ) → number_of k ≡ n + 1 → Finds k text at → ⊥) →
     Passes text (n + 1)
@@ -49,9 +52,19 @@ here_ascii : (text : List ℕ) → length text ≤ prefix_len is_ascii text → 
 here_ascii text all kind.NotAscii at e finds = omega (arith, finds.0, finds.1)
 here_ascii text all _ at e finds = absurd (omega arith)
 
-here_version : (text : List ℕ) → take 11 text ≡ first_line → (k : JobKind) (at : ℕ) → number_of k ≡ 3 → Finds k text at → ⊥
-here_version text is kind.Version at e finds = finds.0 is
-here_version text is _ at e finds = absurd (omega arith)
+-- a text that begins with the first line of a format is of that format
+pub format_is : (text : List ℕ) (format : Format) → take 11 text ≡ first_line format → format ≡ format_of text
+format_is text One e = rw e refl
+format_is text Two e = rw e refl
+
+not_headless : (text : List ℕ) (format : Format) → take 11 text ≡ first_line format → IsHeadless text → ⊥
+not_headless text One is none = none.0 is
+not_headless text Two is none = none.1 is
+
+here_version : (text : List ℕ) (format : Format) → take 11 text ≡ first_line format → (k : JobKind) (at : ℕ) → number_of k ≡ 3 →
+    Finds k text at → ⊥
+here_version text format is kind.Version at e finds = not_headless text format is finds.0
+here_version text format is _ at e finds = absurd (omega arith)
 
 pub passes_one : (text : List ℕ) → length text ≤ most_bytes → Passes text 1
 passes_one text short = next_pass text 0 (no_pass text) (here_long text short)
@@ -59,8 +72,8 @@ passes_one text short = next_pass text 0 (no_pass text) (here_long text short)
 pub passes_two : (text : List ℕ) → Passes text 1 → length text ≤ prefix_len is_ascii text → Passes text 2
 passes_two text before all = next_pass text 1 before (here_ascii text all)
 
-pub passes_three : (text : List ℕ) → Passes text 2 → take 11 text ≡ first_line → Passes text 3
-passes_three text before is = next_pass text 2 before (here_version text is)
+pub passes_three : (text : List ℕ) (format : Format) → Passes text 2 → take 11 text ≡ first_line format → Passes text 3
+passes_three text format before is = next_pass text 2 before (here_version text format is)
 
 -- ---- the tokens
 
@@ -84,18 +97,18 @@ here_token : (text : List ℕ) (tokens : List Token) → HasTokens text tokens N
 here_token text tokens lexed kind.Token at e finds = none_is_some None at refl (same_end text tokens finds.0 None (Some at) lexed finds.1)
 here_token text tokens lexed _ at e finds = absurd (omega arith)
 
-here_number : (text : List ℕ) (tokens : List Token) → HasTokens text tokens None → number_fault None tokens ≡ None →
+here_number : (text : List ℕ) (tokens : List Token) → HasTokens text tokens None → number_fault (format_of text) None tokens ≡ None →
     (k : JobKind) (at : ℕ) → number_of k ≡ 5 → Finds k text at → ⊥
 here_number text tokens lexed none kind.Number at e finds =
-    none_is_some (number_fault None finds.0) at (subst (λ (ts : List Token). number_fault None ts ≡ None)
-        (same_tokens text tokens finds.0 None None lexed finds.1) none) finds.2
+    none_is_some (number_fault (format_of text) None finds.0) at (subst (λ (ts : List Token). number_fault (format_of text) None ts ≡ None)
+    (same_tokens text tokens finds.0 None None lexed finds.1) none) finds.2
 here_number text tokens lexed none _ at e finds = absurd (omega arith)
 
-here_syntax : (text : List ℕ) (tokens : List Token) → HasTokens text tokens None → fault_at (length text) whole_job tokens ≡ None →
+here_syntax : (text : List ℕ) (tokens : List Token) → HasTokens text tokens None → fault_at (format_of text) (length text) whole_job tokens ≡ None →
     (k : JobKind) (at : ℕ) → number_of k ≡ 6 → Finds k text at → ⊥
 here_syntax text tokens lexed none kind.Syntax at e finds =
-    none_is_some (fault_at (length text) whole_job finds.0) at (subst (λ (ts : List Token). fault_at (length text) whole_job ts ≡ None)
-        (same_tokens text tokens finds.0 None None lexed finds.1) none) (fault_at-leaves (length text) whole_job finds.0 at finds.2)
+    none_is_some (fault_at (format_of text) (length text) whole_job finds.0) at (subst (λ (ts : List Token). fault_at (format_of text) (length text) whole_job ts ≡ None)
+    (same_tokens text tokens finds.0 None None lexed finds.1) none) (fault_at-leaves (format_of text) (length text) whole_job finds.0 at finds.2)
 here_syntax text tokens lexed none _ at e finds = absurd (omega arith)
 
 -- ---- the job
@@ -104,16 +117,17 @@ pub none_of : (o : Option ℕ) → ((x : ℕ) → o ≡ Some x → ⊥) → o �
 none_of None never = refl
 none_of (Some x) never = absurd (never x refl)
 
-pub small_enough : (n : ℕ) → (most_steps < n → ⊥) → n ≤ most_steps
-small_enough n never = elim (cases_lt most_steps n) [ inl lt ↦ absurd (never lt) | inr le ↦ le ]
+pub small_enough : (most n : ℕ) → (most < n → ⊥) → n ≤ most
+small_enough most n never = elim (cases_lt most n) [ inl lt ↦ absurd (never lt) | inr le ↦ le ]
 
 some_tree : (a b : Tree) → Some a ≡ Some b → a ≡ b
 some_tree a b e = cc
 
 -- what tokens are for, whatever job they are of
 same_roles : (text : List ℕ) (ts us : List Token) (a b : Tree) → IsOf text ts a → IsOf text us b → roles_of a ≡ roles_of b
-same_roles text ts us a b (p, (are_a, same_a)) (q, (are_b, same_b)) =
-    sym (roles_of_job a ts are_a same_a) ∙ ap (roles_at whole_job) (same_tokens text ts us None None p q) ∙ roles_of_job b us are_b same_b
+same_roles text ts us a b (p, (are_a, same_a), of_a) (q, (are_b, same_b), of_b) =
+    sym (roles_of_job a ts are_a same_a) ∙ ap (roles_at a.format whole_job) (same_tokens text ts us None None p q)
+    ∙ ap (λ (format : Format). roles_at format whole_job us) (of_a ∙ sym of_b) ∙ roles_of_job b us are_b same_b
 
 -- what a pass along tokens and what they are for finds
 same_found : (text : List ℕ) (ts us : List Token) (a b : Tree) (pass : List Token → List Role → Option ℕ) → IsOf text ts a →
@@ -126,13 +140,16 @@ abbrev pub IsShallow : List ℕ → Type 0
 IsShallow text = (at : ℕ) → Finds kind.Depth text at → ⊥
 
 pub within : (text : List ℕ) (ts : List Token) (job : Tree) → IsOf text ts job → IsShallow text → AreWithin 31 job.steps
-within text ts job (lexed, (are, same)) never = within_depth job ts same (none_of (depth_fault 0 ts) (λ at e. never at (ts, lexed, e)))
+within text ts job (lexed, (are, same), of) never = within_depth job ts same (none_of (depth_fault 0 ts) (λ at e. never at (ts, lexed, e)))
 
 pub same_job : (text : List ℕ) (ts us : List Token) (a b : Tree) → IsOf text ts a → IsOf text us b → IsShallow text → a ≡ b
 same_job text ts us a b p q never =
     let shapes : shapes_in (job_pieces a) ≡ shapes_in (job_pieces b) =
-        sym p.1.1 ∙ ap shapes_of (same_tokens text ts us None None p.0 q.0) ∙ q.1.1 in
-    some_tree a b (sym (job_again a p.1.0 (within text ts a p never)) ∙ ap job_at shapes ∙ job_again b q.1.0 (within text us b q never))
+    sym p.1.1 ∙ ap shapes_of (same_tokens text ts us None None p.0 q.0) ∙ q.1.1 in
+    some_tree a b
+    (sym (job_again a p.1.0 (within text ts a p never)) ∙ ap (job_at a.format) shapes
+    ∙ ap (λ (format : Format). job_at format (shapes_in (job_pieces b))) (p.2 ∙ sym q.2)
+    ∙ job_again b q.1.0 (within text us b q never))
 
 same_stray : (text : List ℕ) (ts us : List Token) (a b : Tree) → IsOf text ts a → IsOf text us b → IsShallow text →
     stray_of a ts (roles_of a) ≡ stray_of b us (roles_of b)
@@ -143,14 +160,14 @@ here_depth : (text : List ℕ) (tokens : List Token) → HasTokens text tokens N
     number_of k ≡ 7 → Finds k text at → ⊥
 here_depth text tokens lexed none kind.Depth at e finds =
     none_is_some (depth_fault 0 finds.0) at (subst (λ (ts : List Token). depth_fault 0 ts ≡ None)
-        (same_tokens text tokens finds.0 None None lexed finds.1) none) finds.2
+    (same_tokens text tokens finds.0 None None lexed finds.1) none) finds.2
 here_depth text tokens lexed none _ at e finds = absurd (omega arith)
 
 here_twice : (text : List ℕ) (tokens : List Token) (job : Tree) → IsOf text tokens job → twice_in [] tokens (roles_of job) ≡ None →
     (k : JobKind) (at : ℕ) → number_of k ≡ 8 → Finds k text at → ⊥
 here_twice text tokens job is_of none kind.Twice at e finds =
     none_is_some (twice_in [] tokens (roles_of job)) at none (same_found text tokens finds.0 job finds.1 (twice_in []) is_of finds.2
-        ∙ finds.3)
+    ∙ finds.3)
 here_twice text tokens job is_of none _ at e finds = absurd (omega arith)
 
 here_enclosing : (text : List ℕ) (tokens : List Token) (job : Tree) → IsOf text tokens job → IsShallow text →
@@ -163,27 +180,29 @@ here_reserved : (text : List ℕ) (tokens : List Token) (job : Tree) → IsOf te
     (k : JobKind) (at : ℕ) → number_of k ≡ 10 → Finds k text at → ⊥
 here_reserved text tokens job is_of none kind.Reserved at e finds =
     none_is_some (reserved_in tokens (roles_of job)) at none (same_found text tokens finds.0 job finds.1 reserved_in is_of finds.2
-        ∙ finds.3)
+    ∙ finds.3)
 here_reserved text tokens job is_of none _ at e finds = absurd (omega arith)
 
-here_large : (text : List ℕ) (tokens : List Token) (job : Tree) → IsOf text tokens job → IsShallow text → size_of job.steps ≤ most_steps →
-    (k : JobKind) (at : ℕ) → number_of k ≡ 11 → Finds k text at → ⊥
+here_large : (text : List ℕ) (tokens : List Token) (job : Tree) → IsOf text tokens job → IsShallow text →
+    size_of job.steps ≤ most_steps job.format → (k : JobKind) (at : ℕ) → number_of k ≡ 11 → Finds k text at → ⊥
 here_large text tokens job is_of never small kind.TooLarge at e finds =
     let same : size_of job.steps ≡ size_of finds.1.steps =
-        ap (λ (j : Tree). size_of j.steps) (same_job text tokens finds.0 job finds.1 is_of finds.2 never) in
-    let large : most_steps < size_of finds.1.steps = finds.3 in
-    omega (arith, same, large, small)
+    ap (λ (j : Tree). size_of j.steps) (same_job text tokens finds.0 job finds.1 is_of finds.2 never) in
+    let most : most_steps job.format ≡ most_steps finds.1.format =
+    ap (λ (j : Tree). most_steps j.format) (same_job text tokens finds.0 job finds.1 is_of finds.2 never) in
+    let large : most_steps finds.1.format < size_of finds.1.steps = finds.3 in
+    omega (arith, same, most, large, small)
 here_large text tokens job is_of never small _ at e finds = absurd (omega arith)
 
 pub passes_tokens : (text : List ℕ) (tokens : List Token) → Passes text 3 → HasTokens text tokens None → Passes text 4
 passes_tokens text tokens before lexed = next_pass text 3 before (here_token text tokens lexed)
 
-pub passes_numbers : (text : List ℕ) (tokens : List Token) → Passes text 4 → HasTokens text tokens None → number_fault None tokens ≡ None →
+pub passes_numbers : (text : List ℕ) (tokens : List Token) → Passes text 4 → HasTokens text tokens None → number_fault (format_of text) None tokens ≡ None →
     Passes text 5
 passes_numbers text tokens before lexed none = next_pass text 4 before (here_number text tokens lexed none)
 
 pub passes_syntax : (text : List ℕ) (tokens : List Token) → Passes text 5 → HasTokens text tokens None →
-    fault_at (length text) whole_job tokens ≡ None → Passes text 6
+    fault_at (format_of text) (length text) whole_job tokens ≡ None → Passes text 6
 passes_syntax text tokens before lexed none = next_pass text 5 before (here_syntax text tokens lexed none)
 
 pub passes_depth : (text : List ℕ) (tokens : List Token) → Passes text 6 → HasTokens text tokens None → depth_fault 0 tokens ≡ None →
@@ -204,7 +223,7 @@ pub passes_reserved : (text : List ℕ) (tokens : List Token) (job : Tree) → P
 passes_reserved text tokens job before is_of none = next_pass text 9 before (here_reserved text tokens job is_of none)
 
 pub passes_size : (text : List ℕ) (tokens : List Token) (job : Tree) → Passes text 10 → IsOf text tokens job →
-    size_of job.steps ≤ most_steps → Passes text 11
+    size_of job.steps ≤ most_steps job.format → Passes text 11
 passes_size text tokens job before is_of small =
     next_pass text 10 before (here_large text tokens job is_of (λ at. before kind.Depth at (omega arith)) small)
 
@@ -226,12 +245,12 @@ one_place text kind.NotAscii a b below p q = sym p.0 ∙ q.0
 one_place text kind.Version a b below p q = p.1 ∙ sym q.1
 one_place text kind.Token a b below (ts, p) (us, q) = some_same a b (same_end text ts us (Some a) (Some b) p q)
 one_place text kind.Number a b below (ts, p, at_a) (us, q, at_b) =
-    some_is (number_fault None us) a b (subst (λ (xs : List Token). number_fault None xs ≡ Some a) (same_tokens text ts us None None p q)
-        at_a) at_b
+    some_is (number_fault (format_of text) None us) a b (subst (λ (xs : List Token). number_fault (format_of text) None xs ≡ Some a) (same_tokens text ts us None None p q)
+    at_a) at_b
 one_place text kind.Syntax a b below (ts, p, at_a) (us, q, at_b) =
-    some_is (fault_at (length text) whole_job us) a b (subst (λ (xs : List Token). fault_at (length text) whole_job xs ≡ Some a)
-        (same_tokens text ts us None None p q) (fault_at-leaves (length text) whole_job ts a at_a))
-        (fault_at-leaves (length text) whole_job us b at_b)
+    some_is (fault_at (format_of text) (length text) whole_job us) a b (subst (λ (xs : List Token). fault_at (format_of text) (length text) whole_job xs ≡ Some a)
+    (same_tokens text ts us None None p q) (fault_at-leaves (format_of text) (length text) whole_job ts a at_a))
+    (fault_at-leaves (format_of text) (length text) whole_job us b at_b)
 one_place text kind.Depth a b below (ts, p, at_a) (us, q, at_b) =
     some_is (depth_fault 0 us) a b (subst (λ (xs : List Token). depth_fault 0 xs ≡ Some a) (same_tokens text ts us None None p q) at_a) at_b
 one_place text kind.Twice a b below (ts, j, p, at_a) (us, k, q, at_b) =
@@ -246,10 +265,10 @@ one_place text kind.NoMemory a b below p q = absurd p
 abbrev kind_at : ℕ → JobKind
 kind_at n =
     if n == 1 then kind.TooLong else (if n == 2 then kind.NotAscii else
-        (if n == 3 then kind.Version else (if n == 4 then kind.Token else (if n == 5 then kind.Number else (if n == 6 then kind.Syntax
+    (if n == 3 then kind.Version else (if n == 4 then kind.Token else (if n == 5 then kind.Number else (if n == 6 then kind.Syntax
     else (if n == 7 then kind.Depth else (if n == 8 then kind.Twice else
-        (if n == 9 then kind.NotEnclosing else (if n == 10 then kind.Reserved else
-        (if n == 11 then kind.TooLarge else kind.NoMemory))))))))))
+    (if n == 9 then kind.NotEnclosing else (if n == 10 then kind.Reserved else
+    (if n == 11 then kind.TooLarge else kind.NoMemory))))))))))
 
 kind_at-number_of : (k : JobKind) → kind_at (number_of k) ≡ k
 kind_at-number_of kind.TooLong = refl

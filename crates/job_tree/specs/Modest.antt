@@ -50,6 +50,11 @@ abbrev mutual
   IsModestCleanup uncleaned = Unit {0}
   IsModestCleanup (finally body) = AreModest body
 
+-- the number in the first line of a text of a format
+abbrev pub number_of : Format → ℕ
+number_of One = 1
+number_of Two = 2
+
 -- how many step instances a job of a format may have
 abbrev pub most_steps : Format → ℕ
 most_steps One = MOST_STEPS_OF_FORMAT_1

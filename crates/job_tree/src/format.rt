@@ -1,5 +1,5 @@
 ghost use Rattle.std.specs.Prelude.{◌≡◌};
-ghost use Rattle.job_tree.specs.Modest.{most_steps};
+ghost use Rattle.job_tree.specs.Modest.{most_steps, number_of};
 
 use crate::limits::{MOST_STEPS, MOST_STEPS_OF_FORMAT_1};
 
@@ -13,6 +13,16 @@ pub enum Format {
 }
 
 impl Format {
+    /// The number in the first line.
+    pub fn number(self) -> u64
+        ensures { result ≡ number_of self }
+    {
+        match self {
+            Format::One => 1,
+            Format::Two => 2,
+        }
+    }
+
     /// How many step instances a job of the format may have.
     pub fn most_steps(self) -> u64
         ensures { result ≡ most_steps self }
