@@ -130,6 +130,7 @@ headed_spells limit body job old most short ascii ts lexed same are found =
     passing_spells (first_line ++ body) ts job (omega (arith, len)) (all_ascii (first_line ++ body) all) refl
     (subst (λ (n : ℕ). Lexes n body ts None) (sym len) lexed, (are.0, same ∙ are.1)) (by_shapes old ts job (sym same) found)
 
+-- the canonical text of a job that some text spells spells it too, and is no longer than that text
 pub canon_spells : (text : List ℕ) (job : Tree) → Spells text job → Spells (canon job) job × (length (canon job) ≤ length text)
 canon_spells text job (ts, is_of, none) =
     let lexed = is_of.0 in

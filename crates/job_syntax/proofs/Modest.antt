@@ -22,6 +22,7 @@ abbrev pub AllInRange : Option Keyword → List Shape → Type 0
 AllInRange before [] = Unit {0}
 AllInRange before (s ∷ rest) = (is_in_range before s ≡ true) × AllInRange (keyword_in s) rest
 
+-- where no number out of its range is found, all are in their ranges
 pub all_in_range : (before : Option Keyword) (tokens : List Token) → number_fault before tokens ≡ None →
     AllInRange before (shapes_of tokens)
 all_in_range before [] none = tt

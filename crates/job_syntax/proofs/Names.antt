@@ -50,6 +50,7 @@ job_of_text shapes (ps, (rest, (job, are, e), none), same) =
     let all : ps ≡ job_pieces job = e ∙ ap (job_onto job) none in
     (job, are, sym same ∙ ap shapes_in all)
 
+-- the tokens of a job whose steps are as the grammar has them are those of a whole text
 pub text_of_job : (shapes : List Shape) (job : Tree) → AreSteps false job.steps → shapes ≡ shapes_in (job_pieces job) →
     IsText whole_job shapes
 text_of_job shapes job are same = (job_pieces job, job_fits job are, sym same)

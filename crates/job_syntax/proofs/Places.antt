@@ -87,6 +87,7 @@ fault_on : (end : ℕ) (s : Symbol) (ss more : List Symbol) (t : Token) (ts : Li
 fault_on end s ss more t ts None is text = text_forward s ss more t.shape (shapes_of ts) is text
 fault_on end s ss more t ts (Some at) is leaves = leaves_on end s ss more t ts at is leaves
 
+-- where no place is found the tokens are a whole text, and at one that is found they leave the grammar
 pub fault_at-means : (end : ℕ) (ss : List Symbol) (tokens : List Token) → IsFault end ss tokens (fault_at end ss tokens)
 fault_at-means end [] [] = ([], refl, refl)
 fault_at-means end [] (t ∷ ts) = inl (record {
@@ -116,6 +117,7 @@ fault_at-means end (s ∷ ss) (t ∷ ts) = by_rest (λ more. fault_at-means end 
 
 -- ---- the other way: what leaves there is found there
 
+-- of the tokens of a whole text no place is found
 pub fault_at-text : (end : ℕ) (ss : List Symbol) (tokens : List Token) → IsText ss (shapes_of tokens) → fault_at end ss tokens ≡ None
 fault_at-text end [] [] text = refl
 fault_at-text end [] (t ∷ ts) text = absurd (nothing_behind t.shape (shapes_of ts) text)
@@ -160,6 +162,7 @@ found_end end (s ∷ ss) (t ∷ ts) begins not_whole = by_rest (λ more. found_e
     by_rest others (Some more) is = others more (begins.0, text_on s ss more t.shape (shapes_of ts ++ begins.0) is begins.1)
         (λ text. not_whole (text_forward s ss more t.shape (shapes_of ts) is text))
 
+-- the place at which tokens leave the grammar is the one that is found
 pub fault_at-leaves : (end : ℕ) (ss : List Symbol) (tokens : List Token) (at : ℕ) → LeavesAt end ss tokens at →
     fault_at end ss tokens ≡ Some at
 fault_at-leaves end ss tokens at (inl stops) = ap (fault_at end ss) stops.whole
