@@ -17,10 +17,12 @@ pub record IsNextStart (buffer : List ℕ) (place end found : ℕ) : Type 0 wher
   pub before : NoStart buffer place found
   pub stops : (found ≡ end) ⊎ (starts_line buffer found ≡ true)
 
+-- where a line starts at the place itself, that place is the next start
 pub next_start-stopped : (buffer : List ℕ) (place left : ℕ) → starts_line buffer place ≡ true → next_start buffer place left ≡ place
 next_start-stopped buffer place zero here = refl
 next_start-stopped buffer place (suc left) here = rw here refl
 
+-- where none starts there, the next start is the one from the place behind it on
 pub next_start-passed : (buffer : List ℕ) (place left : ℕ) → starts_line buffer place ≡ false →
     next_start buffer place (suc left) ≡ next_start buffer (place + 1) left
 next_start-passed buffer place left none = rw none refl
@@ -93,15 +95,18 @@ next_start-ordered buffer p q l m le same =
 pub step-le : (len k i : ℕ) → 0 < k → i ≤ k → i * len / k ≤ len
 step-le len k i some le = div-le_of_le-mul k (mul-le-mul_right len le)
 
+-- more of k equal steps of a length reach at least as far
 pub step-ordered : (len k i j : ℕ) → 0 < k → i ≤ j → i * len / k ≤ j * len / k
 step-ordered len k i j some le =
     let low : i * len / k * k ≤ i * len = div-mul-le_self (i * len) k in
     let high : i * len ≤ j * len = mul-le-mul_right len le in
     le-div (i * len / k) (j * len) k some (omega arith)
 
+-- cut point 0 is the range's start
 pub cut_point-first : (buffer : List ℕ) (r : Range) (k : ℕ) → cut_point buffer r k 0 ≡ r.from
 cut_point-first buffer r k = refl
 
+-- cut point k of k is the range's end
 pub cut_point-last : (buffer : List ℕ) (r : Range) (k : ℕ) → 0 < k → cut_point buffer r k k ≡ r.to
 cut_point-last buffer r k some =
     let no : eqb k 0 ≡ false = ne_eqb k 0 (λ is. omega arith) in
@@ -112,6 +117,7 @@ cut_point-last buffer r k some =
 abbrev pub target_of : Range → ℕ → ℕ → ℕ
 target_of r k i = r.from + i * (r.to - r.from) / k
 
+-- any other cut point is the next line start from the end of its step on, searched for up to the range's end
 pub cut_point-between : (buffer : List ℕ) (r : Range) (k i : ℕ) → i ≢ 0 → i ≢ k →
     cut_point buffer r k i ≡ next_start buffer (target_of r k i) (r.to - target_of r k i)
 cut_point-between buffer r k i some less =
@@ -119,6 +125,7 @@ cut_point-between buffer r k i some less =
     let not_last : eqb i k ≡ false = ne_eqb i k less in
     rw no (rw not_last refl)
 
+-- none of the k equal steps of a range ends behind the range
 pub target-le : (r : Range) (k i : ℕ) → r.from ≤ r.to → 0 < k → i ≤ k → target_of r k i ≤ r.to
 target-le r k i ordered some le =
     let step = step-le (r.to - r.from) k i some le in
@@ -130,6 +137,7 @@ pub record IsCutPoint (buffer : List ℕ) (r : Range) (i place : ℕ) : Type 0 w
   pub high : place ≤ r.to
   pub stops : 0 < i → (place ≡ r.to) ⊎ (starts_line buffer place ≡ true)
 
+-- each cut point lies in the range, and each but the first is the range's end or the start of a line
 pub cut_point-lies : (buffer : List ℕ) (r : Range) (k i : ℕ) → r.from ≤ r.to → 0 < k → i ≤ k →
     IsCutPoint buffer r i (cut_point buffer r k i)
 cut_point-lies buffer r k i ordered some le =
@@ -190,9 +198,11 @@ cut_point-ordered buffer r k i ordered less =
     (cases_eq (i + 1) k))
     (cases_eq i 0)
 
+-- one of two tests passes where the first does
 pub or_left : (a b : Bool) → a ≡ true → IsTrue (a || b)
 or_left a b is = rw is refl
 
+-- one of two tests passes where the second does
 pub or_right : (a b : Bool) → b ≡ true → IsTrue (a || b)
 or_right true b is = refl
 or_right false b is = is

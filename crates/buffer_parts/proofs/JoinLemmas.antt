@@ -12,6 +12,7 @@ append-nil : {X : Type 0} (xs : List X) → xs ++ [] ≡ xs
 append-nil [] = refl
 append-nil (x ∷ xs) = ap (λ ys. x ∷ ys) (append-nil xs)
 
+-- where there is a byte there is a line
 pub lines_from-some : (at b : ℕ) (bs : List ℕ) → 0 < length (lines_from at (b ∷ bs))
 lines_from-some at b bs =
     ⊎_elim
@@ -95,6 +96,7 @@ lines_of_cuts-front buffer r k (suc n) ordered within some le =
     ap (λ ls. ls ++ lines_of buffer (cut_of buffer r k n)) before ∙ sym meets
         ∙ ap (λ m. lines_of buffer (range r.from (cut_point buffer r k m))) same
 
+-- the lines of all k cuts of a range, in order, are the lines of the range
 pub lines_of_cuts-all : (buffer : List ℕ) (r : Range) (k : ℕ) → r.from ≤ r.to → r.to ≤ length buffer → 0 < k →
     lines_of_cuts buffer r k k ≡ lines_of buffer r
 lines_of_cuts-all buffer r k ordered within some =
@@ -116,6 +118,7 @@ bytes_of_cuts-front buffer r k (suc n) ordered some le =
     ∙ sym (slice_range-split buffer r.from (cut_point buffer r k n) (cut_point buffer r k (n + 1)) low step)
     ∙ ap (λ m. bytes_of buffer (range r.from (cut_point buffer r k m))) same
 
+-- the bytes of all k cuts of a range, in order, are the bytes of the range
 pub bytes_of_cuts-all : (buffer : List ℕ) (r : Range) (k : ℕ) → r.from ≤ r.to → 0 < k → bytes_of_cuts buffer r k k ≡ bytes_of buffer r
 bytes_of_cuts-all buffer r k ordered some =
     bytes_of_cuts-front buffer r k k ordered some (omega arith) ∙ ap (λ n. bytes_of buffer (range r.from n))
@@ -140,6 +143,7 @@ length-lines_from at (b ∷ bs) =
     lines_of_nothing [] is = refl
     lines_of_nothing (b ∷ bs) is = absurd (omega arith)
 
+-- a range of the buffer has at most as many lines as it has places
 pub length-lines_of : (buffer : List ℕ) (from to : ℕ) → from ≤ to → to ≤ length buffer →
     length (lines_of buffer (range from to)) + from ≤ to
 length-lines_of buffer from to ordered within =

@@ -6,9 +6,11 @@ use Rattle.buffer_parts.specs.Cuts.{starts_line, next_start}
 use Rattle.buffer_parts.proofs.RangeLemmas.{length-slice_range, get_or-slice_range}
 use Rattle.buffer_parts.proofs.CutLemmas.{NoStart, next_start-is, or_right}
 
+-- a line starts behind a newline
 pub starts_line-newline : (buffer : List ℕ) (p : ℕ) → get_or buffer (p - 1) 0 ≡ 10 → starts_line buffer p ≡ true
 starts_line-newline buffer p is = or_right (eqb p 0) _ (eq-eqb _ _ is)
 
+-- no line starts behind any other byte
 pub starts_line-other : (buffer : List ℕ) (p : ℕ) → 0 < p → get_or buffer (p - 1) 0 ≢ 10 → starts_line buffer p ≡ false
 starts_line-other buffer p some other =
     let no : eqb p 0 ≡ false = ne_eqb p 0 (λ is. omega arith) in

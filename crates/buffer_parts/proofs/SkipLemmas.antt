@@ -33,6 +33,7 @@ begun-first at b bs (l ∷ ls) first =
       ends = ⊎_elim (λ (all : l.len ≡ length bs). inl (omega arith)) (λ here. inr (ap (λ n. get_or (b ∷ bs) n 0) more ∙ here)) first.ends;
     }
 
+-- the lines of some bytes begin with their first line, and only where there are no bytes is there none
 pub lines_from-first : (at : ℕ) (xs : List ℕ) → BeginsWithFirst at xs (lines_from at xs)
 lines_from-first at [] = refl
 lines_from-first at (b ∷ bs) =

@@ -197,6 +197,7 @@ pub record Knows (requests word : ℕ) (v : Hand) : Type 0 where
   pub no_other : (x : ℕ) → min word requests ≤ x → times x v.drawn ≡ 0
   pub nones : v.nones ≡ word - requests
 
+-- the hand that stands for all passes drew what the word counted, and was told of each claim past the requests
 pub knows_all : (requests passes word : ℕ) (hands : List Hand) (i : ℕ) (v : Hand) → Claimed requests passes word hands →
     get_elem? hands i ≡ some v → v.parts ≡ passes → Knows requests word v
 knows_all requests passes word hands i v rule at all =

@@ -48,6 +48,7 @@ first_right task (Ask request) old es (answer ∷ answers) h =
     (h.each zero request answer (omega arith), record { count = omega (arith, count); each =
         λ i q a lt. h.each (suc i) q a (omega (arith, lt)) })
 
+-- the answers to the requests of entries are right for the calls at which they are placed
 pub answers_right : (es : List Entry) (answers : List Answer) → AreAnswers (requests_of es) answers → All HasRight (placed es answers)
 answers_right [] answers h = All-nil HasRight
 answers_right (e ∷ es) answers h =
@@ -175,6 +176,7 @@ pub record IsCommitting (was r : Runner) : Type 0 where
   pub same : IsSameJob was r
   pub turns : r.turns + length r.batch.current ≡ was.turns + length was.batch.current
 
+-- once the answers of a batch are placed, what holds between its turns is true
 pub commits_first : (r : Runner) (b : Batches) (answers : List Answer) → IsUnderway r → AreAnswers (requests_of r.batch.current) answers →
     b.current ≡ placed r.batch.current answers → b.next ≡ r.batch.next →
     AllPlaced b.current → IsCommitting r (record r { batch = b })

@@ -67,6 +67,7 @@ each_other key id (x ∷ xs) none P Q all more =
 
 -- ---- the task that ended
 
+-- a task that ended in a tick did so in the present one, where they are the same
 pub ends_now : (old new : Roster) (id tick now : ℕ) (exc : Option held.Exc) → tick ≡ now → Ends old new id tick exc →
     Ends old new id now exc
 ends_now old new id tick now exc is e = subst (λ (t : ℕ). Ends old new id t exc) is e

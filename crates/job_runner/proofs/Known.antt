@@ -26,6 +26,7 @@ pub record SleepsIn (roster : Roster) (clock : Clock) (id key : ℕ) : Type 0 wh
   pub lives : running_at roster id ≡ Some running
   pub in_scope : scope_of running.task ≡ Some key
 
+-- who is kept as sleeping in a scope has a timer, and lives in that scope
 pub sleeps_in : (roster : Roster) (world : World) (clock : Clock) (sleepers : Sleeping) → AreKnown roster world clock sleepers →
     (id key : ℕ) → scope_in sleepers id ≡ Some key →
     SleepsIn roster clock id key
@@ -63,6 +64,7 @@ shown_sight tree key kept unchanged h = by_known h.known
     by_known (inl e) = ap (λ (o : Option Stack). sight (unwrap_or o [])) h.opened ∙ e
     by_known (inr e) = absurd (let f : false ≡ true = sym unchanged ∙ e in cc)
 
+-- where no scope is left to hand out, a sleeper's sight is the one that is kept of its scope
 pub known_sight : (roster : Roster) (world : World) (clock : Clock) (sleepers : Sleeping) → AreKnown roster world clock sleepers →
     NoneChanged world → (id due : ℕ) (x : Running) →
     due_of clock id ≡ Some due → running_at roster id ≡ Some x →
@@ -91,6 +93,7 @@ sees_from roster world clock sleepers k unchanged id due x t e f sees = by_scope
           sight = sym (known_sight roster world clock sleepers k unchanged id due x e f ∙ ap (kept_sight sleepers) h) ∙ sees;
         }
 
+-- where no scope is left to hand out, who is kept as seeing from a tick has that tick as its sight
 pub seen_by : (roster : Roster) (world : World) (clock : Clock) (sleepers : Sleeping) → AreKnown roster world clock sleepers →
     NoneChanged world → (id t : ℕ) → (s : SeesFrom sleepers id t) →
     (z : SleepsIn roster clock id s.scope) × (sight (outer_of world.scopes (scope_of z.running.task)) ≡ Some t)

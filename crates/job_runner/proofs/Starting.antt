@@ -28,6 +28,7 @@ got_more [] y i lt = absurd (omega (arith, lt))
 got_more (x ∷ xs) y zero lt = refl
 got_more (x ∷ xs) y (suc i) lt = got_more xs y i (omega (arith, lt))
 
+-- what comes behind a list stands at its end
 pub got_end : {A : Type 0} (xs : List A) (y : A) → slice_get (xs ++ y ∷ []) (length xs) ≡ Some y
 got_end [] y = refl
 got_end (x ∷ xs) y = got_end xs y
@@ -56,6 +57,7 @@ got_once id (x ∷ ids) h = at (eqb_tells x id) (λ more. got_once id ids more)
         let r = more (omega (arith, step, none, h)) in
         (suc r.0, r.1)
 
+-- an id that has a place in a list stands there at least once
 pub times_there : (id : ℕ) (ids : List ℕ) (i : ℕ) → slice_get ids i ≡ Some id → 1 ≤ times id ids
 times_there id [] i e = absurd (let f : None ≡ Some id = e in cc)
 times_there id (x ∷ ids) zero e =
@@ -68,6 +70,7 @@ times_there id (x ∷ ids) (suc i) e =
     let more = times_there id ids i e in
     omega (arith, step, more)
 
+-- one more serial number after so many from one on
 pub serials_more : (m n : ℕ) → serials_from m n ++ (m + n) ∷ [] ≡ serials_from m (n + 1)
 serials_more m zero = ap (λ (x : ℕ). x ∷ []) (let e : m + 0 ≡ m = omega arith in e)
 serials_more m (suc n) =
@@ -78,6 +81,7 @@ serials_more m (suc n) =
 
 -- ---- tasks of a roster
 
+-- no task has a row past those of the roster
 pub none_past : (r : Roster) (p : ℕ) → many r ≤ p → task_of r p ≡ None
 none_past r p le = ap (task_by r.live) (slice_get_past r.rows.items p le)
 
@@ -258,6 +262,7 @@ pub record Taking (old now : Runner) (parent : ℕ) : Type 0 where
   pub next : now.batch.next ≡ old.batch.next ++ to_begin ids
   pub rest : now ≡ record old { world = now.world; roster = now.roster; batch = now.batch }
 
+-- at first no task that waited in the world was taken
 pub taking_none : (r : Runner) (parent : ℕ) → IsRoster r.roster → Taking r r parent
 taking_none r parent agree = record {
   taken = [];
@@ -271,9 +276,11 @@ taking_none r parent agree = record {
   rest = refl;
 }
 
+-- the starter's row is one of the roster's still, once tasks were taken
 pub row_there : (old now : Runner) (parent : ℕ) → Taking old now parent → parent < many old.roster → parent < many now.roster
 row_there old now parent t lt = let more = t.starts.more in omega (arith, lt, more)
 
+-- one more task was taken from the world: it has the next row and its id, and is ready to begin
 pub taking_more : (old now : Runner) (w : World) (roster : Roster) (b : Batches) (parent tick : ℕ) (task : Task) (id : ℕ) →
     Taking old now parent → parent < many old.roster →
     now.world.started.items ≡ task ∷ w.started.items → w ≡ record now.world { started = w.started } → tick ≡ w.tick →
@@ -297,6 +304,7 @@ taking_more old now w roster b parent tick task id t there first world tick_is s
   rest = ap (λ (r : Runner). record r { world = w; roster = roster; batch = b }) t.rest;
 }
 
+-- once no task waits in the world, all that were started are taken
 pub taking_all : (old now : Runner) (w : World) (parent : ℕ) → Taking old now parent → now.world.started.items ≡ [] → w.started.items ≡ [] →
     w ≡ record now.world { started = w.started } →
     TakesStarted old (record now { world = w }) parent

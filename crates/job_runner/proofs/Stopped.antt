@@ -45,10 +45,12 @@ use Rattle.job_runner.proofs.Shelving.{once_again, none_away, shelved_next, shel
 
 -- ---- what is under a key
 
+-- an option of whose value this is true has such a value
 pub some_is : {T : Type 0} (o : Option T) (P : T → Type 0) → IsSomeAnd o P → (x : T) × (o ≡ Some x) × P x
 some_is None P h = absurd h
 some_is (Some x) P h = (x, refl, h)
 
+-- what is true of the value that is there is true of the option's
 pub some_has : {T : Type 0} (o : Option T) (P : T → Type 0) (x : T) → o ≡ Some x → P x → IsSomeAnd o P
 some_has {T} o P x e p = subst (λ (z : Option T). IsSomeAnd z P) (sym e) p
 
@@ -69,6 +71,7 @@ answered_goes world task request asks (Some answer) wake right e =
       timely = subst (λ (h : Halt). IsTimely world (scope_of task) h (wakes.Answer answer)) (sym asks.halt) tt;
     })
 
+-- a task that asks is put in the next batch with its request: then the run is between two turns
 pub asks_going : (r : Runner) (b : Batches) (id row : ℕ) (request : Request) → IsStopping id row (stops.Ask request) r →
     b.current ≡ r.batch.current →
     b.next ≡ r.batch.next ++ (id, calls.Ask request) ∷ [] → IsGoing None (record r { batch = b })
@@ -109,6 +112,7 @@ pub no_timer : (o : Option ℕ) → timer_times o ≡ 0 → o ≡ None
 no_timer None e = refl
 no_timer (Some due) e = absurd (let f : 1 ≡ 0 = e in omega (arith, f))
 
+-- a task that falls asleep had no timer
 pub not_timed : (id row due : ℕ) (r : Runner) → IsStopping id row (stops.Sleep due) r → due_of r.clock id ≡ None
 not_timed id row due r h = no_timer (due_of r.clock id) (let a : times_shelved r.batch r.clock id ≡ 0 = h.shelved.away id refl in
     omega (arith, a))
@@ -118,6 +122,7 @@ pub not_sleeping : (id row due : ℕ) (r : Runner) → IsStopping id row (stops.
 not_sleeping id row due r h = h.shelved.known.berths id ∙ ap (λ (d : Option ℕ). berth_of d (running_at r.roster id))
     (not_timed id row due r h)
 
+-- a task that falls asleep is due later than now
 pub later_due : (id row due : ℕ) (r : Runner) → IsStopping id row (stops.Sleep due) r → now_of r.clock < due
 later_due id row due r h =
     let x = some_is (running_at r.roster id) (λ (y : Running). (y.row ≡ row) × StopSays r.world y.task (stops.Sleep due)) h.lives in
@@ -268,6 +273,7 @@ module _ (id row due : ℕ) (r : Runner) (clock : Clock) (u : Updates r.clock cl
 
 -- ---- it waits
 
+-- a task that waits for a nursery which is settled may go on by that
 pub settled_goes : (world : World) (task : Task) (id : ℕ) → AwaitsNow world task id → HasNursery world.book id (λ n. is_settled n ≡ true) →
     GoesBy world task calls.Settled
 settled_goes world task id waits settled answer wake right e =
@@ -284,6 +290,7 @@ pub settled_one : (o : Option Nursery) (b : Bool) → IsSomeAnd o (λ n. b ≡ i
 settled_one None b h e = absurd h
 settled_one (Some n) b h e = ap (λ (z : Bool). if z then 1 else 0) (sym h ∙ e)
 
+-- the task of a nursery that is not settled has to stand nowhere
 pub settled_none : (o : Option Nursery) (b : Bool) → IsSomeAnd o (λ n. b ≡ is_settled n) → b ≡ false → settled_times o ≡ 0
 settled_none None b h e = absurd h
 settled_none (Some n) b h e = ap (λ (z : Bool). if z then 1 else 0) (sym h ∙ e)
@@ -309,6 +316,7 @@ settles_going r b id row nursery over h tells is current next =
       course = λ k settled. (h.course k settled).is;
     }
 
+-- a task that waits for a nursery which is not settled is put nowhere: the run is between two turns
 pub waits_going : (r : Runner) (id row nursery : ℕ) (over : Bool) → IsStopping id row (stops.Wait nursery) r →
     HasNursery r.world.book nursery (λ n. over ≡ is_settled n) → over ≡ false →
     IsGoing None r
@@ -323,6 +331,7 @@ waits_going r id row nursery over h tells is =
       course = λ k settled. (h.course k settled).is;
     }
 
+-- the nursery that a task stopped to wait for is in the book
 pub waits_there : (id row nursery : ℕ) (r : Runner) (book : NurseryBook) → book ≡ r.world.book → IsStopping id row (stops.Wait nursery) r →
     IsSome (nursery_at book nursery)
 waits_there id row nursery r book same h =

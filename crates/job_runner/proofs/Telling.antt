@@ -61,6 +61,7 @@ pub record IsTelling (was r : Runner) : Type 0 where
   pub only : SeesOnly was r
   pub fewer : (key : ℕ) → is_changed r.world.scopes key ≡ true → is_changed was.world.scopes key ≡ true
 
+-- before the first scope is handed out, what holds while they are is true
 pub telling_first : (r : Runner) → IsGoing None r → IsTelling r r
 telling_first r going = record { going = going; only = refl; fewer = λ key e. e }
 

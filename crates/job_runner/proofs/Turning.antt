@@ -103,6 +103,7 @@ pub each_begins : (ids : List ℕ) (Q : Added → Type 0) → ((i id : ℕ) → 
 each_begins [] Q h = All-nil Q
 each_begins (id ∷ ids) Q h = All-cons Q (id, calls.Begin) (to_begin ids) (h zero id refl) (each_begins ids Q (λ i x e. h (suc i) x e))
 
+-- an id stands among tasks that are ready to begin as often as among their ids
 pub times_begin : (id : ℕ) (ids : List ℕ) → times_next id (to_begin ids) ≡ times id ids
 times_begin id [] = refl
 times_begin id (x ∷ ids) =
@@ -110,6 +111,7 @@ times_begin id (x ∷ ids) =
         ∙ ap (λ (n : ℕ). one_if (x == id) + n) (times_begin id ids)
     ∙ sym (sum_by-cons (λ (n : ℕ). one_if (n == id)) x ids)
 
+-- how often an id stands among what was added with tasks behind that are ready to begin
 pub times_both : (id : ℕ) (added : List Added) (ids : List ℕ) → times_next id (added ++ to_begin ids) ≡ times_next id added + times id ids
 times_both id added ids =
     ap (times id) (map-append (λ (a : Added). a.0) added (to_begin ids))
@@ -118,6 +120,7 @@ times_both id added ids =
 
 -- ---- before the turn
 
+-- a task that is away and may go on may have its turn
 pub may_turn : (id : ℕ) (r : Runner) (wake : Wake) → IsGoing (Some id) r →
     IsSomeAnd (running_at r.roster id) (λ (x : Running). MayGo r.world x.task wake) → turns.IsSound r.world.scopes →
     (x : Running) → running_at r.roster id ≡ Some x → MayTurn r.world x.task wake
@@ -135,6 +138,7 @@ may_turn id r wake going goes sound x lives =
       wake = may.fits;
     }
 
+-- a run had at most 200,001 turns
 pub turns_few : (away : Option ℕ) (r : Runner) → IsGoing away r → r.turns ≤ 200001
 turns_few away r going =
     let k = meaning_table r.job.now r.input.now in
@@ -550,6 +554,7 @@ module _ (id : ℕ) (wake : Wake) (stop : Stop) (r new : Runner) (ro : Roster) (
 
 -- ---- for the code
 
+-- a turn is of the row that its task has
 pub row_is : (id row : ℕ) (r : Runner) (ro : Roster) (w : World) (wake : Wake) (stop : Stop) →
     IsSomeAnd (running_at r.roster id) (λ (x : Running). x.row ≡ row) →
     (turn : HasTurn r.roster ro r.world w id wake stop) → turn.row ≡ row
@@ -559,6 +564,7 @@ row_is id row r ro w wake stop at turn =
         one_of g.0 (record { task = turn.before; row = turn.row }) (sym g.1 ∙ turn.lived) in
     sym (ap (λ (x : Running). x.row) same) ∙ g.2
 
+-- the row of a task that had its turn is one of the roster's
 pub row_within : (id row : ℕ) (r : Runner) (ro : Roster) (w : World) (wake : Wake) (stop : Stop) → IsGoing (Some id) r →
     IsSomeAnd (running_at r.roster id) (λ (x : Running). x.row ≡ row) →
     HasTurn r.roster ro r.world w id wake stop → row < many ro
@@ -569,6 +575,7 @@ row_within id row r ro w wake stop going at turn =
     let same : many ro ≡ many r.roster = turn.same.many in
     omega (arith, e, lt, same)
 
+-- after a turn whose started tasks were taken, its task is one that stopped so
 pub goes_stopping : (id row : ℕ) (r new : Runner) (ro : Roster) (w : World) (wake : Wake) (stop : Stop) → IsGoing (Some id) r →
     IsSomeAnd (running_at r.roster id) (λ (x : Running). MayGo r.world x.task wake) →
         IsSomeAnd (running_at r.roster id) (λ (x : Running). x.row ≡ row) →
@@ -580,5 +587,6 @@ goes_stopping id row r new ro w wake stop going goes at turn sound sound_after t
     (is_stopping id wake stop r new ro w going goes turn sound sound_after
         (subst (λ (n : ℕ). TakesStarted (record r { world = w; roster = ro; turns = r.turns + 1 }) new n) (sym e) takes))
 
+-- a tree is sound whose stacks are chains that begin with their own scopes, each once
 pub scopes_sound : (tree other : Tree) → tree ≡ other → IsOwn tree → IsChain tree → IsApart tree → turns.IsSound other
 scopes_sound tree other e own chain apart = subst turns.IsSound e (record { own = own; chain = chain; apart = apart })

@@ -317,6 +317,7 @@ home_going r roster new id row exc h e agree home at t =
         still_going r roster new.world.book new.batch id row exc h e home at n.0 n.1 n.2 agree over t.current
         (next ∙ (ap (λ (c : Bool). r.batch.next ++ called_if c (id_of r.roster (parent_of r.roster row))) over ∙ append-nil r.batch.next))
 
+-- the nursery of a child that ended was told, and its waiter called if it is settled: the run is between two turns
 pub child_going : (r : Runner) (roster : Roster) (new : Runner) (id row nursery place : ℕ) (exc : Option held.Exc) (end : Option Exc) →
     IsStopping id row (stops.Ended exc) r →
     (e : Ends r.roster roster id r.world.tick exc) → IsRoster roster →

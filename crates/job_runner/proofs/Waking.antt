@@ -164,6 +164,7 @@ pub record IsSeeing (was r : Runner) : Type 0 where
   pub waking : IsWaking r
   pub only : WakesOnly was r
 
+-- before the first one that sees a cancellation is woken, what holds while they are is true
 pub seeing_first : (r : Runner) → IsWaking r → IsSeeing r r
 seeing_first r h = record { waking = h; only = refl }
 
@@ -285,11 +286,13 @@ seeing_last was r new sleepers s none is =
 
 -- ---- those that are due
 
+-- what holds while those that are due are woken
 pub record IsDue (was r : Runner) : Type 0 where
   pub waking : IsWaking r
   pub unseen : NoneSees r
   pub only : WakesOnly was r
 
+-- before the first one that is due is woken, what holds while they are is true
 pub due_first : (r : Runner) → IsWaking r → NoneSees r → IsDue r r
 due_first r h unseen = record { waking = h; unseen = unseen; only = refl }
 

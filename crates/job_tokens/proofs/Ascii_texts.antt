@@ -112,6 +112,7 @@ gap_small true false = refl
 gap_small false true = refl
 gap_small false false = refl
 
+-- the canonical text of tokens that can be written is all ASCII
 pub canon_small : (before : Bool) (ss : List Shape) → AreWritable ss → list_all is_small (canon_behind before ss) ≡ true
 canon_small before [] are = refl
 canon_small before (s ∷ ss) are =

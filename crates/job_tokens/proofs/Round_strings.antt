@@ -95,6 +95,7 @@ units_again (suc n) (b ∷ text) rest le bytes =
     ap (units (suc n)) (append_assoc (unit b) (flat_map unit text) (34 ∷ rest))
         ∙ units_step n b text rest more (unit_again b more bytes.0) (units_again n text rest (omega arith) bytes.1)
 
+-- the canonical bytes of a string are read as that string, whatever stands behind them
 pub string_again : (text rest : List ℕ) → is_text text ≡ true → length text ≤ 64 → AreBytes text →
     token_at ((34 ∷ (flat_map unit text ++ 34 ∷ [])) ++ rest) ≡ Some (shape.Text text, rest)
 string_again text rest is le bytes =

@@ -63,6 +63,7 @@ word_byte_not_blank b is = by_test (either_way (is_blank b))
         (blank_cases (λ x. is_word_byte x ≡ false) b refl refl refl refl blank))
     by_test (inr none) = none
 
+-- a letter is a byte of a word
 pub letter_in_word : (b : ℕ) → is_letter b ≡ true → is_word_byte b ≡ true
 letter_in_word b is = or_left (is_letter b) (is_digit b) (eqb b 95) is
   where
@@ -174,6 +175,7 @@ canon_stops true (shape.Mark m ∷ ss) = mark_stops m (canon_behind false ss)
 abbrev LexesAs : ℕ → List ℕ → List Shape → Type 0
 LexesAs end bytes ss = (ts : List Token) × Lexes end bytes ts None × (shapes_of ts ≡ ss)
 
+-- the canonical text of tokens that can be written is read as these tokens, to its end
 pub canon_lexes : (end : ℕ) (before : Bool) (ss : List Shape) → AreWritable ss → length (canon_behind before ss) ≤ end →
     LexesAs end (canon_behind before ss) ss
 canon_lexes end before [] are le = ([], refl, refl)

@@ -95,6 +95,7 @@ no_quote : (b : Bool) (rest : List ℕ) → not_quoted b rest ≡ None → b ≡
 no_quote true rest e = absurd (no_some rest (sym e))
 no_quote false rest e = refl
 
+-- a unit that is read, where no quote comes first, is a byte whose canonical form is no longer than its spelling
 pub read_unit : (bytes : List ℕ) (b : ℕ) (after : List ℕ) → behind_quote bytes ≡ None → unit_at bytes ≡ Some (b, after) →
     IsUnit bytes b after
 read_unit [] b after q e = absurd (no_some (b, after) e)

@@ -137,6 +137,7 @@ abbrev pub IsApart : Bool → List ℕ → List ℕ → Type 0
 IsApart true bytes rest = (prefix_len is_word_byte rest ≡ 0) × (0 < prefix_len is_word_byte bytes)
 IsApart false bytes rest = Unit {0}
 
+-- what holds of a token that was read, and of the bytes behind it
 pub record IsToken (bytes : List ℕ) (s : Shape) (rest : List ℕ) : Type 0 where
   pub spelled : IsSpelled s
   pub shorter : length (token s) + length rest ≤ length bytes
@@ -345,6 +346,7 @@ abbrev pub AreSpelled : List Token → Type 0
 AreSpelled [] = Unit {0}
 AreSpelled (t ∷ ts) = IsSpelled t.shape × AreSpelled ts
 
+-- tokens that were read are words, strings of bytes, marks, and numbers that are refused or at most the greatest
 pub tokens_spelled : (end : ℕ) (bytes : List ℕ) (ts : List Token) (fault : Option ℕ) → Lexes end bytes ts fault → AreSpelled ts
 tokens_spelled end bytes [] fault lexed = tt
 tokens_spelled end bytes (t ∷ ts) fault (rest, found, place, others) =

@@ -42,11 +42,13 @@ lines_from-lie at (b ∷ bs) =
     (λ (no_is : eqb b 10 ≡ false). rw no_is (begun-lies at (length bs) (lines_from (at + 1) bs) rest))
     (cases_Bool (eqb b 10)))
 
+-- the lines of a range lie in the range
 pub lines_of-lie : (buffer : List ℕ) (from to : ℕ) → from ≤ to → to ≤ length buffer → All (LiesIn from to) (lines_of buffer (range from to))
 lines_of-lie buffer from to ordered within =
     let sum : from + length (slice_range buffer from to) ≡ to = omega (arith, length-slice_range buffer from to within) in
     subst (λ (end : ℕ). All (LiesIn from end) (lines_of buffer (range from to))) sum (lines_from-lie from (slice_range buffer from to))
 
+-- where no line passes the test, none is kept
 pub filter-none : (p : Span → Bool) (ls : List Span) → All (λ l. p l ≡ false) ls → filter p ls ≡ []
 filter-none p [] none = refl
 filter-none p (l ∷ ls) none =

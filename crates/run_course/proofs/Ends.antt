@@ -26,6 +26,7 @@ inside_followed e (sign l t rest) b h k = inside_followed e rest b h k
 inside_followed e (entered l t d rest) b h k = inside_followed e rest b h k
 inside_followed e (task l s u x own rest) b h k = (h.0, h.1, inside_followed e rest b h.2 k)
 
+-- where each task of two logs together ends by e, and those that it started by its end, so it is in the first
 pub inside_first : (e : ℕ) (a b : Log) → Inside e (followed_by a b) → Inside e a
 inside_first e nil b h = tt
 inside_first e (entry t x rest) b h = inside_first e rest b h

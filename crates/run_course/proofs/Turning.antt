@@ -77,6 +77,7 @@ pub old_child : (count : ℕ) (child : ℕ → ℕ) (m i : ℕ) → i < count �
 unfolding child_from
 old_child count child m i h = ap (λ (b : Bool). cond b (child i) (m + (i - count))) (lt-ltb i count h)
 
+-- children of the turn have serial numbers from m on, in order
 pub later_child : (count : ℕ) (child : ℕ → ℕ) (m i : ℕ) → count ≤ i → child_from count child m i ≡ m + (i - count)
 unfolding child_from
 later_child count child m i h = ap (λ (b : Bool). cond b (child i) (m + (i - count))) (le-ltb i count h)

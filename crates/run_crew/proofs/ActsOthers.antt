@@ -49,6 +49,7 @@ kept_leaves {s} {m} f key l g others k = (k.0, g.others key differs ∙ k.1, g.u
     differs : key ≢ g.scope.id
     differs e = all_last (λ (o : Own). o.id ≢ key) m.own g.scope (subst (AreOthers key) g.taken others) (sym e)
 
+-- whatever a task does, an open scope that is none of its own keeps its label, and its from is the label's
 pub kept_acts : {t : ℕ} → (known : Label → Type 0) (f : Table) (key : ℕ) (l : Label) → {s u : Scoping} {es : List Event} → Acts t s es u →
     Sound s → Apart s → HasKnown known s → AreNew known es →
     AreOthers key s.own → IsKept f s key l → IsKept (froms_after f es) u key l
@@ -87,6 +88,7 @@ labelled_enters {label} {d} {s} {m} g h key l e = by_key (labelled_before g.labe
 labelled_leaves : {s m : Scoping} → Leaves s m → AreLabelled s → AreLabelled m
 labelled_leaves {s} {m} g h key l e = let b = labelled_left g key l e in open_else s.tree m.tree g.scope.id key g.others b.0 (h key l b.1)
 
+-- where each scope with a label is open, it is so whatever a task does
 pub labelled_acts : {t : ℕ} {s u : Scoping} {es : List Event} → Acts t s es u → AreLabelled s → AreLabelled u
 labelled_acts (no_act s) h = h
 labelled_acts (act_noted s u t e es a) h = labelled_acts a h

@@ -37,11 +37,13 @@ tracks_more m h =
 
 -- ---- lists
 
+-- what holds of all in a list holds of the one at a place
 pub all_got : {A : Type 0} (P : A → Type 0) (xs : List A) (i : ℕ) (x : A) → All P xs → slice_get xs i ≡ Some x → P x
 all_got P [] i x a e = absurd (not_both refl e)
 all_got P (y ∷ xs) zero x a e = subst P (one_of y x e) (All-head P y xs a)
 all_got P (y ∷ xs) (suc i) x a e = all_got P xs i x (All-tail P y xs a) e
 
+-- what holds of the one at each place holds of all in a list
 pub all_if : {A : Type 0} (P : A → Type 0) (xs : List A) → ((x : A) (i : ℕ) → slice_get xs i ≡ Some x → P x) → All P xs
 all_if P [] h = All-nil P
 all_if P (y ∷ xs) h = All-cons P y xs (h y zero refl) (all_if P xs (λ x i e. h x (suc i) e))
@@ -119,6 +121,7 @@ own_from_signed {t} {label} {s} {m} f (x ∷ xs) id l g h first e from =
         (alone_of s h g.key label g.labelled (x ∷ []))
     (ap s.labels (one_of x.label id first) ∙ e, refl, from, tt)).2
 
+-- where a scope is cancelled, the froms that a task keeps are those of the world, with the label's lowered
 pub tracks_signs : {known : Label → Type 0} {f : Table} {entered : List Label} {t : ℕ} {label : Label} {s m : Scoping} → Signs t label s m →
     Sound s → Apart s →
     Tracks known f s entered → Tracks known (lowered f label t) m entered
@@ -156,6 +159,7 @@ tracks_signs {known} {f} {entered} {t} {label} {s} {m} g sound apart h =
 
 -- ---- a scope is entered
 
+-- where a task enters a scope with a new label, its froms are those of the world, with the new label last
 pub tracks_enters : {known : Label → Type 0} {f : Table} {entered : List Label} {label : Label} {d : Tick} {s m : Scoping} →
     Enters label d s m → HasKnown known s → (known label → ⊥) →
     Tracks known f s entered → Tracks (λ l. (l ≡ label) ⊎ known l) (opened f label d) m (entered ++ label ∷ [])
@@ -230,6 +234,7 @@ tracks_enters {known} {f} {entered} {label} {d} {s} {m} g has new h =
 
 -- ---- the last scope is left
 
+-- where a task leaves its last scope, the froms that it keeps are those of the world still
 pub tracks_leaves : {known : Label → Type 0} {f : Table} {entered : List Label} {s m : Scoping} → Leaves s m → Apart s → HasKnown known s →
     Tracks known f s entered → Tracks known f m entered
 tracks_leaves {known} {f} {entered} {s} {m} g apart has h =
@@ -298,6 +303,7 @@ tracks_leaves {known} {f} {entered} {s} {m} g apart has h =
 
 -- ---- whatever a task does
 
+-- whatever a task does, its froms are those of the world after its events, with the labels that it entered
 pub tracked : {t : ℕ} → (known : Label → Type 0) (f : Table) (entered : List Label) → {s u : Scoping} {es : List Event} → Acts t s es u →
     Sound s → Apart s → HasKnown known s → AreNew known es →
     Tracks known f s entered → Tracks (KnownWith known es) (froms_after f es) u (entered ++ entered_made es)

@@ -152,6 +152,7 @@ pub record BeginsAs (k : Table) (job : Job) (input : List ℕ) (crew : Crew) : T
   pub is : IsCrew k job input 0 1 None crew
   pub at : is.course.at 0 ≡ root_task k job input
 
+-- the root alone in a new world is a run in tick 0, whose task is the root of the definitions
 pub crew_begins : (k : Table) (job : Job) (input : List ℕ) (crew : Crew) (root : Task) → IsModest job → StartsInNurseries job →
     GivesNamesOnce job → length input ≤ MOST_INPUT →
     IsNewWorld crew.world → IsRootTask job input root → crew.task 0 ≡ Some root → ((p : ℕ) → crew.task (suc p) ≡ None) →
@@ -206,6 +207,7 @@ crew_begins k job input crew root modest starting names small world r first othe
         by_stack : IsSome {T = Stack} None → ⊥
         by_stack e = absurd cc
 
+-- the root alone in a new world is a run of one task in tick 0
 pub crew_begun : (k : Table) (job : Job) (input : List ℕ) (crew : Crew) (root : Task) → IsModest job → StartsInNurseries job →
     GivesNamesOnce job → length input ≤ MOST_INPUT →
     IsNewWorld crew.world → IsRootTask job input root → crew.task 0 ≡ Some root → ((p : ℕ) → crew.task (suc p) ≡ None) →

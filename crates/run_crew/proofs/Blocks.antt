@@ -65,6 +65,7 @@ pub task_lives : (k : Table) (job : Job) (input : List ℕ) (t m : ℕ) (crew : 
     live (c.course.at s).rest.stopped ≡ true
 task_lives k job input t m crew c s task e = (c.follows s task e).lives (λ f. not_both refl f)
 
+-- where no task of a crew goes on before a tick, the run is blocked until then
 pub crew_blocked : (k : Table) (job : Job) (input : List ℕ) (t m : ℕ) (crew : Crew) → (c : IsCrew k job input t m None crew) → (u : ℕ) →
     AllStay crew u →
     Blocked c.course.froms c.course.tasks u
@@ -213,6 +214,7 @@ none_below k job input t m crew c none (suc n) p lt =
     by_task None e none_before = e
     by_task (Some task) e none_before = absurd (by_home task e task.home (c.follows p task e).home none_before)
 
+-- once the root has ended, every task has
 pub root_last : (k : Table) (job : Job) (input : List ℕ) (t m : ℕ) (crew : Crew) → IsCrew k job input t m None crew → crew.task 0 ≡ None →
     (p : ℕ) → crew.task p ≡ None
 root_last k job input t m crew c none p = none_below k job input t m crew c none (suc p) p (omega arith)

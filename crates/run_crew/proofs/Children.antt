@@ -62,6 +62,7 @@ made_now count m j n p child (starts i l t ∷ es) (b ∷ bs) e f h =
 
 -- ---- after a turn
 
+-- after a turn the children kept of each task are those that its events started
 pub children_kept : (k : Table) (job : Job) (input : List ℕ) (t m s : ℕ) (old new : Crew) (before after : Task) (stop : Stop) →
     IsSettled k job input → GivesNamesOnce job →
     StartsInNurseries job → (c : IsCrew k job input t m None old) →

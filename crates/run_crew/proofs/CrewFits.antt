@@ -105,6 +105,7 @@ stack_is tree key h = by_stack (stack_of tree key) refl h
     by_stack None e s = absurd (let f : false ≡ true = s in cc)
     by_stack (Some st) e s = ap (λ (x : Option Stack). Some (unwrap_or x [])) (sym e)
 
+-- round a scope that a task opened stand those that it opened before, and then its home's
 pub own_stack : (tree : Tree) → IsChain tree → IsApart tree → (home : Option ℕ) (own : List Own) → OwnFirst tree home own →
     ForSome (last_or home (ids own)) (IsOpen tree) →
     (n : ℕ) (o : Own) → slice_get own n ≡ Some o → OwnStack tree home own o n
@@ -187,6 +188,7 @@ later_own book b bs o own waits id n first later h =
     runs r zero le = first (h.runs r 0 (omega arith))
     runs r (suc i) le = later i (h.runs r i (omega (arith, le)))
 
+-- a task opened its nursery's scope; where a child runs in that nursery, one runs in each of its scopes up to that one
 pub nursery_own : (labels : Labels) (book : NurseryBook) (bs : List Block) (own : List Own) (waits : Option ℕ) (id : ℕ) (n : Nursery) →
     Opened labels book bs own waits →
     HasNurseryOf id bs waits → nursery_at book id ≡ Some n → NurseryOwn book bs own waits id n

@@ -32,6 +32,7 @@ abbrev pub ActsOf : {k : Table} {job : Job} {input : List ℕ} {t m s : ℕ} {ol
 ActsOf {old = old} {new = new} {before = before} {after = after} c T =
     Acted (IsEntered c.course.at) old.world.tick (scoping_of before old.world) (scoping_of after new.world) T.move.made
 
+-- the mover of a turn acts on sound stacks, with labels that are apart and known, and enters new ones
 pub acted : {k : Table} {job : Job} {input : List ℕ} {t m s : ℕ} {old new : Crew} {before after : Task} {stop : Stop} →
     (c : IsCrew k job input t m None old) →
     (T : Turning k job input t m s old new c.numbers before after stop c.course) → IsSettled k job input → GivesNamesOnce job →

@@ -48,6 +48,7 @@ new_of known (starts i m t ∷ es) once none = new_of known es once none
 
 -- ---- what a turn enters
 
+-- the labels that a turn enters were entered by no task before it, and none is twice in it
 pub fresh_after : (k : Table) (job : Job) (input : List ℕ) (t m s : ℕ) (was : Course k job input t m) (o : Move) (stopped : Stopped) →
     IsSettled k job input → GivesNamesOnce job →
     StartsInNurseries job → s < m → (w : WentOn k job input t m s was o stopped) → AreNew (IsEntered was.at) o.made

@@ -28,6 +28,7 @@ pub record Others (q : Started) (qs : List Started) : Type 0 where
   pub others : List Started
   pub front : Front q qs others
 
+-- any task of a run may be taken to the front
 pub front_of : (q : Started) (qs : List Started) → In q qs → Others q qs
 front_of q [] i = absurd i
 front_of q (x ∷ qs) (inl e) = subst (λ (y : Started). Others q (y ∷ qs)) e (record { others = qs; front = is_front q qs })
@@ -149,6 +150,7 @@ ready_by f g qs rs t q (settles x) (asleep n u) same over h = absurd h
 ready_by f g qs rs t q (settles x) (awaiting cs u e) same over h = over cs u e x h
 ready_by f g qs rs t q (settles x) (at_end u e) same over h = absurd h
 
+-- who may be woken among some tasks may be so among fewer of them
 pub may_moved : (f : Table) (qs rs : List Started) (t : ℕ) (q : Started) (w : Wake) (s : Stopped) → ((c : Started) → In c rs → In c qs) →
     MayWake f qs t q w s → MayWake f rs t q w s
 may_moved f qs rs t q w s back h =
@@ -200,6 +202,7 @@ pub record WentOn (k : Table) (job : Job) (input : List ℕ) (t m s : ℕ) (was 
   pub of_child : (i : ℕ) (b : Begun) → slice_get o.begun i ≡ Some b → is.at (m + i) ≡ child_at k t (m + i) b
   pub of_other : (p : ℕ) → p < m → p ≢ s → is.at p ≡ was.at p
 
+-- a turn of a task that may be woken so takes a run on
 pub went_on : (k : Table) (job : Job) (input : List ℕ) (t m s : ℕ) (was : Course k job input t m) (wake : Wake) (o : Move)
     (stopped : Stopped) → s < m →
     MayWake was.froms was.tasks t (was.at s) wake (was.at s).rest.stopped →

@@ -111,6 +111,7 @@ turn_stopped k f t m q qs others wake o s at goes e before x (inr i) = by_place 
     by_place (inl j) = begun_stopped k t m o.begun x j
     by_place (inr j) = before x ((front_same q qs others at).back x (inr j))
 
+-- each task of a run stopped by the present tick, and the body of a nursery that it waits for ended by then
 pub stopped_by : (k : Table) (job : Job) (input : List ℕ) → {f : Table} {t m : ℕ} {qs : List Started} → Reached k job input f t m qs →
     (q : Started) → In q qs → StoppedBy t q
 stopped_by k job input (begun f) q (inl e) = subst (StoppedBy 0) (sym e) (record { stop = omega arith; body = tt })
@@ -306,6 +307,7 @@ settled_waits k job input t m crew c s a id e (inr waits) over = waits
 
 -- ---- going on
 
+-- a task that may go on by what the code sees may be woken so in the run of the definitions
 pub may_wake : (k : Table) (job : Job) (input : List ℕ) (t m : ℕ) (crew : Crew) → IsSettled k job input → GivesNamesOnce job →
     StartsInNurseries job →
     (c : IsCrew k job input t m None crew) → (s : ℕ) (task : Task) → crew.task s ≡ Some task → (wake : Wake) → MayGo crew.world task wake →

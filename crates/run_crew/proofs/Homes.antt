@@ -120,6 +120,7 @@ nil_not : (before : Stack) (l : Level ℕ) (behind : Stack) → [] ≡ before ++
 nil_not [] l behind e = let f : [] ≡ l ∷ behind = e in cc
 nil_not (x ∷ before) l behind e = let f : [] ≡ x ∷ (before ++ l ∷ behind) = e in cc
 
+-- of what stands round a task, the rest from one scope on is that scope's stack
 pub chain_round : (tree : Tree) → IsChain tree → (scope : Option ℕ) (before : Stack) (l : Level ℕ) (behind : Stack) →
     outer_of tree scope ≡ before ++ l ∷ behind →
     stack_of tree l.label ≡ Some (l ∷ behind)

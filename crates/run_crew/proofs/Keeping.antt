@@ -149,6 +149,7 @@ still_waits {old = old} {new = new} c T u differs task lives P id has h =
 
 -- ---- homes after a turn
 
+-- after a turn each home is a nursery of its owner still, and the owner of a new child's is the mover
 pub homes_kept : {k : Table} {job : Job} {input : List ℕ} {t m s : ℕ} {old new : Crew} {before after : Task} {stop : Stop} →
     (c : IsCrew k job input t m None old) →
     (T : Turning k job input t m s old new c.numbers before after stop c.course) → (parent next : ℕ → ℕ) →

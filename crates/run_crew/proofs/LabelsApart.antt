@@ -35,6 +35,7 @@ use Rattle.task_machine.proofs.Stacked.{one_of, alone_at}
 
 -- ---- who entered a label
 
+-- a label among those entered in events is one that an event enters
 pub known_enters : (l : Label) (es : List Event) → Known l (entered_made es) → EntersIn l es
 known_enters l [] k = absurd k
 known_enters l (noted t e ∷ es) k = known_enters l es k
@@ -100,11 +101,13 @@ own_entered {entered = entered} h o i e l labelled =
     let n = h.named o i e in
     subst (λ (m : Label). Known m entered) (one_of n.0.label l (sym n.2 ∙ labelled)) (from_entered h o.at n.0 n.1)
 
+-- the key of a scope that a task opened is among the keys of those
 pub key_got : (own : List Own) (o : Own) (i : ℕ) → slice_get own i ≡ Some o → IsAmong o.id (keys_in own)
 key_got [] o i e = absurd (not_both refl e)
 key_got (x ∷ own) o zero e = among_right o.id (keys_in own) (x.id ∷ []) (inl (sym (ap (λ (z : Own). z.id) (one_of x o e))))
 key_got (x ∷ own) o (suc i) e = among_left o.id (keys_in own) (x.id ∷ []) (key_got own o i e)
 
+-- a key among those of a stack is the key of a scope in it
 pub is_key : (key : ℕ) (st : Stack) → IsAmong key (keys_of st) → IsKey key st
 is_key key [] i = i
 is_key key (l ∷ ls) (inl e) = inl e

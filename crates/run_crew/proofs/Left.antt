@@ -130,6 +130,7 @@ pub ended_blocks : (task : Task) (numbers : Numbers) (ps : List Place) (stopped 
 ended_blocks task numbers ps stopped u e placed ends =
     no_blocks numbers task.frames.items (subst (λ (x : rest.Stopped). PlacedStop x (frames_of numbers task.frames.items) ps) ends placed)
 
+-- a task that has ended waits for no nursery
 pub over_halt : (numbers : Numbers) (book : NurseryBook) (halt : Halt) (u : ℕ) (e : Option Exc) →
     IsHalt numbers book halt (rest.at_end u e) → waits_of halt ≡ None
 over_halt numbers book ToBegin u e h = absurd h
@@ -169,6 +170,7 @@ home_parts (Some y) id place e =
 
 -- ---- the crew without it
 
+-- a task that has ended leaves the crew, and its home is told: then nobody's end is left to tell
 pub crew_left : (k : Table) (job : Job) (input : List ℕ) (t m s : ℕ) (old new : Crew) (task : Task) (exc : Option Exc) →
     (c : IsCrew k job input t m (Some s) old) →
     Leaving t s old new (c.course.at s) task exc → IsCrew k job input t m None new

@@ -120,6 +120,7 @@ IsStop numbers None stopped = ((ps : List Place) → places_behind (Some stopped
 IsStop numbers (Some id) stopped = (children : List ℕ) × (u : ℕ) × (e : Option Exc) × (stopped ≡ rest.awaiting children u e)
     × (numbers id ≡ children)
 
+-- what a task goes on with waits for the nursery for which its stop does, or for none
 pub is_stop : (numbers : Numbers) (book : NurseryBook) (halt : Halt) (stopped : rest.Stopped) → IsHalt numbers book halt stopped →
     IsStop numbers (waits_of halt) stopped
 is_stop numbers book ToBegin rest.to_begin h = ((λ ps. refl), (λ i home ps w. w))
@@ -247,6 +248,7 @@ outer_block {labels} {book} {f} {numbers} {bs} {cs} {waits} {stopped} {keys} {ou
     by_case i home (inl x) = inl (found_more blocks x)
     by_case i home (inr c) = back i home first.place first.places here (subst (HasChild i home more) first.are c)
 
+-- frames round a task's own stand at a rest of its stack and places, and each of its children is theirs or its own frames'
 pub carry : (labels : Labels) (book : NurseryBook) (f : Table) (numbers : Numbers) (fs : List Frame) (own : List Own) (waits : Option ℕ)
     (stopped : rest.Stopped) (keys : List ℕ) (outer : List rest.Frame)
     (st : Stack) (ps : List Place) → Opened labels book (blocks_of fs) own waits → IsStop numbers waits stopped → AreAt labels f st ps →
@@ -383,6 +385,7 @@ pub record Housed
     pub nursery : HasNursery book id (λ n. n.scope ≡ scope.id)
     pub at : StandsIn labels f scope.id st home
 
+-- each child of a nursery among a task's frames is at the places of the stack of the nursery's scope
 pub housed_onto : (labels : Labels) (book : NurseryBook) (f : Table) (numbers : Numbers) (fs : List Frame) (own : List Own)
     (waits : Option ℕ) (stopped : rest.Stopped) (keys : List ℕ) (outer : List rest.Frame)
     (st : Stack) (ps : List Place) → Opened labels book (blocks_of fs) own waits → IsStop numbers waits stopped → AreAt labels f st ps →

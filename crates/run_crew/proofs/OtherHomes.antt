@@ -84,6 +84,7 @@ mover_owned {old = old} {before = before} c T u home h e = (block, T.took.kept h
     block = home_block c T home (subst (λ (x : Task). HasNurseryOf home.nursery (blocks_of x.frames.items) (waits_of x.halt)) starter
         h.owned) h.runs
 
+-- a task that lives in a nursery of the mover does so after its turn
 pub mover_home : {k : Table} {job : Job} {input : List ℕ} {t m s : ℕ} {old new : Crew} {before after : Task} {stop : Stop} →
     (c : IsCrew k job input t m None old) →
     (T : Turning k job input t m s old new c.numbers before after stop c.course) → (u : ℕ) (home : Home) →
@@ -155,6 +156,7 @@ else_home {k} {job} {input} {t} {m} {s} {old} {new} {before} {after} c T u home 
     low : h.parent < m
     low = let e : h.parent < u = h.earlier in omega arith
 
+-- a task that lives in another's nursery does so after any turn
 pub lives_in : {k : Table} {job : Job} {input : List ℕ} {t m s : ℕ} {old new : Crew} {before after : Task} {stop : Stop} →
     (c : IsCrew k job input t m None old) →
     (T : Turning k job input t m s old new c.numbers before after stop c.course) → (u : ℕ) (home : Home) → u < m →
@@ -166,6 +168,7 @@ lives_in {k} {job} {input} {t} {m} {s} {old} {new} {before} {after} c T u home s
     by_parent (inl e) = mover_home c T u home h e
     by_parent (inr differs) = else_home c T u home small h differs
 
+-- a task has the home that it had after any turn, or none if it had none
 pub home_stays : {k : Table} {job : Job} {input : List ℕ} {t m s : ℕ} {old new : Crew} {before after : Task} {stop : Stop} →
     (c : IsCrew k job input t m None old) →
     (T : Turning k job input t m s old new c.numbers before after stop c.course) → (u : ℕ) (home : Option Home) → u < m →

@@ -41,6 +41,7 @@ the_first Q labels book o own key id e h =
     let n = finds book key _ h in
     record { nursery = n.0; at = sym (ap (nursery_at book) e) ∙ n.1; scope = o; place = zero; got = refl; same = n.2.0.scope }
 
+-- each nursery of a task has a scope that the task opened
 pub scope_of_nursery : (labels : Labels) (book : NurseryBook) (bs : List Block) (own : List Own) (waits : Option ℕ) (id : ℕ) →
     Opened labels book bs own waits → HasNurseryOf id bs waits →
     HasScope book own id
@@ -81,12 +82,14 @@ nurseries_stay labels book new bs cs own mine waits waited tree opened stay fits
     (subst (λ (k : ℕ). AreOthers k own) (sym h.same) (others h.scope h.place h.got))
     ∙ sym h.at
 
+-- what is true of a nursery is so in each book in which it is the same
 pub same_nursery : (P : Members → Type 0) (book new : NurseryBook) (id : ℕ) → nursery_at new id ≡ nursery_at book id →
     HasNursery book id P → HasNursery new id P
 same_nursery P book new id e h = subst (λ (p : Option Members). IsSomeAnd p P) (sym e) h
 
 -- ---- what a task opened
 
+-- the scopes of a task are those of its blocks where their labels and its nurseries are the same
 pub opened_stays : (labels more : Labels) (book new : NurseryBook) (bs : List Block) (own : List Own) (waits : Option ℕ) →
     ((o : Own) (i : ℕ) → slice_get own i ≡ Some o → more o.id ≡ labels o.id) →
         ((id : ℕ) → HasNurseryOf id bs waits → nursery_at new id ≡ nursery_at book id) →
@@ -129,6 +132,7 @@ opened_stays labels more book new bs own waits same stay h = by_blocks bs own sa
 
 -- ---- where a task stopped
 
+-- what a task goes on with is its stop where the nursery that it waits for is the same
 pub halt_stays : (numbers : Numbers) (book new : NurseryBook) (halt : Halt) (stopped : rest.Stopped) →
     ((id : ℕ) → waits_of halt ≡ Some id → nursery_at new id ≡ nursery_at book id) →
     IsHalt numbers book halt stopped → IsHalt numbers new halt stopped

@@ -63,6 +63,7 @@ begins_late id place number n (rest.starts i l u ∷ es) (t ∷ ts) (b ∷ bs) s
 
 -- ---- a child's home is the nursery that has its number
 
+-- a task that has not ended and is a member of a nursery at a place has its home there
 pub member_home : {k : Table} {job : Job} {input : List ℕ} {t m : ℕ} {old : Crew} → (c : IsCrew k job input t m None old) →
     (u : ℕ) (task : Task) → old.task u ≡ Some task → (id place : ℕ) (e : Option End) →
     IsMember old c.course.at t id place u e → home_of task ≡ Some (id, place)
@@ -73,6 +74,7 @@ member_home c u task is id place (Some (Some exc)) h =
     let ended : live (c.course.at u).rest.stopped ≡ false = ap live h.3 in
     absurd (let clash : true ≡ false = sym alive ∙ ended in cc)
 
+-- the nursery of the mover that has the number of a child is the home of that child
 pub home_is : {k : Table} {job : Job} {input : List ℕ} {t m s : ℕ} {old new : Crew} {before after : Task} {stop : Stop} →
     (c : IsCrew k job input t m None old) →
     (T : Turning k job input t m s old new c.numbers before after stop c.course) → (u : ℕ) (task : Task) → old.task u ≡ Some task →
@@ -197,6 +199,7 @@ nowhere : (labels more : Labels) (f g : Table) (ps : List Place) → AreAt label
 nowhere labels more f g [] a = a
 nowhere labels more f g (p ∷ ps) a = absurd a
 
+-- after a turn the places of every other task are those of its stack, by the new froms
 pub places_other : {k : Table} {job : Job} {input : List ℕ} {t m s : ℕ} {old new : Crew} {before after : Task} {stop : Stop} →
     (c : IsCrew k job input t m None old) →
     (T : Turning k job input t m s old new c.numbers before after stop c.course) → ActsOf c T → (u : ℕ) (task : Task) → u ≢ s →

@@ -47,11 +47,13 @@ open_stack tree key i = by_stack (stack_of tree key) refl i
     by_stack None e j = absurd (not_closed None refl j)
     by_stack (Some st) e j = (st, e)
 
+-- what stands round a task in an open scope is the scope's stack
 pub outer_is : (tree : Tree) (key : ℕ) (st : Stack) → stack_of tree key ≡ Some st → outer_of tree (Some key) ≡ st
 outer_is tree key st e = ap (λ (o : Option Stack). unwrap_or o []) e
 
 -- ---- one scope
 
+-- an open scope that is none of the mover's stays open
 pub key_stays_open : {known : Label → Type 0} {t : ℕ} {s u : Scoping} {es : List Event} → Acted known t s u es → (key : ℕ) →
     IsOpen s.tree key → AreOthers key s.own → IsOpen u.tree key
 key_stays_open {s = s} {u = u} a key i others =
@@ -78,6 +80,7 @@ places_stay {known} {t} {s} {u} {es} a f key ps i others at =
 abbrev pub with_own : Scoping → List Own → List ScopeFrom → Scoping
 with_own s own froms = record { tree = s.tree; labels = s.labels; own = own; froms = froms }
 
+-- the froms of another task are those of the world after the turn
 pub tracks_other : {known : Label → Type 0} {t : ℕ} {s u : Scoping} {es : List Event} → Acted known t s u es →
     (was now : Label → Type 0) (f : Table) (own : List Own) (froms : List ScopeFrom)
     (entered : List Label) → AreElse own s.own → ((l : Label) → Known l entered → known l) → ((l : Label) → Known l entered → now l) →
@@ -117,6 +120,7 @@ pub last_is : (x : Own) (own : List Own) → (o : Own) × (i : ℕ) × (slice_ge
 last_is x [] = (x, zero, refl, refl)
 last_is x (y ∷ own) = let r = last_is y own in (r.0, suc r.1, r.2, r.3)
 
+-- the innermost scope of another task is open after the turn, if its home's is
 pub scope_stays : {known : Label → Type 0} {t : ℕ} {s u : Scoping} {es : List Event} → Acted known t s u es →
     (home : Option ℕ) (own : List Own) → AreElse own s.own →
     ((o : Own) (i : ℕ) → slice_get own i ≡ Some o → IsOpen s.tree o.id) → ForSome home (IsOpen u.tree) →
@@ -183,6 +187,7 @@ home_keys old new (Some home) key keys own chain was now e =
     here : stack_of new home ≡ Some (c.level ∷ c.behind)
     here = ap (stack_of new) (sym c.named) ∙ chain key st.0 st.1 c.before c.level c.behind c.is
 
+-- the scopes that another task opened are those round it still, as far as its home
 pub first_stays : {known : Label → Type 0} {t : ℕ} {s u : Scoping} {es : List Event} → Acted known t s u es →
     (home : Option ℕ) (own : List Own) → AreElse own s.own →
     ((o : Own) (i : ℕ) → slice_get own i ≡ Some o → IsOpen s.tree o.id) → ForSome home (IsOpen s.tree) → OwnFirst s.tree home own →

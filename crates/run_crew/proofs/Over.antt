@@ -101,6 +101,7 @@ rows_started f start at child (starts i l t ∷ es) h = (h.0, h.1, rows_started 
 ended_row : (s : Stopped) (u : ℕ) (e : Option Exc) → s ≡ at_end u e → s ≡ at_end (end_at s) (exc_at s)
 ended_row s u e h = subst (λ (x : Stopped). x ≡ at_end (end_at x) (exc_at x)) (sym h) refl
 
+-- where every task of a crew has ended, what is kept of them says what the job means
 pub crew_over : (job : Job) (input : List ℕ) → GivesNamesOnce job → StartsInNurseries job → (t m : ℕ) (crew : Crew) →
     IsCrew (meaning_table job input) job input t m None crew →
     ((p : ℕ) → crew.task p ≡ None) → IsOver job input m crew

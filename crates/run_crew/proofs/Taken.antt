@@ -45,6 +45,7 @@ begun_long numbers book bs waits [] (c ∷ cs) h = absurd h
 begun_long numbers book bs waits (t ∷ ts) [] h = absurd h
 begun_long numbers book bs waits (t ∷ ts) (c ∷ cs) h = ap suc (begun_long numbers book bs waits ts cs h.1)
 
+-- a turn of the code starts as many tasks as that of the definitions begins children
 pub tasks_long : {k : Table} {job : Job} {input : List ℕ} {t m s : ℕ} {old new : Crew} {numbers : ℕ → Numbers} {before after : Task}
     {stop : Stop} {was : Course k job input t m} →
     (T : Turning k job input t m s old new numbers before after stop was) → length T.took.tasks ≡ length T.move.begun

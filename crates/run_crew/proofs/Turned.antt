@@ -59,6 +59,7 @@ froms_same f g (l ∷ ls) same =
 abbrev pub IsSameChild : (was are : ℕ → ℕ) (at now : ℕ → Started) (child later : ℕ → ℕ) → ℕ → Type 0
 IsSameChild was are at now child later i = ((now (later i)).here.task ≡ (at (child i)).here.task) × (are (later i) ≡ was (child i))
 
+-- children that keep their labels and starts are still as their starter's events say
 pub started_same : (was are : ℕ → ℕ) (at now : ℕ → Started) (child later : ℕ → ℕ) (es : List Event) →
     ((i : ℕ) → StartsChild i es → IsSameChild was are at now child later i) →
     AreStarted was at child es → AreStarted are now later es
@@ -70,6 +71,7 @@ started_same was are at now child later (starts i l t ∷ es) same h =
     let o = same i (inl refl) in
     (o.0 ∙ h.0, o.1 ∙ h.1, started_same was are at now child later es (λ j among. same j (inr among)) h.2)
 
+-- children that are as events say, and as further ones say, are as all of them say
 pub started_join : (start : ℕ → ℕ) (at : ℕ → Started) (child : ℕ → ℕ) (es fs : List Event) → AreStarted start at child es →
     AreStarted start at child fs →
     AreStarted start at child (es ++ fs)

@@ -17,6 +17,7 @@ scope_seen [] task = refl
 scope_seen (b ∷ berths) zero = refl
 scope_seen (b ∷ berths) (suc task) = scope_seen berths task
 
+-- where each task keeps its berth, each is seen to sleep in the scope in which it did
 pub same_seen : (old new : List (Option Berth)) → SameBerths old new → IsSame (map scope_of old) (map scope_of new)
 same_seen old new same task = scope_seen new task ∙ ap scope_of (same task) ∙ sym (scope_seen old task)
 
@@ -42,6 +43,7 @@ under_is scope (Some berth) place e =
       | inr apart ↦ absurd (let none : place_under scope (Some berth) ≡ None = rw (ne_eqb berth.scope scope apart) refl in cc)
     ]
 
+-- who sleeps in a scope has a place under it
 pub under_has : (scope : ℕ) (o : Option Berth) → scope_of o ≡ Some scope → (place : ℕ) × (place_under scope o ≡ Some place)
 under_has scope None e = absurd (cc)
 under_has scope (Some berth) e = (berth.place, rw (eq-eqb berth.scope scope (some_same berth.scope scope e)) refl)

@@ -5,9 +5,11 @@ use Rattle.std.proofs.lemmas.List.{length-append, get_or_append_left}
 use Rattle.std.proofs.Math.Seq.{get_or-append_seam}
 use Rattle.sleeper_sights.specs.Kept.{IsPlaced}
 
+-- two numbers are the same where they are as options
 pub some_same : (a b : ℕ) → Some a ≡ Some b → a ≡ b
 some_same a b e = cc
 
+-- an option does not hold nothing and a number
 pub none_some : {X : Type 0} (o : Option ℕ) (a : ℕ) → o ≡ None → o ≡ Some a → X
 none_some o a none some = absurd (let e : None ≡ Some a = sym none ∙ some in cc)
 
@@ -43,6 +45,7 @@ pub record Removed (list rest : List ℕ) (place : ℕ) : Type 0 where
   pub seam : place + 1 < length list → get_or rest place 0 ≡ get_or list (length list - 1) 0
   pub keeps : (k : ℕ) → k ≢ place → k + 1 < length list → get_or rest k 0 ≡ get_or list k 0
 
+-- a list and its rest are so by their lengths and by what is read of them, whatever is read past the end
 pub removed : (list rest : List ℕ) (place n m : ℕ) → n ≡ length list → m ≡ length rest → m + 1 ≡ n →
     ((d : ℕ) → place + 1 < n → get_or rest place d ≡ get_or list (n - 1) d) →
     ((k d : ℕ) → k ≢ place → k + 1 < n → get_or rest k d ≡ get_or list k d) → Removed list rest place

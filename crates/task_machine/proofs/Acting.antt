@@ -56,6 +56,7 @@ halts_not numbers book (Awaits id since) (awaiting children ended exc) not h = a
 halts_not numbers book (Awaits id since) (at_end u e) not h = absurd h
 halts_not numbers book Over s not h = refl
 
+-- after a move that does not stop to wait for children the task waits for no nursery
 pub waits_not : (numbers : Numbers) (book : NurseryBook) (part : Part) (goes : Moved) (halt : Halt) (o : Move) → WaitsNot o.stopped →
     MovesAs numbers book part goes halt o →
     waits_by goes halt ≡ None
@@ -76,6 +77,7 @@ pub block_of : (id : ℕ) (bs : List Block) (waits : Option ℕ) → waits ≡ N
 block_of id bs waits none (inl h) = h
 block_of id bs waits none (inr e) = absurd (let f : None ≡ Some id = sym none ∙ e in cc)
 
+-- a nursery is among blocks, or it is not
 pub has_or_not : (id : ℕ) (bs : List Block) → HasBlock id bs ⊎ (HasBlock id bs → ⊥)
 has_or_not id [] = inr (λ h. h)
 has_or_not id (a_scope ∷ bs) = has_or_not id bs
@@ -93,12 +95,15 @@ has_or_not id (a_nursery key ∷ bs) = by_key (id == key) refl (has_or_not id bs
 
 -- ---- acts that change nothing
 
+-- with no event made the scopes may stay as they are
 pub same_acts : (tick : ℕ) (s u : Scoping) → u ≡ s → Acts tick s [] u
 same_acts tick s u e = subst (λ (x : Scoping). Acts tick s [] x) (sym e) (no_act s)
 
+-- the same where it is only known that no event was made
 pub no_acts : (tick : ℕ) (s u : Scoping) (es : List Event) → es ≡ [] → u ≡ s → Acts tick s es u
 no_acts tick s u es none e = subst (λ (fs : List Event). Acts tick s fs u) (sym none) (same_acts tick s u e)
 
+-- acts one after the other make the events of the first, then those of the second
 pub acts_append : (tick : ℕ) (s m u : Scoping) (es fs : List Event) → Acts tick s es m → Acts tick m fs u → Acts tick s (es ++ fs) u
 acts_append tick _ _ u _ fs (no_act s) b = b
 acts_append tick _ _ u _ fs (act_noted s m t e ds a) b = act_noted s u t e (ds ++ fs) (acts_append tick s m u ds fs a b)
@@ -107,13 +112,16 @@ acts_append tick _ _ u _ fs (act_signs s x m l ds h a) b = act_signs s x u l (ds
 acts_append tick _ _ u _ fs (act_enters s x m l t d ds h a) b = act_enters s x u l t d (ds ++ fs) h (acts_append tick x m u ds fs a b)
 acts_append tick _ _ u _ fs (act_leaves s x m es h a) b = act_leaves s x u (es ++ fs) h (acts_append tick x m u es fs a b)
 
+-- lines that are noted leave the scopes as they are
 pub lines_acts : (tick t : ℕ) (spans : List Span) (s u : Scoping) → u ≡ s → Acts tick s (lines_made t spans) u
 lines_acts tick t [] s u e = same_acts tick s u e
 lines_acts tick t (l ∷ spans) s u e = act_noted s u t (log.line l) (lines_made t spans) (lines_acts tick t spans s u e)
 
+-- a child that is started leaves the scopes as they are
 pub start_acts : (tick : ℕ) (i : ℕ) (l : Label) (t : ℕ) (s u : Scoping) → u ≡ s → Acts tick s (starts i l t ∷ []) u
 start_acts tick i l t s u e = act_starts s u i l t [] (same_acts tick s u e)
 
+-- children that are started over cuts leave the scopes as they are
 pub starts_acts : (tick : ℕ) (name : List ℕ) (here : Here) (t first k : ℕ) (s u : Scoping) → u ≡ s →
     Acts tick s (starts_over name here t first k) u
 starts_acts tick name here t first zero s u e = same_acts tick s u e
@@ -173,6 +181,7 @@ home_signed before after old new (Some e) table (l ∷ ls) (p ∷ ps) own froms 
 
 -- ---- scopes that are entered and left
 
+-- a task that opened one scope acted as the event of entering its label says
 pub entered_acts : (before after : Task) (old new : World) (label : Label) (deadline : Tick) →
     EntersOne before after old new label deadline →
     Acts old.tick (scoping_of before old) (enters label old.tick deadline ∷ []) (scoping_of after new)
@@ -195,6 +204,7 @@ entered_acts before after old new label deadline e =
     })
     (no_act (scoping_of after new))
 
+-- a task that closed the last of its scopes acted so, with an entry noted
 pub left_acts : (before after : Task) (old new : World) (t : ℕ) (entry : log.Entry) → LeavesOne before after old new →
     Acts old.tick (scoping_of before old) (noted t entry ∷ []) (scoping_of after new)
 left_acts before after old new t entry e =

@@ -40,11 +40,13 @@ use Rattle.task_machine.proofs.TooksEntered.{took_scope, took_nursery}
 use Rattle.task_machine.proofs.TooksStarted.{took_start, took_start_over}
 use Rattle.task_machine.proofs.Advances.{takes_step, blocks_onto, own_keys, blocks_same, blocks_off}
 
+-- a task has the same blocks once the first of its steps is taken
 pub blocks_put : (frames : List Frame) (task before : Task) (first : Step) → AtStep frames task before first →
     blocks_of before.frames.items ≡ blocks_of frames
 blocks_put frames task before first a =
     sym (blocks_off a.outer before.frames.items (Steps a.left) a.held refl) ∙ blocks_off a.outer frames (Steps a.steps) a.popped refl
 
+-- the frames once the first step is taken: the steps after it, and the outer ones
 pub frames_put : (frames : List Frame) (task before : Task) (first : Step) (a : AtStep frames task before first) (numbers : Numbers) →
     frames_of numbers before.frames.items ≡ rest.steps_left (steps_of a.left.now) ∷ frames_of numbers a.outer
 frames_put frames task before first a numbers = frames_pushed numbers a.outer before.frames.items (Steps a.left) a.held
@@ -99,6 +101,7 @@ takes_sleeps frames first task before after world goes ticks a is stays sleep =
     (took_sleep frames before after world goes froms numbers None ps ticks stands stays (blocks_put frames task before first a)
     (λ at. sleep froms numbers world.book (frames_of numbers before.frames.items) ps at)))
 
+-- a `sleep`, where the code stops or goes on as a sleep of its ticks does, is the definitions' step
 pub takes_sleep : (frames : List Frame) (first : Step) (task before after : Task) (world : World) (goes : Moved) (ticks : ℕ) →
     AtStep frames task before first →
     first ≡ code.Sleep ticks →
@@ -112,6 +115,7 @@ takes_sleep frames first task before after world goes ticks a is stays sleep =
         (λ froms here ss fs ps count. ap (λ (s : Step). step_on froms world.tick here
     (step_in s) ss fs ps count) is) stays sleep
 
+-- a `checkpoint`, where the code goes on as a sleep of no tick does, is the definitions' step
 pub takes_checkpoint : (frames : List Frame) (first : Step) (task before after : Task) (world : World) (goes : Moved) →
     AtStep frames task before first → first ≡ code.Checkpoint →
     after ≡ record before { halt = after.halt } →
@@ -123,6 +127,7 @@ takes_checkpoint frames first task before after world goes a is stays sleep =
     takes_sleeps frames first task before after world goes 0 a (λ froms here ss fs ps count.
         ap (λ (s : Step). step_on froms world.tick here (step_in s) ss fs ps count) is) stays sleep
 
+-- a `forever`, where the code stops or goes on as a sleep up to the farthest tick does, is the definitions' step
 pub takes_forever : (frames : List Frame) (first : Step) (task before after : Task) (world : World) (goes : Moved) (ticks : ℕ) →
     AtStep frames task before first → first ≡ code.Forever →
     ticks ≡ far - world.tick → after ≡ record before { halt = after.halt } →
@@ -160,6 +165,7 @@ takes_asks frames first task before after world goes kernel purpose a is stays a
     (sym (ap (λ (t : Task). frames_of numbers t.frames.items) stays ∙ frames_put frames task before first a numbers)) refl refl refl tt
     (asks numbers world.book (rest.steps_left (steps_of a.left.now) ∷ frames_of numbers a.outer) ps)))
 
+-- a `pace`, where the code stops to ask for the count of its lines, is the definitions' step
 pub takes_pace : (frames : List Frame) (first : Step) (task before after : Task) (world : World) (goes : Moved) (k : ℕ) →
     AtStep frames task before first → first ≡ code.Pace k →
     after ≡ record before { halt = after.halt } →
@@ -171,6 +177,7 @@ takes_pace frames first task before after world goes k a is stays asks =
     takes_asks frames first task before after world goes ask.count (ask.paces k) a
     (λ froms here ss fs ps count. ap (λ (s : Step). step_on froms world.tick here (step_in s) ss fs ps count) is) stays asks
 
+-- a `find`, where the code stops to ask for the lines with its text, is the definitions' step
 pub takes_find : (frames : List Frame) (first : Step) (task before after : Task) (world : World) (goes : Moved) (text needle : List ℕ) →
     AtStep frames task before first →
     first ≡ code.Find text →
@@ -185,6 +192,7 @@ takes_find frames first task before after world goes text needle a is sought sta
     ap (λ (s : Step). step_on froms world.tick here (step_in s) ss fs ps count) is
     ∙ ap (λ (bytes : List ℕ). halts (asking (ask.find bytes) ask.shows) (rest.steps_left ss ∷ fs) ps) (sym sought)) stays asks
 
+-- a `head`, where the code stops to ask for so many first lines, is the definitions' step
 pub takes_head : (frames : List Frame) (first : Step) (task before after : Task) (world : World) (goes : Moved) (n : ℕ) →
     AtStep frames task before first → first ≡ code.Head n →
     after ≡ record before { halt = after.halt } →
@@ -197,6 +205,7 @@ takes_head frames first task before after world goes n a is stays asks =
         (λ froms here ss fs ps count. ap (λ (s : Step). step_on froms world.tick here
     (step_in s) ss fs ps count) is) stays asks
 
+-- a `longest`, where the code stops to ask for the longest line, is the definitions' step
 pub takes_longest : (frames : List Frame) (first : Step) (task before after : Task) (world : World) (goes : Moved) →
     AtStep frames task before first → first ≡ code.Longest →
     after ≡ record before { halt = after.halt } →
@@ -208,6 +217,7 @@ takes_longest frames first task before after world goes a is stays asks =
         (λ froms here ss fs ps count. ap (λ (s : Step). step_on froms world.tick here
     (step_in s) ss fs ps count) is) stays asks
 
+-- a `need`, where the code stops to ask for a line with its text, is the definitions' step
 pub takes_need : (frames : List Frame) (first : Step) (task before after : Task) (world : World) (goes : Moved)
     (text name needle : List ℕ) → AtStep frames task before first →
     first ≡ code.Need text name → needle ≡ text → after ≡ record before { halt = after.halt } →
@@ -223,6 +233,7 @@ takes_need frames first task before after world goes text name needle a is sough
 
 -- ---- an exception is raised, and a scope cancelled
 
+-- a `raise`, where the code goes on with the exception of its name, is the definitions' step
 pub takes_raise : (frames : List Frame) (first : Step) (task before : Task) (world : World) (goes : Moved) (name : List ℕ) →
     AtStep frames task before first → first ≡ code.Raise name →
     ((numbers : Numbers) (book : NurseryBook) (fs : List rest.Frame) (ps : List Place) →
@@ -240,6 +251,7 @@ takes_raise frames first task before world goes name a is raises =
     (blocks_put frames task before first a) (sym (frames_put frames task before first a numbers)) refl refl refl tt
     (raises numbers world.book (rest.steps_left (steps_of a.left.now) ∷ frames_of numbers a.outer) ps)))
 
+-- a `cancel`, where the code signs the innermost scope of its name, if there is one, is the definitions' step
 pub takes_cancel : (frames : List Frame) (first : Step) (task before : Task) (old new : World) (name : List ℕ) →
     AtStep frames task before first → first ≡ code.Cancel name →
     new ≡ record old { scopes = new.scopes } → CancelsAt old new (scope_of before) name →
@@ -255,6 +267,7 @@ takes_cancel frames first task before old new name a is world cancels =
 
 -- ---- a scope or nursery is entered
 
+-- a `scope`, where the code enters one with its label, shield and deadline, is the definitions' step
 pub takes_scope : (frames : List Frame) (first : Step) (task before after : Task) (old new : World) (name : List ℕ) (deadline : Deadline)
     (shield fail : Bool) (body : tree.Steps) →
     AtStep frames task before first → first ≡ code.Scope name deadline shield fail body →
@@ -278,6 +291,7 @@ takes_scope frames first task before after old new name deadline shield fail bod
         (blocks_put frames task before first a)
     (subst (λ (s : Step). IsNew (names_at ps) (step_in s)) is fresh).0 stays block world enters one)))
 
+-- a `nursery`, where the code enters one with its label, shield and deadline, is the definitions' step
 pub takes_nursery : (me : ℕ) (frames : List Frame) (first : Step) (task before after : Task) (old new : World) (name : List ℕ)
     (deadline : Deadline) (shield : Bool) (body : tree.Steps) → AtStep frames task before first →
     first ≡ code.Nursery name deadline shield body → after ≡ record before { frames = after.frames; own = after.own; froms = after.froms } →
@@ -319,6 +333,7 @@ last_at (g ∷ h ∷ fs) (suc n) f long got =
     let l = last_at (h ∷ fs) n f (omega (arith, long)) got in
     record { outer = g ∷ l.outer; is = ap (λ (gs : List Frame). g ∷ gs) l.is }
 
+-- the frame at the last place is the innermost one
 pub last_frame : (fs : List Frame) (f : Frame) → slice_get fs (length fs - 1) ≡ Some f → LastFrame fs f
 last_frame [] f got = absurd (let e : None ≡ Some f = got in cc)
 last_frame (g ∷ fs) f got = last_at (g ∷ fs) (length (g ∷ fs) - 1) f (omega arith) got
@@ -371,6 +386,7 @@ takes_start_over frames fs id first task before old new name k body a is within 
 
 -- ---- a `try` begins
 
+-- a `try`, where the code puts its body inside its handler and cleanup, is the definitions' step
 pub takes_attempt : (frames : List Frame) (first : Step) (task before after : Task) (world : World) (body : tree.Steps)
     (handler : Option Handler) (cleanup : Option tree.Steps) →
     AtStep frames task before first → first ≡ code.Try body handler cleanup → after ≡ record before { frames = after.frames } →

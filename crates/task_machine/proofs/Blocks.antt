@@ -12,6 +12,7 @@ use Rattle.task_machine.specs.declared.task.Own.{Own}
 use Rattle.task_machine.specs.Fitting.{Block, a_scope, a_nursery, blocks_of, AreOthers, IsMine, IsBlockOf, Opened, HasRunning, RunsIn}
 use Rattle.task_machine.specs.Labels.{Labels}
 
+-- the blocks of some frames, and of others inside them
 pub blocks_append : (fs gs : List Frame) → blocks_of (fs ++ gs) ≡ blocks_of fs ++ blocks_of gs
 blocks_append [] gs = refl
 blocks_append (Steps steps ∷ fs) gs = blocks_append fs gs
@@ -44,6 +45,7 @@ pub record Innermost (labels : Labels) (book : NurseryBook) (bs : List Block) (o
   pub others : AreOthers o.id own
   pub outer : Opened labels book bs own None
 
+-- the last scope that a task opened is that of its innermost block, and the others are those of the outer ones
 pub opened_out : (labels : Labels) (book : NurseryBook) (bs : List Block) (own : List Own) (b : Block) (o : Own) →
     Opened labels book (bs ++ b ∷ []) (own ++ o ∷ []) None → Innermost labels book bs own b o
 opened_out labels book [] [] b o h = record { block = h.0; others = All-nil (λ (x : Own). x.id ≢ o.id); outer = tt }
@@ -111,6 +113,7 @@ block_stays labels more old new key (a_nursery id) o s differs i = by_nursery (n
             (sym (s.nurseries id n e (λ f. differs (sym i.0.scope ∙ f))))
         (record { scope = i.0.scope; label = s.named o.id differs ∙ i.0.label }, i.1)
 
+-- the scopes of a task are those of its blocks still, where the world changed for another scope alone
 pub opened_stays : (labels more : Labels) (old new : NurseryBook) (key : ℕ) (bs : List Block) (own : List Own) →
     StaysBut labels more old new key → AreOthers key own → Opened labels old bs own None → Opened more new bs own None
 opened_stays labels more old new key [] [] s e h = tt
@@ -124,6 +127,7 @@ opened_stays labels more old new key (b ∷ bs) (x ∷ own) s e h = (
 
 -- ---- children that run
 
+-- where a child runs in a block or one inside it, it does so with one more block inside
 pub runs_in_more : (book : NurseryBook) (bs : List Block) (b : Block) (i : ℕ) → RunsIn book bs i None → RunsIn book (bs ++ b ∷ []) i None
 runs_in_more book [] b i r = absurd r
 runs_in_more book (a_scope ∷ bs) b zero r = runs_in_more book bs b zero r

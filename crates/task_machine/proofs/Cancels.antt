@@ -25,6 +25,7 @@ open_in tree key before (l ∷ ls) chain (inl e) = subst (IsOpen tree) (sym e) (
 open_in tree key before (l ∷ ls) chain (inr i) =
     open_in tree key (before ++ l ∷ []) ls (λ front m behind e. chain front m behind (sym (append_assoc before (l ∷ []) ls) ∙ e)) i
 
+-- each scope of a stack is open
 pub open_round : (tree : Tree) → IsChain tree → (scope : Option ℕ) (key : ℕ) → IsKey key (outer_of tree scope) → IsOpen tree key
 open_round tree chain None key i = absurd i
 open_round tree chain (Some p) key i = by_stack (stack_of tree p) refl i
@@ -33,6 +34,7 @@ open_round tree chain (Some p) key i = by_stack (stack_of tree p) refl i
     by_stack None e i = absurd i
     by_stack (Some st) e i = open_in tree key [] st (λ front l behind f. chain p st e front l behind f) i
 
+-- a scope that is found in a stack by its name is open
 pub found_open : (labels : Labels) (tree : Tree) (name : List ℕ) (scope : Option ℕ) (key : ℕ) → IsChain tree →
     scope_named labels name (outer_of tree scope) ≡ Some key → IsOpen tree key
 found_open labels tree name scope key chain e = open_round tree chain scope key (named_is_in labels name (outer_of tree scope) key e)
@@ -48,6 +50,7 @@ round_after old new key t (Some p) h = ap (λ (o : Option Stack). unwrap_or o []
     by_stack None = refl
     by_stack (Some st) = refl
 
+-- where a scope of the name was found and signed, the froms of the places are lowered by the sign of its label
 pub cancels_at : (labels more : Labels) (old new : Tree) (scope : Option ℕ) (name : List ℕ) (key t : ℕ) → more ≡ labels →
     ((at : ℕ) → stack_of new at ≡ option_map (after_cancel key t) (stack_of old at)) →
         scope_named labels name (outer_of old scope) ≡ Some key →
@@ -66,6 +69,7 @@ cancels_at labels more old new scope name key t same after found froms ps own a 
     (subst (λ (o : Option Label). AreAt labels (froms_after froms (signs_to o t)) (after_cancel key t (outer_of old scope)) ps) (sym at.1.1)
         signed))
 
+-- where no scope has the name, nothing is signed and the places stay as they are
 pub cancels_none : (labels : Labels) (st : Stack) (name : List ℕ) (t : ℕ) → scope_named labels name st ≡ None →
     (froms : Table) (ps : List Place) →
     AreAt labels froms st ps → AreAt labels (froms_after froms (signs_to (label_among name ps) t)) st ps

@@ -123,6 +123,7 @@ WaitsAs numbers waits (asleep n since) = waits ≡ None
 WaitsAs numbers waits (awaiting children ended exc) = (id : ℕ) × (waits ≡ Some id) × (numbers id ≡ children)
 WaitsAs numbers waits (at_end u e) = waits ≡ None
 
+-- a task that stopped to wait for children waits for their nursery by its halt, and any other for none
 pub halt_waits : (numbers : Numbers) (book : NurseryBook) (halt : Halt) (stopped : Stopped) → IsHalt numbers book halt stopped →
     WaitsAs numbers (waits_of halt) stopped
 halt_waits numbers book ToBegin to_begin h = refl

@@ -38,6 +38,7 @@ same_round labels more tree key label chain closed u (Some p) = by_stack (stack_
     by_stack None e = tt
     by_stack (Some st) e = same_on labels more tree key label closed u [] st (λ front l behind f. chain p st e front l behind f)
 
+-- a scope that is opened inside a stack has its place inside the others, with its deadline as its from
 pub enters_at : (labels more : Labels) (old new : Tree) (outer inner : Option ℕ) (key : ℕ) (label : Label) (shield : Bool) (d : Tick) →
     IsChain old → stack_of old key ≡ None →
     stack_of new key ≡ Some (record { label = key; shield = shield; from = d } ∷ outer_of old outer) →

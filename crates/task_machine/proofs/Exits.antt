@@ -92,6 +92,7 @@ fails_at labels more old new scope key t e same own within is_open after froms p
     (subst (λ (st : Stack). AreAt labels (froms_after froms (signs_home (Some e) ps t)) st ps) (sym (round_after old new key t scope after))
     (signed_first labels froms (outer_of old scope) ps key t e (top_at old scope key own within is_open) names a))
 
+-- who failed, as a test says, signs for the innermost scope: the from of the innermost place is lowered by that
 pub fails_if : (labels more : Labels) (old new : Tree) (scope : Option ℕ) (key t : ℕ) (o : Option held.Exc) (b : Bool) → is_some o ≡ not b →
     b ≡ false → more ≡ labels → IsOwn old → scope ≡ Some key →
     IsSome (stack_of old key) → ((at : ℕ) → stack_of new at ≡ option_map (after_cancel key t) (stack_of old at)) →

@@ -28,6 +28,7 @@ pub record LastOf (own : List Own) : Type 0 where
   pub last : Own
   pub is : own ≡ before ++ last ∷ []
 
+-- scopes that a task opened, if there are some, have a last one
 pub last_of : (own : List Own) → 0 < length own → LastOf own
 last_of [] some = absurd (omega (arith, some))
 last_of (o ∷ []) some = record { before = []; last = o; is = refl }
@@ -102,6 +103,7 @@ ready_scope fs fail part home own n tree labels book chain owns apart h =
 
 -- ---- the tree once the innermost scope was left
 
+-- the innermost scope of the stack of an open home is that home
 pub first_key : (tree : Tree) (home : Option ℕ) → IsOwn tree → ForSome home (IsOpen tree) → head_of (keys_of (outer_of tree home)) ≡ home
 first_key tree None owns opened = refl
 first_key tree (Some k) owns opened = by_stack (stack_of tree k) refl (opened k refl)
@@ -114,6 +116,7 @@ first_key tree (Some k) owns opened = by_stack (stack_of tree k) refl (opened k 
     by_stack None e s = absurd (let f : false ≡ true = s in cc)
     by_stack (Some st) e s = by_label st (owns k st e)
 
+-- the first of some keys is among them
 pub head_among : (ks : List ℕ) (k : ℕ) → head_of ks ≡ Some k → IsAmong k ks
 head_among [] k e = absurd (let f : None ≡ Some k = e in cc)
 head_among (x ∷ ks) k e = inl (sym (one_of x k e))

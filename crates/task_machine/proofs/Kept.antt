@@ -43,6 +43,7 @@ keys_after key t (l ∷ ls) =
     ap (λ (k : ℕ). k ∷ keys_of (after_cancel key t ls)) (key_after key t l (l.label == key))
         ∙ ap (λ (ks : List ℕ). l.label ∷ ks) (keys_after key t ls)
 
+-- a cancellation leaves each scope open or closed, inside the same ones
 pub signed_keys : (old new : Tree) (id t : ℕ) → ((key : ℕ) → stack_of new key ≡ option_map (after_cancel id t) (stack_of old key)) →
     SameKeys old new
 signed_keys old new id t h key = ap (λ (o : Option Stack). option_map keys_of o) (h key) ∙ by_stack (stack_of old key)
@@ -92,6 +93,7 @@ others_same old new book bs own waits same run key st e a i o got within = by_st
             same_outer (Some st) (Some su) (sym (ap (option_map keys_of) e) ∙ same key ∙ ap (option_map keys_of) f) in
         run key su f a i o got (is_key o.id su (subst (IsAmong o.id) keys (among_keys o.id st within)))
 
+-- what holds of a task is kept where each scope stays open or closed, inside the same ones
 pub fits_signed : (fs : List Frame) (part : Part) (home : Option ℕ) (own : List Own) (n : ℕ) (old new : Tree) (labels : Labels)
     (book : NurseryBook) (waits : Option ℕ) → SameKeys old new →
     FitsIn fs part home own n old labels book waits → FitsIn fs part home own n new labels book waits
@@ -147,6 +149,7 @@ all_below n (o ∷ own) a =
     All-cons (λ (x : Own). x.at < suc n) o own (let e = All-head (λ (x : Own). x.at < n) o own a in omega (arith, e))
         (all_below n own (All-tail (λ (x : Own). x.at < n) o own a))
 
+-- what holds of a task is kept when it enters one more block, with a scope that was not open
 pub fits_entered : (fs gs : List Frame) (b : Block) (part : Part) (home : Option ℕ) (own : List Own) (o : Own) (n : ℕ) (old new : Tree)
     (labels more : Labels) (book after : NurseryBook) (name : Label)
     (level : Level ℕ) → IsChain old → stack_of old o.id ≡ None → stack_of new o.id ≡ Some (level ∷ outer_of old (last_or home (ids own))) →
@@ -200,6 +203,7 @@ fits_entered fs gs b part home own o n old new labels more book after name level
 
 -- ---- a scope that is left
 
+-- where the places of all scopes of a task are below a number, so are those without the last
 pub first_below : (n : ℕ) (own : List Own) (o : Own) → All (λ (x : Own). x.at < n) (own ++ o ∷ []) → All (λ (x : Own). x.at < n) own
 first_below n [] o a = All-nil (λ (x : Own). x.at < n)
 first_below n (x ∷ own) o a =
@@ -223,6 +227,7 @@ behind_open old new chain owns apart home os o top keep key i =
         (apart o.id (top.level ∷ top.behind) top.at [] top.level top.behind refl)))) in
     subst (IsOpen new) at.named (subst IsSome (sym (keep at.level.label differs ∙ round)) refl)
 
+-- the home of a task stays open when the innermost of its scopes is closed
 pub home_open : (old new : Tree) → IsChain old → IsOwn old → IsApart old → (home : Option ℕ) (os : List Own) (o : Own) → Top old home os o →
     OthersKeep old new o.id →
     ForSome home (IsOpen old) → ForSome home (IsOpen new)
@@ -230,6 +235,7 @@ home_open old new chain owns apart home os o top keep opened key e =
     behind_open old new chain owns apart home os o top keep key (head_among (keys_of (outer_of old home)) key
         (first_key old home owns opened ∙ e))
 
+-- what holds of a task is kept when it leaves its innermost block, a scope
 pub fits_left : (fs : List Frame) (fail : Bool) (part : Part) (home : Option ℕ) (os : List Own) (o : Own) (n : ℕ) (old new : Tree)
     (labels more : Labels) (book : NurseryBook) → IsChain old → IsOwn old →
     IsApart old → Top old home os o → stack_of new o.id ≡ None → OthersKeep old new o.id → label.Updates labels more o.id None →
@@ -280,6 +286,7 @@ pub record Inside (fs : List Frame) (part : Part) (home : Option ℕ) (n : ℕ) 
   pub apart : AreOthers last.last.id last.before
   pub outer : Opened labels book (blocks_of fs) last.before None
 
+-- a task whose innermost block is a nursery opened its scope last, and the body of the nursery runs
 pub inside_of : (fs : List Frame) (id : ℕ) (part : Part) (home : Option ℕ) (own : List Own) (n : ℕ) (tree : Tree) (labels : Labels)
     (book : NurseryBook) →
     FitsIn (fs ++ Nursery id ∷ []) part home own n tree labels book None → Inside fs part home n tree labels book id own
@@ -300,6 +307,7 @@ inside_of fs id part home own n tree labels book h = by_nursery (nursery_at book
     by_nursery None e i = absurd i
     by_nursery (Some m) e i = record { last = l; members = m; at = e; mine = i.0; runs = i.1; apart = inner.others; outer = inner.outer }
 
+-- what holds of a task is kept when the body of its innermost nursery ends, and it waits for that one
 pub fits_awaits : (fs : List Frame) (id : ℕ) (part : Part) (home : Option ℕ) (own : List Own) (n : ℕ) (tree : Tree) (labels : Labels)
     (book after : NurseryBook) (exc : Option Exc) →
     Changes book after id (with_body exc) → FitsIn (fs ++ Nursery id ∷ []) part home own n tree labels book None →

@@ -24,6 +24,7 @@ pub first_is_last : (os : List Own) (r : List ℕ) → head_of (keys_in os ++ r)
 first_is_last [] r = refl
 first_is_last (o ∷ os) r = ap head_of (append_assoc (keys_in os) (o.id ∷ []) r) ∙ first_is_last os (o.id ∷ r)
 
+-- the scope that a task opened last is the innermost of its own
 pub keys_pushed : (os : List Own) (x : Own) → keys_in (os ++ x ∷ []) ≡ x.id ∷ keys_in os
 keys_pushed [] x = refl
 keys_pushed (o ∷ os) x = ap (λ (ks : List ℕ). ks ++ o.id ∷ []) (keys_pushed os x)
@@ -93,6 +94,7 @@ same_behind labels more tree key label whole before (l ∷ ls) u stack short cha
         let h : length (l ∷ ls) ≡ length whole = ap length g in
         omega (arith, short, h)
 
+-- a stack is the same places where its scopes keep their labels
 pub same_labels : (labels more : Labels) (froms : Table) (st : Stack) (ps : List Place) → SameOn labels more st → AreAt labels froms st ps →
     AreAt more froms st ps
 same_labels labels more froms [] [] same a = tt
@@ -102,6 +104,7 @@ same_labels labels more froms (l ∷ ls) (p ∷ ps) same a = (sym same.0 ∙ a.0
 
 -- ---- the scope that is left, at the top of its stack
 
+-- a scope that a task opened is open, and round it are those that it opened before, then those round its home
 pub record Top (tree : Tree) (home : Option ℕ) (os : List Own) (x : Own) : Type 0 where
   pub level : Level ℕ
   pub behind : Stack
@@ -116,6 +119,7 @@ length_keys (l ∷ ls) = ap suc (length_keys ls)
 tail_of : (a b : ℕ) (xs ys : List ℕ) → a ∷ xs ≡ b ∷ ys → xs ≡ ys
 tail_of a b xs ys e = cc
 
+-- the last scope that a task opened has the others of the task round it, then those round its home
 pub top_of : (tree : Tree) → IsChain tree → IsOwn tree → (home : Option ℕ) (own os : List Own) (x : Own) → own ≡ os ++ x ∷ [] →
     IsOpen tree x.id → OwnFirst tree home own →
     last_or home (ids own) ≡ Some x.id → Top tree home os x

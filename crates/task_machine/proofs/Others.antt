@@ -19,11 +19,13 @@ use Rattle.task_machine.proofs.Stacked.{one_of}
 
 -- ---- places in lists
 
+-- a key of the first of two lists is in both together
 pub among_left : (k : ℕ) (ks ms : List ℕ) → IsAmong k ks → IsAmong k (ks ++ ms)
 among_left k [] ms i = absurd i
 among_left k (x ∷ ks) ms (inl e) = inl e
 among_left k (x ∷ ks) ms (inr i) = inr (among_left k ks ms i)
 
+-- a key of the second of two lists is in both together
 pub among_right : (k : ℕ) (ks ms : List ℕ) → IsAmong k ms → IsAmong k (ks ++ ms)
 among_right k [] ms i = i
 among_right k (x ∷ ks) ms i = inr (among_right k ks ms i)
@@ -48,6 +50,7 @@ pub record LevelAt (key : ℕ) (st : Stack) : Type 0 where
   pub is : st ≡ before ++ level ∷ behind
   pub named : level.label ≡ key
 
+-- a key among those of a stack is that of one of its levels
 pub level_at : (key : ℕ) (st : Stack) → IsAmong key (keys_of st) → LevelAt key st
 level_at key [] i = absurd i
 level_at key (l ∷ ls) (inl e) = record { before = []; level = l; behind = ls; is = refl; named = sym e }
@@ -55,6 +58,7 @@ level_at key (l ∷ ls) (inr i) =
     let at = level_at key ls i in
     record { before = l ∷ at.before; level = at.level; behind = at.behind; is = ap (λ (st : Stack). l ∷ st) at.is; named = at.named }
 
+-- what holds of each level of a stack holds of each behind some of them
 pub all_behind : (P : Level ℕ → Type 0) (before st : Stack) → All P (before ++ st) → All P st
 all_behind P [] st a = a
 all_behind P (l ∷ before) st a = all_behind P before st (All-tail P l (before ++ st) a)
@@ -64,6 +68,7 @@ all_else key [] never = All-nil (λ (l : Level ℕ). l.label ≢ key)
 all_else key (l ∷ ls) never = All-cons (λ (m : Level ℕ). m.label ≢ key) l ls (λ e. never (inl (sym e)))
     (all_else key ls (λ i. never (inr i)))
 
+-- a scope of a task has the same place with one more behind them
 pub got_before : (own : List Own) (o x : Own) (i : ℕ) → slice_get own i ≡ Some x → slice_get (own ++ o ∷ []) i ≡ Some x
 got_before [] o x i e = absurd (let f : None ≡ Some x = e in cc)
 got_before (y ∷ own) o x zero e = e
@@ -79,6 +84,7 @@ got_one [] o x (suc i) e = absurd (let f : None ≡ Some x = e in cc)
 got_one (y ∷ own) o x zero e = inl e
 got_one (y ∷ own) o x (suc i) e = got_one own o x i e
 
+-- a key that is none of a task's scopes is none with one more, which has another
 pub others_but : (key : ℕ) (own : List Own) (o : Own) → AreOthers key own → o.id ≢ key → AreOthers key (own ++ o ∷ [])
 others_but key own o a differs = All-append (λ (x : Own). x.id ≢ key) own (o ∷ []) a
     (All-cons (λ (x : Own). x.id ≢ key) o [] differs (All-nil (λ (x : Own). x.id ≢ key)))
@@ -115,6 +121,7 @@ not_mine tree chain owns apart home os o top other st i e =
     one_stack : (a b : Stack) → Some a ≡ Some b → a ≡ b
     one_stack a b f = cc
 
+-- no open scope has a task's last one round it, where no child of the task runs in there
 pub innermost_of : (tree : Tree) (book : NurseryBook) → IsChain tree → IsOwn tree → IsApart tree →
     (home : Option ℕ) (bs : List Block) (os : List Own) (o : Own) (waits : Option ℕ) →
     Top tree home os o → OthersRun tree book bs (os ++ o ∷ []) waits → (RunsIn book bs (length os) waits → ⊥) → IsInnermost tree o.id

@@ -30,6 +30,7 @@ pub record Awaited (labels : Labels) (book : NurseryBook) (bs : List Block) (os 
   pub apart : AreOthers o.id os
   pub outer : Opened labels book bs os None
 
+-- a task that waits for a nursery opened its scope last, and the others are those of its blocks
 pub awaited_of : (labels : Labels) (book : NurseryBook) (bs : List Block) (os : List Own) (o : Own) (id : ℕ) →
     Opened labels book bs (os ++ o ∷ []) (Some id) → Awaited labels book bs os o id
 awaited_of labels book [] [] o id h = record { nursery = h.1; apart = All-nil (λ (x : Own). x.id ≢ o.id); outer = tt }
@@ -67,6 +68,7 @@ all_ended [] e r = r
 all_ended (None ∷ es) e r = (let f : false ≡ true = e in absurd (cc))
 all_ended (Some x ∷ es) e r = all_ended es e r
 
+-- no child runs in a nursery that is settled
 pub settled_quiet : (book : NurseryBook) (id : ℕ) → HasNursery book id (λ n. is_settled n ≡ true) → HasRunning book (Some id) → ⊥
 settled_quiet book id s r = by_nursery (nursery_at book id) s r
   where
@@ -199,6 +201,7 @@ opened_more labels book after id m more (b ∷ bs) [] was u h = absurd h
 opened_more labels book after id m more (b ∷ bs) (x ∷ own) was u h =
     (block_more labels book after id m more b x was u h.0, h.1, opened_more labels book after id m more bs own was u h.2)
 
+-- what holds of a task is kept when a nursery gets more children
 pub fits_started : (fs : List Frame) (id : ℕ) (part : Part) (home : Option ℕ) (own : List Own) (n : ℕ) (tree : Tree) (labels : Labels)
     (book after : NurseryBook) (m : Members) (more : List End) →
     nursery_at book id ≡ Some m → Updates book after id (Some (record m { children = m.children ++ more })) →

@@ -84,6 +84,7 @@ starts_none self world id k name body P has = by_nursery (nursery_at world.book 
           children = refl;
         }
 
+-- with one child more, on the next cut, one more of the children over cuts is started
 pub starts_more : (self : Task) (old mid new : World) (id k i : ℕ) (name : List ℕ) (label : Label) (part : Part) (body : Steps) →
     StartsOver self old mid id name k body i →
     StartsOne mid new id label part body → label ≡ record { name = name; indices = path_of self ++ i ∷ [] } →

@@ -57,6 +57,7 @@ pub record Laws (world : World) : Type 0 where
 
 -- ---- a nursery that is settled
 
+-- a task whose nursery is settled may leave the scope of that
 pub ready_awaits : (self : Task) (world : World) (id since : ℕ) → Laws world → self.halt ≡ Awaits id since →
     WakesFrom self.halt self.part world.book Settled →
     Fits self.frames.items self world (waits_of self.halt) → Ready (home_scope self) self.own.items world.scopes (label_at world)
@@ -87,6 +88,7 @@ fits_after before after mid new stays world same h =
     (subst (λ (t : Task). FitsIn t.frames.items t.part (home_scope t) after.own.items (length before.froms.items) new.scopes (label_at new)
         mid.book None) (sym stays) h))
 
+-- what holds of a task is kept when the nursery that it waited for is closed and its scope is left
 pub settled_fits : (before after : Task) (old new : World) (book : NurseryBook) (id since : ℕ) → Laws old → before.halt ≡ Awaits id since →
     WakesFrom before.halt before.part old.book Settled →
     Fits before.frames.items before old (waits_of before.halt) → Updates old.book book id None →
@@ -111,6 +113,7 @@ settled_fits before after old new book id since laws is wake h ended l first sta
     last : last_or (home_scope before) (ids before.own.items) ≡ Some l.last.id
     last = last_pushed (home_scope before) after.own.items before.own.items l.last l.taken
 
+-- what holds of a task is kept when it leaves the scope that is its innermost block
 pub exited_fits : (fail : Bool) (before after : Task) (old new : World) → Laws old →
     Fits (before.frames.items ++ Scope fail ∷ []) before old None → LeavesOne before after old new →
     OwnFirst new.scopes (home_scope before) after.own.items → after
@@ -159,6 +162,7 @@ signed_fits before after old new waits h same stays world =
 
 -- ---- frames alone
 
+-- what holds of a task is kept with other frames of the same blocks that can run
 pub frames_fit : (fs : List Frame) (before after : Task) (old : World) → Fits fs before old None →
     blocks_of after.frames.items ≡ blocks_of fs →
     AreModestFrames (frames_of (λ id. []) after.frames.items) → StartsFit (frames_of (λ id. []) after.frames.items) →
@@ -172,6 +176,7 @@ frames_fit fs before after old h same modest starts stays =
 
 -- ---- a scope that is entered
 
+-- what holds of a task is kept when it enters one more block, whatever that is
 pub entered_fits : (b : Block) (label : Label) (before after : Task) (old new : World) → Laws old →
     Fits before.frames.items before old None → {deadline : Tick} → (e : EntersOne before after old new label deadline) →
     ((id : ℕ) (m : Members) → nursery_at old.book id ≡ Some m → nursery_at new.book id ≡ Some m) →
@@ -197,6 +202,7 @@ entered_fits b label before after old new laws h e stay block blocks modest star
 
 -- ---- children that are started
 
+-- what holds of a task is kept when children are started in a nursery
 pub started_fits : (id : ℕ) (m : Members) (more : List End) (before : Task) (old new : World) → Fits before.frames.items before old None →
     nursery_at old.book id ≡ Some m →
     Updates old.book new.book id (Some (record m { children = m.children ++ more })) →
@@ -243,6 +249,7 @@ block_blocks before after exit body e =
     by_top (frames.Handler others cleanup) i = absurd i
     by_top (frames.Cleanup outcome) i = absurd i
 
+-- what holds of a task is kept when it enters a scope
 pub scope_fits : (fail : Bool) (body : Steps) (label : Label) (before after : Task) (old new : World) → Laws old →
     Fits before.frames.items before old None → {deadline : Tick} → EntersOne before after old new label deadline →
     EntersBlock before after (Scope fail) body → AreModest body → StartsIn false body →
@@ -255,6 +262,7 @@ scope_fits fail body label before after old new laws h e inside modest starts st
         (modest, h.modest))
     (subst StartsFit (sym (block_frames before after (Scope fail) body inside)) (starts, h.starts)) stays
 
+-- what holds of a task is kept when it enters a nursery
 pub nursery_fits : (me : ℕ) (body : Steps) (label : Label) (before after : Task) (old new : World) → Laws old →
     Fits before.frames.items before old None → {deadline : Tick} → EntersOne before after old new label deadline →
     EntersNursery me before after old new label body → AreModest body → StartsIn true body →
@@ -274,11 +282,13 @@ nursery_fits me body label before after old new laws h e n modest starts stays =
     same : n.scope ≡ e.own.id
     same = one_of n.scope e.own.id (sym n.inner ∙ last_pushed (home_scope after) before.own.items after.own.items e.own e.opened)
 
+-- a turn has more steps to go once a scope is entered: those of its body and one that leaves it
 pub scope_length : (fail : Bool) (body : Steps) (before after : Task) → EntersBlock before after (Scope fail) body →
     frames_length (frames_of (λ id. []) after.frames.items) ≡ turn_length body
         + (1 + frames_length (frames_of (λ id. []) before.frames.items))
 scope_length fail body before after e = ap frames_length (block_frames before after (Scope fail) body e)
 
+-- a turn has more steps to go once a nursery is entered: those of its body and one that ends it
 pub nursery_length : (id : ℕ) (body : Steps) (before after : Task) → EntersBlock before after (Nursery id) body →
     frames_length (frames_of (λ key. []) after.frames.items) ≡ turn_length body
         + (1 + frames_length (frames_of (λ key. []) before.frames.items))
@@ -300,6 +310,7 @@ pub modest_with : (fs : List Frame) (f : Frame) (task : Task) (world : World) �
     AreModestFrames (frame_of (λ id. []) f ∷ frames_of (λ id. []) fs)
 modest_with fs f task world h = subst AreModestFrames (frames_push (λ id. []) fs f) h.modest
 
+-- each `start` in the frames with one more stands directly in a nursery
 pub starts_with : (fs : List Frame) (f : Frame) (task : Task) (world : World) → Fits (fs ++ f ∷ []) task world None →
     StartsFit (frame_of (λ id. []) f ∷ frames_of (λ id. []) fs)
 starts_with fs f task world h = subst StartsFit (frames_push (λ id. []) fs f) h.starts
@@ -308,6 +319,7 @@ turn_some : (ss : Steps) → 0 < turn_length ss
 turn_some tree.stop = omega arith
 turn_some (tree.step s ss) = (let e = turn_some ss in omega (arith, e))
 
+-- a turn has more steps to go with the steps of a block left than without them
 pub steps_longer : (fs : List Frame) (f : Frame) (ss : Steps) → frame_of (λ id. []) f ≡ rest.steps_left ss →
     frames_length (frames_of (λ id. []) fs) < frames_length (frames_of (λ id. []) (fs ++ f ∷ []))
 steps_longer fs f ss e =
@@ -337,6 +349,7 @@ pub popped_fits : (before : Task) (fs : List Frame) (f g : Frame) (world : World
 popped_fits before fs f g world items same h =
     subst (λ (x : Frame). Fits (fs ++ x ∷ []) before world None) same (subst (λ (xs : List Frame). Fits xs before world None) items h)
 
+-- how many steps a turn has to go with its innermost frame told apart, whatever that is known as
 pub popped_length : (all fs : List Frame) (f g : Frame) → all ≡ fs ++ f ∷ [] → f ≡ g →
     frames_length (frames_of (λ id. []) all) ≡ frames_length (frame_of (λ id. []) g ∷ frames_of (λ id. []) fs)
 popped_length all fs f g items same =
@@ -455,6 +468,7 @@ try_starts (tree.except name body) cleanup fs ps (Some e) h k m = by_match (keep
     by_match None r = (tt, k, m)
     by_match (Some x) r = (h, (k, m))
 
+-- a turn has fewer steps to go once the body of a `try` ended
 pub try_shorter : (h : tree.Handled) (k : tree.Cleaned) (fs : List rest.Frame) (ps : List Place) (exc : Option Exc) →
     frames_length (step_try h k fs ps exc).frames < frames_length (rest.in_try h k ∷ fs)
 try_shorter tree.unhandled tree.uncleaned fs ps exc = omega arith
@@ -467,6 +481,7 @@ try_shorter (tree.except name body) cleanup fs ps (Some e) = by_match (keep (nam
     by_match None r = omega arith
     by_match (Some x) r = omega arith
 
+-- what holds of a task is kept when the body of a `try` ends: its handler, its cleanup or what is behind it is left
 pub tried_fits : (h : tree.Handled) (k : tree.Cleaned) (fs : List Frame) (f : Frame) (exc after_exc : Option Exc) (before after : Task)
     (world : World) → blocks_of (f ∷ []) ≡ [] →
     frame_of (λ id. []) f ≡ rest.in_try h k → Fits (fs ++ f ∷ []) before world None →

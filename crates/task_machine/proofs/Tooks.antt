@@ -60,6 +60,7 @@ has_more id (a_scope ∷ bs) cs h = has_more id bs cs h
 has_more id (a_nursery key ∷ bs) cs (inl e) = inl e
 has_more id (a_nursery key ∷ bs) cs (inr h) = inr (has_more id bs cs h)
 
+-- a nursery among blocks is among them behind others
 pub has_last : (id : ℕ) (bs cs : List Block) → HasBlock id cs → HasBlock id (bs ++ cs)
 has_last id [] cs h = h
 has_last id (a_scope ∷ bs) cs h = has_last id bs cs h
@@ -96,13 +97,16 @@ not_grown n ns =
       numbers = sym (append-nil ns);
     }
 
+-- a nursery of the book that stays as it was got no more children
 pub stays_grown : (o : Option Members) (n : Members) (ns : List ℕ) → o ≡ Some n → IsSomeAnd o (λ m. Grown n m ns ns)
 stays_grown o n ns e = subst (λ (p : Option Members). IsSomeAnd p (λ m. Grown n m ns ns)) (sym e) (not_grown n ns)
 
+-- where the book stays, no nursery of the task got more children
 pub grow_same : (fs : List Frame) (numbers : Numbers) (old new : NurseryBook) → new ≡ old → Grow fs numbers numbers old new
 grow_same fs numbers old new same id has n e =
     stays_grown (nursery_at new id) n (numbers id) (ap (λ (b : NurseryBook). nursery_at b id) same ∙ e)
 
+-- where the book stays and the task has no other nurseries, their children are numbered as before
 pub numbered_same : (fs gs : List Frame) (numbers : Numbers) (old new : NurseryBook) → new ≡ old →
     ((id : ℕ) → HasBlock id (blocks_of gs) → HasBlock id (blocks_of fs)) →
     AreNumbered numbers old fs → AreNumbered numbers new gs
@@ -111,6 +115,7 @@ numbered_same fs gs numbers old new same back h id has =
 
 -- ---- any move that leaves the book as it is, and starts nothing
 
+-- what the code does so is the definitions' move, with these entries noted
 pub took_with : (frames : List Frame) (before after : Task) (old new : World) (goes : Moved) (froms : Table) (numbers : Numbers) (o : Move)
     (entries : List Entry) →
     AreNumbered numbers old.book frames →
@@ -217,6 +222,7 @@ falls_alone true n t fs ps = record { frames = refl; places = refl; made = refl;
 falls_alone false zero t fs ps = record { frames = refl; places = refl; made = refl; begun = refl; waits = tt }
 falls_alone false (suc n) t fs ps = record { frames = refl; places = refl; made = refl; begun = refl; waits = tt }
 
+-- a task that stops or goes on as the sleep of the definitions does makes that move
 pub took_sleep : (frames : List Frame) (before after : Task) (world : World) (goes : Moved) (froms : Table) (numbers : Numbers)
     (stopped : Option Stopped) (ps : List Place)
     (ticks : ℕ) →
@@ -245,6 +251,7 @@ pub quiet_signs : (input : List ℕ) (label : Option Label) (t : ℕ) → shown_
 quiet_signs input None t = refl
 quiet_signs input (Some l) t = refl
 
+-- the sign of who fails is not shown
 pub quiet_home : (input : List ℕ) (exc : Option Exc) (ps : List Place) (t : ℕ) → shown_made input (signs_home exc ps t) ≡ []
 quiet_home input None ps t = refl
 quiet_home input (Some e) [] t = refl

@@ -55,6 +55,7 @@ no_block (Try handler cleanup) body e = absurd e
 no_block (Handler others cleanup) body e = absurd e
 no_block (Cleanup outcome) body e = absurd e
 
+-- the frames once a block is entered: its body, its exit, and the outer ones
 pub entered_frames : (numbers : Numbers) (fs gs : List Frame) (exit top : Frame) (body : tree.Steps) → IsBlock top body →
     gs ≡ fs ++ exit ∷ top ∷ [] →
     frames_of numbers gs ≡ rest.steps_left body ∷ frame_of numbers exit ∷ frames_of numbers fs
@@ -63,6 +64,7 @@ entered_frames numbers fs gs exit top body block e =
     ∙ ap (λ (f : rest.Frame). f ∷ frames_of numbers (fs ++ exit ∷ [])) (block_frame numbers top body block)
     ∙ ap (λ (hs : List rest.Frame). rest.steps_left body ∷ hs) (frames_push numbers fs exit)
 
+-- the blocks once one is entered: that of its exit inside the outer ones
 pub entered_blocks : (fs gs : List Frame) (exit top : Frame) (body : tree.Steps) → IsBlock top body → gs ≡ fs ++ exit ∷ top ∷ [] →
     blocks_of gs ≡ blocks_of fs ++ blocks_of (exit ∷ [])
 entered_blocks fs gs exit top body block e =
@@ -119,9 +121,11 @@ chosen false ns ms = ms
 abbrev pub with_numbers : Numbers → ℕ → List ℕ → Numbers
 with_numbers numbers id ns key = chosen (key == id) ns (numbers key)
 
+-- the children of the nursery of that key have these numbers
 pub numbers_put : (numbers : Numbers) (id : ℕ) (ns : List ℕ) (key : ℕ) → key ≡ id → with_numbers numbers id ns key ≡ ns
 numbers_put numbers id ns key e = ap (λ (b : Bool). chosen b ns (numbers key)) (eq-eqb key id e)
 
+-- the children of every other nursery keep their numbers
 pub numbers_else : (numbers : Numbers) (id : ℕ) (ns : List ℕ) (key : ℕ) → key ≢ id → with_numbers numbers id ns key ≡ numbers key
 numbers_else numbers id ns key differs = by_key (key == id) refl
   where

@@ -143,6 +143,7 @@ long_at (Some m) n ns e h = h ∙ ap (λ (x : Members). length x.children) (let 
 
 -- ---- any children that are started in the innermost nursery
 
+-- a task that starts children in the nursery whose body it is in makes the move in which they begin with these numbers
 pub took_starts : (frames fs : List Frame) (id : ℕ) (left : Bor (List Step)) (task : Task) (old new : World) (froms : Table)
     (numbers : Numbers) (stopped : Option Stopped)
     (ps : List Place)

@@ -41,6 +41,7 @@ pub record MoreGone (before after : Task) (old new : World) (first : Option Exc)
           (so_many n before old first froms numbers ps count).stopped
       (so_many n before old first froms numbers ps count).places
 
+-- a task that went on by some steps of a turn and makes one more went so many and one
 pub goes_further : (before mid after : Task) (old w new : World) (first : Option Exc) (exc : Option held.Exc) (goes : Moved) (froms : Table)
     (numbers : Numbers) (ps : List Place) (count : ℕ) →
     mid.part ≡ before.part → mid.label ≡ before.label → w.tick ≡ old.tick → (g : GoneOn before mid old w first exc froms numbers ps count) →

@@ -47,6 +47,7 @@ use Rattle.task_machine.proofs.Advances.{stands_as, took_as}
 
 -- ---- where a task stopped, by what it goes on with
 
+-- a task that goes on with what it asked a kernel stopped to ask that, for the same purpose
 pub halts_asked : (numbers : Numbers) (book : NurseryBook) (kernel : Kernel) (purpose : Purpose) (stopped : Stopped) →
     IsHalt numbers book (Asked kernel purpose) stopped →
     stopped ≡ asking (kernel_in kernel) (purpose_in purpose)
@@ -63,6 +64,7 @@ pub record AwaitsSo (numbers : Numbers) (book : NurseryBook) (id since : ℕ) (s
   pub is : stopped ≡ awaiting (numbers id) since exc
   pub body : HasNursery book id (λ n. n.body ≡ Some exc)
 
+-- a task that goes on when a nursery is settled stopped to wait for its children
 pub halts_awaits : (numbers : Numbers) (book : NurseryBook) (id since : ℕ) (stopped : Stopped) →
     IsHalt numbers book (Awaits id since) stopped → AwaitsSo numbers book id since stopped
 halts_awaits numbers book id since to_begin h = absurd h

@@ -102,6 +102,7 @@ names_on o froms t here count e h =
     let k = subst (λ (s : Option Stopped). StaysNew (then_move s o
         (turn_of zero froms t here (record { frames = o.frames; places = o.places; exc = o.exc; count = count })))) e h in (k.frames, k.own)
 
+-- a task that woke and goes on stands in the middle of its turn, where the wake of the definitions leaves it
 pub wake_stands : (task after : Task) (old new : World) (exc : Option held.Exc) (froms : Table) (numbers : Numbers) (ps : List Place)
     (count : ℕ) (stopped : Stopped) (w : wakes.Wake) → CanWake w stopped →
     Stands task.frames.items task old froms numbers (Some stopped) ps →

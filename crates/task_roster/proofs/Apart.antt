@@ -119,6 +119,7 @@ apart_next n s rows stack row hollow a is none =
           a.once c in omega arith;
     }
 
+-- a row is taken, its number is off the stack and its children are on it: still no number stands twice
 pub apart_step : (n s : ℕ) (rows after : List Row) (stack popped grown : List ℕ) (row : Row) → Apart n rows stack →
     stack ≡ popped ++ s ∷ [] → slice_get rows s ≡ Some row → IsTakenOut rows s after → grown ≡ popped ++ reverse row.children.items →
     Apart n after grown
@@ -165,6 +166,7 @@ not_among k P never (c ∷ cs) all =
     let others : times k cs ≡ 0 = not_among k P never cs (All-tail P c cs all) in
     omega arith
 
+-- a number that no child can be is the child of no row
 pub no_child : (k : ℕ) (P : ℕ → Type 0) → (P k → ⊥) → (rows : List Row) → All (λ r. All P r.children.items) rows → times_child k rows ≡ 0
 no_child k P never [] all = refl
 no_child k P never (x ∷ rows) all =
