@@ -18,11 +18,11 @@ frames-preserved c =
     let path = c.args.label.indices in
     let first : List Frame = take i fs in
     let one : take (i + 1) fs ≡ first ++ f ∷ [] =
-        take_more fs i f (omega (arith, c.frames-test.true)) ∙ ap (λ (g : Frame). first ++ g ∷ []) (sym c.frame-item.is) in
+    take_more fs i f (omega (arith, c.frames-test.true)) ∙ ap (λ (g : Frame). first ++ g ∷ []) (sym c.frame-item.is) in
     c.in_ok-inner.ensures
     ∙ ap (λ (l : Label). record { name = l.name; indices = passes_onto (f ∷ []) l.indices }) c.frames.invariant
     ∙ ap (λ (p : List ℕ). record { name = c.args.label.name; indices = p })
-        (sym (path_append first (f ∷ []) path) ∙ ap (λ (gs : List Frame). passes_onto gs path) (sym one))
+    (sym (path_append first (f ∷ []) path) ∙ ap (λ (gs : List Frame). passes_onto gs path) (sym one))
 
 pub returns : goal.returns
 returns c =
@@ -31,4 +31,4 @@ returns c =
     let all : i ≡ length fs = omega (arith, c.frames-test.false, c.frames.auto.frame-index-end) in
     c.frames.invariant
     ∙ ap (λ (gs : List Frame). record { name = c.args.label.name; indices = passes_onto gs c.args.label.indices })
-        (ap (λ (n : ℕ). take n fs) all ∙ take-length fs)
+    (ap (λ (n : ℕ). take n fs) all ∙ take-length fs)

@@ -30,17 +30,17 @@ returns-clause-nursery c =
       stands =
           subst (λ (b : NurseryBook). Updates b c.open.new.self c.in_ok-id.id (Some (opens c.in_ok-scope.scope c.args.me label))) book
           (subst (λ (l : Label). Updates c.enter.new.world.book c.open.new.self c.in_ok-id.id
-              (Some (opens c.in_ok-scope.scope c.args.me l)))
+          (Some (opens c.in_ok-scope.scope c.args.me l)))
           (c.in_ok-label.ensures ∙ ap (λ (t : Task). label_in t c.args.block.name) c.in_ok-scope.ensures.stays)
-              c.in_ok-id.ensures.opened);
+          c.in_ok-id.ensures.opened);
       frames =
           record {
             top = Steps c.as_slice.result;
             block = c.as_slice.ensures;
             frames =
                 c.in_ok-push-2.ensures.items ∙ ap (λ (fs : List Frame). fs ++ Steps c.as_slice.result ∷ [])
-                    (c.in_ok-push.ensures.items ∙ ap (λ (t : Task). t.frames.items ++ Nursery c.in_ok-id.id ∷ [])
-                    c.in_ok-scope.ensures.stays)
+                (c.in_ok-push.ensures.items ∙ ap (λ (t : Task). t.frames.items ++ Nursery c.in_ok-id.id ∷ [])
+                c.in_ok-scope.ensures.stays)
                 ∙ append_assoc c.args.self.now.frames.items (Nursery c.in_ok-id.id ∷ []) (Steps c.as_slice.result ∷ []);
           };
     }
@@ -52,11 +52,11 @@ returns-clause-at c =
     let label : Label = label_in c.args.self.now c.args.block.name in
     let place : Place = record { label = label; shield = c.args.block.shield } in
     let scope : scope_of c.push-2.new.self ≡ scope_of c.enter.new.self =
-        ap scope_of c.in_ok-push-2.ensures.stays ∙ ap scope_of c.in_ok-push.ensures.stays in
+    ap scope_of c.in_ok-push-2.ensures.stays ∙ ap scope_of c.in_ok-push.ensures.stays in
     let deadline : c.due-deadline.result ≡ due c.args.block.deadline c.args.world.now.tick =
-        c.due-deadline.ensures.due ∙ ap (λ (t : ℕ). due c.args.block.deadline t) c.now.ensures in
+    c.due-deadline.ensures.due ∙ ap (λ (t : ℕ). due c.args.block.deadline t) c.now.ensures in
     λ froms ps new at.
     subst (λ (s : Option ℕ). AreAt labels (opened froms label (due c.args.block.deadline c.args.world.now.tick)) (outer_of scopes s)
-        (place ∷ ps)) (sym scope)
+    (place ∷ ps)) (sym scope)
     (subst (λ (d : Tick). AreAt labels (opened froms label d) (outer_of scopes (scope_of c.enter.new.self)) (place ∷ ps)) deadline
-        (c.in_ok-scope.ensures.at froms ps new at))
+    (c.in_ok-scope.ensures.at froms ps new at))
