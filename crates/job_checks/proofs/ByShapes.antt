@@ -40,7 +40,7 @@ twice_by_shapes names (x ∷ xs) [] roles e none = refl
 twice_by_shapes names (x ∷ xs) (y ∷ ys) [] e none = refl
 twice_by_shapes names (x ∷ xs) (y ∷ ys) (r ∷ rs) e none =
     by_given (given_by r x.shape) (given_by r y.shape) (ap (λ (s : Shape). given_by r s) (same_shape x y xs ys e).0) none
-        (λ known. twice_by_shapes known xs ys rs (same_shape x y xs ys e).1)
+    (λ known. twice_by_shapes known xs ys rs (same_shape x y xs ys e).1)
   where
     by_among : (b : Bool) (known : List (List ℕ)) → cond b (Some x.at) (twice_in known xs rs) ≡ None →
         (twice_in known xs rs ≡ None → twice_in known ys rs ≡ None) → cond b (Some y.at) (twice_in known ys rs) ≡ None
@@ -56,7 +56,7 @@ twice_by_shapes names (x ∷ xs) (y ∷ ys) (r ∷ rs) e none =
     by_given (Some g) (Some h) same found rest =
         let e : g ≡ h = cc in
         subst (λ (n : List ℕ). twice_at (Some n) y.at names (λ known. twice_in known ys rs) ≡ None) e
-            (by_among (is_among names g) (names ++ g ∷ []) found (rest (names ++ g ∷ [])))
+        (by_among (is_among names g) (names ++ g ∷ []) found (rest (names ++ g ∷ [])))
 
 as_many_targets : (r : Role) (x y : ℕ) (xs ys : List ℕ) → length xs ≡ length ys →
     length (place_of_target r x xs) ≡ length (place_of_target r y ys)

@@ -62,23 +62,27 @@ numbers_read text tokens read none =
 pub syntax_refused : (text : List ℕ) (tokens : List Token) (at : ℕ) → IsReadTo 5 text tokens →
     fault_at (length text) whole_job tokens ≡ Some at → IsRefused text kind.Syntax at
 syntax_refused text tokens at read found =
-    refused_after text 5 kind.Syntax at read.passes refl (tokens, read.tokens_are,
-        subst (λ (o : Option ℕ). IsFault (length text) whole_job tokens o) found (fault_at-means (length text) whole_job tokens))
+    refused_after text 5 kind.Syntax at read.passes refl (
+      tokens,
+      read.tokens_are,
+      subst (λ (o : Option ℕ). IsFault (length text) whole_job tokens o) found (fault_at-means (length text) whole_job tokens),
+    )
 
 -- the job whose tokens leave the grammar nowhere
 some_job : (text : List ℕ) (tokens : List Token) (roles : List Role) → fault_at (length text) whole_job tokens ≡ None →
     roles ≡ roles_at whole_job tokens → IsOfSomeJob tokens roles
 some_job text tokens roles none are =
     let job = job_of_text (shapes_of tokens) (subst (λ (o : Option ℕ). IsFault (length text) whole_job tokens o) none
-        (fault_at-means (length text) whole_job tokens)) in
+    (fault_at-means (length text) whole_job tokens)) in
     (job.0, (job.1, job.2), are ∙ roles_of_job job.0 tokens job.1 job.2)
 
 -- where they leave it nowhere, the text is read to the pass for syntax, and its tokens and roles are those of some job
 pub course_read : (text : List ℕ) (tokens : List Token) (roles : List Role) → IsReadTo 5 text tokens →
     fault_at (length text) whole_job tokens ≡ None → roles ≡ roles_at whole_job tokens → IsReadTo 6 text tokens × IsOfSomeJob tokens roles
-course_read text tokens roles read none are =
-    (record { tokens_are = read.tokens_are; passes = passes_syntax text tokens read.passes read.tokens_are none },
-        some_job text tokens roles none are)
+course_read text tokens roles read none are = (
+  record { tokens_are = read.tokens_are; passes = passes_syntax text tokens read.passes read.tokens_are none },
+  some_job text tokens roles none are,
+)
 
 -- the first block too deep is a refusal of a text read to the pass for syntax
 pub depth_refused : (text : List ℕ) (tokens : List Token) (at : ℕ) → IsReadTo 6 text tokens → depth_fault 0 tokens ≡ Some at →
@@ -131,7 +135,7 @@ pub never_none : {X : Type 0} (view : X → Tree) (text : List ℕ) (tokens lent
     IsReadTo 7 text tokens → IsOfSomeJob tokens roles → lent ≡ tokens → Gives view o (job_at (shapes_of lent)) → o ≡ None → ⊥
 never_none view text tokens lent roles o read of_some same gives e =
     job_is_there text tokens roles read of_some (sym (ap (λ (ts : List Token). job_at (shapes_of ts)) (sym same)
-        ∙ gives_none view o (job_at (shapes_of lent)) e gives))
+    ∙ gives_none view o (job_at (shapes_of lent)) e gives))
 
 -- what was read of the lent tokens of a text that is read to the pass for depth makes a draft of that text
 pub drafted : {X : Type 0} (view : X → Tree) (x : X) (text : List ℕ) (d : Draft) (lent : List Token) (o : Option X) →
@@ -140,8 +144,8 @@ pub drafted : {X : Type 0} (view : X → Tree) (x : X) (text : List ℕ) (d : Dr
     → d.text.now ≡ text → view x ≡ tree_of d → IsDraftTo 7 text d
 drafted view x text d lent o read of_some same gives e text_is is =
     let found : Some (tree_of d) ≡ job_at (shapes_of d.tokens.items) =
-        sym (ap (λ (ts : List Token). job_at (shapes_of ts)) (sym same) ∙ gives_some view x o (job_at (shapes_of lent)) e gives
-        ∙ ap some_of is) in
+    sym (ap (λ (ts : List Token). job_at (shapes_of ts)) (sym same) ∙ gives_some view x o (job_at (shapes_of lent)) e gives
+    ∙ ap some_of is) in
     let job = job_found text d.tokens.items d.roles.items (tree_of d) read of_some found in
     record { text_is = text_is; is_of = job.0; roles_are = job.1; passes = read.passes }
   where

@@ -103,7 +103,7 @@ passing_spells : (text : List ℕ) (ts : List Token) (job : Tree) → length tex
 passing_spells text ts job short ascii headed is_of found =
     let lexed = is_of.0 in
     let grammatical : fault_at (length text) whole_job ts ≡ None =
-        fault_at-text (length text) whole_job ts (text_of_job (shapes_of ts) job is_of.1.0 is_of.1.1) in
+    fault_at-text (length text) whole_job ts (text_of_job (shapes_of ts) job is_of.1.0 is_of.1.1) in
     let three = passes_three text (passes_two text (passes_one text short) ascii) headed in
     let five = passes_numbers text ts (passes_tokens text ts three lexed) lexed found.numbers in
     let seven = passes_depth text ts (passes_syntax text ts five lexed grammatical) lexed found.depth in
@@ -123,7 +123,7 @@ short_enough text never = elim (cases_lt most_bytes (length text)) [ inl lt ↦ 
 headed_spells : (limit : ℕ) (body : List ℕ) (job : Tree) (old : List Token) → limit ≤ most_bytes → 11 + length body ≤ limit →
     list_all is_ascii body ≡ true
     → (ts : List Token) → Lexes (11 + length body) body ts None → shapes_of ts ≡ shapes_of old → AreTokensOf old job →
-        PassesTokens old job → Spells (first_line ++ body) job
+    PassesTokens old job → Spells (first_line ++ body) job
 headed_spells limit body job old most short ascii ts lexed same are found =
     let len : length (first_line ++ body) ≡ 11 + length body = length-append first_line body in
     let all : list_all is_ascii (first_line ++ body) ≡ true = ascii in
@@ -140,10 +140,10 @@ canon_spells text job (ts, is_of, none) =
     let spelled = tokens_spelled (length text) (drop 11 text) ts None lexed in
     let written : AreWritable shapes = subst AreWritable same (all_writable None ts spelled found.numbers) in
     let shortest : length (canon_of shapes) ≤ length (drop 11 text) =
-        subst (λ (ss : List Shape). length (canon_of ss) ≤ length (drop 11 text)) same
-        (canon_shortest (length text) false (drop 11 text) ts tt lexed) in
+    subst (λ (ss : List Shape). length (canon_of ss) ≤ length (drop 11 text)) same
+    (canon_shortest (length text) false (drop 11 text) ts tt lexed) in
     let bound : 11 + length (canon_of shapes) ≤ length text =
-        omega (arith, shortest, length-drop 11 text, long_enough text (λ e. none kind.Version 0 (e, refl))) in
+    omega (arith, shortest, length-drop 11 text, long_enough text (λ e. none kind.Version 0 (e, refl))) in
     let again = canon_lexes (11 + length (canon_of shapes)) false shapes written (omega arith) in (
       headed_spells (length text) (canon_of shapes) job ts (short_enough text (none kind.TooLong)) bound (canon_small false shapes written)
           again.0 again.1 (again.2 ∙ sym same) is_of.1 found,

@@ -92,14 +92,14 @@ here_number : (text : List ℕ) (tokens : List Token) → HasTokens text tokens 
     (k : JobKind) (at : ℕ) → number_of k ≡ 5 → Finds k text at → ⊥
 here_number text tokens lexed none kind.Number at e finds =
     none_is_some (number_fault None finds.0) at (subst (λ (ts : List Token). number_fault None ts ≡ None)
-        (same_tokens text tokens finds.0 None None lexed finds.1) none) finds.2
+    (same_tokens text tokens finds.0 None None lexed finds.1) none) finds.2
 here_number text tokens lexed none _ at e finds = absurd (omega arith)
 
 here_syntax : (text : List ℕ) (tokens : List Token) → HasTokens text tokens None → fault_at (length text) whole_job tokens ≡ None →
     (k : JobKind) (at : ℕ) → number_of k ≡ 6 → Finds k text at → ⊥
 here_syntax text tokens lexed none kind.Syntax at e finds =
     none_is_some (fault_at (length text) whole_job finds.0) at (subst (λ (ts : List Token). fault_at (length text) whole_job ts ≡ None)
-        (same_tokens text tokens finds.0 None None lexed finds.1) none) (fault_at-leaves (length text) whole_job finds.0 at finds.2)
+    (same_tokens text tokens finds.0 None None lexed finds.1) none) (fault_at-leaves (length text) whole_job finds.0 at finds.2)
 here_syntax text tokens lexed none _ at e finds = absurd (omega arith)
 
 -- ---- the job
@@ -139,7 +139,7 @@ within text ts job (lexed, (are, same)) never = within_depth job ts same (none_o
 pub same_job : (text : List ℕ) (ts us : List Token) (a b : Tree) → IsOf text ts a → IsOf text us b → IsShallow text → a ≡ b
 same_job text ts us a b p q never =
     let shapes : shapes_in (job_pieces a) ≡ shapes_in (job_pieces b) =
-        sym p.1.1 ∙ ap shapes_of (same_tokens text ts us None None p.0 q.0) ∙ q.1.1 in
+    sym p.1.1 ∙ ap shapes_of (same_tokens text ts us None None p.0 q.0) ∙ q.1.1 in
     some_tree a b (sym (job_again a p.1.0 (within text ts a p never)) ∙ ap job_at shapes ∙ job_again b q.1.0 (within text us b q never))
 
 same_stray : (text : List ℕ) (ts us : List Token) (a b : Tree) → IsOf text ts a → IsOf text us b → IsShallow text →
@@ -151,14 +151,14 @@ here_depth : (text : List ℕ) (tokens : List Token) → HasTokens text tokens N
     number_of k ≡ 7 → Finds k text at → ⊥
 here_depth text tokens lexed none kind.Depth at e finds =
     none_is_some (depth_fault 0 finds.0) at (subst (λ (ts : List Token). depth_fault 0 ts ≡ None)
-        (same_tokens text tokens finds.0 None None lexed finds.1) none) finds.2
+    (same_tokens text tokens finds.0 None None lexed finds.1) none) finds.2
 here_depth text tokens lexed none _ at e finds = absurd (omega arith)
 
 here_twice : (text : List ℕ) (tokens : List Token) (job : Tree) → IsOf text tokens job → twice_in [] tokens (roles_of job) ≡ None →
     (k : JobKind) (at : ℕ) → number_of k ≡ 8 → Finds k text at → ⊥
 here_twice text tokens job is_of none kind.Twice at e finds =
     none_is_some (twice_in [] tokens (roles_of job)) at none (same_found text tokens finds.0 job finds.1 (twice_in []) is_of finds.2
-        ∙ finds.3)
+    ∙ finds.3)
 here_twice text tokens job is_of none _ at e finds = absurd (omega arith)
 
 here_enclosing : (text : List ℕ) (tokens : List Token) (job : Tree) → IsOf text tokens job → IsShallow text →
@@ -171,14 +171,14 @@ here_reserved : (text : List ℕ) (tokens : List Token) (job : Tree) → IsOf te
     (k : JobKind) (at : ℕ) → number_of k ≡ 10 → Finds k text at → ⊥
 here_reserved text tokens job is_of none kind.Reserved at e finds =
     none_is_some (reserved_in tokens (roles_of job)) at none (same_found text tokens finds.0 job finds.1 reserved_in is_of finds.2
-        ∙ finds.3)
+    ∙ finds.3)
 here_reserved text tokens job is_of none _ at e finds = absurd (omega arith)
 
 here_large : (text : List ℕ) (tokens : List Token) (job : Tree) → IsOf text tokens job → IsShallow text → size_of job.steps ≤ most_steps →
     (k : JobKind) (at : ℕ) → number_of k ≡ 11 → Finds k text at → ⊥
 here_large text tokens job is_of never small kind.TooLarge at e finds =
     let same : size_of job.steps ≡ size_of finds.1.steps =
-        ap (λ (j : Tree). size_of j.steps) (same_job text tokens finds.0 job finds.1 is_of finds.2 never) in
+    ap (λ (j : Tree). size_of j.steps) (same_job text tokens finds.0 job finds.1 is_of finds.2 never) in
     let large : most_steps < size_of finds.1.steps = finds.3 in
     omega (arith, same, large, small)
 here_large text tokens job is_of never small _ at e finds = absurd (omega arith)
@@ -243,11 +243,11 @@ one_place text kind.Version a b below p q = p.1 ∙ sym q.1
 one_place text kind.Token a b below (ts, p) (us, q) = some_same a b (same_end text ts us (Some a) (Some b) p q)
 one_place text kind.Number a b below (ts, p, at_a) (us, q, at_b) =
     some_is (number_fault None us) a b (subst (λ (xs : List Token). number_fault None xs ≡ Some a) (same_tokens text ts us None None p q)
-        at_a) at_b
+    at_a) at_b
 one_place text kind.Syntax a b below (ts, p, at_a) (us, q, at_b) =
     some_is (fault_at (length text) whole_job us) a b (subst (λ (xs : List Token). fault_at (length text) whole_job xs ≡ Some a)
-        (same_tokens text ts us None None p q) (fault_at-leaves (length text) whole_job ts a at_a))
-        (fault_at-leaves (length text) whole_job us b at_b)
+    (same_tokens text ts us None None p q) (fault_at-leaves (length text) whole_job ts a at_a))
+    (fault_at-leaves (length text) whole_job us b at_b)
 one_place text kind.Depth a b below (ts, p, at_a) (us, q, at_b) =
     some_is (depth_fault 0 us) a b (subst (λ (xs : List Token). depth_fault 0 xs ≡ Some a) (same_tokens text ts us None None p q) at_a) at_b
 one_place text kind.Twice a b below (ts, j, p, at_a) (us, k, q, at_b) =
@@ -262,10 +262,10 @@ one_place text kind.NoMemory a b below p q = absurd p
 abbrev kind_at : ℕ → JobKind
 kind_at n =
     if n == 1 then kind.TooLong else (if n == 2 then kind.NotAscii else
-        (if n == 3 then kind.Version else (if n == 4 then kind.Token else (if n == 5 then kind.Number else (if n == 6 then kind.Syntax
+    (if n == 3 then kind.Version else (if n == 4 then kind.Token else (if n == 5 then kind.Number else (if n == 6 then kind.Syntax
     else (if n == 7 then kind.Depth else (if n == 8 then kind.Twice else
-        (if n == 9 then kind.NotEnclosing else (if n == 10 then kind.Reserved else
-        (if n == 11 then kind.TooLarge else kind.NoMemory))))))))))
+    (if n == 9 then kind.NotEnclosing else (if n == 10 then kind.Reserved else
+    (if n == 11 then kind.TooLarge else kind.NoMemory))))))))))
 
 kind_at-number_of : (k : JobKind) → kind_at (number_of k) ≡ k
 kind_at-number_of kind.TooLong = refl

@@ -18,7 +18,7 @@ pub pushed : (print : Print) (old new more : List Shape) → new ≡ old ++ more
     ((rest : List Piece) → shapes_in (print rest) ≡ more ++ shapes_in rest) → Appends print old new
 pushed print old new more is prints =
     λ rest. ap (λ (x : List Shape). old ++ x) (prints rest) ∙ sym (append_assoc old more (shapes_in rest))
-        ∙ ap (λ (x : List Shape). x ++ shapes_in rest) (sym is)
+    ∙ ap (λ (x : List Shape). x ++ shapes_in rest) (sym is)
 
 -- what was appended, and what is left to append
 abbrev pub Left : Print → List Shape → Print → List Shape → Type 0
@@ -33,7 +33,7 @@ pub one_step : (whole : Print) (old now next : List Shape) (steps : List Step) (
     → Left whole old (left_from steps i) now → Left whole old (left_from steps (i + 1)) next
 one_step whole old now next steps i s lt is pushes so_far = λ rest.
     so_far rest ∙ ap (λ (x : List Piece). now ++ shapes_in x) (at_drop_more (λ (ss : List Step). steps_pieces (steps_of ss) rest) steps i s
-        lt ∙ ap (λ (x : Step). steps_pieces (steps_of (x ∷ drop (i + 1) steps)) rest) (sym is)) ∙ pushes (left_from steps (i + 1) rest)
+    lt ∙ ap (λ (x : Step). steps_pieces (steps_of (x ∷ drop (i + 1) steps)) rest) (sym is)) ∙ pushes (left_from steps (i + 1) rest)
 
 -- the mark behind the last step
 pub closed : (whole : Print) (old now new : List Shape) (steps : List Step) (i : ℕ) → length steps ≤ i →

@@ -132,7 +132,7 @@ pub agree_cancelling : (c : ℕ) (name : List ℕ) (st su : Stack) (t : ℕ) →
     Agree c (cancelling (label_on name st) t) (cancelling (label_on name su) t)
 agree_cancelling c name st su t near =
     subst (λ (o : Option Label). Agree c (cancelling (label_on name st) t) (cancelling o t)) (label_near c name st su near)
-        (agree_same c (cancelling (label_on name st) t))
+    (agree_same c (cancelling (label_on name st) t))
 
 -- whether a block catches in a tick before c is told by stacks and froms before c
 catches_near : (c : ℕ) (f g : Tick) (shield : Bool) (st su : Stack) (u v : ℕ) → upto c f ≡ upto c g → Near c st su → u < c → u ≡ v →
@@ -187,14 +187,14 @@ module _ (c : ℕ) (kind : Kind) (label : Label) (t : ℕ) (d : Tick) where
     -- the froms of a block are near, where its insides agree
     block_near : (m : Mode) (inside inside' : Tick → Result) → ((f : Tick) → Late t (inside f)) → ((f : Tick) → Late t (inside' f)) →
         ((f g : Tick) → upto c f ≡ upto c g → Agree c (inside f) (inside' g)) →
-            upto c (from_of m label d inside) ≡ upto c (from_of m label d inside')
+        upto c (from_of m label d inside) ≡ upto c (from_of m label d inside')
     block_near two_walks inside inside' h h' k =
         from_near c d _ _ (least_near c t label _ _ (h d).timed (h' d).timed (agree_logs (k d d refl)))
     block_near (by_table table) inside inside' h h' k = refl
 
     pub agree_block : (m : Mode) (inside inside' : Tick → Result) → ((f : Tick) → Late t (inside f)) → ((f : Tick) → Late t (inside' f)) →
         ((f g : Tick) → upto c f ≡ upto c g → Agree c (inside f) (inside' g)) →
-            Agree c (block m kind label t d shield st inside) (block m kind label t d shield su inside')
+        Agree c (block m kind label t d shield st inside) (block m kind label t d shield su inside')
     unfolding block
     agree_block m inside inside' h h' k =
         let e = block_near m inside inside' h h' k in
@@ -210,13 +210,13 @@ pub agree_signed : (c : ℕ) (st su : Stack) (r q : Result) → Near c st su →
 unfolding signed
 agree_signed c st su r q near (soon b e x m l) =
     soon b e x m (both_clipped c r.log _ q.log _ l (ap (λ (z : Log). clipped c z)
-        (same_sign r.exc q.exc (home_of st) (home_of su) r.end q.end x (home_near c st su near) e)))
+    (same_sign r.exc q.exc (home_of st) (home_of su) r.end q.end x (home_near c st su near) e)))
   where
     same_sign : (o p : Option Exc) (a b : Option Label) (u v : ℕ) → o ≡ p → a ≡ b → u ≡ v → sign_if o a u ≡ sign_if p b v
     same_sign o p a b u v i j k = cc
 agree_signed c st su r q near (later p s l) =
     later p s (clipped_tail c r.end r.log _ p (timed_sign r.exc (home_of st) r.end)
-        ∙ (l ∙ sym (clipped_tail c q.end q.log _ s (timed_sign q.exc (home_of su) q.end))))
+    ∙ (l ∙ sym (clipped_tail c q.end q.log _ s (timed_sign q.exc (home_of su) q.end))))
   where
     timed_sign : (o : Option Exc) (a : Option Label) (u : ℕ) → Timed u (sign_if o a u)
     timed_sign None a u = tt
@@ -232,7 +232,7 @@ agree_gathered c label r q (soon b e x m l) = by_order (cases_lt (latest r.end r
     known =
         latest_known c r.end r.members
         ∙ (ends_known (min c r.end) (min c q.end) (known_members c r.members) (known_members c q.members) (ap (λ (u : ℕ). min c u) e) m
-            ∙ sym (latest_known c q.end q.members))
+        ∙ sym (latest_known c q.end q.members))
       where
         ends_known : (u v : ℕ) (ms ns : List Member) → u ≡ v → ms ≡ ns → latest u ms ≡ latest v ns
         ends_known u v ms ns i j = cc
@@ -251,7 +251,7 @@ agree_gathered c label r q (soon b e x m l) = by_order (cases_lt (latest r.end r
         at_end i =
             soon lt i
             (same_group r.exc q.exc r.members q.members x (sym (all_known c r.end r.members lt)
-                ∙ (m ∙ all_known c q.end q.members (below i))))
+            ∙ (m ∙ all_known c q.end q.members (below i))))
             refl l
           where
             below : latest r.end r.members ≡ latest q.end q.members → latest q.end q.members < c
@@ -353,7 +353,7 @@ pub agree_cleaned : (c : ℕ) (r r' : Result) (go go' : ℕ → Result) → Agre
 unfolding cleaned
 agree_cleaned c r r' go go' (soon b e x m l) h k k' =
     subst (λ (o : Option Exc). Agree c (with_outcome (outcome_after r.exc (go r.end).exc) (joined r (go r.end)))
-        (with_outcome (outcome_after o (go' r'.end).exc) (joined r' (go' r'.end)))) x
+    (with_outcome (outcome_after o (go' r'.end).exc) (joined r' (go' r'.end)))) x
     (agree_outcome c (joined r (go r.end)) (joined r' (go' r'.end)) (λ o. outcome_after r.exc o)
     (agree_joined c r r' (go r.end) (go' r'.end) (soon b e x m l) (agree_from c go go' h r.end r'.end e) (k r.end).ends (k' r'.end).ends))
 agree_cleaned c r r' go go' (later f s l) h k k' =
@@ -370,7 +370,7 @@ mutual
   agree c m stop here st su t near = agree_same c (done_at t)
   agree c m (step s ss) here st su t near =
       agree_and_then c _ _ _ _ (agree_step c m s here st su t near) (λ u. agree c m ss here st su u near) (λ u. late m ss here st u)
-          (λ u. late m ss here su u)
+      (λ u. late m ss here su u)
 
   pub agree_step : (c : ℕ) (m : Mode) (s : Step) (here : Here) (st su : Stack) (t : ℕ) → Near c st su →
       Agree c (walk_step m s here st t) (walk_step m s here su t)
@@ -394,7 +394,7 @@ mutual
       (λ f. late_gathered t _ _ (late_signed t _ _ (late m body here _ t)))
       (λ f. late_gathered t _ _ (late_signed t _ _ (late m body here _ t)))
       (λ f g e. agree_gathered c _ _ _ (agree_signed c _ _ _ _ (near_within c _ shield f g st su e near)
-          (agree c m body here _ _ t (near_within c _ shield f g st su e near))))
+      (agree c m body here _ _ t (near_within c _ shield f g st su e near))))
   agree_step c m (start name None body) here st su t near =
       agree_child c _ t _ _ (agree_signed c st su _ _ near (agree c m body _ st su t near))
   agree_step c m (start name (Some k) body) here st su t near =

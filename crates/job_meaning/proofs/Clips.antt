@@ -167,7 +167,7 @@ clipped_late c t (entered l u d rest) le h = without_entered (nat_lt u c) l u d 
     past k = omega arith
 clipped_late c t (task l u v e own rest) le h =
     without_task (nat_lt u c) l u (min c v) (exc_if (nat_lt v c) e) (clipped c own) (clipped c rest) (le-ltb u c (past h.0))
-        ∙ clipped_late c t rest le h.3
+    ∙ clipped_late c t rest le h.3
   where
     past : t ≤ u → c ≤ u
     past k = omega arith
@@ -243,7 +243,7 @@ least_clipped c t l (task m u v e own rest) h = by_kept (nat_lt u c) refl (least
     by_kept : (b : Bool) → nat_lt u c ≡ b → upto c (least_sign l own) ≡ upto c (least_sign l (clipped c own)) →
         upto c (least_sign l rest) ≡ upto c (least_sign l (clipped c rest)) →
         upto c (earlier (least_sign l own) (least_sign l rest)) ≡ upto c
-            (least_sign l (task_if b m u (min c v) (exc_if (nat_lt v c) e) (clipped c own) (clipped c rest)))
+        (least_sign l (task_if b m u (min c v) (exc_if (nat_lt v c) e) (clipped c own) (clipped c rest)))
     by_kept true e j k = upto_earlier_same c (least_sign l own) (least_sign l rest) (least_sign l (clipped c own))
         (least_sign l (clipped c rest)) j k
     by_kept false e j k =

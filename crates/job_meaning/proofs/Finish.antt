@@ -85,19 +85,19 @@ finish_after (in_scope fail ∷ fs) a m told here (l ∷ outer) r =
 finish_after (in_nursery children ∷ fs) a m told here [] r = finish_after fs a m told here [] r
 finish_after (in_nursery children ∷ fs) a m told here (l ∷ outer) r =
     ap (λ (x : Result). finish m told fs here outer (block_left a_nursery l outer
-        (gathered l.label (with_children (told_members told children) x)))) (after_signed a (l ∷ outer) r)
+    (gathered l.label (with_children (told_members told children) x)))) (after_signed a (l ∷ outer) r)
     ∙ (ap (λ (x : Result). finish m told fs here outer x) (after_block_left a a_nursery l outer
-        (gathered l.label (with_children (told_members told children) (signed (l ∷ outer) r))))
+    (gathered l.label (with_children (told_members told children) (signed (l ∷ outer) r))))
     ∙ finish_after fs a m told here outer _)
 finish_after (in_try handler cleanup ∷ fs) a m told here st r =
     ap (λ (x : Result). finish m told fs here st (walk_cleanup m cleanup (inside fs here) st x))
-        (after_handler a m handler (inside fs here) st r)
+    (after_handler a m handler (inside fs here) st r)
     ∙ (ap (λ (x : Result). finish m told fs here st x) (after_cleanup a m cleanup (inside fs here) st
-        (walk_handler m handler (inside fs here) st r))
+    (walk_handler m handler (inside fs here) st r))
     ∙ finish_after fs a m told here st _)
 finish_after (in_handler rest cleanup ∷ fs) a m told here st r =
     ap (λ (x : Result). finish m told fs here st x) (after_cleanup a m cleanup (inside fs here) st
-        (with_outcome (handler_exc r.exc rest) r))
+    (with_outcome (handler_exc r.exc rest) r))
     ∙ finish_after fs a m told here st _
 finish_after (in_cleanup outcome ∷ fs) a m told here st r = finish_after fs a m told here st _
 
@@ -116,7 +116,7 @@ finish_stop fs m told here st t = refl
 -- a step that opens no frame
 pub finish_step : (fs : List Frame) (m : Mode) (told : Telling) (s : Step) (ss : Steps) (here : Here) (st : Stack) (t : ℕ) →
     finish m told (steps_left (step s ss) ∷ fs) here st (done_at t)
-        ≡ finish m told (steps_left ss ∷ fs) here st (walk_step m s (inside fs here) st t)
+    ≡ finish m told (steps_left ss ∷ fs) here st (walk_step m s (inside fs here) st t)
 unfolding finish and_then walk
 finish_step fs m told s ss here st t = refl
 
@@ -132,11 +132,11 @@ pub finish_scope : (fs : List Frame) (table : Table) (told : Telling) (name : Li
     finish (by_table table) told (steps_left (step (scope name d shield fail body) ss) ∷ fs) here st (done_at t)
     ≡ after (entered (label_here name (inside fs here)) t (due d t) nil)
     (finish (by_table table) told (steps_left body ∷ in_scope fail ∷ steps_left ss ∷ fs) here
-        (within (label_here name (inside fs here)) shield (table (label_here name (inside fs here))) st) (done_at t))
+    (within (label_here name (inside fs here)) shield (table (label_here name (inside fs here))) st) (done_at t))
 unfolding finish and_then walk block
 finish_scope fs table told name d shield fail body ss here st t =
     finish_after (steps_left body ∷ in_scope fail ∷ steps_left ss ∷ fs) (entered (label_here name (inside fs here)) t (due d t) nil)
-        (by_table table) told here
+    (by_table table) told here
     (within (label_here name (inside fs here)) shield (table (label_here name (inside fs here))) st) (done_at t)
 
 -- a nursery is entered
@@ -145,11 +145,11 @@ pub finish_nursery : (fs : List Frame) (table : Table) (told : Telling) (name : 
     finish (by_table table) told (steps_left (step (nursery name d shield body) ss) ∷ fs) here st (done_at t)
     ≡ after (entered (label_here name (inside fs here)) t (due d t) nil)
     (finish (by_table table) told (steps_left body ∷ in_nursery [] ∷ steps_left ss ∷ fs) here
-        (within (label_here name (inside fs here)) shield (table (label_here name (inside fs here))) st) (done_at t))
+    (within (label_here name (inside fs here)) shield (table (label_here name (inside fs here))) st) (done_at t))
 unfolding finish and_then walk block gathered signed
 finish_nursery fs table told name d shield body ss here st t =
     finish_after (steps_left body ∷ in_nursery [] ∷ steps_left ss ∷ fs) (entered (label_here name (inside fs here)) t (due d t) nil)
-        (by_table table) told here
+    (by_table table) told here
     (within (label_here name (inside fs here)) shield (table (label_here name (inside fs here))) st) (done_at t)
 
 -- a `try` is entered
@@ -168,7 +168,7 @@ pub finish_handler : (fs : List Frame) (m : Mode) (told : Telling) (name : List 
 unfolding finish and_then walk handled
 finish_handler fs m told name body cleanup here st r e x k =
     ap (λ (o : Option Exc). finish m told fs here st (walk_cleanup m cleanup (inside fs here) st
-        (handled_if o (drop (named name) e) (record r { exc = Some e }) (λ u. walk m body (inside fs here) st u)))) k
+    (handled_if o (drop (named name) e) (record r { exc = Some e }) (λ u. walk m body (inside fs here) st u)))) k
 
 -- and where it has none, or there is no exception, it is passed by
 pub finish_unhandled : (fs : List Frame) (m : Mode) (told : Telling) (name : List ℕ) (body : Steps) (cleanup : Cleaned) (here : Here)
@@ -178,13 +178,13 @@ pub finish_unhandled : (fs : List Frame) (m : Mode) (told : Telling) (name : Lis
 unfolding finish walk handled
 finish_unhandled fs m told name body cleanup here st r e k =
     ap (λ (o : Option Exc). finish m told fs here st (walk_cleanup m cleanup (inside fs here) st
-        (handled_if o (drop (named name) e) (record r { exc = Some e }) (λ u. walk m body (inside fs here) st u)))) k
+    (handled_if o (drop (named name) e) (record r { exc = Some e }) (λ u. walk m body (inside fs here) st u)))) k
 
 -- where the body of a `try` raised nothing, its handler is passed by
 pub finish_no_handler : (fs : List Frame) (m : Mode) (told : Telling) (handler : Handled) (cleanup : Cleaned) (here : Here) (st : Stack)
     (r : Result) →
     finish m told (in_try handler cleanup ∷ fs) here st (record r { exc = None })
-        ≡ finish m told (in_try unhandled cleanup ∷ fs) here st (record r { exc = None })
+    ≡ finish m told (in_try unhandled cleanup ∷ fs) here st (record r { exc = None })
 unfolding finish walk handled
 finish_no_handler fs m told unhandled cleanup here st r = refl
 finish_no_handler fs m told (except name body) cleanup here st r = refl
@@ -193,7 +193,7 @@ finish_no_handler fs m told (except name body) cleanup here st r = refl
 pub finish_handled : (fs : List Frame) (m : Mode) (told : Telling) (rest : Option Exc) (cleanup : Cleaned) (here : Here) (st : Stack)
     (r : Result) →
     finish m told (in_handler rest cleanup ∷ fs) here st r ≡ finish m told (in_try unhandled cleanup ∷ fs) here st
-        (with_outcome (handler_exc r.exc rest) r)
+    (with_outcome (handler_exc r.exc rest) r)
 unfolding finish walk
 finish_handled fs m told rest cleanup here st r = refl
 
@@ -206,7 +206,7 @@ finish_uncleaned fs m told here st r = refl
 -- a cleanup is entered, with the outcome so far
 pub finish_cleanup : (fs : List Frame) (m : Mode) (told : Telling) (body : Steps) (here : Here) (st : Stack) (r : Result) →
     finish m told (in_try unhandled (finally body) ∷ fs) here st r
-        ≡ finish m told (steps_left body ∷ in_cleanup r.exc ∷ fs) here st (record r { exc = None })
+    ≡ finish m told (steps_left body ∷ in_cleanup r.exc ∷ fs) here st (record r { exc = None })
 unfolding finish and_then walk cleaned
 finish_cleanup fs m told body here st r = refl
 
@@ -231,13 +231,13 @@ pub finish_wait : (fs : List Frame) (m : Mode) (told : Telling) (children : List
 unfolding finish signed gathered
 finish_wait fs m told children here l outer t e =
     ap (λ (ms : List Member). finish m told fs here outer (block_left a_nursery l outer
-        (gathered l.label (record { end = t; exc = e; members = ms; log = sign_if e (Some l.label) t }))))
-        (append-nil (told_members told children))
+    (gathered l.label (record { end = t; exc = e; members = ms; log = sign_if e (Some l.label) t }))))
+    (append-nil (told_members told children))
     ∙ (ap (λ (x : Log). finish m told fs here outer (block_left a_nursery l outer
-        (gathered l.label (record { end = t; exc = e; members = told_members told children; log = x }))))
-        (sym (followed_nil (sign_if e (Some l.label) t)))
+    (gathered l.label (record { end = t; exc = e; members = told_members told children; log = x }))))
+    (sym (followed_nil (sign_if e (Some l.label) t)))
     ∙ (ap (λ (x : Result). finish m told fs here outer x) (after_block_left (sign_if e (Some l.label) t) a_nursery l outer
-        (gathered l.label (record { end = t; exc = e; members = told_members told children; log = nil })))
+    (gathered l.label (record { end = t; exc = e; members = told_members told children; log = nil })))
     ∙ finish_after fs (sign_if e (Some l.label) t) m told here outer (waited (told_members told children) t e l outer)))
 
 told_append : (told : Telling) (is js : List ℕ) → told_members told (is ++ js) ≡ told_members told is ++ told_members told js
@@ -252,10 +252,15 @@ pub finish_children : (fs : List Frame) (m : Mode) (told : Telling) (children mo
 unfolding finish signed
 finish_children fs m told children more here l outer r =
     ap (λ (ms : List Member). finish m told fs here outer (block_left a_nursery l outer
-        (gathered l.label (record { end = r.end; exc = r.exc; members = ms; log =
-        followed_by r.log (sign_if r.exc (Some l.label) r.end) }))))
+    (gathered l.label (record {
+      end = r.end;
+      exc = r.exc;
+      members = ms;
+      log =
+          followed_by r.log (sign_if r.exc (Some l.label) r.end);
+    }))))
     (ap (λ (ms : List Member). ms ++ r.members) (told_append told children more)
-        ∙ append_assoc (told_members told children) (told_members told more) r.members)
+    ∙ append_assoc (told_members told children) (told_members told more) r.members)
 
 -- what stands for children that were just started: the starter goes on in the same tick
 abbrev pub just_started : Telling → List ℕ → Log → ℕ → Result
@@ -282,7 +287,7 @@ unfolding walk child
 finish_start fs m told i name body ss children here l outer t e =
     finish_step (in_nursery children ∷ fs) m told (start name None body) ss here (l ∷ outer) t
     ∙ (ap (λ (r : Result). finish m told (steps_left ss ∷ in_nursery children ∷ fs) here (l ∷ outer)
-        (child (label_here name (inside fs here)) t r)) (sym e)
+    (child (label_here name (inside fs here)) t r)) (sym e)
     ∙ finish_started fs m told ss children (i ∷ []) here l outer t (fill told (starts i (label_here name (inside fs here)) t ∷ [])))
 
 -- what was made, and more
@@ -298,16 +303,16 @@ fill_append told (starts i l t ∷ es) others =
 each_started : (told : Telling) (name : List ℕ) (here : Here) (t first k : ℕ) (go : ℕ → Result) →
     ((i : ℕ) → i < k → told (first + i) ≡ go i) →
     each k (λ i. child (label_over name here i) t (go i)) t ≡ just_started told (numbered first k)
-        (fill told (starts_over name here t first k)) t
+    (fill told (starts_over name here t first k)) t
 unfolding child
 each_started told name here t first zero go h = refl
 each_started told name here t first (suc k) go h =
     ap (λ (r : Result). joined r (child (label_over name here k) t (go k)))
-        (each_started told name here t first k go (λ i lt. h i (below i lt)))
+    (each_started told name here t first k go (λ i lt. h i (below i lt)))
     ∙ (ap (λ (r : Result). joined (just_started told (numbered first k) (fill told (starts_over name here t first k)) t)
-        (child (label_over name here k) t r)) (sym (h k (omega arith)))
+    (child (label_over name here k) t r)) (sym (h k (omega arith)))
     ∙ both (sym (told_append told (numbered first k) ((first + k) ∷ [])))
-        (sym (fill_append told (starts_over name here t first k) (starts (first + k) (label_over name here k) t ∷ []))))
+    (sym (fill_append told (starts_over name here t first k) (starts (first + k) (label_over name here k) t ∷ []))))
   where
     below : (i : ℕ) → i < k → i < suc k
     below i lt = omega arith
@@ -320,7 +325,7 @@ each_started told name here t first (suc k) go h =
 pub finish_start_over : (fs : List Frame) (m : Mode) (told : Telling) (first k : ℕ) (name : List ℕ) (body ss : Steps) (children : List ℕ)
     (here : Here) (l : Level Label) (outer : Stack) (t : ℕ) →
     ((i : ℕ) → i < k → told (first + i) ≡ signed (l ∷ outer) (walk m body
-        (here_in (label_over name (inside fs here) i) (cut_of here.input here.part k i) here) (l ∷ outer) t)) →
+    (here_in (label_over name (inside fs here) i) (cut_of here.input here.part k i) here) (l ∷ outer) t)) →
     finish m told (steps_left (step (start name (Some k) body) ss) ∷ in_nursery children ∷ fs) here (l ∷ outer) (done_at t)
     ≡ after (fill told (starts_over name (inside fs here) t first k))
     (finish m told (steps_left ss ∷ in_nursery (children ++ numbered first k) ∷ fs) here (l ∷ outer) (done_at t))
@@ -329,5 +334,5 @@ finish_start_over fs m told first k name body ss children here l outer t h =
     finish_step (in_nursery children ∷ fs) m told (start name (Some k) body) ss here (l ∷ outer) t
     ∙ (ap (λ (r : Result). finish m told (steps_left ss ∷ in_nursery children ∷ fs) here (l ∷ outer) r)
     (each_started told name (inside fs here) t first k (λ i. signed (l ∷ outer)
-        (walk m body (here_in (label_over name (inside fs here) i) (cut_of here.input here.part k i) here) (l ∷ outer) t)) h)
+    (walk m body (here_in (label_over name (inside fs here) i) (cut_of here.input here.part k i) here) (l ∷ outer) t)) h)
     ∙ finish_started fs m told ss children (numbered first k) here l outer t (fill told (starts_over name (inside fs here) t first k)))

@@ -123,8 +123,11 @@ late_block m kind label t d shield st inside h =
     let inner : Late t (inside (from_of m label d inside)) = h (from_of m label d inside) in
     record {
       ends = inner.ends;
-      timed = (omega arith, timed_followed t (inside (from_of m label d inside)).log (entry (inside (from_of m label d inside)).end _ nil)
-          inner.timed (inner.ends, tt));
+      timed = (
+        omega arith,
+        timed_followed t (inside (from_of m label d inside)).log (entry (inside (from_of m label d inside)).end _ nil)
+            inner.timed (inner.ends, tt),
+      );
     }
 
 -- a late member is late with its sign too

@@ -33,7 +33,7 @@ late_finish (in_nursery children ∷ fs) t m told here [] r h = late_finish fs t
 late_finish (in_nursery children ∷ fs) t m told here (l ∷ outer) r h =
     late_finish fs t m told here outer _
     (late_left t a_nursery l outer _ (late_gathered t l.label (with_children (told_members told children) (signed (l ∷ outer) r))
-        (late_children (late_signed t (l ∷ outer) r h))))
+    (late_children (late_signed t (l ∷ outer) r h))))
   where
     late_children : Late t (signed (l ∷ outer) r) → Late t (with_children (told_members told children) (signed (l ∷ outer) r))
     late_children k = record { ends = k.ends; timed = k.timed }
@@ -50,4 +50,4 @@ pub late_waited : (t : ℕ) (ms : List Member) (u : ℕ) (exc : Option Exc) (l :
 unfolding gathered
 late_waited t ms u exc l outer h =
     late_left t a_nursery l outer (gathered l.label (record { end = u; exc = exc; members = ms; log = nil }))
-        (record { ends = h; timed = tt })
+    (record { ends = h; timed = tt })

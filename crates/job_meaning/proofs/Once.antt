@@ -111,8 +111,12 @@ unique_block m kind label t d shield st inside h own = at_from (from_of m label 
   where
     at_from : (f : Tick) → Unique (left_from kind label t d shield st f (inside f))
     at_from f =
-        record { once = (λ i. not_there (gives_followed label (inside f).log _ i),
-            once_followed (inside f).log _ (h f).once tt (λ l i j. j)) }
+        record {
+          once = (
+            λ i. not_there (gives_followed label (inside f).log _ i),
+            once_followed (inside f).log _ (h f).once tt (λ l i j. j),
+          );
+        }
       where
         not_there : Gives label (inside f).log ⊎ ⊥ → ⊥
         not_there (inl i) = own f i
@@ -121,8 +125,9 @@ unique_block m kind label t d shield st inside h own = at_from (from_of m label 
 unique_signed : (st : Stack) (r : Result) → Unique r → Unique (signed st r)
 unfolding signed
 unique_signed st r h =
-    record { once = once_followed r.log (sign_if r.exc (home_of st) r.end) h.once (once_home r.exc) (λ l i j. gives_home st r.exc r.end l j)
-        }
+    record {
+      once = once_followed r.log (sign_if r.exc (home_of st) r.end) h.once (once_home r.exc) (λ l i j. gives_home st r.exc r.end l j);
+    }
   where
     once_home : (o : Option Exc) → GivesOnce (sign_if o (home_of st) r.end)
     once_home None = tt
@@ -225,7 +230,7 @@ mutual
       (λ f i. distinct.0
       ((tidy_gathered (within (label_here name here) shield f st) (Belongs (names_of body) here.path) (label_here name here) _
       (tidy_signed (within (label_here name here) shield f st) _ _ (tidy m body here (within (label_here name here) shield f st) t))).gives
-          _ i).named)
+      _ i).named)
   unique_step m (start name None body) here st t distinct =
       unique_child _ t _
       (λ i. distinct.0 ((tidy_signed st _ _ (tidy m body (here_in (label_here name here) here.part here) st t)).gives _ i).named)
@@ -235,7 +240,7 @@ mutual
       (λ i. tidy_over m name body here (cut_of here.input here.part k i) i st t)
       (λ i. unique_child _ t _
       (λ j. distinct.0 ((tidy_signed st _ _ (tidy m body (here_in (label_over name here i) (cut_of here.input here.part k i) here) st
-          t)).gives _ j).named)
+      t)).gives _ j).named)
       (unique_signed st _ (unique m body _ st t distinct.1)))
   unique_step m (attempt body handler cleanup) here st t distinct =
       unique_cleanup m cleanup here st _ (names_of body ++ handled_names handler)
@@ -244,7 +249,7 @@ mutual
       (distinct_left (names_of body ++ handled_names handler) (cleaned_names cleanup) distinct)
       (unique m body here st t
       (distinct_left (names_of body) (handled_names handler) (distinct_left (names_of body ++ handled_names handler) (cleaned_names cleanup)
-          distinct))))
+      distinct))))
 
   pub unique_handler : (m : Mode) (x : Handled) (here : Here) (st : Stack) (r : Result) (names : List (List ℕ)) →
       Tidy st (Belongs names here.path) r →

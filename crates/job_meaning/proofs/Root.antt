@@ -131,8 +131,11 @@ members_hold st t (m ∷ ms) h k =
 pub root_gathered : (st : Stack) (label : Label) (r : Result) → Rooted st r → Rooted st (gathered label r)
 unfolding gathered
 root_gathered st label r h =
-    record { exc = λ k. either_one (or_cases _ _ (sym (with_exc_holds r.exc (excs_of r.members))
-        ∙ (sym (group_holds (by_nursery label) (parts_of (with_exc r.exc (excs_of r.members)))) ∙ k))); members = tt }
+    record {
+      exc = λ k. either_one (or_cases _ _ (sym (with_exc_holds r.exc (excs_of r.members))
+          ∙ (sym (group_holds (by_nursery label) (parts_of (with_exc r.exc (excs_of r.members)))) ∙ k)));
+      members = tt;
+    }
   where
     either_one : IsTrue (some_cancelled r.exc) ⊎ IsTrue (hold_cancelled (parts_of (excs_of r.members))) →
         IsTrue (seen st (latest r.end r.members))
@@ -176,8 +179,11 @@ root_handled st wanted r go h k later = by_exc r.exc h.exc
     by_match : (o rest : Option Exc) → (IsTrue (some_cancelled rest) → IsTrue (seen st r.end)) → Rooted st (handled_if o rest r go)
     by_match None rest old = h
     by_match (Some e) rest old =
-        record { exc = outcome (go r.end).exc rest (k r.end).exc old; members =
-            members_append st r.members (go r.end).members h.members (k r.end).members }
+        record {
+          exc = outcome (go r.end).exc rest (k r.end).exc old;
+          members =
+              members_append st r.members (go r.end).members h.members (k r.end).members;
+        }
 
     by_exc : (o : Option Exc) → (IsTrue (some_cancelled o) → IsTrue (seen st r.end)) → Rooted st (handled_exc o wanted r go)
     by_exc None old = h
@@ -188,8 +194,11 @@ pub root_cleaned : (st : Stack) (r : Result) (go : ℕ → Result) → Rooted st
     Rooted st (cleaned r go)
 unfolding cleaned
 root_cleaned st r go h k later =
-    record { exc = outcome (go r.end).exc (k r.end).exc; members =
-        members_append st r.members (go r.end).members h.members (k r.end).members }
+    record {
+      exc = outcome (go r.end).exc (k r.end).exc;
+      members =
+          members_append st r.members (go r.end).members h.members (k r.end).members;
+    }
   where
     outcome : (o : Option Exc) → (IsTrue (some_cancelled o) → IsTrue (seen st (go r.end).end)) →
         IsTrue (some_cancelled (outcome_after r.exc o)) → IsTrue (seen st (go r.end).end)

@@ -75,7 +75,7 @@ module _ (table : Table) (kind : Kind) (label : Label) (t : ℕ) (d : Tick) (shi
       clipped c (inside f).log ≡ clipped c (inside g).log) →
       ((f : Tick) → Fits table (inside f).log → inside' f ≡ inside f) →
       Fits table (block two_walks kind label t d shield st inside).log →
-          block (by_table table) kind label t d shield st inside' ≡ block two_walks kind label t d shield st inside
+      block (by_table table) kind label t d shield st inside' ≡ block two_walks kind label t d shield st inside
   unfolding block
   settled_block later causal same h =
       let first : Tick = least_sign label (inside d).log in
@@ -243,11 +243,11 @@ mutual
       settled_and_then table (walk_step two_walks s here st t) (walk_step (by_table table) s here st t)
       (λ u. walk two_walks ss here st u) (λ u. walk (by_table table) ss here st u)
       (λ g. settled_step table s here st t (distinct_left (names_in s) (names_of ss) distinct)
-          (fresh_left st (names_in s) (names_of ss) fresh) g)
+      (fresh_left st (names_in s) (names_of ss) fresh) g)
       (λ u g. settled table ss here st u (distinct_right (names_in s) (names_of ss) distinct)
-          (fresh_right st (names_in s) (names_of ss) fresh) g)
+      (fresh_right st (names_in s) (names_of ss) fresh) g)
       (λ u. side_by_side st (names_in s) (names_of ss) here.path (walk_step two_walks s here st t) (walk two_walks ss here st u) distinct
-          fresh (tidy_step two_walks s here st t) (tidy two_walks ss here st u))
+      fresh (tidy_step two_walks s here st t) (tidy two_walks ss here st u))
       f
 
   settled_step : (table : Table) (s : Step) (here : Here) (st : Stack) (t : ℕ) → Distinct (names_in s) → Fresh st (names_in s) →
@@ -275,14 +275,14 @@ mutual
       ((tidy_nursery body (label_here name here) here (within (label_here name here) shield g st) t).gives _ e))
       (λ g. late_nursery body (label_here name here) here (within (label_here name here) shield g st) t)
       (λ c g k e. agree_nursery c body (label_here name here) here (within (label_here name here) shield g st)
-          (within (label_here name here) shield k st) t
+      (within (label_here name here) shield k st) t
       (near_within c (label_here name here) shield g k st st e (near_same c st)))
       (λ g h. settled_gathered table (label_here name here) _ _
       (settled_signed table (within (label_here name here) shield g st) (Belongs (names_of body) here.path) _ _
       (tidy two_walks body here (within (label_here name here) shield g st) t)
       (λ l o b. (fresh_within name (names_of body) here shield g st distinct fresh).none l o b.named)
       (λ i. settled table body here (within (label_here name here) shield g st) t distinct.1
-          (fresh_within name (names_of body) here shield g st distinct fresh) i))
+      (fresh_within name (names_of body) here shield g st distinct fresh) i))
       h)
       f
   settled_step table (start name None body) here st t distinct fresh f =
@@ -296,10 +296,10 @@ mutual
       (λ i. tidy_over two_walks name body here (cut_of here.input here.part k i) i st t)
       (λ i g. settled_child table (label_over name here i) t _ _
       (settled_signed table st (Belongs (names_of body) (here.path ++ i ∷ [])) _ _
-          (tidy two_walks body (here_in (label_over name here i) (cut_of here.input here.part k i) here) st t)
+      (tidy two_walks body (here_in (label_over name here i) (cut_of here.input here.part k i) here) st t)
       (λ l o b. fresh.none l o (inr b.named))
       (λ h. settled table body (here_in (label_over name here i) (cut_of here.input here.part k i) here) st t distinct.1
-          (fresh_in st (names_of body) (name ∷ names_of body) (λ n j. inr j) fresh) h))
+      (fresh_in st (names_of body) (name ∷ names_of body) (λ n j. inr j) fresh) h))
       g)
       f
   settled_step table (attempt body handler cleanup) here st t distinct fresh f =
@@ -326,7 +326,7 @@ mutual
   settled_handler table (except name body) here st r names h distinct fresh f =
       settled_handled table _ r (λ u. walk two_walks body here st u) (λ u. walk (by_table table) body here st u)
       (λ u. side_by_side st names (names_of body) here.path r (walk two_walks body here st u) distinct fresh h
-          (tidy two_walks body here st u))
+      (tidy two_walks body here st u))
       (λ u g. settled table body here st u (distinct_right names (names_of body) distinct) (fresh_right st names (names_of body) fresh) g)
       f
 
@@ -339,7 +339,7 @@ mutual
   settled_cleanup table (finally body) here st r names h distinct fresh f =
       settled_cleaned table r (λ u. walk two_walks body here st u) (λ u. walk (by_table table) body here st u)
       (λ u. side_by_side st names (names_of body) here.path r (walk two_walks body here st u) distinct fresh h
-          (tidy two_walks body here st u))
+      (tidy two_walks body here st u))
       (λ u g. settled table body here st u (distinct_right names (names_of body) distinct) (fresh_right st names (names_of body) fresh) g)
       f
 

@@ -353,4 +353,4 @@ pub tidy_over : (m : Mode) (name : List ℕ) (body : Steps) (here : Here) (lent 
 tidy_over m name body here lent i st t =
     tidy_child st _ (label_over name here i) t _ (belongs_over name (names_of body) here i)
     (tidy_in st _ _ _ (in_body name (names_of body) (here.path ++ i ∷ []))
-        (tidy_signed st _ _ (tidy m body (here_in (label_over name here i) lent here) st t)))
+    (tidy_signed st _ _ (tidy m body (here_in (label_over name here i) lent here) st t)))

@@ -134,7 +134,7 @@ pub fail_scope_with_a_rest_is_not_too_slow :
     ∷ []) ∷ []) ∷ [])
     []
     ≡ main_ran 0 2 (Some (group_by (codes "n") (raised_by (codes "Bad") (codes "b") 2 ∷ [])))
-        (nursery_passed (codes "n") 2 ∷ scope_caught (codes "s") 2 ∷ [])
+    (nursery_passed (codes "n") 2 ∷ scope_caught (codes "s") 2 ∷ [])
     ∷ ran (label_named (codes "a")) 0 2 (Some cancelled) []
     ∷ ran (label_named (codes "b")) 0 2 (Some (raised_by (codes "Bad") (codes "b") 2)) []
     ∷ []

@@ -67,4 +67,4 @@ TableIsSettled = (job : Tree) (input : List ℕ) → GivesNamesOnce job → IsSe
 abbrev pub LabelsAreGivenOnce : Type 0
 LabelsAreGivenOnce =
     (mode : Mode) (job : Tree) (input : List ℕ) → GivesNamesOnce job → (l : Label) →
-        times_given l (root_log job (root_walk mode job input)) ≤ 1
+    times_given l (root_log job (root_walk mode job input)) ≤ 1

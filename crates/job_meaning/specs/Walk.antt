@@ -294,12 +294,12 @@ unfoldable mutual
   walk_step m (nursery name deadline shield body) here st t =
       block m a_nursery (label_here name here) t (due deadline t) shield st
       (λ from. let inner = within (label_here name here) shield from st in
-          gathered (label_here name here) (signed inner (walk m body here inner t)))
+      gathered (label_here name here) (signed inner (walk m body here inner t)))
   walk_step m (start name None body) here st t =
       child (label_here name here) t (signed st (walk m body (here_in (label_here name here) here.part here) st t))
   walk_step m (start name (Some k) body) here st t =
       each k (λ i. child (label_over name here i) t
-          (signed st (walk m body (here_in (label_over name here i) (cut_of here.input here.part k i) here) st t))) t
+      (signed st (walk m body (here_in (label_over name here i) (cut_of here.input here.part k i) here) st t))) t
   walk_step m (attempt body handler cleanup) here st t =
       walk_cleanup m cleanup here st (walk_handler m handler here st (walk m body here st t))
 

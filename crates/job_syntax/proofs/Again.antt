@@ -47,10 +47,13 @@ mutual
   long_step (need t n) rest = omega arith
   long_step (raise n) rest = omega arith
   long_step (cancel n) rest = omega arith
-  long_step (scope n d s f body) rest = omega (arith, long_steps body rest,
-      long_deadline d (flag_pieces word.Shield s (flag_pieces word.Fail f (opens ∷ steps_pieces body rest))),
-      long_flag word.Shield s (flag_pieces word.Fail f (opens ∷ steps_pieces body rest)),
-      long_flag word.Fail f (opens ∷ steps_pieces body rest))
+  long_step (scope n d s f body) rest = omega (
+    arith,
+    long_steps body rest,
+    long_deadline d (flag_pieces word.Shield s (flag_pieces word.Fail f (opens ∷ steps_pieces body rest))),
+    long_flag word.Shield s (flag_pieces word.Fail f (opens ∷ steps_pieces body rest)),
+    long_flag word.Fail f (opens ∷ steps_pieces body rest),
+  )
   long_step (nursery n d s body) rest = omega (arith, long_steps body rest)
   long_step (start n o body) rest = omega (arith, long_steps body rest, long_over o (opens ∷ steps_pieces body rest))
   long_step (attempt body h c) rest =
@@ -104,9 +107,9 @@ nursery_with : (blocks : Blocks) (n : List ℕ) (d : Deadline) (s : Bool) (body 
     ReadsAgain blocks body → step_at blocks (shapes_in (step_pieces (nursery n d s body) rest)) ≡ step_read (nursery n d s body) rest
 nursery_with blocks n d s body rest never unshielded reads =
     subst (λ (x : Deadline). step_at blocks (shapes_in (step_pieces (nursery n x s body) rest)) ≡ step_read (nursery n x s body) rest)
-        (sym never)
+    (sym never)
     (subst (λ (b : Bool). step_at blocks (shapes_in (step_pieces (nursery n Never b body) rest)) ≡ step_read (nursery n Never b body) rest)
-        (sym unshielded) (nursery_again blocks n body rest reads))
+    (sym unshielded) (nursery_again blocks n body rest reads))
 
 try_both : (blocks : Blocks) (body : Steps) (n : List ℕ) (handler clean : Steps) (rest : List Piece) → ReadsAgain blocks body →
     ReadsAgain blocks handler → ReadsAgain blocks clean → step_at blocks
@@ -170,7 +173,7 @@ no_close (attempt body h c) rest = refl
 abbrev StepsAgain : Steps → Type 0
 StepsAgain steps =
     (inside : Bool) (depth n : ℕ) (rest : List Piece) → AreSteps inside steps → AreWithin depth steps →
-        length (steps_pieces steps rest) ≤ n + length rest
+    length (steps_pieces steps rest) ≤ n + length rest
     → steps_with (blocks_at depth) n (shapes_in (steps_pieces steps rest)) ≡ Some (steps, shapes_in rest)
 
 block_again : (inside : Bool) (body : Steps) (depth : ℕ) → StepsAgain body → AreSteps inside body → 0 < depth → AreWithin (depth - 1) body →
@@ -180,7 +183,7 @@ block_again inside body zero again are some within rest = absurd (omega arith)
 block_again inside body (suc depth) again are some within rest =
     let e : suc depth - 1 ≡ depth = omega arith in
     again inside depth (length (shapes_in (steps_pieces body rest))) rest are (subst (λ (d : ℕ). AreWithin d body) e within)
-        (omega (arith, length_shapes (steps_pieces body rest)))
+    (omega (arith, length_shapes (steps_pieces body rest)))
 
 one_step : (blocks : Blocks) (n : ℕ) (s : Step) (ss : Steps) (shapes after rest : List Shape) → mark_at mark.Close shapes ≡ None →
     step_at blocks shapes ≡ Some (s, after) → steps_with blocks n after ≡ Some (ss, rest) →
@@ -200,7 +203,7 @@ mutual
       absurd (omega (arith, long_step s (steps_pieces ss rest), long_steps ss rest))
   steps_again (step s ss) inside depth (suc n) rest are within le =
       one_step (blocks_at depth) n s ss (shapes_in (step_pieces s (steps_pieces ss rest))) (shapes_in (steps_pieces ss rest))
-          (shapes_in rest) (no_close s (steps_pieces ss rest))
+      (shapes_in rest) (no_close s (steps_pieces ss rest))
       (step_again s inside depth (steps_pieces ss rest) are.0 within.0 (no_finally ss rest))
       (steps_again ss inside depth n rest are.1 within.1 (omega (arith, le, long_step s (steps_pieces ss rest))))
 
@@ -219,13 +222,13 @@ mutual
   step_again (cancel n) inside depth rest is within none = refl
   step_again (scope n d s f body) inside depth rest is within none =
       scope_again (blocks_at depth) n d s f body rest (block_again false body depth
-          (λ inside' depth' n' rest'. steps_again body inside' depth' n' rest') is within.0 within.1)
+      (λ inside' depth' n' rest'. steps_again body inside' depth' n' rest') is within.0 within.1)
   step_again (nursery n d s body) inside depth rest is within none =
       nursery_with (blocks_at depth) n d s body rest is.0 is.1 (block_again true body depth
-          (λ inside' depth' n' rest'. steps_again body inside' depth' n' rest') is.2 within.0 within.1)
+      (λ inside' depth' n' rest'. steps_again body inside' depth' n' rest') is.2 within.0 within.1)
   step_again (start n o body) inside depth rest is within none =
       start_again (blocks_at depth) n o body rest (block_again false body depth
-          (λ inside' depth' n' rest'. steps_again body inside' depth' n' rest') is.1 within.0 within.1)
+      (λ inside' depth' n' rest'. steps_again body inside' depth' n' rest') is.1 within.0 within.1)
   step_again (attempt body (except n handler) (finally clean)) inside depth rest is within none =
       try_both (blocks_at depth) body n handler clean rest
       (block_again false body depth (λ inside' depth' n' rest'. steps_again body inside' depth' n' rest') is.1 within.0.0 within.0.1)
@@ -235,7 +238,7 @@ mutual
       try_handler (blocks_at depth) body n handler rest
       (block_again false body depth (λ inside' depth' n' rest'. steps_again body inside' depth' n' rest') is.1 within.0.0 within.0.1)
       (block_again false handler depth (λ inside' depth' n' rest'. steps_again handler inside' depth' n' rest') is.2 within.1.0 within.1.1)
-          none
+      none
   step_again (attempt body unhandled (finally clean)) inside depth rest is within none =
       try_cleanup (blocks_at depth) body clean rest
       (block_again false body depth (λ inside' depth' n' rest'. steps_again body inside' depth' n' rest') is.1 within.0.0 within.0.1)
@@ -253,4 +256,4 @@ one_job name body reads = rw reads refl
 pub job_again : (job : Tree) → AreSteps false job.steps → AreWithin 31 job.steps → job_at (shapes_in (job_pieces job)) ≡ Some job
 job_again job are within =
     one_job job.name job.steps (block_again false job.steps 32 (λ inside depth n rest. steps_again job.steps inside depth n rest) are
-        (omega arith) within [])
+    (omega arith) within [])

@@ -100,12 +100,12 @@ mutual
       let flagged = flag_pieces word.Fail f block in
       let shielded = flag_pieces word.Shield s flagged in
       block_within depth more body rest (λ depth' more'. steps_within body rest depth' more') e
-          (past_flag depth word.Fail f block (past_flag depth word.Shield s flagged (past_deadline depth d shielded none.1.1)))
+      (past_flag depth word.Fail f block (past_flag depth word.Shield s flagged (past_deadline depth d shielded none.1.1)))
   step_within (nursery n d s body) rest depth more e none =
       block_within depth more body rest (λ depth' more'. steps_within body rest depth' more') e none.1.1
   step_within (start n o body) rest depth more e none =
       block_within depth more body rest (λ depth' more'. steps_within body rest depth' more') e
-          (past_over depth o (opens ∷ steps_pieces body rest) none.1.1)
+      (past_over depth o (opens ∷ steps_pieces body rest) none.1.1)
   step_within (attempt body h c) rest depth more e none =
       let after = handler_pieces h (cleanup_pieces c rest) in
       let one = block_within depth more body after (λ depth' more'. steps_within body after depth' more') e none.1 in

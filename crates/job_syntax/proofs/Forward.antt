@@ -77,64 +77,64 @@ number_step : (inside : Bool) (s : ℕ → Step) (first : Piece) (ss : List Symb
 number_step inside s first ss ps is printed (r, (n, e), (r', e', (q, block, fits))) =
     let b = block_of inside r' q block in
     step_on inside (s n) ss (first ∷ ps) q b.0 (is n) b.1 (ap (on first) (e ∙ ap (on (number n)) (e' ∙ ap (on ends) b.2))
-        ∙ sym (printed n (steps_pieces b.0 q))) fits
+    ∙ sym (printed n (steps_pieces b.0 q))) fits
 
 name_step : (inside : Bool) (s : List ℕ → Step) (role : Role) (name : Symbol)
     (names : (ps rest : List Piece) → Stands name ps rest → (n : List ℕ) × (ps ≡ named role n ∷ rest)) (first : Piece) (ss : List Symbol)
     (ps : List Piece) → ((n : List ℕ) → IsStep inside (s n))
     → ((n : List ℕ) (rest : List Piece) → step_pieces (s n) rest ≡ first ∷ named role n ∷ ends ∷ rest) →
-        Fits (name ∷ symbol.Semicolon ∷ outer inside ∷ ss) ps → BlockFits inside ss (first ∷ ps)
+    Fits (name ∷ symbol.Semicolon ∷ outer inside ∷ ss) ps → BlockFits inside ss (first ∷ ps)
 name_step inside s role name names first ss ps is printed (r, stands, (r', e', (q, block, fits))) =
     let n = names ps r stands in
     let b = block_of inside r' q block in
     step_on inside (s n.0) ss (first ∷ ps) q b.0 (is n.0) b.1 (ap (on first) (n.1 ∙ ap (on (named role n.0)) (e' ∙ ap (on ends) b.2))
-        ∙ sym (printed n.0 (steps_pieces b.0 q))) fits
+    ∙ sym (printed n.0 (steps_pieces b.0 q))) fits
 
 find_step : (inside : Bool) (ss : List Symbol) (ps : List Piece) → Fits (symbol.Text ∷ symbol.Semicolon ∷ outer inside ∷ ss) ps →
     BlockFits inside ss (keyword word.Find ∷ ps)
 find_step inside ss ps (r, (t, e), (r', e', (q, block, fits))) =
     let b = block_of inside r' q block in
     step_on inside (find t) ss (keyword word.Find ∷ ps) q b.0 tt b.1
-        (ap (on (keyword word.Find)) (e ∙ ap (on (string t)) (e' ∙ ap (on ends) b.2))) fits
+    (ap (on (keyword word.Find)) (e ∙ ap (on (string t)) (e' ∙ ap (on ends) b.2))) fits
 
 need_step : (inside : Bool) (ss : List Symbol) (ps : List Piece) →
     Fits (symbol.Text ∷ symbol.Raised ∷ symbol.Semicolon ∷ outer inside ∷ ss) ps → BlockFits inside ss (keyword word.Need ∷ ps)
 need_step inside ss ps (r, (t, e), (r', (n, e'), (r'', e'', (q, block, fits)))) =
     let b = block_of inside r'' q block in
     step_on inside (need t n) ss (keyword word.Need ∷ ps) q b.0 tt b.1
-        (ap (on (keyword word.Need)) (e ∙ ap (on (string t)) (e' ∙ ap (on (named role.Raised n)) (e'' ∙ ap (on ends) b.2)))) fits
+    (ap (on (keyword word.Need)) (e ∙ ap (on (string t)) (e' ∙ ap (on (named role.Raised n)) (e'' ∙ ap (on ends) b.2)))) fits
 
 scope_step : (inside : Bool) (ss : List Symbol) (ps : List Piece) → Fits (symbol.Given ∷ symbol.Scope ∷ outer inside ∷ ss) ps →
     BlockFits inside ss (keyword word.Scope ∷ ps)
 scope_step inside ss ps (r, (n, e), (r', (d, s, f, body, are, e'), (q, block, fits))) =
     let b = block_of inside r' q block in
     let tail_is : r ≡ deadline_pieces d (flag_pieces word.Shield s
-        (flag_pieces word.Fail f (opens ∷ steps_pieces body (steps_pieces b.0 q)))) = e'
-        ∙ ap (λ (x : List Piece). deadline_pieces d (flag_pieces word.Shield s (flag_pieces word.Fail f (opens ∷ steps_pieces body x))))
-        b.2 in
+    (flag_pieces word.Fail f (opens ∷ steps_pieces body (steps_pieces b.0 q)))) = e'
+    ∙ ap (λ (x : List Piece). deadline_pieces d (flag_pieces word.Shield s (flag_pieces word.Fail f (opens ∷ steps_pieces body x))))
+    b.2 in
     step_on inside (scope n d s f body) ss (keyword word.Scope ∷ ps) q b.0 are b.1
-        (ap (on (keyword word.Scope)) (e ∙ ap (on (named role.Given n)) tail_is)) fits
+    (ap (on (keyword word.Scope)) (e ∙ ap (on (named role.Given n)) tail_is)) fits
 
 nursery_step : (inside : Bool) (ss : List Symbol) (ps : List Piece) →
     Fits (symbol.Given ∷ symbol.Open ∷ symbol.Items ∷ outer inside ∷ ss) ps → BlockFits inside ss (keyword word.Nursery ∷ ps)
 nursery_step inside ss ps (r, (n, e), (r', e', (r'', (body, are, e''), (q, block, fits)))) =
     let b = block_of inside r'' q block in
     step_on inside (nursery n Never false body) ss (keyword word.Nursery ∷ ps) q b.0 (refl, refl, are) b.1
-        (ap (on (keyword word.Nursery)) (e ∙ ap (on (named role.Given n)) (e' ∙ ap (on opens) (e'' ∙ ap (steps_pieces body) b.2)))) fits
+    (ap (on (keyword word.Nursery)) (e ∙ ap (on (named role.Given n)) (e' ∙ ap (on opens) (e'' ∙ ap (steps_pieces body) b.2)))) fits
 
 start_step : (ss : List Symbol) (ps : List Piece) → Fits (symbol.Given ∷ symbol.Over ∷ symbol.Items ∷ ss) ps →
     BlockFits true ss (keyword word.Start ∷ ps)
 start_step ss ps (r, (n, e), (r', (o, body, are, e'), (q, (steps, behind, e''), fits))) =
     step_on true (start n o body) ss (keyword word.Start ∷ ps) q steps (refl, are) behind
-        (ap (on (keyword word.Start)) (e ∙ ap (on (named role.Given n))
-        (e' ∙ ap (λ (x : List Piece). over_pieces o (opens ∷ steps_pieces body x)) e''))) fits
+    (ap (on (keyword word.Start)) (e ∙ ap (on (named role.Given n))
+    (e' ∙ ap (λ (x : List Piece). over_pieces o (opens ∷ steps_pieces body x)) e''))) fits
 
 try_step : (inside : Bool) (ss : List Symbol) (ps : List Piece) → Fits (symbol.Open ∷ symbol.Steps ∷ tail inside ∷ ss) ps →
     BlockFits inside ss (keyword word.Try ∷ ps)
 try_step inside ss ps (r, e, (r', (body, are, e'), (q, block, fits))) =
     let t = tail_of inside r' q block in
     step_on inside (attempt body t.0 t.1) ss (keyword word.Try ∷ ps) q t.2 (t.3, are, t.4, t.5) t.6
-        (ap (on (keyword word.Try)) (e ∙ ap (on opens) (e' ∙ ap (steps_pieces body) t.7))) fits
+    (ap (on (keyword word.Try)) (e ∙ ap (on opens) (e' ∙ ap (steps_pieces body) t.7))) fits
 
 by_step : (inside : Bool) (k : Keyword) (ss : List Symbol) (ps : List Piece) → Left (step_rest inside k) ss ps →
     BlockFits inside ss (keyword k ∷ ps)
@@ -197,16 +197,40 @@ by_cleanup inside _ ss ps left = absurd left
 handler_step : (inside : Bool) (ss : List Symbol) (ps : List Piece) →
     Fits (symbol.Handled ∷ symbol.Open ∷ symbol.Steps ∷ cleanup inside ∷ ss) ps → TailFits inside ss (keyword word.Except ∷ ps)
 handler_step inside ss ps (r, (n, e), (r', e', (r'', (body, are, e''), (q, block, fits)))) =
-    let c = cleanup_of inside r'' q block in
-    (q, (except n body, c.0, c.1, tt, are, c.2, c.3, ap (on (keyword word.Except))
-        (e ∙ ap (on (named role.Handled n)) (e' ∙ ap (on opens) (e'' ∙ ap (steps_pieces body) c.4)))), fits)
+    let c = cleanup_of inside r'' q block in (
+      q,
+      (
+        except n body,
+        c.0,
+        c.1,
+        tt,
+        are,
+        c.2,
+        c.3,
+        ap (on (keyword word.Except))
+            (e ∙ ap (on (named role.Handled n)) (e' ∙ ap (on opens) (e'' ∙ ap (steps_pieces body) c.4))),
+      ),
+      fits,
+    )
 
 finally_step : (inside : Bool) (ss : List Symbol) (ps : List Piece) → Fits (symbol.Open ∷ symbol.Steps ∷ outer inside ∷ ss) ps →
     TailFits inside ss (keyword word.Finally ∷ ps)
 finally_step inside ss ps (r, e, (r', (body, are, e'), (q, block, fits))) =
-    let b = block_of inside r' q block in
-    (q, (unhandled, finally body, b.0, tt, tt, are, b.1, ap (on (keyword word.Finally))
-        (e ∙ ap (on opens) (e' ∙ ap (steps_pieces body) b.2))), fits)
+    let b = block_of inside r' q block in (
+      q,
+      (
+        unhandled,
+        finally body,
+        b.0,
+        tt,
+        tt,
+        are,
+        b.1,
+        ap (on (keyword word.Finally))
+            (e ∙ ap (on opens) (e' ∙ ap (steps_pieces body) b.2)),
+      ),
+      fits,
+    )
 
 by_tail : (inside : Bool) (k : Keyword) (ss : List Symbol) (ps : List Piece) → Left (tail_rest inside k) ss ps →
     TailFits inside ss (keyword k ∷ ps)

@@ -97,9 +97,11 @@ cleanup_stands true c steps rest clean are = (c, steps, clean, are, refl)
 start_left : (inside : Bool) (n : List ℕ) (o : Option ℕ) (body others : Steps) (ss : List Symbol) (rest : List Piece) → inside ≡ true →
     AreSteps false body → AreSteps inside others → Fits ss rest
     → Left (step_rest inside word.Start) ss (named role.Given n ∷ over_pieces o (opens ∷ steps_pieces body (steps_pieces others rest)))
-start_left true n o body others ss rest e are behind fits =
-    (over_pieces o (opens ∷ steps_pieces body (steps_pieces others rest)), (n, refl),
-        (steps_pieces others rest, (o, body, are, refl), (rest, block_stands true others rest behind, fits)))
+start_left true n o body others ss rest e are behind fits = (
+  over_pieces o (opens ∷ steps_pieces body (steps_pieces others rest)),
+  (n, refl),
+  (steps_pieces others rest, (o, body, are, refl), (rest, block_stands true others rest behind, fits)),
+)
 start_left false n o body others ss rest e are behind fits = absurd cc
 
 first_of_block : (inside : Bool) (steps : Steps) (ss : List Symbol) (rest : List Piece) → AreSteps inside steps → Fits ss rest →
@@ -128,8 +130,15 @@ first_of_block inside (step longest others) ss rest are fits =
     inr (word.Longest, refl, (behind, refl, (rest, block_stands inside others rest are.1, fits)))
 first_of_block inside (step (need t n) others) ss rest are fits =
     let behind = steps_pieces others rest in
-    inr (word.Need, refl, (named role.Raised n ∷ ends ∷ behind, (t, refl),
-        (ends ∷ behind, (n, refl), (behind, refl, (rest, block_stands inside others rest are.1, fits)))))
+    inr (
+      word.Need,
+      refl,
+      (
+        named role.Raised n ∷ ends ∷ behind,
+        (t, refl),
+        (ends ∷ behind, (n, refl), (behind, refl, (rest, block_stands inside others rest are.1, fits))),
+      ),
+    )
 first_of_block inside (step (raise n) others) ss rest are fits =
     let behind = steps_pieces others rest in
     inr (word.Raise, refl, (ends ∷ behind, (n, refl), (behind, refl, (rest, block_stands inside others rest are.1, fits))))
@@ -138,18 +147,43 @@ first_of_block inside (step (cancel n) others) ss rest are fits =
     inr (word.Cancel, refl, (ends ∷ behind, (n, refl), (behind, refl, (rest, block_stands inside others rest are.1, fits))))
 first_of_block inside (step (scope n d s f body) others) ss rest are fits =
     let behind = steps_pieces others rest in
-    inr (word.Scope, refl, (deadline_pieces d (flag_pieces word.Shield s (flag_pieces word.Fail f (opens ∷ steps_pieces body behind))),
-        (n, refl), (behind, (d, s, f, body, are.0, refl), (rest, block_stands inside others rest are.1, fits))))
+    inr (
+      word.Scope,
+      refl,
+      (
+        deadline_pieces d (flag_pieces word.Shield s (flag_pieces word.Fail f (opens ∷ steps_pieces body behind))),
+        (n, refl),
+        (behind, (d, s, f, body, are.0, refl), (rest, block_stands inside others rest are.1, fits)),
+      ),
+    )
 first_of_block inside (step (nursery n d s body) others) ss rest are fits =
     let behind = steps_pieces others rest in
-    inr (word.Nursery, refl, (opens ∷ steps_pieces body behind, (n, refl),
-        (steps_pieces body behind, refl, (behind, (body, are.0.2, refl), (rest, block_stands inside others rest are.1, fits)))))
+    inr (
+      word.Nursery,
+      refl,
+      (
+        opens ∷ steps_pieces body behind,
+        (n, refl),
+        (steps_pieces body behind, refl, (behind, (body, are.0.2, refl), (rest, block_stands inside others rest are.1, fits))),
+      ),
+    )
 first_of_block inside (step (start n o body) others) ss rest are fits =
     inr (word.Start, refl, start_left inside n o body others ss rest are.0.0 are.0.1 are.1 fits)
 first_of_block inside (step (attempt body h c) others) ss rest are fits =
     let behind = handler_pieces h (cleanup_pieces c (steps_pieces others rest)) in
-    inr (word.Try, refl, (steps_pieces body behind, refl, (behind, (body, are.0.1, refl),
-        (rest, tail_stands inside h c others rest are.0.0 are.0.2 are.0.3 are.1, fits))))
+    inr (
+      word.Try,
+      refl,
+      (
+        steps_pieces body behind,
+        refl,
+        (
+          behind,
+          (body, are.0.1, refl),
+          (rest, tail_stands inside h c others rest are.0.0 are.0.2 are.0.3 are.1, fits),
+        ),
+      ),
+    )
 
 -- each keyword is read as itself
 keyword_of-spelled : (k : Keyword) → keyword_of (spelling k) ≡ Some k
@@ -190,9 +224,15 @@ goes_uncleaned true ss (p ∷ ps) (inr (k, e, left)) = subst (λ (x : Piece). Go
 block_fits : (inside : Bool) (body others : Steps) (ss : List Symbol) (rest : List Piece) → AreSteps false body → AreSteps inside others →
     Fits ss rest
     → Fits (symbol.Open ∷ symbol.Steps ∷ outer inside ∷ ss) (opens ∷ steps_pieces body (steps_pieces others rest))
-block_fits inside body others ss rest are behind fits =
-    (steps_pieces body (steps_pieces others rest), refl, (steps_pieces others rest, (body, are, refl),
-        (rest, block_stands inside others rest behind, fits)))
+block_fits inside body others ss rest are behind fits = (
+  steps_pieces body (steps_pieces others rest),
+  refl,
+  (
+    steps_pieces others rest,
+    (body, are, refl),
+    (rest, block_stands inside others rest behind, fits),
+  ),
+)
 
 on_cleanup : (inside : Bool) (c : Cleaned) (steps : Steps) (ss : List Symbol) (rest : List Piece) → IsCleanup c → AreSteps inside steps →
     Fits ss rest → Goes (cleanup inside) ss (cleanup_pieces c (steps_pieces steps rest))
@@ -205,11 +245,17 @@ on_cleanup true (finally body) steps ss rest clean are fits = (block_fits true b
 handler_fits : (inside : Bool) (n : List ℕ) (body : Steps) (c : Cleaned) (others : Steps) (ss : List Symbol) (rest : List Piece) →
     AreSteps false body → IsCleanup c → AreSteps inside others → Fits ss rest
     → Fits (symbol.Handled ∷ symbol.Open ∷ symbol.Steps ∷ cleanup inside ∷ ss)
-        (named role.Handled n ∷ opens ∷ steps_pieces body (cleanup_pieces c (steps_pieces others rest)))
+    (named role.Handled n ∷ opens ∷ steps_pieces body (cleanup_pieces c (steps_pieces others rest)))
 handler_fits inside n body c others ss rest are clean behind fits =
-    let after = cleanup_pieces c (steps_pieces others rest) in
-    (opens ∷ steps_pieces body after, (n, refl), (steps_pieces body after, refl,
-        (after, (body, are, refl), (rest, cleanup_stands inside c others rest clean behind, fits))))
+    let after = cleanup_pieces c (steps_pieces others rest) in (
+      opens ∷ steps_pieces body after,
+      (n, refl),
+      (
+        steps_pieces body after,
+        refl,
+        (after, (body, are, refl), (rest, cleanup_stands inside c others rest clean behind, fits)),
+      ),
+    )
 
 on_tail : (inside : Bool) (h : Handled) (c : Cleaned) (steps : Steps) (ss : List Symbol) (rest : List Piece) → HasTail h c → IsHandler h →
     IsCleanup c → AreSteps inside steps → Fits ss rest → Goes (tail inside) ss

@@ -32,9 +32,11 @@ text_back s ss shape shapes (p ∷ ps, fits, e) =
 
 text_forward : (s : Symbol) (ss more : List Symbol) (shape : Shape) (shapes : List Shape) → next s shape ≡ Some more →
     IsText (more ++ ss) shapes → IsText (s ∷ ss) (shape ∷ shapes)
-text_forward s ss more shape shapes is (ps, fits, e) =
-    (record { shape = shape; role = role_of s } ∷ ps, forward s shape ss ps (subst (λ (r : Rest). Left r ss ps) (sym is) fits),
-        ap (λ (x : List Shape). shape ∷ x) e)
+text_forward s ss more shape shapes is (ps, fits, e) = (
+  record { shape = shape; role = role_of s } ∷ ps,
+  forward s shape ss ps (subst (λ (r : Rest). Left r ss ps) (sym is) fits),
+  ap (λ (x : List Shape). shape ∷ x) e,
+)
 
 text_on : (s : Symbol) (ss more : List Symbol) (shape : Shape) (shapes : List Shape) → next s shape ≡ Some more →
     IsText (s ∷ ss) (shape ∷ shapes) → IsText (more ++ ss) shapes

@@ -39,7 +39,7 @@ unfolding steps_with
 ends blocks front count i rest after total lt closed so_far =
     let k : count - i ≡ suc (count - (i + 1)) = omega arith in
     let one : with_front front (steps_with blocks (count - i) rest) ≡ Some (steps_of front, after) =
-        rw (k, closed) (ap (λ (steps : tree.Steps). Some (steps, after)) (in_front-stop front)) in
+    rw (k, closed) (ap (λ (steps : tree.Steps). Some (steps, after)) (in_front-stop front)) in
     sym so_far ∙ one
 
 -- at what is no step
@@ -56,13 +56,13 @@ fails blocks front count i rest total lt going none so_far =
 pub goes_on : (blocks : Blocks) → (front : List Step) (count i : ℕ) (rest : List Shape) (s : Step) (after : List Shape)
     (total : Read tree.Steps) → i < count → mark_at mark.Close rest ≡ None → step_at blocks rest ≡ Some (step_of s, after)
     → with_front front (steps_with blocks (count - i) rest) ≡ total →
-        with_front (front ++ s ∷ []) (steps_with blocks (count - (i + 1)) after) ≡ total
+    with_front (front ++ s ∷ []) (steps_with blocks (count - (i + 1)) after) ≡ total
 unfolding steps_with
 goes_on blocks front count i rest s after total lt going found so_far =
     let k : count - i ≡ suc (count - (i + 1)) = omega arith in
     let one : with_front front (steps_with blocks (count - i) rest)
-        ≡ with_front (front ++ s ∷ []) (steps_with blocks (count - (i + 1)) after) =
-        rw (k, going, found) (regroup front s (steps_with blocks (count - (i + 1)) after)) in
+    ≡ with_front (front ++ s ∷ []) (steps_with blocks (count - (i + 1)) after) =
+    rw (k, going, found) (regroup front s (steps_with blocks (count - (i + 1)) after)) in
     sym one ∙ so_far
 
 -- where no further step may come

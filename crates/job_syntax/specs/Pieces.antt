@@ -87,7 +87,7 @@ abbrev mutual
   step_pieces (cancel name) rest = keyword word.Cancel ∷ named role.Target name ∷ ends ∷ rest
   step_pieces (scope name deadline shield fail body) rest =
       keyword word.Scope ∷ named role.Given name ∷ deadline_pieces deadline
-          (flag_pieces word.Shield shield (flag_pieces word.Fail fail (opens ∷ steps_pieces body rest)))
+      (flag_pieces word.Shield shield (flag_pieces word.Fail fail (opens ∷ steps_pieces body rest)))
   step_pieces (nursery name deadline shield body) rest = keyword word.Nursery ∷ named role.Given name ∷ opens ∷ steps_pieces body rest
   step_pieces (start name over body) rest = keyword word.Start ∷ named role.Given name ∷ over_pieces over (opens ∷ steps_pieces body rest)
   step_pieces (attempt body handler cleanup) rest =

@@ -83,7 +83,7 @@ body_at blocks shapes = mark_at mark.Open shapes >>= blocks
 abbrev pub handler_at : Blocks → List Shape → Read Handled
 handler_at blocks shapes =
     or_else (behind_word word.Except shapes) (λ rest. word_at rest >>= λ n. body_at blocks n.1 >>= λ b. Some (except n.0 b.0, b.1))
-        (Some (unhandled, shapes))
+    (Some (unhandled, shapes))
 
 abbrev pub cleanup_at : Blocks → List Shape → Read Cleaned
 cleanup_at blocks shapes = or_else (behind_word word.Finally shapes) (λ rest. body_at blocks rest >>= λ b. Some (finally b.0, b.1))

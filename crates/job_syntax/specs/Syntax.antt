@@ -21,14 +21,14 @@ IsBlock inside ps rest = (steps : Steps) × AreSteps inside steps × (ps ≡ ste
 abbrev pub IsTail : Bool → List Piece → List Piece → Type 0
 IsTail inside ps rest =
     (handler : Handled) × (cleanup : Cleaned) × (steps : Steps) × HasTail handler cleanup × IsHandler handler × IsCleanup cleanup
-        × AreSteps inside steps
+    × AreSteps inside steps
     × (ps ≡ handler_pieces handler (cleanup_pieces cleanup (steps_pieces steps rest)))
 
 -- what follows a handler, and the rest of the block round it
 abbrev pub IsCleanupAndBlock : Bool → List Piece → List Piece → Type 0
 IsCleanupAndBlock inside ps rest =
     (cleanup : Cleaned) × (steps : Steps) × IsCleanup cleanup × AreSteps inside steps
-        × (ps ≡ cleanup_pieces cleanup (steps_pieces steps rest))
+    × (ps ≡ cleanup_pieces cleanup (steps_pieces steps rest))
 
 abbrev pub IsName : Role → List Piece → List Piece → Type 0
 IsName role ps rest = (bytes : List ℕ) × (ps ≡ named role bytes ∷ rest)

@@ -42,10 +42,19 @@ abbrev pub mark_code : Coded Mark
 mark_code =
     code_by Parts
     (coded× (coded× (coded× coded_ℕ coded_ℕ) (coded× (coded_list coded_ℕ) (coded_list coded_ℕ)))
-        (coded× (coded× deadline_code coded_bool) (coded× coded_bool (coded_option coded_ℕ))))
+    (coded× (coded× deadline_code coded_bool) (coded× coded_bool (coded_option coded_ℕ))))
     (λ m. (((m.kind, m.number), (m.first, m.second)), ((m.deadline, m.flag), (m.other, m.over))))
-    (λ p. record { kind = p.0.0.0; number = p.0.0.1; first = p.0.1.0; second = p.0.1.1; deadline = p.1.0.0; flag = p.1.0.1; other =
-        p.1.1.0; over = p.1.1.1 })
+    (λ p. record {
+      kind = p.0.0.0;
+      number = p.0.0.1;
+      first = p.0.1.0;
+      second = p.0.1.1;
+      deadline = p.1.0.0;
+      flag = p.1.0.1;
+      other =
+          p.1.1.0;
+      over = p.1.1.1;
+    })
     (λ _. refl)
 
 abbrev plain : ℕ → ℕ → List ℕ → List ℕ → Mark
@@ -82,16 +91,25 @@ abbrev mutual
   marks_in (cancel name) rest = plain 10 0 name [] ∷ rest
   marks_in (scope name deadline shield fail body) rest =
       record { kind = 11; number = 0; first = name; second = []; deadline = deadline; flag = shield; other = fail; over = None }
-          ∷ marks_of body rest
+      ∷ marks_of body rest
   marks_in (nursery name deadline shield body) rest =
       record { kind = 12; number = 0; first = name; second = []; deadline = deadline; flag = shield; other = false; over = None }
-          ∷ marks_of body rest
+      ∷ marks_of body rest
   marks_in (start name over body) rest =
       record { kind = 13; number = 0; first = name; second = []; deadline = Never; flag = false; other = false; over = over }
-          ∷ marks_of body rest
+      ∷ marks_of body rest
   marks_in (attempt body handler cleanup) rest =
-      record { kind = 14; number = 0; first = handler_name handler; second = []; deadline = Never; flag = has_handler handler; other =
-          has_cleanup cleanup; over = None }
+      record {
+        kind = 14;
+        number = 0;
+        first = handler_name handler;
+        second = [];
+        deadline = Never;
+        flag = has_handler handler;
+        other =
+            has_cleanup cleanup;
+        over = None;
+      }
       ∷ marks_of body (handler_marks handler (cleanup_marks cleanup rest))
 
   handler_marks : Handled → List Mark → List Mark
@@ -173,7 +191,7 @@ mutual
   read_step (start name over body) rest = ap (put_block (start name over)) (read_block body rest)
   read_step (attempt body handler cleanup) rest =
       ap (put_attempt (handler_name handler) (has_handler handler) (has_cleanup cleanup))
-          (read_block body (handler_marks handler (cleanup_marks cleanup rest)))
+      (read_block body (handler_marks handler (cleanup_marks cleanup rest)))
       ∙ read_handler handler (cleanup_marks cleanup rest) (attempt body) (has_cleanup cleanup)
       ∙ read_cleanup cleanup rest (attempt body handler)
 
@@ -196,7 +214,7 @@ first_block (ss ∷ others) = ss
 abbrev pub steps_code : Coded Steps
 steps_code =
     code_by (List Mark) (coded_list mark_code) (λ ss. marks_of ss []) (λ ms. first_block (read_marks ms))
-        (λ ss. ap first_block (read_block ss []))
+    (λ ss. ap first_block (read_block ss []))
 
 -- the code of a job
 abbrev pub tree_code : Coded Tree

@@ -65,7 +65,7 @@ pub headed_same : (job sentence wanted : List ℕ) (line line' column column' : 
     headed job line column sentence ≡ headed job line' column' wanted
 headed_same job sentence wanted line line' column column' line_is column_is is =
     ap (λ (x : ℕ). headed job x column sentence) line_is ∙ ap (λ (x : ℕ). headed job line' x sentence) column_is
-        ∙ ap (headed job line' column') is
+    ∙ ap (headed job line' column') is
 
 -- three pieces, one behind the other
 pub three_pieces : (old a b c h1 h2 h3 : List ℕ) → h1 ≡ old ++ a → h2 ≡ h1 ++ b → h3 ≡ h2 ++ c → h3 ≡ old ++ ((a ++ b) ++ c)
@@ -79,11 +79,11 @@ pub pieces : (head front back newline spaces caret h0 h1 h2 h3 h4 h5 : List ℕ)
     → h5 ≡ head ++ ((((front ++ back) ++ newline) ++ spaces) ++ caret)
 pieces head front back newline spaces caret h0 h1 h2 h3 h4 h5 is0 is1 is2 is3 is4 is5 =
     let two : h2 ≡ head ++ (front ++ back) = is2 ∙ ap (λ (x : List ℕ). x ++ back) (is1 ∙ ap (λ (x : List ℕ). x ++ front) is0)
-        ∙ append_assoc head front back in
+    ∙ append_assoc head front back in
     let three : h3 ≡ head ++ ((front ++ back) ++ newline) = is3 ∙ ap (λ (x : List ℕ). x ++ newline) two
-        ∙ append_assoc head (front ++ back) newline in
+    ∙ append_assoc head (front ++ back) newline in
     let four : h4 ≡ head ++ (((front ++ back) ++ newline) ++ spaces) =
-        is4 ∙ ap (λ (x : List ℕ). x ++ spaces) three ∙ append_assoc head ((front ++ back) ++ newline) spaces in
+    is4 ∙ ap (λ (x : List ℕ). x ++ spaces) three ∙ append_assoc head ((front ++ back) ++ newline) spaces in
     is5 ∙ ap (λ (x : List ℕ). x ++ caret) four ∙ append_assoc head (((front ++ back) ++ newline) ++ spaces) caret
 
 -- what helps where a text goes on wrongly, or gives a name twice

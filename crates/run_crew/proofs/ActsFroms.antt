@@ -100,7 +100,7 @@ StandsAt key f ps s = (st : Stack) × (stack_of s.tree key ≡ Some st) × AreAt
 pub at_signs : {t : ℕ} {label : Label} {s m : Scoping} → (key : ℕ) (f : Table) (st : Stack) (ps : List Place) → (g : Signs t label s m) →
     Apart s → stack_of s.tree key ≡ Some st →
     AreAt s.labels f st ps → (stack_of m.tree key ≡ Some (after_cancel g.key t st))
-        × AreAt m.labels (lowered f label t) (after_cancel g.key t st) ps
+    × AreAt m.labels (lowered f label t) (after_cancel g.key t st) ps
 at_signs {t} {label} {s} {m} key f st ps g h e a = (
   g.cancels.stacks key ∙ ap (option_map (after_cancel g.key t)) e,
   subst (λ (z : Labels). AreAt z (lowered f label t) (after_cancel g.key t st) ps) (sym g.labels)
@@ -111,7 +111,7 @@ at_signs {t} {label} {s} {m} key f st ps g h e a = (
 pub at_enters : {label : Label} {d : Tick} {s m : Scoping} → (known : Label → Type 0) (key : ℕ) (f : Table) (st : Stack) (ps : List Place) →
     Enters label d s m → Sound s → HasKnown known s →
     (known label → ⊥) → stack_of s.tree key ≡ Some st → AreOthers key s.own → AreAt s.labels f st ps → (stack_of m.tree key ≡ Some st)
-        × AreAt m.labels (opened f label d) st ps
+    × AreAt m.labels (opened f label d) st ps
 at_enters {label} {d} {s} {m} known key f st ps g h k new e others a =
     let n = keeps_enters g h e others in
     (n.at, opened_else s.labels m.labels f st ps label d n.labels (λ i. new (known_at known s f k st ps a label i)) a)

@@ -189,7 +189,7 @@ sound_leaves {s} {m} g h = record { own = λ key st e. h.own key st (before key 
     round key st e k i =
         let b = before key st e in
         open_else s.tree m.tree g.scope.id k g.others (among_all g.scope.id k st (g.innermost key st (differs key st e) b) i)
-            (h.round key st b k i)
+        (h.round key st b k i)
 
 -- stacks stay sound, whatever a task does to scopes
 pub sound_acts : {t : ℕ} {s u : Scoping} {es : List Event} → Acts t s es u → Sound s → Sound u

@@ -161,9 +161,10 @@ else_signs {t} {label} {s} {m} {key} g i =
 -- a scope that is open and none of the task's was so before one was entered
 pub else_enters : {label : Label} {d : Tick} {s m : Scoping} {key : ℕ} → Enters label d s m → IsElse key m → IsElse key s
 else_enters {label} {d} {s} {m} {key} g i =
-    let split : AreOthers key (s.own ++ g.scope ∷ []) = subst (AreOthers key) g.opened i.1 in
-    (subst IsSome (g.others key (λ f. all_last (λ (o : Own). o.id ≢ key) s.own g.scope split (sym f))) i.0,
-        all_first (λ (o : Own). o.id ≢ key) s.own g.scope split)
+    let split : AreOthers key (s.own ++ g.scope ∷ []) = subst (AreOthers key) g.opened i.1 in (
+      subst IsSome (g.others key (λ f. all_last (λ (o : Own). o.id ≢ key) s.own g.scope split (sym f))) i.0,
+      all_first (λ (o : Own). o.id ≢ key) s.own g.scope split,
+    )
 
 -- a scope that is open and none of the task's was so before one was left
 pub else_leaves : {s m : Scoping} {key : ℕ} → Leaves s m → IsElse key m → IsElse key s

@@ -100,8 +100,16 @@ keys_at [] [] k ms e = absurd (let f : [] ≡ k ∷ ms = e in cc)
 keys_at [] (x ∷ ks) k ms e = absurd (let f : [] ≡ x ∷ (ks ++ k ∷ ms) = e in cc)
 keys_at (l ∷ ls) [] k ms e =
     let f : l.label ∷ keys_of ls ≡ k ∷ ms = e in
-    record { before = []; level = l; behind = ls; is = refl; named = (let g : l.label ≡ k = cc in g); inner = refl; outer =
-        (let g : keys_of ls ≡ ms = cc in g) }
+    record {
+      before = [];
+      level = l;
+      behind = ls;
+      is = refl;
+      named = (let g : l.label ≡ k = cc in g);
+      inner = refl;
+      outer =
+          (let g : keys_of ls ≡ ms = cc in g);
+    }
 keys_at (l ∷ ls) (x ∷ ks) k ms e =
     let f : l.label ∷ keys_of ls ≡ x ∷ (ks ++ k ∷ ms) = e in
     let first : l.label ≡ x = cc in let more : keys_of ls ≡ ks ++ k ∷ ms = cc in

@@ -137,8 +137,18 @@ unfolding turn_from
 turn_on_input n froms t here w s fs ps count =
     let o = wake_of froms t here w s fs ps in
     then_on here.input o.stopped o
-    (turn_of n (froms_after froms o.made) t here (record { frames = o.frames; places = o.places; exc = o.exc; count =
-        count + length o.begun }))
+    (turn_of n (froms_after froms o.made) t here (record {
+      frames = o.frames;
+      places = o.places;
+      exc = o.exc;
+      count =
+          count + length o.begun;
+    }))
     (wake_on here.input froms t here w s fs ps)
-    (steps_on_input n (froms_after froms o.made) t here (record { frames = o.frames; places = o.places; exc = o.exc; count =
-        count + length o.begun }))
+    (steps_on_input n (froms_after froms o.made) t here (record {
+      frames = o.frames;
+      places = o.places;
+      exc = o.exc;
+      count =
+          count + length o.begun;
+    }))

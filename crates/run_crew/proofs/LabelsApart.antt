@@ -52,10 +52,10 @@ two_counted l x y [] i j differs = absurd i
 two_counted l x y (q ∷ qs) (inl e) (inl f) differs = absurd (differs (ap (λ (z : Started). z.serial) (e ∙ sym f)))
 two_counted l x y (q ∷ qs) (inl e) (inr j) differs =
     let g = made_counted l y qs j in let h : times_made l x.made ≡ times_made l q.made =
-        ap (λ (z : Started). times_made l z.made) e in omega (arith, g, h)
+    ap (λ (z : Started). times_made l z.made) e in omega (arith, g, h)
 two_counted l x y (q ∷ qs) (inr i) (inl f) differs =
     let g = made_counted l x qs i in let h : times_made l y.made ≡ times_made l q.made =
-        ap (λ (z : Started). times_made l z.made) f in omega (arith, g, h)
+    ap (λ (z : Started). times_made l z.made) f in omega (arith, g, h)
 two_counted l x y (q ∷ qs) (inr i) (inr j) differs = let g = two_counted l x y qs i j differs in omega (arith, g)
 
 -- A label was entered by one task of a run.
@@ -159,7 +159,7 @@ labels_apart {k} {job} {input} {t} {m} {leaving} {crew} c settled names nurserie
     same : x.0 ≡ y.0
     same =
         one_entered c.course settled names nurseries l x.0 y.0 (below_of c x.0 x.1.task x.1.lives) (below_of c y.0 y.1.task y.1.lives)
-            (opened_entered c a x.0 l x.1 e)
+        (opened_entered c a x.0 l x.1 e)
         (opened_entered c b y.0 l y.1 f)
 
     task : Task
@@ -176,12 +176,12 @@ labels_apart {k} {job} {input} {t} {m} {leaving} {crew} c settled names nurserie
         let tasks : z.task ≡ task = one_of z.task task (sym z.lives ∙ x.1.lives) in
         let round : IsKey b (outer_of crew.world.scopes (scope_of task)) =
         subst (λ (i : ℕ). IsKey i (outer_of crew.world.scopes (scope_of task))) z.is
-            (within z.scope z.place (sym (ap (λ (v : Task). slice_get v.own.items z.place) tasks) ∙ z.own)) in
+        (within z.scope z.place (sym (ap (λ (v : Task). slice_get v.own.items z.place) tasks) ∙ z.own)) in
         let inside : IsKey a (outer_of crew.world.scopes (scope_of task)) =
         subst (λ (i : ℕ). IsKey i (outer_of crew.world.scopes (scope_of task))) x.1.is (within x.1.scope x.1.place x.1.own) in
         let alone =
         alone_at (label_at crew.world) c.course.froms (outer_of crew.world.scopes (scope_of task)) (c.course.at x.0).places b l f round
-            follows.stands.own follows.stands.places in
+        follows.stands.own follows.stands.places in
         alone_is (label_at crew.world) b a l (outer_of crew.world.scopes (scope_of task)) alone inside e
 
 -- each label that a scope has was entered by a task

@@ -25,10 +25,10 @@ use Rattle.run_crew.proofs.Crews.{one_nursery}
 pub same_owner : (k : Table) (job : Job) (input : List ℕ) (t m : ℕ) (leaving : Option ℕ) (crew : Crew) →
     IsCrew k job input t m leaving crew → (p u : ℕ) (a b : Task) (id : ℕ) →
     crew.task p ≡ Some a → crew.task u ≡ Some b → HasNurseryOf id (blocks_of a.frames.items) (waits_of a.halt) →
-        HasNurseryOf id (blocks_of b.frames.items) (waits_of b.halt) → p ≡ u
+    HasNurseryOf id (blocks_of b.frames.items) (waits_of b.halt) → p ≡ u
 same_owner k job input t m leaving crew c p u a b id e f h g =
     let x = scope_of_nursery (label_at crew.world) crew.world.book (blocks_of a.frames.items) a.own.items (waits_of a.halt) id
-        (c.follows p a e).goes.opened h in
+    (c.follows p a e).goes.opened h in
     one_nursery k job input t m leaving crew c p u a b e f id x.nursery h g x.at
 
 -- ---- what stays of nurseries where an end is told
@@ -98,8 +98,12 @@ all_like old new home exc h id n e = by_told home (told old new home exc h id n 
   where
     by_told : (x : Option Home) → Told new exc id n x → (m : Nursery) × (nursery_at new id ≡ Some m) × Like n m
     by_told _ (stays x f g) = (n, f, record { scope = refl; label = refl; body = refl; long = refl })
-    by_told _ (tells x f g) = (with_child x.place exc n, g, record
-        { scope = refl; label = refl; body = refl; long = set_long n.children x.place (Some exc) })
+    by_told _ (tells x f g) = (
+      with_child x.place exc n,
+      g,
+      record
+          { scope = refl; label = refl; body = refl; long = set_long n.children x.place (Some exc) },
+    )
 
 -- what is true of nurseries like one
 pub carry : (old new : NurseryBook) (id : ℕ) (P Q : Nursery → Type 0) → AllLike old new → ((n m : Nursery) → Like n m → P n → Q m) →

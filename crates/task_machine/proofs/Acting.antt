@@ -66,7 +66,7 @@ waits_not numbers book part (Stops stop) halt o not h = by_stop o.stopped refl
     by_stop : (s : Option Stopped) → o.stopped ≡ s → waits_of halt ≡ None
     by_stop None e =
         absurd (let f : MovesAs numbers book part (Stops stop) halt (record o { stopped = None }) =
-            subst (λ (x : Option Stopped). MovesAs numbers book part (Stops stop) halt (record o { stopped = x })) e h in f.1)
+        subst (λ (x : Option Stopped). MovesAs numbers book part (Stops stop) halt (record o { stopped = x })) e h in f.1)
     by_stop (Some s) e =
         let f : MovesAs numbers book part (Stops stop) halt (record o { stopped = Some s }) =
         subst (λ (x : Option Stopped). MovesAs numbers book part (Stops stop) halt (record o { stopped = x })) e h in
@@ -127,7 +127,7 @@ pub starts_acts : (tick : ℕ) (name : List ℕ) (here : Here) (t first k : ℕ)
 starts_acts tick name here t first zero s u e = same_acts tick s u e
 starts_acts tick name here t first (suc k) s u e =
     acts_append tick s u u (starts_over name here t first k) _ (starts_acts tick name here t first k s u e)
-        (start_acts tick _ (label_over name here k) t u u refl)
+    (start_acts tick _ (label_over name here k) t u u refl)
 
 -- ---- signs
 
@@ -161,7 +161,7 @@ pub found_signed : (before after : Task) (old new : World) (found : Option ℕ) 
     Acts old.tick (scoping_of before old) (signs_to label old.tick) (scoping_of after new)
 found_signed before after old new None label own froms labels at signed =
     subst (λ (o : Option Label). Acts old.tick (scoping_of before old) (signs_to o old.tick) (scoping_of after new)) (sym at)
-        (none_signed before after old new own froms labels signed)
+    (none_signed before after old new own froms labels signed)
 found_signed before after old new (Some key) label own froms labels at signed =
     subst (λ (o : Option Label). Acts old.tick (scoping_of before old) (signs_to o old.tick) (scoping_of after new)) (sym at.1.1)
     (one_signed before after old new key at.1.0 own froms labels (at.0 ∙ at.1.1) signed)
@@ -170,7 +170,7 @@ found_signed before after old new (Some key) label own froms labels at signed =
 pub home_signed : (before after : Task) (old new : World) (exc : Option Exc) (froms : Table) (st : Stack) (ps : List Place) →
     after.own.items ≡ before.own.items →
     after.froms.items ≡ before.froms.items → label_at new ≡ label_at old → AreAt (label_at old) froms st ps →
-        Signed old new (key_failed exc st) →
+    Signed old new (key_failed exc st) →
     Acts old.tick (scoping_of before old) (signs_home exc ps old.tick) (scoping_of after new)
 home_signed before after old new None table st ps own froms labels at signed = none_signed before after old new own froms labels signed
 home_signed before after old new (Some e) table [] [] own froms labels at signed = none_signed before after old new own froms labels signed

@@ -34,7 +34,7 @@ opened_in labels book (c ∷ bs) (x ∷ own) b o h i e = (
   h.0,
   All-append (λ (y : Own). y.id ≢ x.id) own (o ∷ []) h.1
       (All-cons (λ (y : Own). y.id ≢ x.id) o [] (λ f. All-head (λ (y : Own). y.id ≢ o.id) x own e (sym f))
-          (All-nil (λ (y : Own). y.id ≢ x.id))),
+      (All-nil (λ (y : Own). y.id ≢ x.id))),
   opened_in labels book bs own b o h.2 i (All-tail (λ (y : Own). y.id ≢ o.id) x own e),
 )
 
@@ -88,7 +88,7 @@ opened_waits labels book (c ∷ bs) (x ∷ own) id o h e n = (
   h.0,
   All-append (λ (y : Own). y.id ≢ x.id) own (o ∷ []) h.1
       (All-cons (λ (y : Own). y.id ≢ x.id) o [] (λ f. All-head (λ (y : Own). y.id ≢ o.id) x own e (sym f))
-          (All-nil (λ (y : Own). y.id ≢ x.id))),
+      (All-nil (λ (y : Own). y.id ≢ x.id))),
   opened_waits labels book bs own id o h.2 (All-tail (λ (y : Own). y.id ≢ o.id) x own e) n,
 )
 
@@ -109,7 +109,7 @@ block_stays labels more old new key (a_nursery id) o s differs i = by_nursery (n
     by_nursery None e i = absurd i
     by_nursery (Some n) e i =
         subst (λ (m : Option Members). IsSomeAnd m (λ n. IsMine more o n × (n.body ≡ None)))
-            (sym (s.nurseries id n e (λ f. differs (sym i.0.scope ∙ f))))
+        (sym (s.nurseries id n e (λ f. differs (sym i.0.scope ∙ f))))
         (record { scope = i.0.scope; label = s.named o.id differs ∙ i.0.label }, i.1)
 
 -- the scopes of a task are those of its blocks still, where the world changed for another scope alone

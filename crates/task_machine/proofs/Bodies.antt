@@ -35,7 +35,7 @@ frames_last2 : (fs : List Frame) (l : Last2 fs) → frames_of (λ id. []) fs ≡
 frames_last2 fs l =
     ap (frames_of (λ id. [])) (l.is ∙ sym (append_assoc l.outer (l.round ∷ []) (l.top ∷ [])))
     ∙ frames_push (λ id. []) (l.outer ++ l.round ∷ []) l.top ∙ ap (λ (xs : List rest.Frame). frame_of (λ id. []) l.top ∷ xs)
-        (frames_push (λ id. []) l.outer l.round)
+    (frames_push (λ id. []) l.outer l.round)
 
 -- a frame that is a nursery's
 pub record IsBody (fs : List Frame) : Type 0 where
@@ -97,8 +97,8 @@ pub body_runs : (labels : Labels) (book : NurseryBook) (fs : List Frame) (id : �
 body_runs labels book fs id own b h =
     body_block labels book (blocks_of b.outer) (blocks_of (b.top ∷ [])) id own None
     (subst (λ (bs : List Block). Opened labels book bs own None)
-        (ap blocks_of b.is ∙ blocks_append b.outer (Nursery id ∷ b.top ∷ [])
-        ∙ ap (λ (bs : List Block). blocks_of b.outer ++ bs) (blocks_append (Nursery id ∷ []) (b.top ∷ []))) h)
+    (ap blocks_of b.is ∙ blocks_append b.outer (Nursery id ∷ b.top ∷ [])
+    ∙ ap (λ (bs : List Block). blocks_of b.outer ++ bs) (blocks_append (Nursery id ∷ []) (b.top ∷ []))) h)
 
 -- what stands there
 pub body_frame : (fs xs : List Frame) (b : IsBody fs) (f : Frame) → xs ≡ fs → f ≡ get_or xs (length xs - 2) f → f ≡ Nursery b.id

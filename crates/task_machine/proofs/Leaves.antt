@@ -73,7 +73,7 @@ keeps_outer old new key l ls others stack (Some p) short = ap (λ (o : Option St
     other : p ≢ key
     other e =
         let f : length (outer_of old (Some p)) ≡ length (l ∷ ls) = ap (λ (k : ℕ). length (unwrap_or (stack_of old k) [])) e
-            ∙ ap (λ (o : Option Stack). length (unwrap_or o [])) stack in
+        ∙ ap (λ (o : Option Stack). length (unwrap_or o [])) stack in
         omega (arith, short, f)
 
 -- a key is in no rest of its own stack, so its label may change
@@ -131,7 +131,7 @@ top_of tree chain owns home own os x pushed opened first last = by_stack (stack_
         ap (λ (s : Option ℕ). keys_of (outer_of tree s)) last ∙ ap (λ (o : Option Stack). keys_of (unwrap_or o [])) e in
         let split : keys_in own ++ keys_of (outer_of tree home) ≡ x.id ∷ (keys_in os ++ keys_of (outer_of tree home)) =
         ap (λ (ks : List Own). keys_in ks ++ keys_of (outer_of tree home)) pushed
-            ∙ ap (λ (ks : List ℕ). ks ++ keys_of (outer_of tree home)) (keys_pushed os x) in
+        ∙ ap (λ (ks : List ℕ). ks ++ keys_of (outer_of tree home)) (keys_pushed os x) in
         let keys : keys_of ls ≡ keys_in os ++ keys_of (outer_of tree home) = tail_of l.label x.id _ _ (sym whole ∙ first ∙ split) in
         record { level = l; behind = ls; at = e; keys = keys; round = round_last tree chain owns home os x l ls e keys }
 
@@ -146,9 +146,9 @@ pub first_after : (old new : Tree) (home : Option ℕ) (os : List Own) (x : Own)
     OwnFirst new home os
 first_after old new home os x others top =
     let shorter : length (keys_of top.behind) ≡ length (keys_in os) + length (keys_of (outer_of old home)) =
-        ap length top.keys ∙ length-append (keys_in os) _ in
+    ap length top.keys ∙ length-append (keys_in os) _ in
     let n : length (outer_of old (last_or home (ids os))) < length (top.level ∷ top.behind) =
-        subst (λ (st : Stack). length st < length (top.level ∷ top.behind)) (sym top.round) (omega arith) in
+    subst (λ (st : Stack). length st < length (top.level ∷ top.behind)) (sym top.round) (omega arith) in
     let m : length (outer_of old home) < length (top.level ∷ top.behind) =
     (let a = length_keys (outer_of old home) in let b = length_keys top.behind in omega (arith, shorter, a, b)) in
     ap keys_of (keeps_outer old new x.id top.level top.behind others top.at (last_or home (ids os)) n)
@@ -162,12 +162,12 @@ pub places_after : (labels more : Labels) (old new : Tree) (home : Option ℕ) (
     AreAt more froms (outer_of new (last_or home (ids os))) ps
 places_after labels more old new home os x label chain others u top froms ps a =
     let n : length (outer_of old (last_or home (ids os))) < length (top.level ∷ top.behind) =
-        subst (λ (st : Stack). length st < length (top.level ∷ top.behind)) (sym top.round) (omega arith) in
+    subst (λ (st : Stack). length st < length (top.level ∷ top.behind)) (sym top.round) (omega arith) in
     subst (λ (st : Stack). AreAt more froms st ps)
-        (sym (keeps_outer old new x.id top.level top.behind others top.at (last_or home (ids os)) n ∙ top.round))
+    (sym (keeps_outer old new x.id top.level top.behind others top.at (last_or home (ids os)) n ∙ top.round))
     (same_labels labels more froms top.behind ps
     (same_behind labels more old x.id label (top.level ∷ top.behind) (top.level ∷ []) top.behind u top.at (omega arith)
-        (λ front l behind e. chain x.id (top.level ∷ top.behind) top.at front l behind e)) a)
+    (λ front l behind e. chain x.id (top.level ∷ top.behind) top.at front l behind e)) a)
 
 -- the innermost place, by the scope that is left
 pub left_from : (labels : Labels) (froms : Table) (tree : Tree) (home outer : Option ℕ) (os : List Own) (x : Own) (p : Place)

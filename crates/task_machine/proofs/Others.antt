@@ -93,7 +93,7 @@ others_first : (key : ℕ) (own : List Own) (o : Own) → AreOthers key (own ++ 
 others_first key [] o a = All-nil (λ (x : Own). x.id ≢ key)
 others_first key (y ∷ own) o a =
     All-cons (λ (x : Own). x.id ≢ key) y own (All-head (λ (x : Own). x.id ≢ key) y (own ++ o ∷ []) a)
-        (others_first key own o (All-tail (λ (x : Own). x.id ≢ key) y (own ++ o ∷ []) a))
+    (others_first key own o (All-tail (λ (x : Own). x.id ≢ key) y (own ++ o ∷ []) a))
 
 others_last : (key : ℕ) (own : List Own) (o : Own) → AreOthers key (own ++ o ∷ []) → o.id ≢ key
 others_last key [] o a = All-head (λ (x : Own). x.id ≢ key) o [] a
@@ -108,7 +108,7 @@ not_mine : (tree : Tree) → IsChain tree → IsOwn tree → IsApart tree → (h
 not_mine tree chain owns apart home os o top other st i e =
     let named : top.level.label ≡ o.id = one_of _ _ (owns o.id (top.level ∷ top.behind) top.at) in
     let at = level_at other top.behind (subst (λ (ks : List ℕ). IsAmong other ks) (sym top.keys)
-        (among_left other (keys_in os) (keys_of (outer_of tree home)) i)) in
+    (among_left other (keys_in os) (keys_of (outer_of tree home)) i)) in
     let round : stack_of tree at.level.label ≡ Some (at.level ∷ at.behind) =
     chain o.id (top.level ∷ top.behind) top.at (top.level ∷ at.before) at.level at.behind (ap (λ (s : Stack). top.level ∷ s) at.is) in
     let same : at.level ∷ at.behind ≡ st = one_stack _ _ (sym round ∙ ap (stack_of tree) at.named ∙ e) in
@@ -116,7 +116,7 @@ not_mine tree chain owns apart home os o top other st i e =
     (all_behind (λ (l : Level ℕ). l.label ≢ o.id) at.before (at.level ∷ at.behind)
     (subst (λ (s : Stack). All (λ (l : Level ℕ). l.label ≢ o.id) s) at.is
     (subst (λ (k : ℕ). All (λ (l : Level ℕ). l.label ≢ k) top.behind) named
-        (apart o.id (top.level ∷ top.behind) top.at [] top.level top.behind refl))))
+    (apart o.id (top.level ∷ top.behind) top.at [] top.level top.behind refl))))
   where
     one_stack : (a b : Stack) → Some a ≡ Some b → a ≡ b
     one_stack a b f = cc
@@ -161,7 +161,7 @@ pub others_left : (old new : Tree) (book more : NurseryBook) (bs : List Block) (
 others_left old new book more bs own o closed keep same run key st e a i x got within =
     subst (λ (b : NurseryBook). RunsIn b bs i None) (sym same)
     (runs_in_outer book bs i (run key st (sym (keep key differs) ∙ e) (others_but key own o a (λ f. differs (sym f))) i x
-        (got_before own o x i got) within))
+    (got_before own o x i got) within))
   where
     differs : key ≢ o.id
     differs f = let g : None ≡ Some st = sym closed ∙ sym (ap (stack_of new) f) ∙ e in cc

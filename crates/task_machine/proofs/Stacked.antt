@@ -56,7 +56,7 @@ named_at labels froms name [] (p ∷ ps) a = absurd a
 named_at labels froms name (l ∷ ls) [] a = absurd a
 named_at labels froms name (l ∷ ls) (p ∷ ps) a =
     subst (λ (o : Option Label). FoundAs labels (key_if (is_named name o) l.label (scope_named labels name ls)) (label_among name (p ∷ ps)))
-        (sym a.0)
+    (sym a.0)
     (by_name (bytes_eq name p.label.name) _ _ (named_at labels froms name ls ps a.3))
   where
     by_name : (b : Bool) (further : Option ℕ) (found : Option Label) → FoundAs labels further found →
@@ -90,7 +90,7 @@ same_test labels l p key label named alone at = by_key (l.label == key) refl
         by_label : (c : Bool) → same_label p.label label ≡ c → false ≡ c
         by_label true f =
             absurd (clash (subst (λ (k : ℕ). (l.label == k) ≡ true) (alone
-                (at ∙ ap (λ (m : Label). Some m) (same_label_equal p.label label f))) (eq-eqb l.label l.label refl)))
+            (at ∙ ap (λ (m : Label). Some m) (same_label_equal p.label label f))) (eq-eqb l.label l.label refl)))
           where
             clash : (l.label == key) ≡ true → ⊥
             clash g = let f : false ≡ true = sym e ∙ g in cc
@@ -150,10 +150,13 @@ pub opened_at : (labels more : Labels) (froms : Table) (st : scopes.Stack) (ps :
     (d : Tick) →
     more key ≡ Some label → SameOn labels more st → (Known label (labels_of ps) → ⊥) → AreAt labels froms st ps →
     AreAt more (opened froms label d) (record { label = key; shield = shield; from = d } ∷ st)
-        (record { label = label; shield = shield } ∷ ps)
-opened_at labels more froms st ps key label shield d named same new a =
-    (named, refl, sym (ap (λ (b : Bool). opened_if b d (froms label)) (same_label_itself label)),
-        opened_else labels more froms st ps label d same new a)
+    (record { label = label; shield = shield } ∷ ps)
+opened_at labels more froms st ps key label shield d named same new a = (
+  named,
+  refl,
+  sym (ap (λ (b : Bool). opened_if b d (froms label)) (same_label_itself label)),
+  opened_else labels more froms st ps label d same new a,
+)
 
 -- ---- names that are apart
 
@@ -191,9 +194,11 @@ alone_at labels froms [] [] key label named i own a = tt
 alone_at labels froms [] (p ∷ ps) key label named i own a = absurd a
 alone_at labels froms (l ∷ ls) [] key label named i own a = absurd a
 alone_at labels froms (l ∷ ls) (p ∷ ps) key label named (inl e) own a =
-    let same : label ≡ p.label = one_of label p.label (sym named ∙ ap labels e ∙ a.0) in
-    ((λ f. sym e), none_alone labels froms ls ps key label (λ k.
-        own.0 (subst (λ (m : Label). IsName m.name (names_at ps)) same (known_name label ps k))) a.3)
+    let same : label ≡ p.label = one_of label p.label (sym named ∙ ap labels e ∙ a.0) in (
+      (λ f. sym e),
+      none_alone labels froms ls ps key label (λ k.
+          own.0 (subst (λ (m : Label). IsName m.name (names_at ps)) same (known_name label ps k))) a.3,
+    )
 alone_at labels froms (l ∷ ls) (p ∷ ps) key label named (inr i) own a = (
   (λ e. absurd (own.0 (subst (λ (m : Label). IsName m.name (names_at ps)) (one_of label p.label (sym e ∙ a.0))
       (known_name label ps (key_known labels froms ls ps key label named i a.3))))),
@@ -214,6 +219,6 @@ pub entered_alike : (labels more : Labels) (froms : Table) (st : scopes.Stack) (
     (d : Tick) → more key ≡ Some label →
     SameOn labels more st → (IsName label.name (names_at ps) → ⊥) → AreAt labels froms st ps →
     AreAt more (opened froms label d) (record { label = key; shield = shield; from = d } ∷ st)
-        (record { label = label; shield = shield } ∷ ps)
+    (record { label = label; shield = shield } ∷ ps)
 entered_alike labels more froms st ps key label shield d named same new a =
     opened_at labels more froms st ps key label shield d named same (λ k. new (known_name label ps k)) a

@@ -8,7 +8,7 @@ use Rattle.job_checks.proofs.cancels.+search.Given as goal
 abbrev pub invariant-search_steps-steps : goal.invariant-search_steps-steps
 invariant-search_steps-steps l =
     (more : List Cancel) → found_in l.found (cancels_of (names_round l.round) (steps_of (drop l.step-index l.steps)) ++ more)
-        ≡ found_in l.search (cancels_of (names_round l.round) (steps_of l.steps) ++ more)
+    ≡ found_in l.search (cancels_of (names_round l.round) (steps_of l.steps) ++ more)
 
 abbrev pub decreases-search_steps : goal.decreases-search_steps
 decreases-search_steps l = weight_of (steps_of l.steps.now)

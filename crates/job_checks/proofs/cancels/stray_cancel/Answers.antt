@@ -10,10 +10,10 @@ pub returns-in-Passed : goal.returns-in-Passed
 returns-in-Passed c =
     let all = append-nil (cancels_of [] (steps_of c.args.steps.now)) in
     sym (ap (λ (s : Search). found_in s []) c.in-Passed.is) ∙ c.search_steps.ensures []
-        ∙ ap (λ (cs : List Cancel). stray_in cs (targets_in c.args.tokens.now c.args.roles.now)) all
+    ∙ ap (λ (cs : List Cancel). stray_in cs (targets_in c.args.tokens.now c.args.roles.now)) all
 
 pub returns-in-Stopped : goal.returns-in-Stopped
 returns-in-Stopped c =
     let all = append-nil (cancels_of [] (steps_of c.args.steps.now)) in
     sym (ap (λ (s : Search). found_in s []) c.in-Stopped.is) ∙ c.search_steps.ensures []
-        ∙ ap (λ (cs : List Cancel). stray_in cs (targets_in c.args.tokens.now c.args.roles.now)) all
+    ∙ ap (λ (cs : List Cancel). stray_in cs (targets_in c.args.tokens.now c.args.roles.now)) all

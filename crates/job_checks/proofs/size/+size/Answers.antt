@@ -16,5 +16,5 @@ size_of-returns t c =
     let done : drop c.steps.step-index c.args.steps.now ≡ [] = drop_all c.steps.step-index c.args.steps.now c.steps-test.false in
     let all : min (c.steps.size + 0) 18446744073709551615 ≡ min (size_of (steps_of c.args.steps.now)) 18446744073709551615 =
     subst (λ (ss : List Step). min (c.steps.size + size_of (steps_of ss)) 18446744073709551615
-        ≡ min (size_of (steps_of c.args.steps.now)) 18446744073709551615) done c.steps.invariant.1 in
+    ≡ min (size_of (steps_of c.args.steps.now)) 18446744073709551615) done c.steps.invariant.1 in
     omega (arith, all, c.steps.invariant.0)

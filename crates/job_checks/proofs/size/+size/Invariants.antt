@@ -8,7 +8,7 @@ abbrev pub invariant-size_of-steps : goal.invariant-size_of-steps
 invariant-size_of-steps l =
     (l.size ≤ 18446744073709551615)
     × (min (l.size + size_of (steps_of (drop l.step-index l.steps))) 18446744073709551615
-        ≡ min (size_of (steps_of l.steps)) 18446744073709551615)
+    ≡ min (size_of (steps_of l.steps)) 18446744073709551615)
 
 abbrev pub decreases-size_of : goal.decreases-size_of
 decreases-size_of l = weight_of (steps_of l.steps.now)

@@ -14,8 +14,14 @@ unreachable-requires c = never_none tree c.args.text.now c.args.tokens.items c.d
 
 pub returns : goal.returns
 returns c = record {
-  draft = drafted tree c.in-Some.job c.args.text.now record { text = c.args.text; tokens = c.args.tokens; roles = c.args.roles; name =
-      c.in-Some.job.0; steps = c.in-Some.job.1 }
+  draft = drafted tree c.in-Some.job c.args.text.now record {
+    text = c.args.text;
+    tokens = c.args.tokens;
+    roles = c.args.roles;
+    name =
+        c.in-Some.job.0;
+    steps = c.in-Some.job.1;
+  }
       c.deref.result.now c.in_ok-job.field-0 c.requires.read c.requires.of_some_job c.deref.ensures.value c.in_ok-job.ensures c.in-Some.is
-          refl refl;
+      refl refl;
 }
