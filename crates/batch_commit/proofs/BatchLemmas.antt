@@ -21,6 +21,7 @@ pub left_count : (current next : List (Option Entry)) (places : PlacesLeft) → 
     length places.left ≡ length (held current)
 left_count current next places is = ap length is.left ∙ length-places_from 0 current
 
+-- the length of a list is zero just where the list is empty
 pub nothing_left : {X : Type 0} (xs : List X) (n : ℕ) → n ≡ length xs → IsTrue (nat_eq n 0) ↔ (xs ≡ [])
 nothing_left xs n e = (
   (λ (h : IsTrue (nat_eq n 0)). nil_from_length xs (sym e ∙ eqb-true n 0 h)),
@@ -39,6 +40,7 @@ slots-push : (added : List Added) (a : Added) → unplaced_slots (added ++ a ∷
 slots-push [] a = refl
 slots-push (b ∷ added) a = ap (λ rest. Some (unplaced b) ∷ rest) (slots-push added a)
 
+-- the batches are as they ought to be with one more entry added to the next one, where there is room for its places
 pub ready_push : (current next next' : List (Option Entry)) (places places' : PlacesLeft) (a : Added) → IsReady current next places →
     next' ≡ next ++ Some (unplaced a) ∷ [] → places'.left ≡ places.left → length next + 1 + (length next + 1) ≤ places'.room →
     IsReady current next' places'
@@ -57,9 +59,10 @@ pub ready_turn : (current next : List (Option Entry)) (places places' : PlacesLe
 ready_turn current next places places' is left =
     let full : places_from 0 next ≡ numbers 0 (length next) =
     ap (places_from 0) is.fresh ∙ places_from-full unplaced 0 (added_in next)
-        ∙ ap (numbers 0) (sym (ap length is.fresh ∙ length-map (added_in next) (λ a. Some (unplaced a)))) in
+    ∙ ap (numbers 0) (sym (ap length is.fresh ∙ length-map (added_in next) (λ a. Some (unplaced a)))) in
     record { left = left ∙ sym full; fresh = refl; room = omega arith }
 
+-- what the next batch holds is what was added to it, with no answer placed
 pub held_turn : (current next : List (Option Entry)) (places : PlacesLeft) → IsReady current next places →
     held next ≡ map unplaced (added_in next)
 held_turn current next places is = ap held is.fresh ∙ held-full unplaced (added_in next)
@@ -97,6 +100,7 @@ pub k_left : (current next : List (Option Entry)) (places : PlacesLeft) (seen : 
     held current ≡ seen → k < length seen → k < length places.left
 k_left current next places seen k is view lt = rw (left_count current next places is ∙ ap length view) lt
 
+-- the k-th of the places left is that of the k-th entry left, which is taken out of its slot there
 pub taken_at : (current next : List (Option Entry)) (places : PlacesLeft) (seen : List Entry) (k place : ℕ) → IsReady current next places →
     held current ≡ seen → k < length seen → place ≡ slice_index_or places.left k 0 → TakenAt current places k place
 taken_at current next places seen k place is view lt e =
@@ -108,6 +112,7 @@ taken_at current next places seen k place is view lt e =
     zero_add : (m : ℕ) → 0 + m ≡ m
     zero_add m = omega arith
 
+-- the batches are as they ought to be once an entry and its place are taken out of the current one
 pub ready_taken : (current current' next : List (Option Entry)) (places places' : PlacesLeft) (k place : ℕ) → IsReady current next places →
     TakenAt current places k place → current' ≡ slice_set current place None → places'.left ≡ remove places.left k →
     places'.room ≡ places.room → IsReady current' next places'

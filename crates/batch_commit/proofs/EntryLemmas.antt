@@ -10,11 +10,13 @@ use Rattle.batch_commit.specs.Slots.{held, places_from}
 use Rattle.batch_commit.specs.Entries.{Added, unplaced, added_of, request_in, requests_of, with_placed, placed, answer_placed, answers_after, HasAnswer, AllPlaced, NonePlaced}
 use Rattle.batch_commit.specs.Placing.{slot_placed, left_after, slots_placed}
 
+-- what slots hold once answers are placed are the entries that they held, with the answers placed
 pub held-placed : (slots : List (Option Entry)) (answers : List Answer) → held (slots_placed slots answers) ≡ placed (held slots) answers
 held-placed [] answers = refl
 held-placed (None ∷ slots) answers = held-placed slots answers
 held-placed (Some e ∷ slots) answers = ap (λ es. with_placed answers e ∷ es) (held-placed slots (answers_after (request_in e.call) answers))
 
+-- the same slots hold an entry once answers are placed
 pub places_from-placed : (place : ℕ) (slots : List (Option Entry)) (answers : List Answer) →
     places_from place (slots_placed slots answers) ≡ places_from place slots
 places_from-placed place [] answers = refl
@@ -22,6 +24,7 @@ places_from-placed place (None ∷ slots) answers = places_from-placed (place + 
 places_from-placed place (Some e ∷ slots) answers =
     ap (λ ps. place ∷ ps) (places_from-placed (place + 1) slots (answers_after (request_in e.call) answers))
 
+-- what was added is read back from its entries
 pub added_of-unplaced : (added : List Added) → map added_of (map unplaced added) ≡ added
 added_of-unplaced [] = refl
 added_of-unplaced (a ∷ added) = ap (λ rest. a ∷ rest) (added_of-unplaced added)
@@ -34,13 +37,15 @@ in_front None answers old rs n = (tt, n)
 in_front (Some r) [] old rs n = absurd (omega (arith, n))
 in_front (Some r) (a ∷ answers) old rs n = (refl, omega (arith, n))
 
+-- with as many answers as entries make requests, each Ask has one once they are placed
 pub all_placed : (es : List Entry) (answers : List Answer) → length answers ≡ length (requests_of es) → AllPlaced (placed es answers)
 all_placed [] answers n = All-nil (λ (e : Entry). HasAnswer (request_in e.call) e.answer)
 all_placed (e ∷ es) answers n =
     let first = in_front (request_in e.call) answers e.answer (requests_of es) n in
     All-cons (λ (e : Entry). HasAnswer (request_in e.call) e.answer) (with_placed answers e)
-        (placed es (answers_after (request_in e.call) answers)) first.0 (all_placed es (answers_after (request_in e.call) answers) first.1)
+    (placed es (answers_after (request_in e.call) answers)) first.0 (all_placed es (answers_after (request_in e.call) answers) first.1)
 
+-- no entry has an answer when it is added
 pub none_placed : (added : List Added) → NonePlaced (map unplaced added)
 none_placed added = All-map (λ (e : Entry). e.answer ≡ None) unplaced added (λ k d lt. refl)
 

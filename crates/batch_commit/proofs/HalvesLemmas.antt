@@ -12,6 +12,7 @@ pub record Cut (d : ℕ) (ls l : List ℕ) (m : ℕ) (r : List ℕ) : Type 0 whe
   pub middle : slice_index_or ls (inner d) 0 ≡ m
   pub last : drop (inner d + 1) ls ≡ r
 
+-- the counts of a first half, one more and the counts of a last half are cut into these three
 pub cut_at : (d : ℕ) (l : List ℕ) (m : ℕ) (r : List ℕ) → length l ≡ inner d → Cut d (l ++ m ∷ r) l m r
 cut_at d l m r e =
     record {
@@ -62,7 +63,7 @@ drawn_first depth d base c k ls l m r l' place e is n n' t lt drawn =
     let lt' : k < length (left_in d base l m) = rw count lt in
     let new : left_in depth base (l' ++ (m - 1) ∷ r) (c - 1) ≡ left_in d base l' (m - 1) ++ rest =
     rw e (left_cut d base (c - 1) (l' ++ (m - 1) ∷ r) l' (m - 1) r cut'
-        ∙ ap (λ n. left_in d base l' (m - 1) ++ left_in d (base + inner d + 1) r n) same)
+    ∙ ap (λ n. left_in d base l' (m - 1) ++ left_in d (base + inner d + 1) r n) same)
     in
     record {
       tree = rw e (tree_join d (c - 1) (l' ++ (m - 1) ∷ r) l' (m - 1) r cut' (omega (arith, lt, parts.0)) drawn.tree right);
@@ -96,6 +97,7 @@ drawn_last depth d base c k ls l m r r' place e is n t lt le drawn =
       at_k = drawn.at_k ∙ sym (get_or-append_right first rest m k 0 count le) ∙ sym (ap (λ xs. slice_index_or xs k 0) old);
     }
 
+-- the counts of a whole tell what is left in its first half, and the others are left in its last half
 pub tree_parts : (depth d c : ℕ) (ls l : List ℕ) (m : ℕ) (r : List ℕ) → depth ≡ suc d → ls ≡ l ++ m ∷ r → length l ≡ inner d →
     IsTree depth ls c → (m ≤ c) × IsTree d l m × IsTree d r (c - m)
 tree_parts depth d c ls l m r e is n t =
@@ -106,6 +108,7 @@ tree_parts depth d c ls l m r e is n t =
 pub above : (depth : ℕ) → depth ≢ 0 → depth ≡ suc (depth - 1)
 above depth ne = omega (arith, ne)
 
+-- as many counts are kept for a whole as for its two halves and one more
 pub inner_of : (depth d : ℕ) → depth ≡ suc d → inner depth ≡ inner d + 1 + inner d
 inner_of depth d e = rw e refl
 
@@ -113,9 +116,11 @@ inner_of depth d e = rw e refl
 pub half_of : (depth d n : ℕ) → depth ≡ suc d → n ≡ inner depth → n / 2 ≡ inner d
 half_of depth d n e is = let i = inner_of depth d e in omega (arith, i, is)
 
+-- as many counts are kept for the last half as for the first
 pub last_of : (depth d n m : ℕ) → depth ≡ suc d → n + 1 + m ≡ inner depth → n ≡ inner d → m ≡ inner d
 last_of depth d n m e is first = let i = inner_of depth d e in omega (arith, i, is, first)
 
+-- numbers from one on: the first a of them, and b from there on
 pub numbers_append : (base a b : ℕ) → numbers base (a + b) ≡ numbers base a ++ numbers (base + a) b
 numbers_append base zero b = rw (zero-add b, add-zero base) refl
 numbers_append base (suc a) b =
@@ -135,6 +140,7 @@ at_numbers base zero le = refl
 at_numbers base (suc zero) le = refl
 at_numbers base (suc (suc n)) le = absurd (omega (arith, le))
 
+-- of one place or none, with no counts kept, so many numbers from it on are left
 pub tip_all : (depth c : ℕ) (ls : List ℕ) → depth ≡ 0 → c ≤ inner depth + 1 → (base : ℕ) → left_in depth base ls c ≡ numbers base c
 tip_all depth c ls e le base =
     let le' : c ≤ 1 = rw e at le in
@@ -146,10 +152,12 @@ pub record InFirst (d c m : ℕ) : Type 0 where
   pub fits : m ≤ inner d + 1
   pub all : (m ≡ inner d + 1) ⊎ (c ≡ m)
 
+-- the counts of two halves, with what is left in the first between them, are those of a whole
 pub filled_tree : (depth d c m : ℕ) (l r : List ℕ) → depth ≡ suc d → length l ≡ inner d → InFirst d c m → IsTree d l m →
     IsTree d r (c - m) → IsTree depth (l ++ m ∷ r) c
 filled_tree depth d c m l r e n some first last = rw e (tree_join d c (l ++ m ∷ r) l m r (cut_at d l m r n) some.most first last)
 
+-- where each half has its first places left, and the last half has none unless the first is full, so has the whole
 pub filled_all : (depth d c m : ℕ) (l r : List ℕ) → depth ≡ suc d → length l ≡ inner d → InFirst d c m →
     ((base : ℕ) → left_in d base l m ≡ numbers base m) → ((base : ℕ) → left_in d base r (c - m) ≡ numbers base (c - m)) → (base : ℕ) →
     left_in depth base (l ++ m ∷ r) c ≡ numbers base c
@@ -162,7 +170,8 @@ filled_all depth d c m l r e n some first last base =
     ] in
     let cut = left_cut d base c (l ++ m ∷ r) l m r (cut_at d l m r n) in
     rw e (cut ∙ ap (λ xs. xs ++ left_in d off r (c - m)) (first base) ∙ ap (λ xs. numbers base m ++ xs) (last off) ∙ seam
-        ∙ sym (numbers_append base m (c - m)) ∙ ap (numbers base) (sym whole))
+    ∙ sym (numbers_append base m (c - m)) ∙ ap (numbers base) (sym whole))
 
+-- a number that is all of the first half or all of what is left, whichever is less, is what the first half has left
 pub in_first : (d c m half : ℕ) → half ≡ inner d → m ≤ c → m ≤ half + 1 → (m ≡ half + 1) ⊎ (c ≡ m) → InFirst d c m
 in_first d c m half e most fits all = record { most = most; fits = rw e at fits; all = rw e at all }

@@ -8,10 +8,12 @@ use Rattle.batch_commit.specs.Halves.{numbers}
 use Rattle.batch_commit.specs.Places.{PlacesLeft, places_left, IsCounted}
 use Rattle.batch_commit.proofs.HalvesLemmas.{left_count, numbers_append}
 
+-- n numbers from one on are n
 pub length-numbers : (base n : ℕ) → length (numbers base n) ≡ n
 length-numbers base zero = refl
 length-numbers base (suc n) = ap suc (length-numbers (base + 1) n)
 
+-- as many places are left as their number says, whether they are counted by halves or not
 pub length-places : (counted : Bool) (depth span first : ℕ) (counts : List ℕ) (left : ℕ) → IsCounted counted depth span first counts left →
     length (places_left counted depth span first counts left) ≡ left
 length-places false depth span first counts left is = length-numbers first left
@@ -46,6 +48,7 @@ last_of_numbers first left some =
     let is : numbers first left ≡ numbers first (left - 1) ++ (first + (left - 1)) ∷ [] = ap (numbers first) (sym n) ∙ whole in
     rw is (last_of_push (numbers first (left - 1)) (first + (left - 1)))
 
+-- while places are not counted by halves, the greatest stands last, and one fewer are left without it
 pub last_left : (v : PlacesLeft) (counted : Bool) (depth span first : ℕ) (counts : List ℕ) (left : ℕ) → counted ≡ false →
     places_left counted depth span first counts left ≡ v.left → 0 < length v.left →
     LastOf v.left (places_left counted depth span first counts (left - 1)) (first + (left - 1))

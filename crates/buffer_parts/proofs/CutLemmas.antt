@@ -17,10 +17,12 @@ pub record IsNextStart (buffer : List ℕ) (place end found : ℕ) : Type 0 wher
   pub before : NoStart buffer place found
   pub stops : (found ≡ end) ⊎ (starts_line buffer found ≡ true)
 
+-- where a line starts at the place itself, that place is the next start
 pub next_start-stopped : (buffer : List ℕ) (place left : ℕ) → starts_line buffer place ≡ true → next_start buffer place left ≡ place
 next_start-stopped buffer place zero here = refl
 next_start-stopped buffer place (suc left) here = rw here refl
 
+-- where none starts there, the next start is the one from the place behind it on
 pub next_start-passed : (buffer : List ℕ) (place left : ℕ) → starts_line buffer place ≡ false →
     next_start buffer place (suc left) ≡ next_start buffer (place + 1) left
 next_start-passed buffer place left none = rw none refl
@@ -55,7 +57,7 @@ next_start-finds buffer place (suc left) =
     (λ (starts : starts_line buffer place ≡ true).
     let same = next_start-stopped buffer place (suc left) starts in
     let here : IsNextStart buffer place (place + suc left) place =
-        record { low = omega arith; high = omega arith; before = λ p from to. absurd (omega arith); stops = inr starts } in
+    record { low = omega arith; high = omega arith; before = λ p from to. absurd (omega arith); stops = inr starts } in
     subst (IsNextStart buffer place (place + suc left)) (sym same) here)
     (λ (none : starts_line buffer place ≡ false).
     let same = next_start-passed buffer place left none in
@@ -65,7 +67,7 @@ next_start-finds buffer place (suc left) =
     let found = next_start buffer (place + 1) left in
     let sum : place + 1 + left ≡ place + suc left = omega arith in
     let before : NoStart buffer place found = λ p from to. ⊎_elim (λ (is : p ≡ place). ap (starts_line buffer) is ∙ none)
-        (λ (other : p ≢ place). rest.before p (omega arith) to) (cases_eq p place) in
+    (λ (other : p ≢ place). rest.before p (omega arith) to) (cases_eq p place) in
     let here : IsNextStart buffer place (place + suc left) found = record {
       low = omega arith;
       high = omega arith;
@@ -93,15 +95,18 @@ next_start-ordered buffer p q l m le same =
 pub step-le : (len k i : ℕ) → 0 < k → i ≤ k → i * len / k ≤ len
 step-le len k i some le = div-le_of_le-mul k (mul-le-mul_right len le)
 
+-- more of k equal steps of a length reach at least as far
 pub step-ordered : (len k i j : ℕ) → 0 < k → i ≤ j → i * len / k ≤ j * len / k
 step-ordered len k i j some le =
     let low : i * len / k * k ≤ i * len = div-mul-le_self (i * len) k in
     let high : i * len ≤ j * len = mul-le-mul_right len le in
     le-div (i * len / k) (j * len) k some (omega arith)
 
+-- cut point 0 is the range's start
 pub cut_point-first : (buffer : List ℕ) (r : Range) (k : ℕ) → cut_point buffer r k 0 ≡ r.from
 cut_point-first buffer r k = refl
 
+-- cut point k of k is the range's end
 pub cut_point-last : (buffer : List ℕ) (r : Range) (k : ℕ) → 0 < k → cut_point buffer r k k ≡ r.to
 cut_point-last buffer r k some =
     let no : eqb k 0 ≡ false = ne_eqb k 0 (λ is. omega arith) in
@@ -112,6 +117,7 @@ cut_point-last buffer r k some =
 abbrev pub target_of : Range → ℕ → ℕ → ℕ
 target_of r k i = r.from + i * (r.to - r.from) / k
 
+-- any other cut point is the next line start from the end of its step on, searched for up to the range's end
 pub cut_point-between : (buffer : List ℕ) (r : Range) (k i : ℕ) → i ≢ 0 → i ≢ k →
     cut_point buffer r k i ≡ next_start buffer (target_of r k i) (r.to - target_of r k i)
 cut_point-between buffer r k i some less =
@@ -119,6 +125,7 @@ cut_point-between buffer r k i some less =
     let not_last : eqb i k ≡ false = ne_eqb i k less in
     rw no (rw not_last refl)
 
+-- none of the k equal steps of a range ends behind the range
 pub target-le : (r : Range) (k i : ℕ) → r.from ≤ r.to → 0 < k → i ≤ k → target_of r k i ≤ r.to
 target-le r k i ordered some le =
     let step = step-le (r.to - r.from) k i some le in
@@ -130,6 +137,7 @@ pub record IsCutPoint (buffer : List ℕ) (r : Range) (i place : ℕ) : Type 0 w
   pub high : place ≤ r.to
   pub stops : 0 < i → (place ≡ r.to) ⊎ (starts_line buffer place ≡ true)
 
+-- each cut point lies in the range, and each but the first is the range's end or the start of a line
 pub cut_point-lies : (buffer : List ℕ) (r : Range) (k i : ℕ) → r.from ≤ r.to → 0 < k → i ≤ k →
     IsCutPoint buffer r i (cut_point buffer r k i)
 cut_point-lies buffer r k i ordered some le =
@@ -180,7 +188,7 @@ cut_point-ordered buffer r k i ordered less =
     let first = target_of r k i in
     let second = target_of r k (i + 1) in
     let steps : i * (r.to - r.from) / k ≤ (i + 1) * (r.to - r.from) / k =
-        step-ordered (r.to - r.from) k i (i + 1) (omega arith) (omega arith) in
+    step-ordered (r.to - r.from) k i (i + 1) (omega arith) (omega arith) in
     let within = target-le r k i ordered (omega arith) (omega arith) in
     let within_next = target-le r k (i + 1) ordered (omega arith) (omega arith) in
     let le = next_start-ordered buffer first second (r.to - first) (r.to - second) (omega arith) (omega arith) in
@@ -190,9 +198,11 @@ cut_point-ordered buffer r k i ordered less =
     (cases_eq (i + 1) k))
     (cases_eq i 0)
 
+-- one of two tests passes where the first does
 pub or_left : (a b : Bool) → a ≡ true → IsTrue (a || b)
 or_left a b is = rw is refl
 
+-- one of two tests passes where the second does
 pub or_right : (a b : Bool) → b ≡ true → IsTrue (a || b)
 or_right true b is = refl
 or_right false b is = is
@@ -206,7 +216,7 @@ cut-aligned buffer r k i ordered less aligned =
     let step = cut_point-ordered buffer r k i ordered less in
     let high = next.high in
     let at_end = λ (ends : cut_point buffer r k i ≡ r.to). or_right (starts_line buffer (cut_point buffer r k i)) _
-        (eq-eqb (cut_point buffer r k i) (cut_point buffer r k (i + 1)) (omega arith)) in
+    (eq-eqb (cut_point buffer r k i) (cut_point buffer r k (i + 1)) (omega arith)) in
     ⊎_elim
     (λ (zero_is : i ≡ 0).
     let at : cut_point buffer r k i ≡ r.from = ap (cut_point buffer r k) zero_is in

@@ -27,6 +27,7 @@ pub record Gathered (v : Hand) (left all : List Pass) : Type 0 where
   pub drawn : (i : ℕ) → count_by (nat_eq i) v.drawn + drawn_in i left ≡ drawn_in i all
   pub nones : v.nones + told_in left ≡ told_in all
 
+-- the last of the passes and those before it have together what all passes had
 pub gather_first : (left : List Pass) (pass : Pass) → pass.seat.me.0.parts ≡ 1 → Gathered pass.seat.me.0 left (left ++ pass ∷ [])
 gather_first left pass one =
     record {
@@ -36,6 +37,7 @@ gather_first left pass one =
       nones = let push = sum_by_push (λ (p : Pass). p.seat.me.0.nones) left pass in omega arith;
     }
 
+-- the last of the passes that are left is joined: the hand and the others still have what all had
 pub gather_next : (v : Hand) (left all : List Pass) (pass : Pass) → pass.seat.me.0.parts ≡ 1 → Gathered v (left ++ pass ∷ []) all →
     Gathered (both_hands v pass.seat.me.0) left all
 gather_next v left all pass one before =
@@ -72,6 +74,7 @@ pub times_count : (x : ℕ) (xs : List ℕ) → times x xs ≡ count_by (nat_eq 
 times_count x [] = refl
 times_count x (y ∷ ys) = ap (λ n. cond (nat_eq x y) 1 0 + n) (times_count x ys) ∙ sym (sum_by-cons (λ z. cond (nat_eq x z) 1 0) y ys)
 
+-- where some pass was told that no request is left, the passes were told so together at least once
 pub told_once : (passes : List Pass) → Any (λ pass. was_told pass ≡ true) passes → 0 < told_in passes
 told_once passes any = told_at passes any.0 any.1 any.2 any.3 any.4
 
@@ -110,6 +113,7 @@ none_left : (v : Hand) (left all : List Pass) → length left ≡ 0 → Gathered
 none_left v [] all none gathered = gathered
 none_left v (p ∷ ps) all none gathered = absurd (omega arith)
 
+-- once all passes are back and one was told that none is left, each request was drawn once and nothing else
 pub settled : (counts : Counts) (id : ℕ) (v : Hand) (words : List ℕ) (slots : List (Unit {0})) (word : ℕ) (left all : List Pass) →
     Final (Seen (Kept counts) id v) words slots → get_elem? words 0 ≡ some word → length left ≡ 0
     → Gathered v left all → length all ≡ counts.passes → Any (λ pass. was_told pass ≡ true) all → Settled counts.requests word all
@@ -117,4 +121,4 @@ settled counts id v words slots word left all final at none gathered long told =
     let parts = gathered.parts in
     let knows = closed_knows counts id v words slots final (omega arith) in
     all_drawn counts.requests word v all (none_left v left all none gathered) (told_once all told)
-        (subst (λ n. Knows counts.requests n v) (first_word words word at) knows)
+    (subst (λ n. Knows counts.requests n v) (first_word words word at) knows)

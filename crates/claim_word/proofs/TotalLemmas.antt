@@ -6,12 +6,15 @@ use lib.ListN.{get_elem?}
 use Rattle.claim_word.specs.declared.rule.Hand.{Hand}
 use Rattle.claim_word.specs.Rule.{times, total}
 
+-- a number stands once in the list of it alone
 pub times-here : (x : ℕ) → times x (x ∷ []) ≡ 1
 times-here x = ap (λ b. cond b 1 0 + 0) (eq-eqb x x refl)
 
+-- it does not stand in the list of another number alone
 pub times-else : (x y : ℕ) → (x ≡ y → ⊥) → times x (y ∷ []) ≡ 0
 times-else x y other = ap (λ b. cond b 1 0 + 0) (ne_eqb x y other)
 
+-- in two lists together it stands as often as in the first and in the second
 pub times-append : (x : ℕ) (xs ys : List ℕ) → times x (xs ++ ys) ≡ times x xs + times x ys
 times-append x [] ys = omega arith
 times-append x (z ∷ zs) ys = let rest = times-append x zs ys in omega arith

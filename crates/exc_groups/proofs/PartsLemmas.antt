@@ -13,6 +13,7 @@ abbrev pub appended : Excs → Excs → Excs
 appended no_parts fs = fs
 appended (part e es) fs = part e (appended es fs)
 
+-- the exceptions of two lists together are those of the first and then those of the second
 pub excs_of-append : (es fs : List Exc) → excs_of (es ++ fs) ≡ appended (excs_of es) (excs_of fs)
 excs_of-append [] fs = refl
 excs_of-append (e ∷ es) fs = ap (part (exc_of e)) (excs_of-append es fs)
@@ -34,12 +35,13 @@ pruned_parts-with : (test : Tree → Bool) (o : Option Tree) (es fs : Excs) → 
 pruned_parts-with test None es fs = refl
 pruned_parts-with test (Some e) es fs = refl
 
+-- what a test leaves of parts and further parts is what it leaves of the first and then of the others
 pub pruned_parts-append : (test : Tree → Bool) (es fs : Excs) →
     pruned_parts test (appended es fs) ≡ appended (pruned_parts test es) (pruned_parts test fs)
 pruned_parts-append test no_parts fs = refl
 pruned_parts-append test (part e es) fs =
     ap (with_part (pruned test e)) (pruned_parts-append test es fs)
-        ∙ sym (pruned_parts-with test (pruned test e) (pruned_parts test es) (pruned_parts test fs))
+    ∙ sym (pruned_parts-with test (pruned test e) (pruned_parts test es) (pruned_parts test fs))
 
 weight_of-some : (es : Excs) → 1 ≤ weight_of es
 weight_of-some no_parts = omega arith
@@ -70,7 +72,7 @@ pruned_next test parts i x o h is at =
     ap (pruned_parts test) (excs_of-take parts i x h)
     ∙ pruned_parts-append test (excs_of (take i parts)) (part (exc_of (slice_index_or parts i x)) no_parts)
     ∙ ap (λ y. appended (pruned_parts test (excs_of (take i parts))) (with_part y no_parts))
-        (ap (λ z. pruned test (exc_of z)) (sym at) ∙ sym is)
+    (ap (λ z. pruned test (exc_of z)) (sym at) ∙ sym is)
 
 appended-none : (es : Excs) → appended es no_parts ≡ es
 appended-none no_parts = refl

@@ -27,6 +27,7 @@ Left whole old left now = (rest : List Piece) → old ++ shapes_in (whole rest) 
 abbrev pub left_from : List Step → ℕ → Print
 left_from steps i = steps_pieces (steps_of (drop i steps))
 
+-- once the next step's tokens are appended, the steps behind it are left to append
 pub one_step : (whole : Print) (old now next : List Shape) (steps : List Step) (i : ℕ) (s : Step) → i < length steps →
     s ≡ get_or steps i s → Appends (step_pieces (step_of s)) now next
     → Left whole old (left_from steps i) now → Left whole old (left_from steps (i + 1)) next

@@ -54,6 +54,7 @@ past_then c r go h le (Some e) = past_same c r le
 agree_from : (c : ℕ) (go go' : ℕ → Result) → ((u : ℕ) → Agree c (go u) (go' u)) → (u v : ℕ) → u ≡ v → Agree c (go u) (go' v)
 agree_from c go go' h u v e = subst (λ (w : ℕ). Agree c (go u) (go' w)) e (h u)
 
+-- walks that agree before c, and go on in walks that agree before c from each tick on, agree as a whole
 pub agree_and_then : (c : ℕ) (r r' : Result) (go go' : ℕ → Result) → Agree c r r' → ((u : ℕ) → Agree c (go u) (go' u)) →
     ((u : ℕ) → Late u (go u)) → ((u : ℕ) → Late u (go' u)) → Agree c (and_then r go) (and_then r' go')
 unfolding and_then
@@ -121,10 +122,12 @@ agree_slept c (Some x) (Some y) n t e = by_before (cases_lt x c)
         (agree_same c (slept (Some x) n t))
     by_before (inr p) = by_order p (omega arith) (cases_lt (t + n) c)
 
+-- a sleep agrees before c on near stacks
 pub agree_sleeping : (c : ℕ) (st su : Stack) (n t : ℕ) → Near c st su → Agree c (sleeping st n t) (sleeping su n t)
 unfolding sleeping
 agree_sleeping c st su n t near = agree_slept c (sight st) (sight su) n t (sight_near c st su near)
 
+-- a `cancel` of a name agrees before c on near stacks
 pub agree_cancelling : (c : ℕ) (name : List ℕ) (st su : Stack) (t : ℕ) → Near c st su →
     Agree c (cancelling (label_on name st) t) (cancelling (label_on name su) t)
 agree_cancelling c name st su t near =
@@ -147,6 +150,7 @@ catches_near c f g shield st su u v e near lt same =
             ≡ (reached g u && (shield || not (seen su u)))
         ap2 p q = cc
 
+-- walks that agree before c have the same log cut at c
 pub agree_logs : {c : ℕ} {r q : Result} → Agree c r q → clipped c r.log ≡ clipped c q.log
 agree_logs (soon b e x m l) = l
 agree_logs (later f s l) = l
@@ -196,6 +200,7 @@ module _ (c : ℕ) (kind : Kind) (label : Label) (t : ℕ) (d : Tick) where
         let e = block_near m inside inside' h h' k in
         agree_left _ _ _ _ e (k _ _ e)
 
+-- near stacks stay near within a block whose two froms are the same cut at c
 pub near_within : (c : ℕ) (label : Label) (shield : Bool) (f g : Tick) (st su : Stack) → upto c f ≡ upto c g → Near c st su →
     Near c (within label shield f st) (within label shield g su)
 near_within c label shield f g st su e near = (refl, refl, e, near)
@@ -274,6 +279,7 @@ known_outcome c r q (later f s l) = unknown (nat_lt r.end c) r.exc (le-ltb r.end
     unknown true o e = absurd (true≢false e)
     unknown false o e = refl
 
+-- what started tasks leave in their starter's walk agrees before c where their own walks do
 pub agree_child : (c : ℕ) (label : Label) (t : ℕ) (r q : Result) → Agree c r q → Agree c (child label t r) (child label t q)
 unfolding child
 agree_child c label t r q h = by_order (cases_lt t c) (known_end c r q h) (known_outcome c r q h) (agree_logs h)
@@ -291,6 +297,7 @@ agree_child c label t r q h = by_order (cases_lt t c) (known_end c r q h) (known
     by_order (inl lt) i j k = soon lt refl refl (same_member _ _ _ _ i j) (same_task (nat_lt t c) _ _ _ _ _ _ i j k)
     by_order (inr le) i j k = later le le (same_task (nat_lt t c) _ _ _ _ _ _ i j k)
 
+-- the children of a `start .. over`, all started in one tick, agree before c where each of them does
 pub agree_each : (c : ℕ) (k : ℕ) (go go' : ℕ → Result) (t : ℕ) → ((i : ℕ) → (go i).end ≡ t) → ((i : ℕ) → (go' i).end ≡ t) →
     ((i : ℕ) → Agree c (go i) (go' i)) → Agree c (each k go t) (each k go' t)
 agree_each c zero go go' t e e' h = agree_same c (done_at t)
@@ -327,6 +334,7 @@ past_handled c wanted r go h le (Some e) = by_match (keep wanted e) (drop wanted
     by_match None rest = past_same c r le
     by_match (Some y) rest = record { ends = both.ends; logs = both.logs }
 
+-- bodies with their handlers agree before c where the bodies do, and the handlers from each tick on
 pub agree_handled : (c : ℕ) (wanted : Wanted) (r r' : Result) (go go' : ℕ → Result) → Agree c r r' → ((u : ℕ) → Agree c (go u) (go' u)) →
     ((u : ℕ) → Late u (go u)) → ((u : ℕ) → Late u (go' u)) → Agree c (handled wanted r go) (handled wanted r' go')
 unfolding handled
@@ -347,6 +355,7 @@ agree_handled c wanted r r' go go' (soon b e x m l) h k k' =
 agree_handled c wanted r r' go go' (later f s l) h k k' =
     agree_past c r r' _ _ l (past_handled c wanted r go k f r.exc) (past_handled c wanted r' go' k' s r'.exc)
 
+-- results with their cleanups agree before c likewise
 pub agree_cleaned : (c : ℕ) (r r' : Result) (go go' : ℕ → Result) → Agree c r r' → ((u : ℕ) → Agree c (go u) (go' u)) →
     ((u : ℕ) → Late u (go u)) → ((u : ℕ) → Late u (go' u)) → Agree c (cleaned r go) (cleaned r' go')
 unfolding cleaned
@@ -416,5 +425,6 @@ mutual
   agree_cleanup c m (finally body) here st su r q near h =
       agree_cleaned c r q _ _ h (λ u. agree c m body here st su u near) (λ u. late m body here st u) (λ u. late m body here su u)
 
+-- on stacks that agree except where both froms are at least c, a walk does the same before c
 pub nothing_before_its_cause : NothingBeforeItsCause
 nothing_before_its_cause c mode steps here stack other t near = agree c mode steps here stack other t near

@@ -10,10 +10,12 @@ use Rattle.job_meaning.specs.Walk.{Stack, label_on, label_if, home_of, latest}
 use Rattle.job_meaning.specs.Before.{upto, Near, exc_if, known_member, known_members, entry_if, sign_before, entered_if, task_if, clipped}
 use Rattle.job_meaning.proofs.Late.{Timed}
 
+-- a tick cut at c is at most c
 pub upto_most : (c : ℕ) (a : Tick) → upto c a ≤ c
 upto_most c None = omega arith
 upto_most c (Some t) = omega arith
 
+-- the earlier of two ticks, cut at c, is the lesser of the two cut at c
 pub upto_earlier : (c : ℕ) (a b : Tick) → upto c (earlier a b) ≡ min (upto c a) (upto c b)
 upto_earlier c None None = omega arith
 upto_earlier c None (Some u) = omega arith
@@ -28,6 +30,7 @@ upto_earlier c (Some t) (Some u) = by_order (nat_lt u t) refl
 pub upto_earlier_same : (c : ℕ) (a b x y : Tick) → upto c a ≡ upto c x → upto c b ≡ upto c y → upto c (earlier a b) ≡ upto c (earlier x y)
 upto_earlier_same c a b x y e f = cc (upto_earlier c a b, upto_earlier c x y)
 
+-- of ticks that are the same cut at c, the next ticks are too
 pub upto_next : (c : ℕ) (a b : Tick) → upto c a ≡ upto c b → upto c (next a) ≡ upto c (next b)
 upto_next c None None e = refl
 upto_next c None (Some u) e = omega arith
@@ -61,6 +64,7 @@ sight_near c (l ∷ ls) (k ∷ ks) n = by_shield l.shield k.shield n.1 (sight_ne
     by_shield true false e f = absurd (true≢false e)
     by_shield false true e f = absurd (false≢true e)
 
+-- near stacks see the same at each tick before c
 pub seen_near : (c : ℕ) (st su : Stack) (u : ℕ) → Near c st su → u < c → seen st u ≡ seen su u
 seen_near c st su u n lt = reached_near c (sight st) (sight su) u (sight_near c st su n) lt
 
@@ -75,6 +79,7 @@ label_near c name (l ∷ ls) (k ∷ ks) n = same_labels l.label k.label (label_o
         label_if (bytes_eq name a.name) a x ≡ label_if (bytes_eq name b.name) b y
     same_labels a b x y e f = cc
 
+-- near stacks have the same innermost label
 pub home_near : (c : ℕ) (st su : Stack) → Near c st su → home_of st ≡ home_of su
 home_near c [] [] n = refl
 home_near c [] (k ∷ ks) n = absurd n
@@ -113,10 +118,12 @@ clipped_followed c (task l s u e own rest) b =
     ap (λ (x : Log). task_if (nat_lt s c) l s (min c u) (exc_if (nat_lt u c) e) (clipped c own) x) (clipped_followed c rest b)
     ∙ followed_task (nat_lt s c) l s (min c u) (exc_if (nat_lt u c) e) (clipped c own) (clipped c rest) (clipped c b)
 
+-- logs that are the same cut at c are so one after another too
 pub both_clipped : (c : ℕ) (a b x y : Log) → clipped c a ≡ clipped c x → clipped c b ≡ clipped c y →
     clipped c (followed_by a b) ≡ clipped c (followed_by x y)
 both_clipped c a b x y e f = cc (clipped_followed c a b, clipped_followed c x y)
 
+-- a log with nothing behind it is the log itself
 pub followed_nil : (a : Log) → followed_by a nil ≡ a
 followed_nil nil = refl
 followed_nil (entry t e rest) = ap (λ (x : Log). entry t e x) (followed_nil rest)
@@ -253,10 +260,12 @@ least_near c t l a b h k e =
 pub from_near : (c : ℕ) (d s u : Tick) → upto c s ≡ upto c u → upto c (from_by d s) ≡ upto c (from_by d u)
 from_near c d s u e = upto_earlier_same c d (next s) d (next u) refl (upto_next c s u e)
 
+-- what is known of two lists of members is what is known of each
 pub known_append : (c : ℕ) (a b : List Member) → known_members c (a ++ b) ≡ known_members c a ++ known_members c b
 known_append c [] b = refl
 known_append c (m ∷ ms) b = ap (λ (x : List Member). known_member c m ∷ x) (known_append c ms b)
 
+-- lists of members of which the same is known before c are so one behind another too
 pub both_known : (c : ℕ) (a b x y : List Member) → known_members c a ≡ known_members c x → known_members c b ≡ known_members c y →
     known_members c (a ++ b) ≡ known_members c (x ++ y)
 both_known c a b x y e f = cc (known_append c a b, known_append c x y)

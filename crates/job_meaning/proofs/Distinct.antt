@@ -13,11 +13,13 @@ abbrev pub Among : List ℕ → List (List ℕ) → Type 0
 Among n [] = ⊥
 Among n (m ∷ ms) = (n ≡ m) ⊎ Among n ms
 
+-- a name of the first list stands in both together
 pub among_left : (n : List ℕ) (a b : List (List ℕ)) → Among n a → Among n (a ++ b)
 among_left n [] b h = absurd h
 among_left n (m ∷ ms) b (inl e) = inl e
 among_left n (m ∷ ms) b (inr h) = inr (among_left n ms b h)
 
+-- and so does a name of the second
 pub among_right : (n : List ℕ) (a b : List (List ℕ)) → Among n b → Among n (a ++ b)
 among_right n [] b h = h
 among_right n (m ∷ ms) b h = inr (among_right n ms b h)
@@ -31,14 +33,17 @@ Distinct (n ∷ ns) = (Among n ns → ⊥) × Distinct ns
 abbrev pub NoneIn : List (List ℕ) → List (List ℕ) → Type 0
 NoneIn a b = (n : List ℕ) → Among n a → Among n b → ⊥
 
+-- where no name stands twice in two lists together, none does in the first
 pub distinct_left : (a b : List (List ℕ)) → Distinct (a ++ b) → Distinct a
 distinct_left [] b h = tt
 distinct_left (n ∷ ns) b h = (λ i. h.0 (among_left n ns b i), distinct_left ns b h.1)
 
+-- nor in the second
 pub distinct_right : (a b : List (List ℕ)) → Distinct (a ++ b) → Distinct b
 distinct_right [] b h = h
 distinct_right (n ∷ ns) b h = distinct_right ns b h.1
 
+-- and the two have no name in common
 pub distinct_apart : (a b : List (List ℕ)) → Distinct (a ++ b) → NoneIn a b
 distinct_apart [] b h m i j = absurd i
 distinct_apart (n ∷ ns) b h m (inl e) j = h.0 (subst (λ (x : List ℕ). Among x (ns ++ b)) e (among_right m ns b j))
@@ -65,6 +70,7 @@ same_label_equal l m h =
     let both = and_parts (bytes_eq l.name m.name) (bytes_eq l.indices m.indices) h in
     label_of l.name m.name l.indices m.indices ((bytes_eq-Decides l.name m.name).0 both.0) ((bytes_eq-Decides l.indices m.indices).0 both.1)
 
+-- a label is the same as itself by the test
 pub same_label_itself : (l : Label) → same_label l l ≡ true
 same_label_itself l = and_from (bytes_eq l.name l.name) (bytes_eq l.indices l.indices) ((bytes_eq-Decides l.name l.name).1 refl)
     ((bytes_eq-Decides l.indices l.indices).1 refl)
@@ -75,6 +81,7 @@ pub record Belongs (names : List (List ℕ)) (path : List ℕ) (l : Label) : Typ
   pub beyond : List ℕ
   pub extends : l.indices ≡ path ++ beyond
 
+-- a label that belongs to some names belongs to any more of them, behind the same path
 pub belongs_in : (a b : List (List ℕ)) (path : List ℕ) → ((n : List ℕ) → Among n a → Among n b) → (l : Label) → Belongs a path l →
     Belongs b path l
 belongs_in a b path f l h = record { named = f l.name h.named; beyond = h.beyond; extends = h.extends }
@@ -88,6 +95,7 @@ pub behind_one : (path : List ℕ) (i j : ℕ) (x y : List ℕ) → (path ++ i �
 behind_one [] i j x y e = cc
 behind_one (p ∷ path) i j x y e = behind_one path i j x y (cc)
 
+-- no label belongs behind an index of a place and behind a later one too
 pub behind_other : (a b : List (List ℕ)) (path : List ℕ) (i j : ℕ) (l : Label) → i < j → Belongs a (path ++ i ∷ []) l →
     Belongs b (path ++ j ∷ []) l → ⊥
 behind_other a b path i j l lt h k =
@@ -103,5 +111,6 @@ OnStack l (k ∷ ks) = (l ≡ k.label) ⊎ OnStack l ks
 pub record Fresh (st : Stack) (names : List (List ℕ)) : Type 0 where
   pub none : (l : Label) → OnStack l st → Among l.name names → ⊥
 
+-- where none of some names is on the stack, none of fewer names is
 pub fresh_in : (st : Stack) (a b : List (List ℕ)) → ((n : List ℕ) → Among n a → Among n b) → Fresh st b → Fresh st a
 fresh_in st a b f h = record { none = λ l o i. h.none l o (f l.name i) }

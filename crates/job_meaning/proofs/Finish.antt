@@ -12,6 +12,7 @@ use Rattle.job_meaning.specs.Log.{Log, nil, entry, sign, entered, task, followed
 use Rattle.job_meaning.specs.Walk.{in_pass, passes, Stack, Mode, by_table, Here, walk, walk_step, walk_handler, walk_cleanup, done_at, joined, and_then, then_if, block, due, within, Kind, signed, gathered, child, handled, handled_exc, handled_if, cleaned, with_outcome, handler_exc, outcome_after, sign_if, a_scope, a_nursery, label_here, label_over, each, here_in}
 use Rattle.job_meaning.specs.Rest.{Event, noted, signs, enters, starts, fill, numbered, starts_over, Telling, told_members, Frame, steps_left, in_scope, in_nursery, in_repeat, in_try, in_handler, in_cleanup, inside, block_left, with_children, waited, finish, rest_comes_to, rest_at_start}
 
+-- three logs one after another are the same, whichever two come together first
 pub followed_assoc : (a b c : Log) → followed_by (followed_by a b) c ≡ followed_by a (followed_by b c)
 followed_assoc nil b c = refl
 followed_assoc (entry t e rest) b c = ap (λ (x : Log). entry t e x) (followed_assoc rest b c)
@@ -183,6 +184,7 @@ finish_unhandled fs m told name body cleanup here st r e k =
     ap (λ (o : Option Exc). finish m told fs here st (walk_cleanup m cleanup (inside fs here) st
     (handled_if o (drop (named name) e) (record r { exc = Some e }) (λ u. walk m body (inside fs here) st u)))) k
 
+-- where the body of a `try` raised nothing, its handler is passed by
 pub finish_no_handler : (fs : List Frame) (m : Mode) (told : Telling) (handler : Handled) (cleanup : Cleaned) (here : Here) (st : Stack)
     (r : Result) →
     finish m told (in_try handler cleanup ∷ fs) here st (record r { exc = None })
@@ -301,6 +303,7 @@ finish_children fs m told children more here l outer r =
 abbrev pub just_started : Telling → List ℕ → Log → ℕ → Result
 just_started told more a t = record { end = t; exc = None; members = told_members told more; log = a }
 
+-- after children were just started, the body's steps go on with these among the nursery's, behind the log so far
 pub finish_started : (fs : List Frame) (m : Mode) (told : Telling) (ss : Steps) (children more : List ℕ) (here : Here) (l : Level Label)
     (outer : Stack) (t : ℕ) (a : Log) →
     finish m told (steps_left ss ∷ in_nursery children ∷ fs) here (l ∷ outer) (just_started told more a t)

@@ -40,6 +40,7 @@ fits_first table a b h f = record { each_label = own }
         signs_same : least_sign l (followed_by a b) ≡ least_sign l a
         signs_same = least_followed l a b ∙ (ap (λ (s : Tick). earlier (least_sign l a) s) quiet ∙ earlier_never (least_sign l a))
 
+-- it fits the second of them too
 pub fits_second : (table : Table) (a b : Log) → Apart a b → Fits table (followed_by a b) → Fits table b
 fits_second table a b h f = record { each_label = own }
   where

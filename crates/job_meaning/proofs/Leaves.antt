@@ -11,10 +11,12 @@ pub group_holds : (whose : Whose) (es : Excs) → some_cancelled (group_of whose
 group_holds whose no_parts = refl
 group_holds whose (part e es) = refl
 
+-- parts with one more in front, or none more, hold a `Cancelled` where that one or the others do
 pub with_part_holds : (o : Option Exc) (es : Excs) → hold_cancelled (with_part o es) ≡ (some_cancelled o || hold_cancelled es)
 with_part_holds None es = refl
 with_part_holds (Some e) es = refl
 
+-- so do the parts of a list with one more exception in front, or none more
 pub with_exc_holds : (o : Option Exc) (es : List Exc) → hold_cancelled (parts_of (with_exc o es))
     ≡ (some_cancelled o || hold_cancelled (parts_of es))
 with_exc_holds None es = refl

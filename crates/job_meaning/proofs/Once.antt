@@ -24,6 +24,7 @@ GivesOnce (entered l t d rest) = (Gives l rest → ⊥) × GivesOnce rest
 GivesOnce (task m s u e own rest) =
     (Gives m own ⊎ Gives m rest → ⊥) × GivesOnce own × GivesOnce rest × ((l : Label) → Gives l own → Gives l rest → ⊥)
 
+-- logs that each give no label twice, and no label that the other gives, give none twice one after another
 pub once_followed : (a b : Log) → GivesOnce a → GivesOnce b → ((l : Label) → Gives l a → Gives l b → ⊥) → GivesOnce (followed_by a b)
 once_followed nil b h k differ = k
 once_followed (entry t e rest) b h k differ = once_followed rest b h k differ

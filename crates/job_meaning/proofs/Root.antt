@@ -25,13 +25,16 @@ pub record Rooted (st : Stack) (r : Result) : Type 0 where
   pub exc : IsTrue (some_cancelled r.exc) → IsTrue (seen st r.end)
   pub members : MembersSeen st r.members
 
+-- two lists of members whose `Cancelled` was seen are one such list together
 pub members_append : (st : Stack) (ms ns : List Member) → MembersSeen st ms → MembersSeen st ns → MembersSeen st (ms ++ ns)
 members_append st [] ns h k = k
 members_append st (m ∷ ms) ns h k = (h.0, members_append st ms ns h.1 k)
 
+-- one rooted result after another is rooted
 pub root_joined : (st : Stack) (r q : Result) → Rooted st r → Rooted st q → Rooted st (joined r q)
 root_joined st r q h k = record { exc = k.exc; members = members_append st r.members q.members h.members k.members }
 
+-- a rooted walk that goes on in rooted ones is rooted as a whole
 pub root_and_then : (st : Stack) (r : Result) (go : ℕ → Result) → Rooted st r → ((u : ℕ) → Rooted st (go u)) → Rooted st (and_then r go)
 unfolding and_then
 root_and_then st r go h k = by_exc r.exc
@@ -40,6 +43,7 @@ root_and_then st r go h k = by_exc r.exc
     by_exc None = root_joined st r (go r.end) h (k r.end)
     by_exc (Some e) = h
 
+-- where nothing happens, that is rooted
 pub root_done : (st : Stack) (t : ℕ) → Rooted st (done_at t)
 root_done st t = record { exc = λ h. absurd (false≢true h); members = tt }
 
@@ -61,15 +65,18 @@ root_sleeping st n t = by_sight (sight st) (λ u h. h)
         by_now false true h = record { exc = λ k. at_from; members = tt }
         by_now false false h = root_done st (t + n)
 
+-- lines that are shown are rooted
 pub root_showing : (st : Stack) (ls : List Span) (t : ℕ) → Rooted st (showing ls t)
 unfolding showing
 root_showing st ls t = record { exc = λ h. absurd (false≢true h); members = tt }
 
+-- a `need` is rooted, whether its line is found or not
 pub root_needing : (st : Stack) (found : Option Span) (name : List ℕ) (label : Label) (t : ℕ) → Rooted st (needing found name label t)
 unfolding needing
 root_needing st (Some l) name label t = root_showing st (l ∷ []) t
 root_needing st None name label t = record { exc = λ h. absurd (false≢true h); members = tt }
 
+-- a `cancel` is rooted
 pub root_cancelling : (st : Stack) (label : Option Label) (t : ℕ) → Rooted st (cancelling label t)
 unfolding cancelling
 root_cancelling st label t = record { exc = λ h. absurd (false≢true h); members = tt }
@@ -83,6 +90,7 @@ seen_outside label shield from st t c h =
     outside : (a s x : Bool) → (a && (s || not x)) ≡ false → IsTrue (a || (not s && x)) → IsTrue x
     outside a s x e k = grind arith
 
+-- a scope or nursery is rooted on its stack, where its inside is rooted on the stack within it
 pub root_block : (m : Mode) (kind : Kind) (label : Label) (t : ℕ) (d : Tick) (shield : Bool) (st : Stack) (inside : Tick → Result) →
     ((from : Tick) → Rooted (within label shield from st) (inside from)) → Rooted st (block m kind label t d shield st inside)
 unfolding block
@@ -96,6 +104,7 @@ root_block m kind label t d shield st inside h =
         let both = left_holds kind label (inside from).end (catches from shield st (inside from).end) (inside from).exc k in
         seen_outside label shield from st (inside from).end both.0 ((h from).exc both.1)
 
+-- a rooted member is rooted with its sign too
 pub root_signed : (st : Stack) (r : Result) → Rooted st r → Rooted st (signed st r)
 unfolding signed
 root_signed st r h = record { exc = h.exc; members = h.members }
@@ -118,6 +127,7 @@ members_hold st t (m ∷ ms) h k =
     either_one others (inl first) = stays_seen st m.end (latest (max t m.end) ms) by_then (h.0 first)
     either_one others (inr rest) = others rest
 
+-- a nursery with a rooted body is rooted, with the group that it raises once its members have ended
 pub root_gathered : (st : Stack) (label : Label) (r : Result) → Rooted st r → Rooted st (gathered label r)
 unfolding gathered
 root_gathered st label r h =
@@ -132,10 +142,12 @@ root_gathered st label r h =
     either_one (inl body) = stays_seen st r.end (latest r.end r.members) (latest_ends r.end r.members) (h.exc body)
     either_one (inr rest) = members_hold st r.end r.members h.members rest
 
+-- what a rooted started task leaves in its starter's walk is rooted
 pub root_child : (st : Stack) (label : Label) (t : ℕ) (r : Result) → Rooted st r → Rooted st (child label t r)
 unfolding child
 root_child st label t r h = record { exc = λ k. absurd (false≢true k); members = (h.exc, tt) }
 
+-- the children of a `start .. over` are rooted where each of them is
 pub root_each : (st : Stack) (k : ℕ) (go : ℕ → Result) (t : ℕ) → ((i : ℕ) → Rooted st (go i)) → Rooted st (each k go t)
 root_each st zero go t h = root_done st t
 root_each st (suc k) go t h = root_joined st (each k go t) (go k) (root_each st k go t h) (h k)
@@ -183,6 +195,7 @@ root_handled st wanted r go h k later = by_exc r.exc h.exc
     by_exc None old = h
     by_exc (Some e) old = by_match (keep wanted e) (drop wanted e) (λ i. old (pruned_holds e _ i))
 
+-- a rooted result and its rooted cleanup, which ends no earlier, are rooted
 pub root_cleaned : (st : Stack) (r : Result) (go : ℕ → Result) → Rooted st r → ((u : ℕ) → Rooted st (go u)) → ((u : ℕ) → Late u (go u)) →
     Rooted st (cleaned r go)
 unfolding cleaned
@@ -237,9 +250,11 @@ mutual
   root_cleanup m uncleaned here st r h = h
   root_cleanup m (finally body) here st r h = root_cleaned st r _ h (λ u. root m body here st u) (λ u. late m body here st u)
 
+-- a walk whose exception holds a `Cancelled` ends in a tick at which its stack is seen
 pub cancelled_is_seen : CancelledIsSeen
 cancelled_is_seen mode steps here stack t = (root mode steps here stack t).exc
 
+-- so no `Cancelled` comes out of a job
 pub none_reaches_the_root : NoneReachesTheRoot
 none_reaches_the_root mode job input =
     by_cases (some_cancelled (root_walk mode job input).exc) (root mode job.steps (root_here job input) [] 0).exc

@@ -371,6 +371,7 @@ mutual
       (λ u g. settled table body here st u (distinct_right names (names_of body) distinct) (fresh_right st names (names_of body) fresh) g)
       f
 
+-- where names are given once, following the table of the meaning is the meaning
 pub following_is_meaning : FollowingIsMeaning
 unfolding follow meaning
 following_is_meaning job input once =
@@ -379,5 +380,6 @@ following_is_meaning job input once =
     (record { none = λ l o i. o })
     (fits_own (root_walk two_walks job input).log)
 
+-- so the table of the meaning is settled
 pub table_is_settled : TableIsSettled
 table_is_settled job input once l = ap (λ (r : Result). table_of r.log l) (sym (following_is_meaning job input once))

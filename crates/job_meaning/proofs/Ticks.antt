@@ -39,9 +39,11 @@ seen_cons l ls t = by_shield l.shield
     by_shield true = or_false (reached l.from t)
     by_shield false = reached_earlier l.from (sight ls) t
 
+-- what is seen at a tick is seen at every later one
 pub stays_seen : StaysSeen
 stays_seen stack t u le h = reached_later (sight stack) t u le h
 
+-- lowering a from hides nothing
 pub lowering_shows : LoweringShows
 lowering_shows [] [] t low h = h
 lowering_shows [] (k ∷ ks) t low h = absurd low

@@ -22,6 +22,7 @@ Signs l (sign m t rest) = (l ≡ m) ⊎ Signs l rest
 Signs l (entered m t d rest) = Signs l rest
 Signs l (task m s u e own rest) = Signs l own ⊎ Signs l rest
 
+-- a label given in one log after another is given in one of the two
 pub gives_followed : (l : Label) (a b : Log) → Gives l (followed_by a b) → Gives l a ⊎ Gives l b
 gives_followed l nil b h = inr h
 gives_followed l (entry t e rest) b h = gives_followed l rest b h
@@ -40,6 +41,7 @@ gives_followed l (task m s u e own rest) b (inr (inr h)) = behind (gives_followe
     behind (inl k) = inl (inr (inr k))
     behind (inr k) = inr k
 
+-- a label given in the first is given in both, one after another
 pub gives_first : (l : Label) (a b : Log) → Gives l a → Gives l (followed_by a b)
 gives_first l nil b h = absurd h
 gives_first l (entry t e rest) b h = gives_first l rest b h
@@ -50,6 +52,7 @@ gives_first l (task m s u e own rest) b (inl h) = inl h
 gives_first l (task m s u e own rest) b (inr (inl h)) = inr (inl h)
 gives_first l (task m s u e own rest) b (inr (inr h)) = inr (inr (gives_first l rest b h))
 
+-- and so is a label given in the second
 pub gives_second : (l : Label) (a b : Log) → Gives l b → Gives l (followed_by a b)
 gives_second l nil b h = h
 gives_second l (entry t e rest) b h = gives_second l rest b h
@@ -57,6 +60,7 @@ gives_second l (sign m t rest) b h = gives_second l rest b h
 gives_second l (entered m t d rest) b h = inr (gives_second l rest b h)
 gives_second l (task m s u e own rest) b h = inr (inr (gives_second l rest b h))
 
+-- a label signed in one log after another is signed in one of the two
 pub signs_followed : (l : Label) (a b : Log) → Signs l (followed_by a b) → Signs l a ⊎ Signs l b
 signs_followed l nil b h = inr h
 signs_followed l (entry t e rest) b h = signs_followed l rest b h
@@ -74,10 +78,12 @@ signs_followed l (task m s u e own rest) b (inr h) = behind (signs_followed l re
     behind (inl k) = inl (inr k)
     behind (inr k) = inr k
 
+-- a deadline or none, with none behind it, stays what it is
 pub either_nothing : (o : Option Tick) → either o None ≡ o
 either_nothing None = refl
 either_nothing (Some d) = refl
 
+-- the earlier of a tick and never is the tick
 pub earlier_never : (a : Tick) → earlier a None ≡ a
 earlier_never None = refl
 earlier_never (Some t) = refl
@@ -109,6 +115,7 @@ deadline_followed l (task m s u e own rest) b =
     ap (λ (o : Option Tick). either (deadline_of l own) o) (deadline_followed l rest b)
     ∙ either_assoc (deadline_of l own) (deadline_of l rest) (deadline_of l b)
 
+-- the first sign in one log after another is the earlier of the two first signs
 pub least_followed : (l : Label) (a b : Log) → least_sign l (followed_by a b) ≡ earlier (least_sign l a) (least_sign l b)
 least_followed l nil b = refl
 least_followed l (entry t e rest) b = least_followed l rest b
@@ -146,6 +153,7 @@ no_deadline l a h = by_deadline (deadline_of l a) refl
     by_deadline None e = refl
     by_deadline (Some d) e = absurd (h (deadline_entered l a d e))
 
+-- a label that is not signed in a log has no first sign there
 pub no_sign : (l : Label) (a : Log) → (Signs l a → ⊥) → least_sign l a ≡ None
 no_sign l nil h = refl
 no_sign l (entry t e rest) h = no_sign l rest h

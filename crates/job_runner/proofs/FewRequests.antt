@@ -108,6 +108,7 @@ requests_fewer : (es : List Entry) → length (requests_of es) ≤ length es
 requests_fewer [] = omega arith
 requests_fewer (e ∷ es) = let one = one_request e.task e.call e.answer es in let fewer = requests_fewer es in omega (arith, one, fewer)
 
+-- a batch of a run makes at most 2,000,000 requests
 pub few_requests : (r : Runner) → IsUnderway r → length (requests_of r.batch.current) ≤ 2000000
 few_requests r h =
     let distinct = rows_differ r.roster shelved.agree r.batch.current all once in

@@ -36,6 +36,7 @@ lives_under r p row task ok at None ends e =
       below = below_length r.rows.items p row at;
     }
 
+-- the task of a row that has not ended lives under the id of the row
 pub lives_by : (r : Roster) → IsRoster r → (p : ℕ) (task : Task) → task_of r p ≡ Some task → LivesBy r p task
 lives_by r ok p task e = by_row (row_at r p) refl e
   where
@@ -50,8 +51,9 @@ pub task_at : (r : Roster) → IsRoster r → (id : ℕ) (x : Running) → runni
 task_at r agree id x lives =
     let h : HasRow r x.row id = agree.rows id x lives in
     ap (task_by r.live) h.is ∙ ap (λ (e : Option Ended). task_unless e (running_at r h.row.task)) h.endless
-        ∙ ap (λ (n : ℕ). task_in (running_at r n)) h.id_is ∙ ap task_in lives
+    ∙ ap (λ (n : ℕ). task_in (running_at r n)) h.id_is ∙ ap task_in lives
 
+-- what lives under an id has one of the roster's rows
 pub row_below : (r : Roster) → IsRoster r → (id : ℕ) (x : Running) → running_at r id ≡ Some x → x.row < many r
 row_below r agree id x lives = let h : HasRow r x.row id = agree.rows id x lives in slice_get_within r.rows.items x.row h.row h.is
 
@@ -65,6 +67,7 @@ one_id r agree id other x y e f same =
     let one : g.row ≡ h.row = one_of g.row h.row both in
     sym g.id_is ∙ (ap (λ (z : Row). z.task) one ∙ h.id_is)
 
+-- what lives under different ids has different rows
 pub rows_apart : (r : Roster) → IsRoster r → (id other : ℕ) (x y : Running) → running_at r id ≡ Some x → running_at r other ≡ Some y →
     other ≢ id → y.row ≢ x.row
 rows_apart r agree id other x y e f differs same = differs (one_id r agree id other x y e f same)

@@ -15,6 +15,7 @@ use Rattle.job_runner.specs.Phases.{phase_by, phase_of}
 use Rattle.job_runner.specs.Rounds.{jumps_before, most_turns, rounds_left}
 use Rattle.job_runner.specs.Shelves.{IsSameJob, IsUnderway, crew_in}
 
+-- a run had no more turns than it has at most
 pub few_turns : (r : Runner) → IsUnderway r → r.turns ≤ most_turns r
 few_turns r u =
     crew_turns (meaning_table r.job.now r.input.now) r.job.now r.input.now r.world.tick (many r.roster) None (crew_in r)
@@ -60,6 +61,7 @@ pub record RunsFor (job : Tree) (input : List ℕ) (limit : ℕ) (r : Runner) : 
   pub input_is : r.input.now ≡ input
   pub limit_is : r.limit ≡ limit
 
+-- a run whose job, input and limit stay is a run of that job, over that input, up to that limit
 pub runs_on : (job : Tree) (input : List ℕ) (limit : ℕ) (old new : Runner) → RunsFor job input limit old → IsSameJob old new →
     IsUnderway new → RunsFor job input limit new
 runs_on job input limit old new h same u =
@@ -75,8 +77,9 @@ pub said_for : (job : Tree) (input : List ℕ) (limit : ℕ) (r : Runner) → Ru
     P r.job.now r.input.now r.limit → P job input limit
 said_for job input limit r h P p =
     subst (λ (n : ℕ). P job input n) h.limit_is (subst (λ (xs : List ℕ). P job xs r.limit) h.input_is
-        (subst (λ (j : Tree). P j r.input.now r.limit) h.job_is p))
+    (subst (λ (j : Tree). P j r.input.now r.limit) h.job_is p))
 
+-- a run of a job had at most twice the job's size and one turns
 pub turns_for : (job : Tree) (input : List ℕ) (limit n : ℕ) (r : Runner) → RunsFor job input limit r → n ≡ r.turns →
     n ≤ 2 * size_of job.steps + 1
 turns_for job input limit n r h e =

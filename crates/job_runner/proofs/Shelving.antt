@@ -18,6 +18,7 @@ use Rattle.task_roster.proofs.Apart.{one_if}
 
 -- ---- how often an id stands somewhere
 
+-- how often an id stands in a list with one more behind
 pub times_push : (id : ℕ) (xs : List ℕ) (y : ℕ) → times id (xs ++ y ∷ []) ≡ times id xs + one_if (y == id)
 times_push id xs y = sum_by_push (λ (k : ℕ). one_if (k == id)) xs y
 
@@ -28,11 +29,13 @@ times_now id es = times id (map (λ (e : Entry). e.task) es)
 abbrev pub times_next : ℕ → List Added → ℕ
 times_next id added = times id (map (λ (a : Added). a.0) added)
 
+-- how often an id stands in the next batch with one more added
 pub next_more : (id : ℕ) (added : List Added) (key : ℕ) (call : Call) →
     times_next id (added ++ (key, call) ∷ []) ≡ times_next id added + one_if (key == id)
 next_more id added key call = ap (times id) (map-append (λ (a : Added). a.0) added ((key, call) ∷ []))
     ∙ times_push id (map (λ (a : Added). a.0) added) key
 
+-- an id is counted where it is the same
 pub one_same : (key id : ℕ) → key ≡ id → one_if (key == id) ≡ 1
 one_same key id e = by_test (eqb_tells key id)
   where
@@ -40,6 +43,7 @@ one_same key id e = by_test (eqb_tells key id)
     by_test (inl h) = ap one_if h.0
     by_test (inr h) = absurd (h.1 e)
 
+-- an id is not counted where it is another
 pub one_else : (key id : ℕ) → key ≢ id → one_if (key == id) ≡ 0
 one_else key id differs = by_test (eqb_tells key id)
   where
@@ -78,6 +82,7 @@ once_waiting id was due once away none other h = by_test (eqb_tells id other)
 no_one : ForSome None (λ (id : ℕ). ℕ)
 no_one id e = absurd (let f : None ≡ Some id = e in cc)
 
+-- where no task is away, whatever is asked of one that is holds
 pub none_away : (P : ℕ → Type 0) → ForSome None P
 none_away P id e = absurd (let f : None ≡ Some id = e in cc)
 
@@ -104,7 +109,7 @@ shelved_next r b id call s current next called one =
           (All-push (λ (a : Added). IsCalled r.roster r.world a.0 a.1) r.batch.next (id, call) s.next called);
       once =
           once_again id (times_shelved r.batch r.clock) (times_shelved b r.clock)
-              (λ (x : ℕ). running_times r.world.book (running_at r.roster x)) s.once (s.away id refl) more one;
+          (λ (x : ℕ). running_times r.world.book (running_at r.roster x)) s.once (s.away id refl) more one;
       away = none_away (λ (x : ℕ). times_shelved b r.clock x ≡ 0);
     }
   where
@@ -112,7 +117,7 @@ shelved_next r b id call s current next called one =
     more other =
         let a : times_now other b.current ≡ times_now other r.batch.current = ap (times_now other) current in
         let c : times_next other b.next ≡ times_next other r.batch.next + one_if (id == other) =
-            ap (times_next other) next ∙ next_more other r.batch.next id call in
+        ap (times_next other) next ∙ next_more other r.batch.next id call in
         omega (arith, a, c)
 
 -- it waits

@@ -45,10 +45,12 @@ use Rattle.job_runner.proofs.Shelving.{once_again, none_away, shelved_next, shel
 
 -- ---- what is under a key
 
+-- an option of whose value this is true has such a value
 pub some_is : {T : Type 0} (o : Option T) (P : T → Type 0) → IsSomeAnd o P → (x : T) × (o ≡ Some x) × P x
 some_is None P h = absurd h
 some_is (Some x) P h = (x, refl, h)
 
+-- what is true of the value that is there is true of the option's
 pub some_has : {T : Type 0} (o : Option T) (P : T → Type 0) (x : T) → o ≡ Some x → P x → IsSomeAnd o P
 some_has {T} o P x e p = subst (λ (z : Option T). IsSomeAnd z P) (sym e) p
 
@@ -69,6 +71,7 @@ answered_goes world task request asks (Some answer) wake right e =
       timely = subst (λ (h : Halt). IsTimely world (scope_of task) h (wakes.Answer answer)) (sym asks.halt) tt;
     })
 
+-- a task that asks is put in the next batch with its request: then the run is between two turns
 pub asks_going : (r : Runner) (b : Batches) (id row : ℕ) (request : Request) → IsStopping id row (stops.Ask request) r →
     b.current ≡ r.batch.current →
     b.next ≡ r.batch.next ++ (id, calls.Ask request) ∷ [] → IsGoing None (record r { batch = b })
@@ -79,7 +82,7 @@ asks_going r b id row request h current next =
       shelved =
           shelved_next r b id (calls.Ask request) h.shelved current next
           (some_has (running_at r.roster id) (λ (y : Running). GoesBy r.world y.task (calls.Ask request)) x.0 x.1
-              (answered_goes r.world x.0.task request x.2.1))
+          (answered_goes r.world x.0.task request x.2.1))
           (ap (running_times r.world.book) x.1 ∙ ap (halt_times r.world.book) x.2.1.halt);
       course = λ k settled. (h.course k settled).is;
     }
@@ -109,6 +112,7 @@ pub no_timer : (o : Option ℕ) → timer_times o ≡ 0 → o ≡ None
 no_timer None e = refl
 no_timer (Some due) e = absurd (let f : 1 ≡ 0 = e in omega (arith, f))
 
+-- a task that falls asleep had no timer
 pub not_timed : (id row due : ℕ) (r : Runner) → IsStopping id row (stops.Sleep due) r → due_of r.clock id ≡ None
 not_timed id row due r h = no_timer (due_of r.clock id) (let a : times_shelved r.batch r.clock id ≡ 0 = h.shelved.away id refl in
     omega (arith, a))
@@ -118,6 +122,7 @@ pub not_sleeping : (id row due : ℕ) (r : Runner) → IsStopping id row (stops.
 not_sleeping id row due r h = h.shelved.known.berths id ∙ ap (λ (d : Option ℕ). berth_of d (running_at r.roster id))
     (not_timed id row due r h)
 
+-- a task that falls asleep is due later than now
 pub later_due : (id row due : ℕ) (r : Runner) → IsStopping id row (stops.Sleep due) r → now_of r.clock < due
 later_due id row due r h =
     let x = some_is (running_at r.roster id) (λ (y : Running). (y.row ≡ row) × StopSays r.world y.task (stops.Sleep due)) h.lives in
@@ -150,7 +155,7 @@ stopping_scope id row due r h scope held key e =
     let x = some_is (running_at r.roster id) (λ (y : Running). (y.row ≡ row) × StopSays r.world y.task (stops.Sleep due)) h.lives in
     let k = meaning_table r.job.now r.input.now in
     let c : IsCrew k r.job.now r.input.now r.world.tick (many r.roster) None (crew_in r) =
-        (h.course k (table_is_settled r.job.now r.input.now h.sound.names)).is in
+    (h.course k (table_is_settled r.job.now r.input.now h.sound.names)).is in
     (c.follows x.0.row x.0.task (task_at r.roster h.shelved.agree id x.0 x.1)).goes.scope key (sym (held x.0 x.1) ∙ e)
 
 module _ (id row due : ℕ) (r : Runner) (clock : Clock) (u : Updates r.clock clock id (Some due)) (time : SameTime r.clock clock)
@@ -193,7 +198,7 @@ module _ (id row due : ℕ) (r : Runner) (clock : Clock) (u : Updates r.clock cl
               next = h.shelved.next;
               once =
                   once_again id (times_shelved r.batch r.clock) (times_shelved r.batch clock)
-                      (λ (key : ℕ). running_times r.world.book (running_at r.roster key)) h.shelved.once
+                  (λ (key : ℕ). running_times r.world.book (running_at r.roster key)) h.shelved.once
                   (h.shelved.away id refl) counted (ap (running_times r.world.book) x.1 ∙ ap (halt_times r.world.book) x.2.1.halt);
               away = none_away (λ (key : ℕ). times_shelved r.batch clock key ≡ 0);
             };
@@ -214,8 +219,11 @@ module _ (id row due : ℕ) (r : Runner) (clock : Clock) (u : Updates r.clock cl
   -- outside any scope
   pub sleeps_alone : (scope : Option ℕ) → ForSome (running_at r.roster id) (λ (y : Running). scope ≡ scope_of y.task) → scope ≡ None →
       IsGoing None (record r { clock = clock })
-  sleeps_alone scope held e = going_with r.sleepers (record { berths = λ other. berth other (same_or other id); sights =
-      h.shelved.known.sights })
+  sleeps_alone scope held e = going_with r.sleepers (record {
+    berths = λ other. berth other (same_or other id);
+    sights =
+        h.shelved.known.sights;
+  })
     where
       berth : (other : ℕ) → (other ≡ id) ⊎ (other ≢ id) → scope_in r.sleepers other
           ≡ berth_of (due_of clock other) (running_at r.roster other)
@@ -228,11 +236,14 @@ module _ (id row due : ℕ) (r : Runner) (clock : Clock) (u : Updates r.clock cl
   pub sleeps_within : (scope : Option ℕ) → ForSome (running_at r.roster id) (λ (y : Running). scope ≡ scope_of y.task) → (key : ℕ) →
       scope ≡ Some key → (seen : Tick) →
       ForSome (stack_of r.world.scopes key) (λ stack. seen ≡ sight stack) → (sleepers : Sleeping) →
-          Moves r.sleepers sleepers id (Some key) → Sees r.sleepers sleepers key seen →
+      Moves r.sleepers sleepers id (Some key) → Sees r.sleepers sleepers key seen →
       IsGoing None (record r { clock = clock; sleepers = sleepers })
   sleeps_within scope held key e seen sees sleepers moves tells =
-      going_with sleepers (record { berths = λ other. berth other (same_or other id); sights =
-          λ other k f. sight_at other k f (same_or k key) })
+      going_with sleepers (record {
+        berths = λ other. berth other (same_or other id);
+        sights =
+            λ other k f. sight_at other k f (same_or k key);
+      })
     where
       here : scope_of x.0.task ≡ Some key
       here = sym (held x.0 x.1) ∙ e
@@ -268,6 +279,7 @@ module _ (id row due : ℕ) (r : Runner) (clock : Clock) (u : Updates r.clock cl
 
 -- ---- it waits
 
+-- a task that waits for a nursery which is settled may go on by that
 pub settled_goes : (world : World) (task : Task) (id : ℕ) → AwaitsNow world task id → HasNursery world.book id (λ n. is_settled n ≡ true) →
     GoesBy world task calls.Settled
 settled_goes world task id waits settled answer wake right e =
@@ -284,6 +296,7 @@ pub settled_one : (o : Option Nursery) (b : Bool) → IsSomeAnd o (λ n. b ≡ i
 settled_one None b h e = absurd h
 settled_one (Some n) b h e = ap (λ (z : Bool). if z then 1 else 0) (sym h ∙ e)
 
+-- the task of a nursery that is not settled has to stand nowhere
 pub settled_none : (o : Option Nursery) (b : Bool) → IsSomeAnd o (λ n. b ≡ is_settled n) → b ≡ false → settled_times o ≡ 0
 settled_none None b h e = absurd h
 settled_none (Some n) b h e = ap (λ (z : Bool). if z then 1 else 0) (sym h ∙ e)
@@ -305,10 +318,11 @@ settles_going r b id row nursery over h tells is current next =
           (some_has (running_at r.roster id) (λ (y : Running). GoesBy r.world y.task calls.Settled) x.0 x.1
           (settled_goes r.world x.0.task nursery x.2.1 (is_over (nursery_at r.world.book nursery) over tells is)))
           (ap (running_times r.world.book) x.1 ∙ (ap (halt_times r.world.book) x.2.1.halt
-              ∙ settled_one (nursery_at r.world.book nursery) over tells is));
+          ∙ settled_one (nursery_at r.world.book nursery) over tells is));
       course = λ k settled. (h.course k settled).is;
     }
 
+-- a task that waits for a nursery which is not settled is put nowhere: the run is between two turns
 pub waits_going : (r : Runner) (id row nursery : ℕ) (over : Bool) → IsStopping id row (stops.Wait nursery) r →
     HasNursery r.world.book nursery (λ n. over ≡ is_settled n) → over ≡ false →
     IsGoing None r
@@ -319,10 +333,11 @@ waits_going r id row nursery over h tells is =
       shelved =
           shelved_waiting r id h.shelved
           (ap (running_times r.world.book) x.1 ∙ (ap (halt_times r.world.book) x.2.1.halt
-              ∙ settled_none (nursery_at r.world.book nursery) over tells is));
+          ∙ settled_none (nursery_at r.world.book nursery) over tells is));
       course = λ k settled. (h.course k settled).is;
     }
 
+-- the nursery that a task stopped to wait for is in the book
 pub waits_there : (id row nursery : ℕ) (r : Runner) (book : NurseryBook) → book ≡ r.world.book → IsStopping id row (stops.Wait nursery) r →
     IsSome (nursery_at book nursery)
 waits_there id row nursery r book same h =

@@ -19,6 +19,7 @@ abbrev pub NoneTooDeep : ℕ → List Shape → Type 0
 NoneTooDeep depth [] = Unit {0}
 NoneTooDeep depth (s ∷ rest) = (depth_behind depth (mark_in s) ≤ 32) × NoneTooDeep (depth_behind depth (mark_in s)) rest
 
+-- where no block too deep is found, no token opens one
 pub none_too_deep : (depth : ℕ) (tokens : List Token) → depth_fault depth tokens ≡ None → NoneTooDeep depth (shapes_of tokens)
 none_too_deep depth [] none = tt
 none_too_deep depth (t ∷ ts) none = by_test (none_too_deep behind ts) (nat_le behind 32) refl none

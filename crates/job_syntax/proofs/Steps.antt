@@ -79,6 +79,7 @@ pub no_block : (depth : ℕ) (shapes : List Shape) → depth ≡ 0 → blocks_at
 unfolding blocks_at
 no_block depth shapes e = rw e refl
 
+-- a block, where one may be, is steps whose blocks stand one level less deep
 pub one_level : (depth n : ℕ) (shapes : List Shape) → (depth ≡ 0 → ⊥) → length shapes ≡ n →
     blocks_at depth shapes ≡ steps_with (blocks_at (depth - 1)) n shapes
 unfolding blocks_at

@@ -12,6 +12,7 @@ LexesFrom end bytes [] (Some at) = (token_at bytes ≡ None) × (0 < length byte
 LexesFrom end bytes (t ∷ ts) fault = (rest : List ℕ) × (token_at bytes ≡ Some (t.shape, rest)) × (t.at + length bytes ≡ end)
     × Lexes end rest ts fault
 
+-- the tokens read from the first byte that is no blank are those of all the bytes
 pub from_blanks : (end : ℕ) (bytes rest : List ℕ) (ts : List Token) (fault : Option ℕ) → rest ≡ behind_blanks bytes →
     LexesFrom end rest ts fault → Lexes end bytes ts fault
 from_blanks end bytes rest [] None e h = sym e ∙ h
@@ -23,9 +24,11 @@ from_blanks end bytes rest (t ∷ ts) fault e h =
 pub record LexesOn (end : ℕ) (bytes : List ℕ) (front : List Token) (rest : List ℕ) : Type 0 where
   pub on : (ts : List Token) (fault : Option ℕ) → LexesFrom end rest ts fault → Lexes end bytes (front ++ ts) fault
 
+-- before the first token, all behind the first blanks is left to read
 pub none_yet : (end : ℕ) (bytes rest : List ℕ) → rest ≡ behind_blanks bytes → LexesOn end bytes [] rest
 none_yet end bytes rest e = record { on = λ ts fault h. from_blanks end bytes rest ts fault e h }
 
+-- with one token more read, all behind it and the blanks there is left to read
 pub one_more : (end : ℕ) (bytes : List ℕ) (front : List Token) (rest after next : List ℕ) (t : Token) →
     token_at rest ≡ Some (t.shape, after) → t.at + length rest ≡ end → next ≡ behind_blanks after
     → LexesOn end bytes front rest → LexesOn end bytes (front ++ t ∷ []) next
@@ -39,7 +42,7 @@ pub stops : (end : ℕ) (bytes : List ℕ) (front : List Token) (rest : List ℕ
     LexesOn end bytes front rest → Lexes end bytes front (Some (end - length rest))
 stops end bytes front rest none some within before =
     subst (λ (all : List Token). Lexes end bytes all (Some (end - length rest))) (append-nil front)
-        (before.on [] (Some (end - length rest)) (none, some, omega arith))
+    (before.on [] (Some (end - length rest)) (none, some, omega arith))
 
 -- where nothing is left
 pub is_done : (end : ℕ) (bytes : List ℕ) (front : List Token) (rest : List ℕ) → length rest ≡ 0 → LexesOn end bytes front rest →
@@ -63,6 +66,7 @@ nothing_there bytes x e found = let none : token_at bytes ≡ None = ap token_at
 abbrev Same : List Token → List Token → Option ℕ → Option ℕ → Type 0
 Same ts us f g = (ts ≡ us) × (f ≡ g)
 
+-- the same bytes are read as the same tokens, up to the same place or to the end
 pub Lexes-unique : (end : ℕ) (bytes : List ℕ) (ts us : List Token) (f g : Option ℕ) → Lexes end bytes ts f → Lexes end bytes us g →
     (ts ≡ us) × (f ≡ g)
 Lexes-unique end bytes [] [] None None p q = (refl, refl)

@@ -2,18 +2,21 @@
 use Rattle.std.proofs.Common.{◌≡◌, ℕ, suc, ◌+◌, Bool, true, false, cond, ◌&&◌, ◌||◌, List, [], ◌∷◌, ◌++◌, length, take, drop, ◌⊎◌, inl, inr, refl, sym, ap, ◌∙◌, arith}
 use Rattle.std.specs.List.{prefix_len, list_all}
 
+-- where two tests both pass, each passes
 pub and_parts : (a b : Bool) → (a && b) ≡ true → (a ≡ true) × (b ≡ true)
 and_parts true true e = (refl, refl)
 and_parts true false e = absurd cc
 and_parts false true e = absurd cc
 and_parts false false e = absurd cc
 
+-- where each of two tests passes, both do
 pub and_whole : (a b : Bool) → a ≡ true → b ≡ true → (a && b) ≡ true
 and_whole true true p q = refl
 and_whole true false p q = q
 and_whole false true p q = p
 and_whole false false p q = p
 
+-- where neither of two tests passes, each fails
 pub or_none : (a b : Bool) → (a || b) ≡ false → (a ≡ false) × (b ≡ false)
 or_none true true e = absurd cc
 or_none true false e = absurd cc
@@ -25,6 +28,7 @@ pub chosen : {A : Type 0} (b : Bool) (x y z : A) → cond b x y ≡ z → ((b �
 chosen true x y z e = inl (refl, e)
 chosen false x y z e = inr (refl, e)
 
+-- a test passes or fails
 pub either_way : (b : Bool) → (b ≡ true) ⊎ (b ≡ false)
 either_way true = inl refl
 either_way false = inr refl
@@ -49,6 +53,7 @@ taken_passes p (b ∷ bytes) = by_test (taken_passes p bytes) (p b) refl
         omega arith in rw k (and_whole (p b) (list_all p (take (prefix_len p bytes) bytes)) is others)
     by_test others false is = refl
 
+-- the bytes behind the longest run that passes begin with none that does
 pub left_stops : (p : ℕ → Bool) (bytes : List ℕ) → prefix_len p (drop (prefix_len p bytes) bytes) ≡ 0
 left_stops p [] = refl
 left_stops p (b ∷ bytes) = by_test (left_stops p bytes) (p b) refl

@@ -39,6 +39,7 @@ one_more_digit n ds ge are = record {
   value = value_after-append 0 ds ((48 + n % 10) ∷ []) ∙ omega (arith, are.value);
 }
 
+-- the decimal digits of a number stand for that number
 pub digits_of_number : (n : ℕ) → n < 2 ^ 64 → AreDigitsOf n (decimal n)
 digits_of_number n lt = decimal_by_steps AreDigitsOf one_digit one_more_digit n lt
 
@@ -81,14 +82,21 @@ or_first true b c is = refl
 or_first false true c is = refl
 or_first false false c is = absurd cc
 
+-- a digit is a byte of a word
 pub digit_in_word : (b : ℕ) → is_digit b ≡ true → is_word_byte b ≡ true
 digit_in_word b is = or_first (is_letter b) (is_digit b) (eqb b 95) is
 
+-- the digits of a number with no byte of a word behind them are read as that number
 pub number_at-again : (n : ℕ) (rest : List ℕ) → n ≤ GREATEST_NUMBER → prefix_len is_word_byte rest ≡ 0 →
     number_at (decimal n ++ rest) ≡ Some (shape.Number (Some n), rest)
 number_at-again n rest le stops =
     let are = digits_of_number n (omega arith) in
     let len : prefix_len is_digit (decimal n ++ rest) ≡ length (decimal n) =
-        prefix_len-run is_digit (decimal n) rest are.all (stops_sooner is_word_byte is_digit rest digit_in_word stops) in
-    rw (len, take_at (decimal n) rest (length (decimal n)) refl, drop_at (decimal n) rest (length (decimal n)) refl,
-        stops_goes_on rest stops, number_of-decimal n le) refl
+    prefix_len-run is_digit (decimal n) rest are.all (stops_sooner is_word_byte is_digit rest digit_in_word stops) in
+    rw (
+      len,
+      take_at (decimal n) rest (length (decimal n)) refl,
+      drop_at (decimal n) rest (length (decimal n)) refl,
+      stops_goes_on rest stops,
+      number_of-decimal n le,
+    ) refl

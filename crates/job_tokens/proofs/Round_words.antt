@@ -21,7 +21,7 @@ word_at-again word rest is stops =
 abbrev pub token_unless_number : ℕ → List ℕ → Read
 token_unless_number b rest =
     cond (eqb b 34) (string_at rest) (cond (eqb b 123) (Some (shape.Mark mark.Open, rest))
-        (cond (eqb b 125) (Some (shape.Mark mark.Close, rest)) (cond (eqb b 59) (Some (shape.Mark mark.Semicolon, rest)) None)))
+    (cond (eqb b 125) (Some (shape.Mark mark.Close, rest)) (cond (eqb b 59) (Some (shape.Mark mark.Semicolon, rest)) None)))
 
 -- what a token is that begins with no letter
 abbrev pub token_unless_word : ℕ → List ℕ → Read
@@ -30,6 +30,7 @@ token_unless_word b rest = cond (is_digit b) (number_at (b ∷ rest)) (token_unl
 begins_word : (b : ℕ) (rest : List ℕ) → is_letter b ≡ true → token_at (b ∷ rest) ≡ word_at (b ∷ rest)
 begins_word b rest letter = cond-true (is_letter b) (word_at (b ∷ rest)) (token_unless_word b rest) letter
 
+-- the bytes of a word with no byte of a word behind them are read as that word
 pub word_again : (word rest : List ℕ) → is_word word ≡ true → prefix_len is_word_byte rest ≡ 0 →
     token_at (word ++ rest) ≡ Some (shape.Word word, rest)
 word_again [] rest is stops = absurd cc

@@ -9,6 +9,7 @@ weight_some : (ss : Steps) → 1 ≤ weight_of ss
 weight_some stop = omega arith
 weight_some (step s ss) = omega (arith, weight_some ss)
 
+-- each step of a block weighs less than the block
 pub weight_at : (ss : List Step) (i : ℕ) (s : Step) → i < length ss → s ≡ get_or ss i s →
     weight_in (step_of s) + 1 ≤ weight_of (steps_of ss)
 weight_at [] i s lt is = absurd (omega arith)

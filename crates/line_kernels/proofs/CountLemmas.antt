@@ -23,6 +23,7 @@ length-begun_at : (at : ℕ) (ls : List Span) → 0 < length ls → length (begu
 length-begun_at at [] some = absurd (omega arith)
 length-begun_at at (l ∷ ls) some = refl
 
+-- there are as many lines as newlines, and one more where bytes stand behind the last newline
 pub lines_from-count : (at : ℕ) (xs : List ℕ) → length (lines_from at xs) ≡ newlines xs + open_end xs
 lines_from-count at [] = refl
 lines_from-count at (b ∷ []) =
@@ -42,7 +43,7 @@ lines_from-count at (b ∷ c ∷ bs) =
     (λ (no_is : eqb b 10 ≡ false).
     let none : newlines (b ∷ c ∷ bs) ≡ 0 + newlines (c ∷ bs) = first ∙ ap (λ t. cond t 1 0 + newlines (c ∷ bs)) no_is in
     let lines : length (lines_from at (b ∷ c ∷ bs)) ≡ length (lines_from (at + 1) (c ∷ bs)) =
-        rw no_is (length-begun_at at (lines_from (at + 1) (c ∷ bs)) some) in
+    rw no_is (length-begun_at at (lines_from (at + 1) (c ∷ bs)) some) in
     omega (arith, none, lines, rest))
     (cases_Bool (eqb b 10))
 
@@ -83,5 +84,6 @@ pub newlines-rest : (bytes : List ℕ) (at : ℕ) → newlines (take at bytes) +
 newlines-rest bytes at =
     ap (λ ys. newlines (take at bytes) + newlines ys) (take_rest bytes at) ∙ sum_by-take-drop (λ b. cond (eqb b 10) 1 0) bytes at
 
+-- there are at most as many newlines before a place as places
 pub newlines-few : (bytes : List ℕ) (at : ℕ) → newlines (take at bytes) ≤ at
 newlines-few bytes at = omega (arith, count_by-le-length (λ b. eqb b 10) (take at bytes), length-take at bytes)

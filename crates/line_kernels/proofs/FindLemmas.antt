@@ -12,9 +12,11 @@ use Rattle.line_kernels.specs.Kernels.{contains}
 abbrev pub stands_in : List ℕ → List ℕ → Span → Bool
 stands_in buffer needle l = contains needle (text_of buffer l)
 
+-- a first element that passes the test is kept in front
 pub filter-passed : {X : Type 0} (p : X → Bool) (x : X) (xs : List X) → p x ≡ true → filter p (x ∷ xs) ≡ x ∷ filter p xs
 filter-passed p x xs passes = rw passes refl
 
+-- a first element that does not pass is left out
 pub filter-dropped : {X : Type 0} (p : X → Bool) (x : X) (xs : List X) → p x ≡ false → filter p (x ∷ xs) ≡ filter p xs
 filter-dropped p x xs fails = rw fails refl
 
@@ -29,6 +31,7 @@ pub stands_in-line : (buffer needle : List ℕ) (line : Line) (test : Bool) → 
     stands_in buffer needle (span_of line) ≡ test
 stands_in-line buffer needle line test placed is = ap (contains needle) (sym placed.text) ∙ is
 
+-- a list with nothing behind it is the list itself
 pub append-nil : {X : Type 0} (xs : List X) → xs ++ [] ≡ xs
 append-nil [] = refl
 append-nil (x ∷ xs) = ap (λ ys. x ∷ ys) (append-nil xs)

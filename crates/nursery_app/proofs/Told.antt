@@ -29,18 +29,22 @@ expects text body tokens given fault (Err e) is lexes same found = found
 pub cut_front : (bytes front : List ℕ) (n m : ℕ) → front ≡ take m bytes → m ≡ min n (length bytes) → front ≡ take n bytes
 cut_front bytes front n m is min_is = is ∙ ap (λ (x : ℕ). take x bytes) min_is ∙ take_min n bytes
 
+-- the bytes from a place on, which may lie behind the end
 pub cut_back : (bytes back : List ℕ) (n m : ℕ) → back ≡ drop m bytes → m ≡ min n (length bytes) → back ≡ drop n bytes
 cut_back bytes back n m is min_is = is ∙ ap (λ (x : ℕ). drop x bytes) min_is ∙ drop_min n bytes
 
+-- how many bytes are shown in front of a place, by its column
 pub width_is : (text : List ℕ) (at column shown : ℕ) → column ≡ column_of text at → shown ≡ min (column - 1) most_before →
     shown ≡ width_before text at
 width_is text at column shown column_is is = is ∙ ap (λ (x : ℕ). min (x - 1) most_before) column_is
 
+-- what is shown in front of a place, cut from the bytes up to it
 pub before_is : (text front last : List ℕ) (at shown : ℕ) → front ≡ take at text → shown ≡ width_before text at →
     last ≡ last_of shown front → map shown_byte last ≡ before text at
 before_is text front last at shown front_is width is =
     ap (map shown_byte) (is ∙ ap (λ (x : ℕ). last_of x front) width ∙ ap (last_of (width_before text at)) front_is)
 
+-- what is shown from a place on, cut from the bytes behind it
 pub behind_is : (text rest first line : List ℕ) (at : ℕ) → rest ≡ drop at text → first ≡ take most_behind rest →
     line ≡ before_first is_newline first → map shown_byte line ≡ behind text at
 behind_is text rest first line at rest_is first_is is =
@@ -56,11 +60,12 @@ get_drop (b ∷ bs) (suc at) = get_drop bs at
 pub first_at : (text rest : List ℕ) (at : ℕ) → rest ≡ drop at text → slice_get rest 0 ≡ slice_get text at
 first_at text rest at is = ap (λ (x : List ℕ). slice_get x 0) is ∙ get_drop text at
 
+-- the first line of what is told, by the line, the column and the sentence in it
 pub headed_same : (job sentence wanted : List ℕ) (line line' column column' : ℕ) → line ≡ line' → column ≡ column' → sentence ≡ wanted →
     headed job line column sentence ≡ headed job line' column' wanted
 headed_same job sentence wanted line line' column column' line_is column_is is =
     ap (λ (x : ℕ). headed job x column sentence) line_is ∙ ap (λ (x : ℕ). headed job line' x sentence) column_is
-        ∙ ap (headed job line' column') is
+    ∙ ap (headed job line' column') is
 
 -- three pieces, one behind the other
 pub three_pieces : (old a b c h1 h2 h3 : List ℕ) → h1 ≡ old ++ a → h2 ≡ h1 ++ b → h3 ≡ h2 ++ c → h3 ≡ old ++ ((a ++ b) ++ c)
@@ -74,11 +79,11 @@ pub pieces : (head front back newline spaces caret h0 h1 h2 h3 h4 h5 : List ℕ)
     → h5 ≡ head ++ ((((front ++ back) ++ newline) ++ spaces) ++ caret)
 pieces head front back newline spaces caret h0 h1 h2 h3 h4 h5 is0 is1 is2 is3 is4 is5 =
     let two : h2 ≡ head ++ (front ++ back) = is2 ∙ ap (λ (x : List ℕ). x ++ back) (is1 ∙ ap (λ (x : List ℕ). x ++ front) is0)
-        ∙ append_assoc head front back in
+    ∙ append_assoc head front back in
     let three : h3 ≡ head ++ ((front ++ back) ++ newline) = is3 ∙ ap (λ (x : List ℕ). x ++ newline) two
-        ∙ append_assoc head (front ++ back) newline in
+    ∙ append_assoc head (front ++ back) newline in
     let four : h4 ≡ head ++ (((front ++ back) ++ newline) ++ spaces) =
-        is4 ∙ ap (λ (x : List ℕ). x ++ spaces) three ∙ append_assoc head ((front ++ back) ++ newline) spaces in
+    is4 ∙ ap (λ (x : List ℕ). x ++ spaces) three ∙ append_assoc head ((front ++ back) ++ newline) spaces in
     is5 ∙ ap (λ (x : List ℕ). x ++ caret) four ∙ append_assoc head (((front ++ back) ++ newline) ++ spaces) caret
 
 -- what helps where a text goes on wrongly, or gives a name twice
@@ -92,6 +97,7 @@ helps text body tokens given fault at shape h is lexes same shape_is h_is = (
   h_is ∙ ap (syntax_hint given) shape_is ∙ ap (λ (ts : List Token). syntax_hint ts (shape_at at ts)) same,
 )
 
+-- what helps where a name is given twice, found by the tokens of the text and what they are for
 pub helps_twice : (text body : List ℕ) (tokens given : List Token) (roles shown : List Role) (fault stop : Option ℕ) (at : ℕ)
     (shape : Option Shape) (h : Option Hint) → body ≡ drop 11 text → Lexes (length text) body tokens fault
     → given ≡ tokens → shown ≡ roles → stop ≡ fault_at (length text) whole_job given → (stop ≡ None → roles ≡ roles_at whole_job given)

@@ -21,5 +21,5 @@ IsCheckSent text before after verdict = (bytes : List ℕ) × IsCheck text verdi
 abbrev pub IsCheckFault : List ℕ → Option (List ℕ) → Option (List ℕ) → ServeFault → Type 0
 IsCheckFault text before after (Send sent) =
     (verdict : CheckVerdict) × (bytes : List ℕ) × IsCheck text verdict bytes × (sent < length bytes)
-        × Appends before after (take sent bytes)
+    × Appends before after (take sent bytes)
 IsCheckFault text before after NoMemory = after ≡ before

@@ -75,4 +75,4 @@ abbrev pub Tells : List ℕ → List ℕ → JobFault → List ℕ → Type 0
 Tells job text fault message =
     (symbol : Option Symbol) × (help : Option Hint) × IsAsked fault.kind text symbol × IsHint fault.kind text fault.at help
     × (message ≡ headed job (line_of text fault.at) (column_of text fault.at) (sentence_of fault.kind (slice_get text fault.at) symbol)
-        ++ pointed text fault.at ++ hint_of job text help)
+    ++ pointed text fault.at ++ hint_of job text help)

@@ -47,7 +47,7 @@ abbrev pub IsTwiceHint : List ℕ → ℕ → Option Hint → Type 0
 IsTwiceHint text at h =
     (tokens : List Token) × (fault : Option ℕ) × (roles : List Role) × HasTokens text tokens fault
     × (fault_at (length text) whole_job tokens ≡ None → roles ≡ roles_at whole_job tokens)
-        × (h ≡ twice_hint tokens roles (shape_at at tokens))
+    × (h ≡ twice_hint tokens roles (shape_at at tokens))
 
 -- what helps with a refusal of that kind at a place, where something does
 abbrev pub IsHint : JobKind → List ℕ → ℕ → Option Hint → Type 0

@@ -17,6 +17,7 @@ pub has_members : (o : Option Members) (P : Nursery → Type 0) → IsSomeAnd (o
 has_members None P h = absurd h
 has_members (Some m) P h = refl
 
+-- a nursery that is open is held by the store
 pub is_held : (o : Option Members) → IsSome (option_map nursery_of o) → IsSome o
 is_held None h = absurd (cc)
 is_held (Some m) h = refl
@@ -26,6 +27,7 @@ pub of_members : (o : Option Members) (m : Members) (P : Nursery → Type 0) →
     P (nursery_of m)
 of_members o m P e h = rw e at h
 
+-- what is true of the members is true of the nursery
 pub from_members : (o : Option Members) (m : Members) (P : Nursery → Type 0) → o ≡ Some m → P (nursery_of m) →
     IsSomeAnd (option_map nursery_of o) P
 from_members o m P e p = rw e p
@@ -47,7 +49,7 @@ pub Changes-write : (old new : NurseryBook) (key : ℕ) (m m' : Members) (change
     new.nurseries ≡ with_value old.nurseries key m' → nursery_of m' ≡ change (nursery_of m) → Changes old new key change
 Changes-write old new key m m' change at written same =
     let slots : Slots old.nurseries new.nurseries key (Some m') =
-        rw written (Updates-with_value old.nurseries key m' (some_value (get old.nurseries key) m at)) in
+    rw written (Updates-with_value old.nurseries key m' (some_value (get old.nurseries key) m at)) in
     from_members (get old.nurseries key) m (λ n. Updates old new key (Some (change n))) at
     (rw (← same) (Updates-slot old new key (Some m') slots))
 
@@ -56,7 +58,7 @@ pub Same-write : (old new : NurseryBook) (key : ℕ) (m m' : Members) → get ol
     new.nurseries ≡ with_value old.nurseries key m' → nursery_of m' ≡ nursery_of m → SameNurseries old new
 Same-write old new key m m' at written same other =
     let slots : Slots old.nurseries new.nurseries key (Some m') =
-        rw written (Updates-with_value old.nurseries key m' (some_value (get old.nurseries key) m at)) in
+    rw written (Updates-with_value old.nurseries key m' (some_value (get old.nurseries key) m at)) in
     elim (cases_eq other key) [
       | inl e ↦
           ap (nursery_at new) e ∙ ap (option_map nursery_of) slots.changed ∙ ap Some same
@@ -67,6 +69,7 @@ Same-write old new key m m' at written same other =
 abbrev pub with_children : Members → List End → Nursery
 with_children m ends = record { scope = m.scope; waiter = m.waiter; label = m.label; body = end_of m.body; children = ends }
 
+-- what holds anyway holds where a call answers an error
 pub on_err : {T E : Type 0} (r : Result T E) (P : Type 0) → P → OnErr r P
 on_err (Ok x) P p = tt
 on_err (Err e) P p = p

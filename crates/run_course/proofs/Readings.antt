@@ -30,10 +30,12 @@ in_first x [] ys i = absurd i
 in_first x (y ∷ xs) ys (inl e) = inl e
 in_first x (y ∷ xs) ys (inr i) = inr (in_first x xs ys i)
 
+-- what is in the second of two lists is in both together
 pub in_second : {A : Type 0} (x : A) (xs ys : List A) → In x ys → In x (xs ++ ys)
 in_second x [] ys i = i
 in_second x (y ∷ xs) ys i = inr (in_second x xs ys i)
 
+-- what is in two lists together is in one of them
 pub in_either : {A : Type 0} (x : A) (xs ys : List A) → In x (xs ++ ys) → In x xs ⊎ In x ys
 in_either x [] ys i = inr i
 in_either x (y ∷ xs) ys (inl e) = inl (inl e)
@@ -51,8 +53,12 @@ pub first_join : (c : ℕ) (l : Label) (xs ys : List Event) → upto c (made_sig
 first_join c l [] ys = let h : upto c (made_sign l ys) ≤ c = upto_most c (made_sign l ys) in omega arith
 first_join c l (noted t e ∷ xs) ys = first_join c l xs ys
 first_join c l (signs m t ∷ xs) ys =
-    omega (arith, upto_earlier c (tick_if (same_label l m) t) (made_sign l (xs ++ ys)),
-        upto_earlier c (tick_if (same_label l m) t) (made_sign l xs), first_join c l xs ys)
+    omega (
+      arith,
+      upto_earlier c (tick_if (same_label l m) t) (made_sign l (xs ++ ys)),
+      upto_earlier c (tick_if (same_label l m) t) (made_sign l xs),
+      first_join c l xs ys,
+    )
 first_join c l (enters m t d ∷ xs) ys = first_join c l xs ys
 first_join c l (starts i m t ∷ xs) ys = first_join c l xs ys
 
@@ -74,6 +80,7 @@ enters_first l d (enters m t x ∷ xs) ys (inl e) = inl e
 enters_first l d (enters m t x ∷ xs) ys (inr h) = inr (enters_first l d xs ys h)
 enters_first l d (starts i m t ∷ xs) ys h = enters_first l d xs ys h
 
+-- what the second part of events enters, both do
 pub enters_second : (l : Label) (d : Tick) (xs ys : List Event) → EntersWith l d ys → EntersWith l d (xs ++ ys)
 enters_second l d [] ys h = h
 enters_second l d (noted t e ∷ xs) ys h = enters_second l d xs ys h
@@ -81,6 +88,7 @@ enters_second l d (signs m t ∷ xs) ys h = enters_second l d xs ys h
 enters_second l d (enters m t x ∷ xs) ys h = inr (enters_second l d xs ys h)
 enters_second l d (starts i m t ∷ xs) ys h = enters_second l d xs ys h
 
+-- what two parts of events enter together, one of them does
 pub enters_either : (l : Label) (d : Tick) (xs ys : List Event) → EntersWith l d (xs ++ ys) → EntersWith l d xs ⊎ EntersWith l d ys
 enters_either l d [] ys h = inr h
 enters_either l d (noted t e ∷ xs) ys h = enters_either l d xs ys h
@@ -179,6 +187,7 @@ pub least_join : (c : ℕ) (l : Label) (a b : Log) → upto c (least_sign l (fol
     ≡ min (upto c (least_sign l a)) (upto c (least_sign l b))
 least_join c l a b = ap (upto c) (least_followed l a b) ∙ upto_earlier c (least_sign l a) (least_sign l b)
 
+-- how often a label is entered in two parts of a log: in both counted together
 pub left_join : (l : Label) (a b : Log) → times_entered l (followed_by a b) ≡ times_entered l a + times_entered l b
 left_join l nil b = omega arith
 left_join l (entry t e rest) b = left_join l rest b
@@ -196,6 +205,7 @@ entered_first l d (entered m t x rest) b (inr h) = inr (entered_first l d rest b
 entered_first l d (task m s u e own rest) b (inl h) = inl h
 entered_first l d (task m s u e own rest) b (inr h) = inr (entered_first l d rest b h)
 
+-- what the second part of a log enters, both do
 pub entered_second : (l : Label) (d : Tick) (a b : Log) → EnteredIn l d b → EnteredIn l d (followed_by a b)
 entered_second l d nil b h = h
 entered_second l d (entry t e rest) b h = entered_second l d rest b h
@@ -220,6 +230,7 @@ unfolding made_least
 made_low c l [] = omega arith
 made_low c l (q ∷ qs) = omega (arith, made_low c l qs)
 
+-- the first sign as far as c among what all made and have left is no later than c
 pub all_low : (c : ℕ) (l : Label) (qs : List Started) → all_least c l qs ≤ c
 unfolding all_least
 all_low c l [] = omega arith
@@ -231,6 +242,7 @@ unfolding all_least
 all_least_join c l [] ys = omega (arith, all_low c l ys)
 all_least_join c l (x ∷ xs) ys = omega (arith, all_least_join c l xs ys)
 
+-- how often two parts of the tasks enter a label or have it left: both counted together
 pub all_times_join : (l : Label) (xs ys : List Started) → all_times l (xs ++ ys) ≡ all_times l xs + all_times l ys
 unfolding all_times
 all_times_join l [] ys = omega arith

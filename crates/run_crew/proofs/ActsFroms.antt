@@ -29,9 +29,11 @@ label_differs l m differs = by_test (same_label l m) refl
     by_test true e = absurd (differs (same_label_equal l m e))
     by_test false e = refl
 
+-- a sign leaves the from of each other label
 pub lowered_other : (f : Table) (label l : Label) (t : ℕ) → (l ≡ label → ⊥) → lowered f label t l ≡ f l
 lowered_other f label l t differs = ap (λ (b : Bool). lowered_if b t (f l)) (label_differs l label differs)
 
+-- a label entered leaves the from of each other label
 pub opened_other : (f : Table) (label l : Label) (d : Tick) → (l ≡ label → ⊥) → opened f label d l ≡ f l
 opened_other f label l d differs = ap (λ (b : Bool). opened_if b d (f l)) (label_differs l label differs)
 
@@ -41,9 +43,11 @@ opened_other f label l d differs = ap (λ (b : Bool). opened_if b d (f l)) (labe
 pub signed_has : {t : ℕ} {label : Label} {s m : Scoping} → Signs t label s m → (l : Label) → NoneHas l s → l ≡ label → ⊥
 signed_has {t} {label} {s} {m} g l none e = none g.key (g.labelled ∙ ap (λ (x : Label). Some x) (sym e))
 
+-- a label that no scope has is that of none after a scope is cancelled
 pub none_signs : {t : ℕ} {label : Label} {s m : Scoping} → Signs t label s m → (l : Label) → NoneHas l s → NoneHas l m
 none_signs g l none key e = none key (sym (ap (λ (z : Labels). z key) g.labels) ∙ e)
 
+-- it is that of none after a scope is entered with another label
 pub none_enters : {label : Label} {d : Tick} {s m : Scoping} → Enters label d s m → (l : Label) → (l ≡ label → ⊥) → NoneHas l s →
     NoneHas l m
 none_enters {label} {d} {s} {m} g l differs none key e = by_key (labelled_before g.labelled key l e)
@@ -52,9 +56,11 @@ none_enters {label} {d} {s} {m} g l differs none key e = by_key (labelled_before
     by_key (inl f) = differs (sym (one_of label l f.1))
     by_key (inr f) = none key f.1
 
+-- it is that of none after a scope is left
 pub none_leaves : {s m : Scoping} → Leaves s m → (l : Label) → NoneHas l s → NoneHas l m
 none_leaves g l none key e = none key (labelled_left g key l e).1
 
+-- a known label that no scope has keeps its from where only new ones are entered, and no scope gets it
 pub unmoved : {t : ℕ} → (known : Label → Type 0) (f : Table) (l : Label) → {s u : Scoping} {es : List Event} → Acts t s es u → NoneHas l s →
     known l → AreNew known es →
     (froms_after f es l ≡ f l) × NoneHas l u
@@ -90,24 +96,27 @@ known_at known s f h (x ∷ xs) (p ∷ ps) a l (inr i) = known_at known s f h xs
 abbrev pub StandsAt : ℕ → Table → List Place → Scoping → Type 0
 StandsAt key f ps s = (st : Stack) × (stack_of s.tree key ≡ Some st) × AreAt s.labels f st ps
 
+-- where a scope is cancelled, each stack has the places that it had, by the lowered froms
 pub at_signs : {t : ℕ} {label : Label} {s m : Scoping} → (key : ℕ) (f : Table) (st : Stack) (ps : List Place) → (g : Signs t label s m) →
     Apart s → stack_of s.tree key ≡ Some st →
     AreAt s.labels f st ps → (stack_of m.tree key ≡ Some (after_cancel g.key t st))
-        × AreAt m.labels (lowered f label t) (after_cancel g.key t st) ps
+    × AreAt m.labels (lowered f label t) (after_cancel g.key t st) ps
 at_signs {t} {label} {s} {m} key f st ps g h e a = (
   g.cancels.stacks key ∙ ap (option_map (after_cancel g.key t)) e,
   subst (λ (z : Labels). AreAt z (lowered f label t) (after_cancel g.key t st) ps) (sym g.labels)
       (signed_at s.labels f st ps g.key t label g.labelled (alone_of s h g.key label g.labelled st) a),
 )
 
+-- where one is entered with a new label, the stack of a scope that is none of the task's stays, with its places
 pub at_enters : {label : Label} {d : Tick} {s m : Scoping} → (known : Label → Type 0) (key : ℕ) (f : Table) (st : Stack) (ps : List Place) →
     Enters label d s m → Sound s → HasKnown known s →
     (known label → ⊥) → stack_of s.tree key ≡ Some st → AreOthers key s.own → AreAt s.labels f st ps → (stack_of m.tree key ≡ Some st)
-        × AreAt m.labels (opened f label d) st ps
+    × AreAt m.labels (opened f label d) st ps
 at_enters {label} {d} {s} {m} known key f st ps g h k new e others a =
     let n = keeps_enters g h e others in
     (n.at, opened_else s.labels m.labels f st ps label d n.labels (λ i. new (known_at known s f k st ps a label i)) a)
 
+-- where one is left, the stack of a scope that is none of the task's stays, with its places
 pub at_leaves : {s m : Scoping} → (key : ℕ) (f : Table) (st : Stack) (ps : List Place) → Leaves s m → stack_of s.tree key ≡ Some st →
     AreOthers key s.own → AreAt s.labels f st ps →
     (stack_of m.tree key ≡ Some st) × AreAt m.labels f st ps
@@ -115,6 +124,7 @@ at_leaves {s} {m} key f st ps g e others a =
     let n = keeps_leaves g e others in
     (n.at, same_labels s.labels m.labels f st ps n.labels a)
 
+-- whatever a task does, a scope that is none of its own stands at the same places by the new froms
 pub stays_at : {t : ℕ} → (known : Label → Type 0) (f : Table) (key : ℕ) (st : Stack) (ps : List Place) → {s u : Scoping} {es : List Event} →
     Acts t s es u → Sound s → Apart s → HasKnown known s →
     AreNew known es → stack_of s.tree key ≡ Some st → AreOthers key s.own → AreAt s.labels f st ps → StandsAt key (froms_after f es) ps u

@@ -41,6 +41,7 @@ KnownWith known es l = known l ⊎ Known l (entered_made es)
 
 -- ---- numbers, options and lists
 
+-- two numbers are the same, or differ
 pub same_or : (a b : ℕ) → (a ≡ b) ⊎ (a ≢ b)
 same_or a b = by_test (a == b) refl
   where
@@ -48,12 +49,15 @@ same_or a b = by_test (a == b) refl
     by_test true e = inl (eqb-true a b e)
     by_test false e = inr (λ f. let g : true ≡ false = sym (eq-eqb a b f) ∙ e in cc)
 
+-- a scope that has a stack is open
 pub is_open : (tree : Tree) (key : ℕ) (st : Stack) → stack_of tree key ≡ Some st → IsOpen tree key
 is_open tree key st e = subst IsSome (sym e) refl
 
+-- an option is not empty where it holds something
 pub not_both : {A : Type 0} {o : Option A} {x : A} → o ≡ None → o ≡ Some x → ⊥
 not_both {A} {o} {x} e f = let g : None ≡ Some x = sym e ∙ f in cc
 
+-- a scope that has no stack is not open
 pub not_closed : (o : Option Stack) → o ≡ None → IsSome o → ⊥
 not_closed None e i = let f : false ≡ true = i in cc
 not_closed (Some st) e i = let f : Some st ≡ None = e in cc
@@ -62,6 +66,7 @@ mapped : (f : Stack → Stack) (o : Option Stack) (st : Stack) → option_map f 
 mapped f None st e = absurd (let g : None ≡ Some st = e in cc)
 mapped f (Some b) st e = (b, refl, one_of (f b) st e)
 
+-- where there is a stack, there is one after a change
 pub mapped_is : (f : Stack → Stack) (o : Option Stack) → IsSome o → IsSome (option_map f o)
 mapped_is f None i = absurd (let g : false ≡ true = i in cc)
 mapped_is f (Some b) i = refl
@@ -71,6 +76,7 @@ pub all_first : {A : Type 0} (P : A → Type 0) (xs : List A) (y : A) → All P 
 all_first P [] y a = All-nil P
 all_first P (x ∷ xs) y a = All-cons P x xs (All-head P x (xs ++ y ∷ []) a) (all_first P xs y (All-tail P x (xs ++ y ∷ []) a))
 
+-- what holds of a list with one more holds of the last
 pub all_last : {A : Type 0} (P : A → Type 0) (xs : List A) (y : A) → All P (xs ++ y ∷ []) → P y
 all_last P [] y a = All-head P y [] a
 all_last P (x ∷ xs) y a = all_last P xs y (All-tail P x (xs ++ y ∷ []) a)
@@ -114,6 +120,7 @@ before_sign : {t : ℕ} {label : Label} {s m : Scoping} → (g : Signs t label s
     (b : Stack) × (stack_of s.tree key ≡ Some b) × (after_cancel g.key t b ≡ st)
 before_sign {t} {label} {s} {m} g key st e = mapped (after_cancel g.key t) (stack_of s.tree key) st (sym (g.cancels.stacks key) ∙ e)
 
+-- stacks stay sound where a scope is cancelled
 pub sound_signs : {t : ℕ} {label : Label} {s m : Scoping} → Signs t label s m → Sound s → Sound m
 sound_signs {t} {label} {s} {m} g h = record { own = own; round = round }
   where
@@ -144,6 +151,7 @@ round_parent {s} h (Some p) k i = by_stack (stack_of s.tree p) refl i
     by_stack None e j = absurd j
     by_stack (Some st) e j = h.round p st e k j
 
+-- stacks stay sound where a scope is entered
 pub sound_enters : {label : Label} {d : Tick} {s m : Scoping} → Enters label d s m → Sound s → Sound m
 sound_enters {label} {d} {s} {m} g h =
     record { own = λ key st e. own key st e (same_or key g.scope.id); round = λ key st e k i. round key st e k i (same_or key g.scope.id) }
@@ -167,6 +175,7 @@ sound_enters {label} {d} {s} {m} g h =
     round key st e k i (inl f) = inside k (subst (IsKey k) (sym (stack_is key st e f)) i)
     round key st e k i (inr f) = still k (h.round key st (sym (g.others key f) ∙ e) k i)
 
+-- stacks stay sound where a scope is left
 pub sound_leaves : {s m : Scoping} → Leaves s m → Sound s → Sound m
 sound_leaves {s} {m} g h = record { own = λ key st e. h.own key st (before key st e); round = round }
   where
@@ -180,8 +189,9 @@ sound_leaves {s} {m} g h = record { own = λ key st e. h.own key st (before key 
     round key st e k i =
         let b = before key st e in
         open_else s.tree m.tree g.scope.id k g.others (among_all g.scope.id k st (g.innermost key st (differs key st e) b) i)
-            (h.round key st b k i)
+        (h.round key st b k i)
 
+-- stacks stay sound, whatever a task does to scopes
 pub sound_acts : {t : ℕ} {s u : Scoping} {es : List Event} → Acts t s es u → Sound s → Sound u
 sound_acts (no_act s) h = h
 sound_acts (act_noted s u t e es a) h = sound_acts a h
@@ -201,10 +211,12 @@ labels_at known {s} {m} e h k = (
     before : (key : ℕ) (l : Label) → m.labels key ≡ Some l → s.labels key ≡ Some l
     before key l f = sym (ap (λ (z : Labels). z key) e) ∙ f
 
+-- labels of scopes stay apart and known where a scope is cancelled
 pub apart_signs : {t : ℕ} → (known : Label → Type 0) → {label : Label} {s m : Scoping} → Signs t label s m → Apart s → HasKnown known s →
     Apart m × HasKnown known m
 apart_signs known g h k = labels_at known g.labels h k
 
+-- labels of scopes stay apart where a scope is entered with a new one, which is known then
 pub apart_enters : (known : Label → Type 0) → {label : Label} {d : Tick} {s m : Scoping} → Enters label d s m → (known label → ⊥) →
     Apart s → HasKnown known s →
     Apart m × HasKnown (λ l. (l ≡ label) ⊎ known l) m
@@ -239,6 +251,7 @@ labelled_left {s} {m} g key l e = by_key (labelled_before g.unlabelled key l e)
     by_key (inl f) = absurd (not_both refl f.1)
     by_key (inr f) = f
 
+-- labels of scopes stay apart and known where a scope is left
 pub apart_leaves : (known : Label → Type 0) → {s m : Scoping} → Leaves s m → Apart s → HasKnown known s → Apart m × HasKnown known m
 apart_leaves known {s} {m} g h k = (
   record { labels = λ a b l e f. h.labels a b l (labelled_left g a l e).1 (labelled_left g b l f).1 },
@@ -252,6 +265,7 @@ known_one known label l es (inl (inl e)) = inr (inl e)
 known_one known label l es (inl (inr k)) = inl k
 known_one known label l es (inr i) = inr (inr i)
 
+-- labels of scopes stay apart where a task enters new ones, and each was known or was entered
 pub apart_acts : {t : ℕ} → (known : Label → Type 0) → {s u : Scoping} {es : List Event} → Acts t s es u → Apart s → HasKnown known s →
     AreNew known es →
     Apart u × HasKnown (KnownWith known es) u

@@ -36,9 +36,13 @@ kept_signs {t} {label} {s} {m} f key l g sound apart k = (
 kept_enters : {label : Label} {d : Tick} {s m : Scoping} → (known : Label → Type 0) (f : Table) (key : ℕ) (l : Label) → Enters label d s m →
     HasKnown known s → (known label → ⊥) →
     IsKept f s key l → IsKept (opened f label d) m key l
-kept_enters {label} {d} {s} {m} known f key l g has new k =
-    (k.0, g.others key differs ∙ k.1, g.labelled.others key differs ∙ k.2, k.3
-        ∙ sym (opened_other f label l d (λ e. new (subst known e (has key l k.2)))))
+kept_enters {label} {d} {s} {m} known f key l g has new k = (
+  k.0,
+  g.others key differs ∙ k.1,
+  g.labelled.others key differs ∙ k.2,
+  k.3
+      ∙ sym (opened_other f label l d (λ e. new (subst known e (has key l k.2)))),
+)
   where
     differs : key ≢ g.scope.id
     differs = open_differs s.tree g.scope.id key g.fresh (is_open s.tree key k.0 k.1)
@@ -49,6 +53,7 @@ kept_leaves {s} {m} f key l g others k = (k.0, g.others key differs ∙ k.1, g.u
     differs : key ≢ g.scope.id
     differs e = all_last (λ (o : Own). o.id ≢ key) m.own g.scope (subst (AreOthers key) g.taken others) (sym e)
 
+-- whatever a task does, an open scope that is none of its own keeps its label, and its from is the label's
 pub kept_acts : {t : ℕ} → (known : Label → Type 0) (f : Table) (key : ℕ) (l : Label) → {s u : Scoping} {es : List Event} → Acts t s es u →
     Sound s → Apart s → HasKnown known s → AreNew known es →
     AreOthers key s.own → IsKept f s key l → IsKept (froms_after f es) u key l
@@ -58,11 +63,11 @@ kept_acts known f key l (act_starts s u i x t es a) sound apart has new others k
 kept_acts {t} known f key l (act_signs s m u x es g a) sound apart has new others k =
     let n = apart_signs known g apart has in
     kept_acts known (lowered f x t) key l a (sound_signs g sound) n.0 n.1 new (stays_signs g k.1 others).others
-        (kept_signs f key l g sound apart k)
+    (kept_signs f key l g sound apart k)
 kept_acts known f key l (act_enters s m u x t d es g a) sound apart has new others k =
     let n = apart_enters known g new.0 apart has in
     kept_acts (λ y. (y ≡ x) ⊎ known y) (opened f x d) key l a (sound_enters g sound) n.0 n.1 new.1 (keeps_enters g sound k.1 others).others
-        (kept_enters known f key l g has new.0 k)
+    (kept_enters known f key l g has new.0 k)
 kept_acts known f key l (act_leaves s m u es g a) sound apart has new others k =
     let n = apart_leaves known g apart has in
     kept_acts known f key l a (sound_leaves g sound) n.0 n.1 new (keeps_leaves g k.1 others).others (kept_leaves f key l g others k)
@@ -75,7 +80,7 @@ AreLabelled s = (key : ℕ) (l : Label) → s.labels key ≡ Some l → IsOpen s
 labelled_signs : {t : ℕ} {label : Label} {s m : Scoping} → Signs t label s m → AreLabelled s → AreLabelled m
 labelled_signs {t} {label} {s} {m} g h key l e =
     subst IsSome (sym (g.cancels.stacks key)) (mapped_is (after_cancel g.key t) (stack_of s.tree key)
-        (h key l (sym (ap (λ (z : Labels). z key) g.labels) ∙ e)))
+    (h key l (sym (ap (λ (z : Labels). z key) g.labels) ∙ e)))
 
 labelled_enters : {label : Label} {d : Tick} {s m : Scoping} → Enters label d s m → AreLabelled s → AreLabelled m
 labelled_enters {label} {d} {s} {m} g h key l e = by_key (labelled_before g.labelled key l e)
@@ -87,6 +92,7 @@ labelled_enters {label} {d} {s} {m} g h key l e = by_key (labelled_before g.labe
 labelled_leaves : {s m : Scoping} → Leaves s m → AreLabelled s → AreLabelled m
 labelled_leaves {s} {m} g h key l e = let b = labelled_left g key l e in open_else s.tree m.tree g.scope.id key g.others b.0 (h key l b.1)
 
+-- where each scope with a label is open, it is so whatever a task does
 pub labelled_acts : {t : ℕ} {s u : Scoping} {es : List Event} → Acts t s es u → AreLabelled s → AreLabelled u
 labelled_acts (no_act s) h = h
 labelled_acts (act_noted s u t e es a) h = labelled_acts a h

@@ -55,7 +55,7 @@ seen_cancelled id t x (l ∷ ls) e = by_level (λ f. seen_cancelled id t x ls f)
     by_shield : (reached (sight ls) x ≡ true → reached (sight (after_cancel id t ls)) x ≡ true) → (s : Bool) (from : Tick) →
         (reached l.from x ≡ true → reached from x ≡ true) →
         reached (if s then l.from else earlier l.from (sight ls)) x ≡ true →
-            reached (if s then from else earlier from (sight (after_cancel id t ls))) x ≡ true
+        reached (if s then from else earlier from (sight (after_cancel id t ls))) x ≡ true
     by_shield more true from own f = own f
     by_shield more false from own f = reached_more l.from (sight ls) from (sight (after_cancel id t ls)) x own more f
 
@@ -139,7 +139,7 @@ closed_never known f l {s} {m} g a apart k new e = (unmoved known f l a none k n
 shows_left : {t : ℕ} → (known : Label → Type 0) (f : Table) (key : ℕ) (l : Label) → {s m u : Scoping} {es : List Event} → (g : Leaves s m) →
     Acts t m es u → Apart s → known l → AreNew known es →
     s.labels key ≡ Some l → u.labels key ≡ Some l → (kept : Tick) → Shows s.tree key kept →
-        (m.labels key ≡ Some l → Shows m.tree key kept → Shows u.tree key kept) → Shows u.tree key kept
+    (m.labels key ≡ Some l → Shows m.tree key kept → Shows u.tree key kept) → Shows u.tree key kept
 shows_left known f key l {s} {m} {u} g a apart k new was is kept h more = by_key (same_or key g.scope.id)
   where
     by_key : (key ≡ g.scope.id) ⊎ (key ≢ g.scope.id) → Shows u.tree key kept
@@ -161,7 +161,7 @@ shows_acts known f key l kept (act_enters s m u x t d es g a) apart has new k wa
     let n = apart_enters known g new.0 apart has in
     let differs = open_differs s.tree g.scope.id key g.fresh (is_open s.tree key h.stack h.opened) in
     shows_acts (λ y. (y ≡ x) ⊎ known y) f key l kept a n.0 n.1 new.1 (inr k) (g.labelled.others key differs ∙ was) is
-        (shows_enters key kept g h)
+    (shows_enters key kept g h)
 shows_acts known f key l kept (act_leaves s m u es g a) apart has new k was is h =
     let n = apart_leaves known g apart has in
     shows_left known f key l g a apart k new was is kept h (λ left there. shows_acts known f key l kept a n.0 n.1 new k left is there)

@@ -70,6 +70,7 @@ same_but u (l ∷ ls) differs = (sym (u.others l.label (differs l.label (inl ref
 
 -- ---- a scope of another task stays
 
+-- a scope that is none of the task's stays open inside the same ones where one is cancelled
 pub stays_signs : {t : ℕ} {label : Label} {s m : Scoping} {key : ℕ} {st : Stack} → Signs t label s m → stack_of s.tree key ≡ Some st →
     AreOthers key s.own → Stays key st s m
 stays_signs {t} {label} {s} {m} {key} {st} g e others =
@@ -87,6 +88,7 @@ pub record Keeps (key : ℕ) (st : Stack) (s m : Scoping) : Type 0 where
   pub labels : SameOn s.labels m.labels st
   pub others : AreOthers key m.own
 
+-- a scope that is none of the task's keeps its stack and the labels in it where one is entered
 pub keeps_enters : {label : Label} {d : Tick} {s m : Scoping} {key : ℕ} {st : Stack} → Enters label d s m → Sound s →
     stack_of s.tree key ≡ Some st → AreOthers key s.own → Keeps key st s m
 keeps_enters {label} {d} {s} {m} {key} {st} g h e others =
@@ -99,6 +101,7 @@ keeps_enters {label} {d} {s} {m} {key} {st} g h e others =
     differs : key ≢ g.scope.id
     differs = open_differs s.tree g.scope.id key g.fresh (is_open s.tree key st e)
 
+-- a scope that is none of the task's keeps its stack and the labels in it where one is left
 pub keeps_leaves : {s m : Scoping} {key : ℕ} {st : Stack} → Leaves s m → stack_of s.tree key ≡ Some st → AreOthers key s.own →
     Keeps key st s m
 keeps_leaves {s} {m} {key} {st} g e others =
@@ -127,6 +130,7 @@ stays_both {key} {st} {s} {m} {u} n o =
       others = o.others;
     }
 
+-- a scope that is none of the task's stays open inside the same ones, whatever the task does
 pub stays : {t : ℕ} {s u : Scoping} {es : List Event} {key : ℕ} {st : Stack} → Acts t s es u → Sound s → stack_of s.tree key ≡ Some st →
     AreOthers key s.own → Stays key st s u
 stays {st = st} (no_act s) h e others =
@@ -149,21 +153,26 @@ mapped_was : (f : Stack → Stack) (o : Option Stack) → IsSome (option_map f o
 mapped_was f None i = i
 mapped_was f (Some b) i = refl
 
+-- a scope that is open and none of the task's was so before one was cancelled
 pub else_signs : {t : ℕ} {label : Label} {s m : Scoping} {key : ℕ} → Signs t label s m → IsElse key m → IsElse key s
 else_signs {t} {label} {s} {m} {key} g i =
     (mapped_was (after_cancel g.key t) (stack_of s.tree key) (subst IsSome (g.cancels.stacks key) i.0), subst (AreOthers key) g.own i.1)
 
+-- a scope that is open and none of the task's was so before one was entered
 pub else_enters : {label : Label} {d : Tick} {s m : Scoping} {key : ℕ} → Enters label d s m → IsElse key m → IsElse key s
 else_enters {label} {d} {s} {m} {key} g i =
-    let split : AreOthers key (s.own ++ g.scope ∷ []) = subst (AreOthers key) g.opened i.1 in
-    (subst IsSome (g.others key (λ f. all_last (λ (o : Own). o.id ≢ key) s.own g.scope split (sym f))) i.0,
-        all_first (λ (o : Own). o.id ≢ key) s.own g.scope split)
+    let split : AreOthers key (s.own ++ g.scope ∷ []) = subst (AreOthers key) g.opened i.1 in (
+      subst IsSome (g.others key (λ f. all_last (λ (o : Own). o.id ≢ key) s.own g.scope split (sym f))) i.0,
+      all_first (λ (o : Own). o.id ≢ key) s.own g.scope split,
+    )
 
+-- a scope that is open and none of the task's was so before one was left
 pub else_leaves : {s m : Scoping} {key : ℕ} → Leaves s m → IsElse key m → IsElse key s
 else_leaves {s} {m} {key} g i =
     let differs : key ≢ g.scope.id = open_differs m.tree g.scope.id key g.closed i.0 in
     (subst IsSome (g.others key differs) i.0, subst (AreOthers key) (sym g.taken) (others_but key m.own g.scope i.1 (λ f. differs (sym f))))
 
+-- a scope that is open and none of the task's was so before, whatever the task did
 pub else_acts : {t : ℕ} {s u : Scoping} {es : List Event} {key : ℕ} → Acts t s es u → IsElse key u → IsElse key s
 else_acts (no_act s) i = i
 else_acts (act_noted s u t e es a) i = else_acts a i

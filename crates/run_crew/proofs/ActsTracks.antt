@@ -32,16 +32,24 @@ use Rattle.run_crew.proofs.Found.{got_first}
 pub tracks_more : {known more : Label → Type 0} {f : Table} {s : Scoping} {entered : List Label} → ((l : Label) → known l → more l) →
     Tracks known f s entered → Tracks more f s entered
 tracks_more m h =
-    record { labels = h.labels; differ = h.differ; named = h.named; kept = h.kept; left = λ i x e a. let c = h.left i x e a in
-        (c.0, c.1, m x.label c.2) }
+    record {
+      labels = h.labels;
+      differ = h.differ;
+      named = h.named;
+      kept = h.kept;
+      left = λ i x e a. let c = h.left i x e a in
+          (c.0, c.1, m x.label c.2);
+    }
 
 -- ---- lists
 
+-- what holds of all in a list holds of the one at a place
 pub all_got : {A : Type 0} (P : A → Type 0) (xs : List A) (i : ℕ) (x : A) → All P xs → slice_get xs i ≡ Some x → P x
 all_got P [] i x a e = absurd (not_both refl e)
 all_got P (y ∷ xs) zero x a e = subst P (one_of y x e) (All-head P y xs a)
 all_got P (y ∷ xs) (suc i) x a e = all_got P xs i x (All-tail P y xs a) e
 
+-- what holds of the one at each place holds of all in a list
 pub all_if : {A : Type 0} (P : A → Type 0) (xs : List A) → ((x : A) (i : ℕ) → slice_get xs i ≡ Some x → P x) → All P xs
 all_if P [] h = All-nil P
 all_if P (y ∷ xs) h = All-cons P y xs (h y zero refl) (all_if P xs (λ x i e. h x (suc i) e))
@@ -116,15 +124,22 @@ pub own_from_signed : {t : ℕ} {label : Label} {s m : Scoping} (f : Table) (st 
 own_from_signed f [] id l g h first e from = absurd (not_both refl first)
 own_from_signed {t} {label} {s} {m} f (x ∷ xs) id l g h first e from =
     (signed_at s.labels f (x ∷ []) (record { label = l; shield = x.shield } ∷ []) g.key t label g.labelled
-        (alone_of s h g.key label g.labelled (x ∷ []))
+    (alone_of s h g.key label g.labelled (x ∷ []))
     (ap s.labels (one_of x.label id first) ∙ e, refl, from, tt)).2
 
+-- where a scope is cancelled, the froms that a task keeps are those of the world, with the label's lowered
 pub tracks_signs : {known : Label → Type 0} {f : Table} {entered : List Label} {t : ℕ} {label : Label} {s m : Scoping} → Signs t label s m →
     Sound s → Apart s →
     Tracks known f s entered → Tracks known (lowered f label t) m entered
 tracks_signs {known} {f} {entered} {t} {label} {s} {m} g sound apart h =
-    record { labels = ap (map (λ (x : ScopeFrom). x.label)) g.froms ∙ h.labels; differ = subst Differ (sym g.own) h.differ; named =
-        named; kept = kept; left = left }
+    record {
+      labels = ap (map (λ (x : ScopeFrom). x.label)) g.froms ∙ h.labels;
+      differ = subst Differ (sym g.own) h.differ;
+      named =
+          named;
+      kept = kept;
+      left = left;
+    }
   where
     got : (o : Own) (i : ℕ) → slice_get m.own i ≡ Some o → slice_get s.own i ≡ Some o
     got o i e = sym (ap (λ (os : List Own). slice_get os i) g.own) ∙ e
@@ -134,8 +149,12 @@ tracks_signs {known} {f} {entered} {t} {label} {s} {m} g sound apart h =
 
     named : (o : Own) (i : ℕ) → slice_get m.own i ≡ Some o → (x : ScopeFrom) × (slice_get m.froms o.at ≡ Some x)
         × (m.labels o.id ≡ Some x.label)
-    named o i e = let n = h.named o i (got o i e) in (n.0, ap (λ (xs : List ScopeFrom). slice_get xs o.at) g.froms
-        ∙ n.1, label_is o.id n.0.label n.2)
+    named o i e = let n = h.named o i (got o i e) in (
+      n.0,
+      ap (λ (xs : List ScopeFrom). slice_get xs o.at) g.froms
+          ∙ n.1,
+      label_is o.id n.0.label n.2,
+    )
 
     kept : (o : Own) (i : ℕ) → slice_get m.own i ≡ Some o →
         (st : Stack) × (l : Label) × (stack_of m.tree o.id ≡ Some st) × (m.labels o.id ≡ Some l) × (own_from st ≡ lowered f label t l)
@@ -156,6 +175,7 @@ tracks_signs {known} {f} {entered} {t} {label} {s} {m} g sound apart h =
 
 -- ---- a scope is entered
 
+-- where a task enters a scope with a new label, its froms are those of the world, with the new label last
 pub tracks_enters : {known : Label → Type 0} {f : Table} {entered : List Label} {label : Label} {d : Tick} {s m : Scoping} →
     Enters label d s m → HasKnown known s → (known label → ⊥) →
     Tracks known f s entered → Tracks (λ l. (l ≡ label) ⊎ known l) (opened f label d) m (entered ++ label ∷ [])
@@ -211,7 +231,7 @@ tracks_enters {known} {f} {entered} {label} {d} {s} {m} g has new h =
         )
     kept o {i} (inr e) =
         subst (λ (z : Own). (st : Stack) × (l : Label) × (stack_of m.tree z.id ≡ Some st) × (m.labels z.id ≡ Some l)
-            × (own_from st ≡ opened f label d l)) e.1 (
+        × (own_from st ≡ opened f label d l)) e.1 (
           g.level ∷ outer_of s.tree g.parent,
           label,
           g.stack,
@@ -230,6 +250,7 @@ tracks_enters {known} {f} {entered} {label} {d} {s} {m} g has new h =
 
 -- ---- the last scope is left
 
+-- where a task leaves its last scope, the froms that it keeps are those of the world still
 pub tracks_leaves : {known : Label → Type 0} {f : Table} {entered : List Label} {s m : Scoping} → Leaves s m → Apart s → HasKnown known s →
     Tracks known f s entered → Tracks known f m entered
 tracks_leaves {known} {f} {entered} {s} {m} g apart has h =
@@ -293,11 +314,12 @@ tracks_leaves {known} {f} {entered} {s} {m} g apart has h =
     left i x past (inr e) =
         let c = h.left i x e.1 (subst (IsPast i) (sym g.taken)
         (All-append (λ (o : Own). o.at ≢ i) m.own (g.scope ∷ []) past
-            (All-cons (λ (o : Own). o.at ≢ i) g.scope [] (λ j. e.0 (sym j)) (All-nil (λ (o : Own). o.at ≢ i))))) in
+        (All-cons (λ (o : Own). o.at ≢ i) g.scope [] (λ j. e.0 (sym j)) (All-nil (λ (o : Own). o.at ≢ i))))) in
         (c.0, none_leaves g x.label c.1, c.2)
 
 -- ---- whatever a task does
 
+-- whatever a task does, its froms are those of the world after its events, with the labels that it entered
 pub tracked : {t : ℕ} → (known : Label → Type 0) (f : Table) (entered : List Label) → {s u : Scoping} {es : List Event} → Acts t s es u →
     Sound s → Apart s → HasKnown known s → AreNew known es →
     Tracks known f s entered → Tracks (KnownWith known es) (froms_after f es) u (entered ++ entered_made es)
@@ -311,9 +333,9 @@ tracked {t} known f entered (act_signs s m u l es g a) sound apart has new h =
 tracked known f entered (act_enters s m u l t d es g a) sound apart has new h =
     let n = apart_enters known g new.0 apart has in
     let more = tracked (λ x. (x ≡ l) ⊎ known x) (opened f l d) (entered ++ l ∷ []) a (sound_enters g sound) n.0 n.1 new.1
-        (tracks_enters g has new.0 h) in
+    (tracks_enters g has new.0 h) in
     subst (Tracks (λ x. known x ⊎ Known x (l ∷ entered_made es)) (froms_after (opened f l d) es) u)
-        (append_assoc entered (l ∷ []) (entered_made es))
+    (append_assoc entered (l ∷ []) (entered_made es))
     (tracks_more (λ x k. known_one known l x es k) more)
 tracked known f entered (act_leaves s m u es g a) sound apart has new h =
     let n = apart_leaves known g apart has in

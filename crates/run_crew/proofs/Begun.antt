@@ -97,12 +97,15 @@ root_follows k job input crew root modest starting names r =
                 (All-nil (λ (o : Own). o.at < length root.froms.items));
             opened =
                 subst (λ (bs : List Block). Opened (label_at crew.world) crew.world.book bs root.own.items (waits_of root.halt))
-                    (sym blocks)
+                (sym blocks)
                 (subst (λ (os : List Own). Opened (label_at crew.world) crew.world.book [] os (waits_of root.halt)) (sym r.own)
                 (subst (λ (w : Option ℕ). Opened (label_at crew.world) crew.world.book [] [] w) (sym waits) tt));
           };
-      notes = record { shown = ap (map entry_of) r.entries; slices =
-          subst (All (IsSlice input)) (sym r.entries) (All-nil (IsSlice input)) };
+      notes = record {
+        shown = ap (map entry_of) r.entries;
+        slices =
+            subst (All (IsSlice input)) (sym r.entries) (All-nil (IsSlice input));
+      };
       tracks =
           record {
             labels = ap (map (λ (x : ScopeFrom). x.label)) r.froms;
@@ -152,10 +155,11 @@ pub record BeginsAs (k : Table) (job : Job) (input : List ℕ) (crew : Crew) : T
   pub is : IsCrew k job input 0 1 None crew
   pub at : is.course.at 0 ≡ root_task k job input
 
+-- the root alone in a new world is a run in tick 0, whose task is the root of the definitions
 pub crew_begins : (k : Table) (job : Job) (input : List ℕ) (crew : Crew) (root : Task) → IsModest job → StartsInNurseries job →
     GivesNamesOnce job → length input ≤ MOST_INPUT →
     IsNewWorld crew.world → IsRootTask job input root → crew.task 0 ≡ Some root → ((p : ℕ) → crew.task (suc p) ≡ None) →
-        ((p : ℕ) → crew.gone p ≡ None) → crew.start 0 ≡ 0 →
+    ((p : ℕ) → crew.gone p ≡ None) → crew.start 0 ≡ 0 →
     crew.children 0 ≡ [] → crew.turns ≡ 0 → BeginsAs k job input crew
 unfolding begun_course
 crew_begins k job input crew root modest starting names small world r first others gone start children turns =
@@ -197,7 +201,7 @@ crew_begins k job input crew root modest starting names small world r first othe
     follows zero task e =
         let f : Some root ≡ Some task = sym first ∙ e in let g : root ≡ task = cc in
         subst (Follows crew no_froms input 0 (λ s. root_task k job input) no_numbers None 0) g
-            (root_follows k job input crew root modest starting names r)
+        (root_follows k job input crew root modest starting names r)
     follows (suc s) task e = absurd (let f : None ≡ Some task = sym (others s) ∙ e in cc)
 
     none_open : (key : ℕ) → IsOpen crew.world.scopes key → ⊥
@@ -206,10 +210,11 @@ crew_begins k job input crew root modest starting names small world r first othe
         by_stack : IsSome {T = Stack} None → ⊥
         by_stack e = absurd cc
 
+-- the root alone in a new world is a run of one task in tick 0
 pub crew_begun : (k : Table) (job : Job) (input : List ℕ) (crew : Crew) (root : Task) → IsModest job → StartsInNurseries job →
     GivesNamesOnce job → length input ≤ MOST_INPUT →
     IsNewWorld crew.world → IsRootTask job input root → crew.task 0 ≡ Some root → ((p : ℕ) → crew.task (suc p) ≡ None) →
-        ((p : ℕ) → crew.gone p ≡ None) → crew.start 0 ≡ 0 →
+    ((p : ℕ) → crew.gone p ≡ None) → crew.start 0 ≡ 0 →
     crew.children 0 ≡ [] → crew.turns ≡ 0 → IsCrew k job input 0 1 None crew
 crew_begun k job input crew root modest starting names small world r first others gone start children turns =
     (crew_begins k job input crew root modest starting names small world r first others gone start children turns).is

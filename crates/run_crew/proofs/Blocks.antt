@@ -65,6 +65,7 @@ pub task_lives : (k : Table) (job : Job) (input : List ℕ) (t m : ℕ) (crew : 
     live (c.course.at s).rest.stopped ≡ true
 task_lives k job input t m crew c s task e = (c.follows s task e).lives (λ f. not_both refl f)
 
+-- where no task of a crew goes on before a tick, the run is blocked until then
 pub crew_blocked : (k : Table) (job : Job) (input : List ℕ) (t m : ℕ) (crew : Crew) → (c : IsCrew k job input t m None crew) → (u : ℕ) →
     AllStay crew u →
     Blocked c.course.froms c.course.tasks u
@@ -103,7 +104,7 @@ crew_blocked k job input t m crew c u stay q i =
         place =
             running_at n.0.children
             (unsettled_children n.0 exc (gives book id n.0 (λ n. n.body ≡ Some exc) n.1 body)
-                (gives book id n.0 (λ n. is_settled n ≡ false) n.1 open_one))
+            (gives book id n.0 (λ n. is_settled n ≡ false) n.1 open_one))
 
         number : (x : ℕ) × (slice_get (c.numbers s id) place.0 ≡ Some x)
         number =
@@ -120,7 +121,7 @@ crew_blocked k job input t m crew c u stay q i =
         alive : (x : Started) → In x qs → x.serial ≡ (at s).child number.0 → live x.rest.stopped ≡ true
         alive x j e =
             ap (λ (y : Started). live y.rest.stopped) ((c.course.one x j).0 ∙ ap at e)
-                ∙ task_lives k job input t m crew c ((at s).child number.0) runs.0 runs.1
+            ∙ task_lives k job input t m crew c ((at s).child number.0) runs.0 runs.1
 
     by_halt : (s : ℕ) (task : Task) → crew.task s ≡ Some task → (halt : Halt) (stopped : Stopped) → task.halt ≡ halt →
         IsHalt (c.numbers s) book halt stopped →
@@ -131,7 +132,7 @@ crew_blocked k job input t m crew c u stay q i =
       (let a : u ≤ since + ticks = to.0 in let b = h.0 in let d = h.1 in omega (arith, a, b, d)),
       ap (upto u)
           (sym (sight_at (label_at crew.world) f (outer_of crew.world.scopes (scope_of task)) (at s).places
-              (c.follows s task lives).stands.places)) ∙ to.1,
+          (c.follows s task lives).stands.places)) ∙ to.1,
     )
     by_halt s task lives (Awaits id since) (awaiting children v exc) e h to =
         waits s task id since v children exc lives (ap waits_of e) h.0 h.2 to
@@ -151,7 +152,7 @@ crew_sleeps k job input t m crew settled names starting c u stay s task lives = 
     z : Sleeps c.course.tasks
     z =
         blocked_runs_sleep k job input names starting settled c.course.froms t m c.course.tasks c.course.reached u
-            (crew_blocked k job input t m crew c u stay) (c.course.at s)
+        (crew_blocked k job input t m crew c u stay) (c.course.at s)
         (c.course.has s (below_of c s task lives)).0 (task_lives k job input t m crew c s task lives)
 
     x : Started
@@ -193,7 +194,7 @@ pub crew_turns : (k : Table) (job : Job) (input : List ℕ) (t m : ℕ) (leaving
     IsCrew k job input t m leaving crew → crew.turns ≤ 2 * size_of job.steps + 1
 crew_turns k job input t m leaving crew c =
     let a = runs_end k job input c.course.froms t m c.course.tasks c.course.reached in let b : turns_taken c.course.reached ≡ crew.turns =
-        c.counted in omega (arith, a, b)
+    c.counted in omega (arith, a, b)
 
 -- ---- the root is the last to end
 
@@ -213,6 +214,7 @@ none_below k job input t m crew c none (suc n) p lt =
     by_task None e none_before = e
     by_task (Some task) e none_before = absurd (by_home task e task.home (c.follows p task e).home none_before)
 
+-- once the root has ended, every task has
 pub root_last : (k : Table) (job : Job) (input : List ℕ) (t m : ℕ) (crew : Crew) → IsCrew k job input t m None crew → crew.task 0 ≡ None →
     (p : ℕ) → crew.task p ≡ None
 root_last k job input t m crew c none p = none_below k job input t m crew c none (suc p) p (omega arith)

@@ -62,10 +62,11 @@ made_now count m j n p child (starts i l t ∷ es) (b ∷ bs) e f h =
 
 -- ---- after a turn
 
+-- after a turn the children kept of each task are those that its events started
 pub children_kept : (k : Table) (job : Job) (input : List ℕ) (t m s : ℕ) (old new : Crew) (before after : Task) (stop : Stop) →
     IsSettled k job input → GivesNamesOnce job →
     StartsInNurseries job → (c : IsCrew k job input t m None old) →
-        (turn : Turning k job input t m s old new c.numbers before after stop c.course) → (p : ℕ) → p < m + length turn.move.begun →
+    (turn : Turning k job input t m s old new c.numbers before after stop c.course) → (p : ℕ) → p < m + length turn.move.begun →
     new.children p ≡ children_made (turn.is.at p).child (turn.is.at p).made
 children_kept k job input t m s old new before after stop settled names starting c turn p less = by_same (p == s) refl (nat_lt p m) refl
   where
@@ -84,9 +85,9 @@ children_kept k job input t m s old new before after stop settled names starting
     of_task =
         turn.more_children
         ∙ ap (λ (ns : List ℕ). ns ++ serials_from m (length turn.move.begun))
-            (c.children s turn.below ∙ sym (made_before q.count m q.child q.made numbered))
+        (c.children s turn.below ∙ sym (made_before q.count m q.child q.made numbered))
         ∙ ap (λ (ns : List ℕ). children_made (child_from q.count q.child m) q.made ++ ns)
-            (sym (made_now q.count m 0 q.count m q.child turn.move.made turn.move.begun (omega arith) (omega arith) turn.promise.starts))
+        (sym (made_now q.count m 0 q.count m q.child turn.move.made turn.move.begun (omega arith) (omega arith) turn.promise.starts))
         ∙ sym (made_join (child_from q.count q.child m) q.made turn.move.made)
         ∙ ap (λ (x : Started). children_made x.child x.made) (sym turn.of_task)
 
@@ -96,7 +97,7 @@ children_kept k job input t m s old new before after stop settled names starting
         let lower : p < m = grind (arith, nat_tests) in
         let differs : p ≢ s = λ g. absurd (let x : true ≡ false = sym (eq-eqb p s g) ∙ e in cc) in
         turn.children_after p lower differs ∙ c.children p lower ∙ ap (λ (x : Started). children_made x.child x.made)
-            (sym (turn.of_other p lower differs))
+        (sym (turn.of_other p lower differs))
     by_same false e false f =
         let upper : m ≤ p = grind (arith, nat_tests) in
         let i : ℕ = p - m in
@@ -104,7 +105,7 @@ children_kept k job input t m s old new before after stop settled names starting
         let lt : p - m < length turn.move.begun = omega (arith, upper, less) in
         let there = nth turn.move.begun (p - m) lt in
         subst Keeps is (turn.no_children (p - m) lt ∙ ap (λ (x : Started). children_made x.child x.made)
-            (sym (turn.of_child (p - m) there.0 there.1)))
+        (sym (turn.of_child (p - m) there.0 there.1)))
       where
         nth : (bs : List Begun) (i : ℕ) → i < length bs → (b : Begun) × (slice_get bs i ≡ Some b)
         nth [] i lt = absurd (omega (arith, lt))

@@ -105,6 +105,7 @@ stack_is tree key h = by_stack (stack_of tree key) refl h
     by_stack None e s = absurd (let f : false ≡ true = s in cc)
     by_stack (Some st) e s = ap (λ (x : Option Stack). Some (unwrap_or x [])) (sym e)
 
+-- round a scope that a task opened stand those that it opened before, and then its home's
 pub own_stack : (tree : Tree) → IsChain tree → IsApart tree → (home : Option ℕ) (own : List Own) → OwnFirst tree home own →
     ForSome (last_or home (ids own)) (IsOpen tree) →
     (n : ℕ) (o : Own) → slice_get own n ≡ Some o → OwnStack tree home own o n
@@ -158,7 +159,7 @@ own_stack tree chain apart home own first opened n o e =
             subst (λ (k : ℕ). All (λ (l : Level ℕ). l.label ≢ k) (up.behind ++ at.level ∷ at.behind)) up.named
             (apart last.0 whole is_whole up.before up.level (up.behind ++ at.level ∷ at.behind)
             (at.is ∙ ap (λ (st : Stack). st ++ at.level ∷ at.behind) up.is
-                ∙ append_assoc up.before (up.level ∷ up.behind) (at.level ∷ at.behind)))
+            ∙ append_assoc up.before (up.level ∷ up.behind) (at.level ∷ at.behind)))
 
         all_not : (key : ℕ) (st : Stack) → All (λ (l : Level ℕ). l.label ≢ key) st → IsAmong key (keys_of st) → ⊥
         all_not key [] a i = i
@@ -178,7 +179,7 @@ pub record NurseryOwn (book : NurseryBook) (bs : List Block) (own : List Own) (w
 -- of a nursery further in
 later_own : (book : NurseryBook) (b : Block) (bs : List Block) (o : Own) (own : List Own) (waits : Option ℕ) (id : ℕ) (n : Nursery) →
     (RunsIn book bs 0 waits → RunsIn book (b ∷ bs) 0 waits) → ((i : ℕ) → RunsIn book bs i waits → RunsIn book (b ∷ bs) (suc i) waits) →
-        NurseryOwn book bs own waits id n →
+    NurseryOwn book bs own waits id n →
     NurseryOwn book (b ∷ bs) (o ∷ own) waits id n
 later_own book b bs o own waits id n first later h =
     record { place = suc h.place; scope = h.scope; at = h.at; is = h.is; runs = runs }
@@ -187,6 +188,7 @@ later_own book b bs o own waits id n first later h =
     runs r zero le = first (h.runs r 0 (omega arith))
     runs r (suc i) le = later i (h.runs r i (omega (arith, le)))
 
+-- a task opened its nursery's scope; where a child runs in that nursery, one runs in each of its scopes up to that one
 pub nursery_own : (labels : Labels) (book : NurseryBook) (bs : List Block) (own : List Own) (waits : Option ℕ) (id : ℕ) (n : Nursery) →
     Opened labels book bs own waits →
     HasNurseryOf id bs waits → nursery_at book id ≡ Some n → NurseryOwn book bs own waits id n
@@ -197,8 +199,14 @@ nursery_own labels book [] (o ∷ own) None id n h (inr w) e = absurd h
 nursery_own labels book [] (o ∷ own) (Some key) id n h (inr w) e =
     let same : key ≡ id = (let f : Some key ≡ Some id = w in cc) in
     let at : nursery_at book key ≡ Some n = ap (nursery_at book) same ∙ e in
-    record { place = 0; scope = o; at = refl; is = (gives book key n _ at h.1).0.scope; runs =
-        λ r i le. puts book key n (λ m. AnyRuns m.children) at r }
+    record {
+      place = 0;
+      scope = o;
+      at = refl;
+      is = (gives book key n _ at h.1).0.scope;
+      runs =
+          λ r i le. puts book key n (λ m. AnyRuns m.children) at r;
+    }
 nursery_own labels book (b ∷ bs) [] waits id n h has e = absurd h
 nursery_own labels book (a_scope ∷ bs) (o ∷ own) waits id n h has e =
     later_own book a_scope bs o own waits id n (λ r. r) (λ i r. r) (nursery_own labels book bs own waits id n h.2 has e)
@@ -236,7 +244,7 @@ module _ (k : Table) (job : Job) (input : List ℕ) (t m : ℕ) (leaving : Optio
       OwnStack crew.world.scopes (home_scope task) task.own.items o n
   stack_by s task e n o at =
       let f = (c.follows s task e).goes in own_stack crew.world.scopes sound.chain sound.apart (home_scope task) task.own.items f.first
-          f.scope n o at
+      f.scope n o at
 
   opened_by : (s : ℕ) (task : Task) → crew.task s ≡ Some task → (n : ℕ) (o : Own) → slice_get task.own.items n ≡ Some o →
       OpenedBy crew o.id s
@@ -245,7 +253,7 @@ module _ (k : Table) (job : Job) (input : List ℕ) (t m : ℕ) (leaving : Optio
   -- a key in the stack of a task's scope that is none of the task's is round its home
   beyond : (s : ℕ) (task : Task) (e : crew.task s ≡ Some task) (n : ℕ) (o : Own) (at : slice_get task.own.items n ≡ Some o) (key : ℕ) →
       (let w = stack_by s task e n o at in IsAmong key (keys_of (w.level ∷ w.behind))) → (OpenedBy crew key s → ⊥) →
-          IsAmong key (keys_of (outer_of crew.world.scopes (home_scope task)))
+      IsAmong key (keys_of (outer_of crew.world.scopes (home_scope task)))
   beyond s task e n o at key i never = by_first i
     where
       w : OwnStack crew.world.scopes (home_scope task) task.own.items o n
@@ -255,8 +263,8 @@ module _ (k : Table) (job : Job) (input : List ℕ) (t m : ℕ) (leaving : Optio
       mine j =
           let f = own_among w.split.before key j in
           never (subst (λ (x : ℕ). OpenedBy crew x s) f.is (opened_by s task e f.place f.scope
-              (subst (λ (os : List Own). slice_get os f.place ≡ Some f.scope) (sym w.split.is)
-              (got_first w.split.before (o ∷ w.split.behind) f.place f.scope f.at))))
+          (subst (λ (os : List Own). slice_get os f.place ≡ Some f.scope) (sym w.split.is)
+          (got_first w.split.before (o ∷ w.split.behind) f.place f.scope f.at))))
 
       by_part : IsAmong key (keys_in w.split.before) ⊎ IsAmong key (keys_of (outer_of crew.world.scopes (home_scope task))) →
           IsAmong key (keys_of (outer_of crew.world.scopes (home_scope task)))
@@ -267,7 +275,7 @@ module _ (k : Table) (job : Job) (input : List ℕ) (t m : ℕ) (leaving : Optio
       by_first (inl f) = absurd (never (subst (λ (x : ℕ). OpenedBy crew x s) (sym w.named ∙ sym f) (opened_by s task e n o at)))
       by_first (inr j) =
           by_part (among_either key (keys_in w.split.before) (keys_of (outer_of crew.world.scopes (home_scope task)))
-              (subst (λ (ks : List ℕ). IsAmong key ks) w.keys j))
+          (subst (λ (ks : List ℕ). IsAmong key ks) w.keys j))
 
   module _ (s : ℕ) (mine : Task) (lives : crew.task s ≡ Some mine) (i : ℕ) (o : Own) (at : slice_get mine.own.items i ≡ Some o) where
     -- it is none of another's
@@ -279,7 +287,7 @@ module _ (k : Table) (job : Job) (input : List ℕ) (t m : ℕ) (leaving : Optio
         (n : ℕ) (scope : Own) (e : slice_get starter.own.items n ≡ Some scope) →
         (let w = stack_by parent starter there n scope e in IsAmong o.id (keys_of (w.level ∷ w.behind))) →
         ((j : ℕ) → j ≤ n → RunsIn crew.world.book (blocks_of starter.frames.items) j (waits_of starter.halt)) →
-            RunsIn crew.world.book (blocks_of mine.frames.items) i (waits_of mine.halt)
+        RunsIn crew.world.book (blocks_of mine.frames.items) i (waits_of mine.halt)
     in_mine parent starter there is n scope e among runs = by_order (nat_lt n i) refl
       where
         same : starter ≡ mine
@@ -303,7 +311,7 @@ module _ (k : Table) (job : Job) (input : List ℕ) (t m : ℕ) (leaving : Optio
       where
         by_home : (h : Option Home) → task.home ≡ h →
             ((p : ℕ) (starter : Task) → p < n → p ≢ s → crew.task p ≡ Some starter →
-                IsAmong o.id (keys_of (outer_of crew.world.scopes (home_scope starter))) →
+            IsAmong o.id (keys_of (outer_of crew.world.scopes (home_scope starter))) →
             RunsIn crew.world.book (blocks_of mine.frames.items) i (waits_of mine.halt)) →
             RunsIn crew.world.book (blocks_of mine.frames.items) i (waits_of mine.halt)
         by_home None f further = absurd (subst (λ (h : Option Home).
@@ -322,7 +330,7 @@ module _ (k : Table) (job : Job) (input : List ℕ) (t m : ℕ) (leaving : Optio
                 nursery.0
             own =
                 nursery_own (label_at crew.world) crew.world.book (blocks_of l.starter.frames.items) l.starter.own.items
-                    (waits_of l.starter.halt) home.nursery nursery.0
+                (waits_of l.starter.halt) home.nursery nursery.0
                 (c.follows l.parent l.starter l.lives).goes.opened l.owned nursery.1
 
             w : OwnStack crew.world.scopes (home_scope l.starter) l.starter.own.items own.scope own.place
@@ -340,7 +348,7 @@ module _ (k : Table) (job : Job) (input : List ℕ) (t m : ℕ) (leaving : Optio
             by_parent : (b : Bool) → (l.parent == s) ≡ b → RunsIn crew.world.book (blocks_of mine.frames.items) i (waits_of mine.halt)
             by_parent true g =
                 in_mine l.parent l.starter l.lives (eqb-true l.parent s g) own.place own.scope own.at there
-                    (own.runs (one_runs nursery.0.children home.place nursery.2.1))
+                (own.runs (one_runs nursery.0.children home.place nursery.2.1))
             by_parent false g =
                 let other : l.parent ≢ s = λ h. absurd (let x : true ≡ false = sym (eq-eqb l.parent s h) ∙ g in cc) in
                 further l.parent l.starter (let h = l.earlier in omega (arith, h, lt)) other l.lives
@@ -370,7 +378,7 @@ module _ (k : Table) (job : Job) (input : List ℕ) (t m : ℕ) (leaving : Optio
       differs f =
           let same : by.1.task ≡ mine = one_of by.1.task mine (sym by.1.lives ∙ ap crew.task f ∙ lives) in
           no_other mine.own.items by.1.place by.1.scope (subst (λ (x : Task). slice_get x.own.items by.1.place ≡ Some by.1.scope) same
-              by.1.own) by.1.is others
+          by.1.own) by.1.is others
 
       w : OwnStack crew.world.scopes (home_scope by.1.task) by.1.task.own.items by.1.scope by.1.place
       w = stack_by by.0 by.1.task by.1.lives by.1.place by.1.scope by.1.own
@@ -378,7 +386,7 @@ module _ (k : Table) (job : Job) (input : List ℕ) (t m : ℕ) (leaving : Optio
       among : IsAmong o.id (keys_of (w.level ∷ w.behind))
       among =
           subst (λ (x : Stack). IsAmong o.id (keys_of x)) (one_of st (w.level ∷ w.behind)
-              (sym e ∙ ap (stack_of crew.world.scopes) (sym by.1.is) ∙ w.at)) (key_among o.id st within)
+          (sym e ∙ ap (stack_of crew.world.scopes) (sym by.1.is) ∙ w.at)) (key_among o.id st within)
 
   -- each task has all that a turn asks of it
   pub crew_fits : (s : ℕ) (task : Task) → crew.task s ≡ Some task → Fits task.frames.items task crew.world (waits_of task.halt)

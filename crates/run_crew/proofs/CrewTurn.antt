@@ -32,10 +32,11 @@ abbrev pub ActsOf : {k : Table} {job : Job} {input : List ℕ} {t m s : ℕ} {ol
 ActsOf {old = old} {new = new} {before = before} {after = after} c T =
     Acted (IsEntered c.course.at) old.world.tick (scoping_of before old.world) (scoping_of after new.world) T.move.made
 
+-- the mover of a turn acts on sound stacks, with labels that are apart and known, and enters new ones
 pub acted : {k : Table} {job : Job} {input : List ℕ} {t m s : ℕ} {old new : Crew} {before after : Task} {stop : Stop} →
     (c : IsCrew k job input t m None old) →
     (T : Turning k job input t m s old new c.numbers before after stop c.course) → IsSettled k job input → GivesNamesOnce job →
-        StartsInNurseries job → ActsOf c T
+    StartsInNurseries job → ActsOf c T
 acted c T settled names nurseries =
     record {
       acts = T.took.acts;
@@ -52,7 +53,7 @@ acted c T settled names nurseries =
 pub else_own : {k : Table} {job : Job} {input : List ℕ} {t m s : ℕ} {old new : Crew} {before after : Task} {stop : Stop} →
     (c : IsCrew k job input t m None old) →
     Turning k job input t m s old new c.numbers before after stop c.course → (u : ℕ) (task : Task) → u ≢ s → old.task u ≡ Some task →
-        AreElse task.own.items before.own.items
+    AreElse task.own.items before.own.items
 else_own {s = s} {old = old} {before = before} c T u task differs is o i got = by_own (own_or o.id before.own.items)
   where
     by_own : AreOthers o.id before.own.items ⊎ ((j : ℕ) × (x : Own) × (slice_get before.own.items j ≡ Some x) × (x.id ≡ o.id)) →
@@ -74,9 +75,9 @@ pub nursery_same : {k : Table} {job : Job} {input : List ℕ} {t m s : ℕ} {old
     (c : IsCrew k job input t m None old) →
     Turning k job input t m s old new c.numbers before after stop c.course → (u : ℕ) (task : Task) → u ≢ s → old.task u ≡ Some task →
     (id : ℕ) → HasNurseryOf id (blocks_of task.frames.items) (waits_of task.halt) →
-        nursery_at new.world.book id ≡ nursery_at old.world.book id
+    nursery_at new.world.book id ≡ nursery_at old.world.book id
 nursery_same {old = old} {new = new} {before = before} c T u task differs is id has =
     nurseries_stay (label_at old.world) old.world.book new.world.book (blocks_of before.frames.items) (blocks_of task.frames.items)
-        before.own.items task.own.items (waits_of before.halt)
+    before.own.items task.own.items (waits_of before.halt)
     (waits_of task.halt) old.world.scopes T.fits.opened T.took.others (c.follows u task is).goes.opened (else_own c T u task differs is)
-        (own_open c u task is) id has
+    (own_open c u task is) id has

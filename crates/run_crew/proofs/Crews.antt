@@ -51,7 +51,7 @@ pub record Stood (crew : Crew) (f : Table) (input : List ℕ) (t : ℕ) (at : �
 stood_follows : (crew : Crew) (f : Table) (input : List ℕ) (t : ℕ) (at : ℕ → Started) (numbers : ℕ → Numbers) (leaving : Option ℕ) (s : ℕ)
     (task : Task) →
     Stood crew f input t at leaving s task (numbers s) (at s) → HasHome crew at numbers s task.home →
-        Follows crew f input t at numbers leaving s task
+    Follows crew f input t at numbers leaving s task
 stood_follows crew f input t at numbers leaving s task h home =
     record {
       here = h.here;
@@ -76,56 +76,56 @@ pub follows_by : (crew : Crew) (f : Table) (input : List ℕ) (t : ℕ) (at : �
 follows_by crew f input t at numbers leaving s task n q e g h home =
     stood_follows crew f input t at numbers leaving s task
     (subst (λ (z : Numbers). Stood crew f input t at leaving s task z (at s)) (sym e)
-        (subst (λ (z : Started). Stood crew f input t at leaving s task n z) (sym g) h))
+    (subst (λ (z : Started). Stood crew f input t at leaving s task n z) (sym g) h))
     home
 
 -- ---- a crew
 
 module _ (k : Table) (job : Job) (input : List ℕ) (t m : ℕ) (leaving : Option ℕ) (crew : Crew) (c : IsCrew k job input t m leaving crew)
-    where
-  -- no task has a later serial number than those given
-  pub gone_below : (s : ℕ) (g : Gone) → crew.gone s ≡ Some g → s < m
-  gone_below s g e = by_order (cases_lt s m)
-    where
-      by_order : (s < m) ⊎ (m ≤ s) → s < m
-      by_order (inl h) = h
-      by_order (inr h) = absurd (not_both (c.unborn s h).1 e)
+  where
+    -- no task has a later serial number than those given
+    pub gone_below : (s : ℕ) (g : Gone) → crew.gone s ≡ Some g → s < m
+    gone_below s g e = by_order (cases_lt s m)
+      where
+        by_order : (s < m) ⊎ (m ≤ s) → s < m
+        by_order (inl h) = h
+        by_order (inr h) = absurd (not_both (c.unborn s h).1 e)
 
-  -- the scope of a task's nursery is one that the task opened
-  pub owner : (s : ℕ) (a : Task) → crew.task s ≡ Some a → (id : ℕ) (n : Nursery) →
-      HasNurseryOf id (blocks_of a.frames.items) (waits_of a.halt) →
-      nursery_at crew.world.book id ≡ Some n → OpenedBy crew n.scope s
-  owner s a e id n has at = by_own (own_or n.scope a.own.items)
-    where
-      by_own : AreOthers n.scope a.own.items ⊎ ((i : ℕ) × (o : Own) × (slice_get a.own.items i ≡ Some o) × (o.id ≡ n.scope)) →
-          OpenedBy crew n.scope s
-      by_own (inl others) =
-          absurd (has_scope (label_at crew.world) crew.world.book (blocks_of a.frames.items) a.own.items (waits_of a.halt) id n
-              (c.follows s a e).goes.opened has at others)
-      by_own (inr h) = record { task = a; lives = e; place = h.0; scope = h.1; own = h.2; is = h.3 }
+    -- the scope of a task's nursery is one that the task opened
+    pub owner : (s : ℕ) (a : Task) → crew.task s ≡ Some a → (id : ℕ) (n : Nursery) →
+        HasNurseryOf id (blocks_of a.frames.items) (waits_of a.halt) →
+        nursery_at crew.world.book id ≡ Some n → OpenedBy crew n.scope s
+    owner s a e id n has at = by_own (own_or n.scope a.own.items)
+      where
+        by_own : AreOthers n.scope a.own.items ⊎ ((i : ℕ) × (o : Own) × (slice_get a.own.items i ≡ Some o) × (o.id ≡ n.scope)) →
+            OpenedBy crew n.scope s
+        by_own (inl others) =
+            absurd (has_scope (label_at crew.world) crew.world.book (blocks_of a.frames.items) a.own.items (waits_of a.halt) id n
+            (c.follows s a e).goes.opened has at others)
+        by_own (inr h) = record { task = a; lives = e; place = h.0; scope = h.1; own = h.2; is = h.3 }
 
-  -- so no two tasks have the same nursery
-  pub one_nursery : (s u : ℕ) (a b : Task) → crew.task s ≡ Some a → crew.task u ≡ Some b → (id : ℕ) (n : Nursery) →
-      HasNurseryOf id (blocks_of a.frames.items) (waits_of a.halt) →
-      HasNurseryOf id (blocks_of b.frames.items) (waits_of b.halt) → nursery_at crew.world.book id ≡ Some n → s ≡ u
-  one_nursery s u a b e f id n has too at = c.apart n.scope s u (owner s a e id n has at) (owner u b f id n too at)
+    -- so no two tasks have the same nursery
+    pub one_nursery : (s u : ℕ) (a b : Task) → crew.task s ≡ Some a → crew.task u ≡ Some b → (id : ℕ) (n : Nursery) →
+        HasNurseryOf id (blocks_of a.frames.items) (waits_of a.halt) →
+        HasNurseryOf id (blocks_of b.frames.items) (waits_of b.halt) → nursery_at crew.world.book id ≡ Some n → s ≡ u
+    one_nursery s u a b e f id n has too at = c.apart n.scope s u (owner s a e id n has at) (owner u b f id n too at)
 
-  -- and the task whose nursery is another's home is the earlier
-  pub home_earlier : (p : ℕ) (a : Task) → crew.task p ≡ Some a → (id place : ℕ) → home_of a ≡ Some (id, place) → (u : ℕ) (b : Task) →
-      crew.task u ≡ Some b →
-      HasNurseryOf id (blocks_of b.frames.items) (waits_of b.halt) → u < p
-  home_earlier p a e id place at u b f has = by_home a.home refl (c.follows p a e).home
-    where
-      by_home : (h : Option Home) → a.home ≡ h → HasHome crew c.course.at c.numbers p h → u < p
-      by_home None g h =
-          let none : home_of a ≡ None = ap (option_map (λ (x : Home). (x.nursery, x.place))) g in
-          absurd (not_both none at)
-      by_home (Some home) g l =
-          let here : home_of a ≡ Some (home.nursery, home.place) = ap (option_map (λ (x : Home). (x.nursery, x.place))) g in
-          let same : home.nursery ≡ id = ap (λ (z : ℕ × ℕ). z.0) (one_of (home.nursery, home.place) (id, place) (sym here ∙ at)) in
-          let n = finds crew.world.book home.nursery _ l.runs in
-          let one : l.parent ≡ u =
-          one_nursery l.parent u l.starter b l.lives f home.nursery n.0 l.owned
-          (subst (λ (key : ℕ). HasNurseryOf key (blocks_of b.frames.items) (waits_of b.halt)) (sym same) has) n.1 in
-          let earlier : l.parent < p = l.earlier in
-          omega arith
+    -- and the task whose nursery is another's home is the earlier
+    pub home_earlier : (p : ℕ) (a : Task) → crew.task p ≡ Some a → (id place : ℕ) → home_of a ≡ Some (id, place) → (u : ℕ) (b : Task) →
+        crew.task u ≡ Some b →
+        HasNurseryOf id (blocks_of b.frames.items) (waits_of b.halt) → u < p
+    home_earlier p a e id place at u b f has = by_home a.home refl (c.follows p a e).home
+      where
+        by_home : (h : Option Home) → a.home ≡ h → HasHome crew c.course.at c.numbers p h → u < p
+        by_home None g h =
+            let none : home_of a ≡ None = ap (option_map (λ (x : Home). (x.nursery, x.place))) g in
+            absurd (not_both none at)
+        by_home (Some home) g l =
+            let here : home_of a ≡ Some (home.nursery, home.place) = ap (option_map (λ (x : Home). (x.nursery, x.place))) g in
+            let same : home.nursery ≡ id = ap (λ (z : ℕ × ℕ). z.0) (one_of (home.nursery, home.place) (id, place) (sym here ∙ at)) in
+            let n = finds crew.world.book home.nursery _ l.runs in
+            let one : l.parent ≡ u =
+            one_nursery l.parent u l.starter b l.lives f home.nursery n.0 l.owned
+            (subst (λ (key : ℕ). HasNurseryOf key (blocks_of b.frames.items) (waits_of b.halt)) (sym same) has) n.1 in
+            let earlier : l.parent < p = l.earlier in
+            omega arith

@@ -81,8 +81,12 @@ few_live at (s ∷ ss) qs distinct lives =
     other u i e (inr h) = h
 
     behind : (u : ℕ) → In u ss → LivesAt at a.others u
-    behind u i = let l = lives u (inr i) in record { among = other u i l.serial (a.rest (at u) l.among); serial = l.serial; lives =
-        l.lives }
+    behind u i = let l = lives u (inr i) in record {
+      among = other u i l.serial (a.rest (at u) l.among);
+      serial = l.serial;
+      lives =
+          l.lives;
+    }
 
 -- so many of a crew have not ended at most
 pub crew_few : (k : Table) (job : Job) (input : List ℕ) (t m : ℕ) (crew : Crew) → IsCrew k job input t m None crew →

@@ -12,24 +12,29 @@ use Rattle.task_machine.proofs.Stacked.{one_of}
 
 -- ---- at a place of a list
 
+-- a place at which something stands is below the length
 pub below_length : {A : Type 0} (xs : List A) (i : ℕ) (x : A) → slice_get xs i ≡ Some x → i < length xs
 below_length [] i x e = absurd (let f : None ≡ Some x = e in cc)
 below_length (y ∷ xs) zero x e = omega arith
 below_length (y ∷ xs) (suc i) x e = let h : i < length xs = below_length xs i x e in omega arith
 
+-- nothing stands at a place from the length on
 pub past_length : {A : Type 0} (xs : List A) (i : ℕ) → length xs ≤ i → slice_get xs i ≡ None
 past_length [] i le = refl
 past_length (x ∷ xs) zero le = absurd (omega (arith, le))
 past_length (x ∷ xs) (suc i) le = past_length xs i (omega (arith, le))
 
+-- something stands at each place below the length
 pub nth : {A : Type 0} (xs : List A) (i : ℕ) → i < length xs → (x : A) × (slice_get xs i ≡ Some x)
 nth [] i lt = absurd (omega (arith, lt))
 nth (x ∷ xs) zero lt = (x, refl)
 nth (x ∷ xs) (suc i) lt = nth xs i (omega (arith, lt))
 
+-- one thing stands at a place
 pub same_got : {A : Type 0} (xs : List A) (i : ℕ) (x y : A) → slice_get xs i ≡ Some x → slice_get xs i ≡ Some y → x ≡ y
 same_got xs i x y e f = one_of x y (sym e ∙ f)
 
+-- what stands at a place of a list does so where more comes behind
 pub got_first : {A : Type 0} (xs ys : List A) (i : ℕ) (x : A) → slice_get xs i ≡ Some x → slice_get (xs ++ ys) i ≡ Some x
 got_first [] ys i x e = absurd (let f : None ≡ Some x = e in cc)
 got_first (y ∷ xs) ys zero x e = e
@@ -42,6 +47,7 @@ pub record SplitAt {A : Type 0} (xs : List A) (x : A) (n : ℕ) : Type 0 where
   pub is : xs ≡ before ++ x ∷ behind
   pub long : length before ≡ n
 
+-- a list is what is before a place, what stands there, and what is behind
 pub split_at : {A : Type 0} (xs : List A) (x : A) (n : ℕ) → slice_get xs n ≡ Some x → SplitAt xs x n
 split_at [] x n e = absurd (let f : None ≡ Some x = e in cc)
 split_at (y ∷ xs) x zero e =
@@ -59,6 +65,7 @@ later_behind (z ∷ before) behind x y (suc i) lt e = later_behind before behind
 
 -- ---- at a key of a book
 
+-- a book in which a nursery is open of which this is true gives that nursery
 pub finds : (book : NurseryBook) (id : ℕ) (P : Nursery → Type 0) → HasNursery book id P → (n : Nursery) × (nursery_at book id ≡ Some n)
     × P n
 finds book id P h = by_nursery (nursery_at book id) h
@@ -67,9 +74,11 @@ finds book id P h = by_nursery (nursery_at book id) h
     by_nursery None g = absurd g
     by_nursery (Some n) g = (n, refl, g)
 
+-- what is true of a book's nursery is true of the one that is found there
 pub gives : (book : NurseryBook) (id : ℕ) (n : Nursery) (P : Nursery → Type 0) → nursery_at book id ≡ Some n → HasNursery book id P → P n
 gives book id n P e h = subst (λ (o : Option Nursery). IsSomeAnd o P) e h
 
+-- what is true of the nursery that is found is true of the book's
 pub puts : (book : NurseryBook) (id : ℕ) (n : Nursery) (P : Nursery → Type 0) → nursery_at book id ≡ Some n → P n → HasNursery book id P
 puts book id n P e h = subst (λ (o : Option Nursery). IsSomeAnd o P) (sym e) h
 
@@ -85,13 +94,22 @@ pub record KeysAt (st : Stack) (ks : List ℕ) (k : ℕ) (ms : List ℕ) : Type 
   pub inner : keys_of before ≡ ks
   pub outer : keys_of behind ≡ ms
 
+-- a stack whose keys come in parts comes in these parts
 pub keys_at : (st : Stack) (ks : List ℕ) (k : ℕ) (ms : List ℕ) → keys_of st ≡ ks ++ k ∷ ms → KeysAt st ks k ms
 keys_at [] [] k ms e = absurd (let f : [] ≡ k ∷ ms = e in cc)
 keys_at [] (x ∷ ks) k ms e = absurd (let f : [] ≡ x ∷ (ks ++ k ∷ ms) = e in cc)
 keys_at (l ∷ ls) [] k ms e =
     let f : l.label ∷ keys_of ls ≡ k ∷ ms = e in
-    record { before = []; level = l; behind = ls; is = refl; named = (let g : l.label ≡ k = cc in g); inner = refl; outer =
-        (let g : keys_of ls ≡ ms = cc in g) }
+    record {
+      before = [];
+      level = l;
+      behind = ls;
+      is = refl;
+      named = (let g : l.label ≡ k = cc in g);
+      inner = refl;
+      outer =
+          (let g : keys_of ls ≡ ms = cc in g);
+    }
 keys_at (l ∷ ls) (x ∷ ks) k ms e =
     let f : l.label ∷ keys_of ls ≡ x ∷ (ks ++ k ∷ ms) = e in
     let first : l.label ≡ x = cc in let more : keys_of ls ≡ ks ++ k ∷ ms = cc in

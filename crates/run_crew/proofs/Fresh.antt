@@ -38,7 +38,7 @@ new_of known (enters m t d ∷ es) once none =
         let g = enters_counted l es i in
         let h : 1 ≤ times_made l (enters m t d ∷ []) = enters_counted l (enters m t d ∷ []) (inl e) in
         let j : times_made l (enters m t d ∷ es) ≡ times_made l (enters m t d ∷ []) + times_made l es =
-            times_join l (enters m t d ∷ []) es in
+        times_join l (enters m t d ∷ []) es in
         absurd (omega (arith, f, g, h, j))
 
     none_after : (l : Label) → (l ≡ m) ⊎ known l → EntersIn l es → ⊥
@@ -48,6 +48,7 @@ new_of known (starts i m t ∷ es) once none = new_of known es once none
 
 -- ---- what a turn enters
 
+-- the labels that a turn enters were entered by no task before it, and none is twice in it
 pub fresh_after : (k : Table) (job : Job) (input : List ℕ) (t m s : ℕ) (was : Course k job input t m) (o : Move) (stopped : Stopped) →
     IsSettled k job input → GivesNamesOnce job →
     StartsInNurseries job → s < m → (w : WentOn k job input t m s was o stopped) → AreNew (IsEntered was.at) o.made
@@ -75,7 +76,7 @@ fresh_after k job input t m s was o stopped settled names starting less w = new_
     by_serial l p known i true e c f =
         let is : p ≡ s = eqb-true p s e in
         let had = enters_counted l (was.at s).made (known_enters l (was.at s).made
-            (subst (λ (n : ℕ). Known l (entered_made (was.at n).made)) is known)) in
+        (subst (λ (n : ℕ). Known l (entered_made (was.at n).made)) is known)) in
         let new = enters_counted l o.made i in
         let most = once l in let g = made_counted l (w.is.at s) w.is.tasks there.0 in let h = joined l in
         absurd (omega (arith, had, new, most, g, h))

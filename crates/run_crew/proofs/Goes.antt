@@ -28,6 +28,7 @@ pub record Others (q : Started) (qs : List Started) : Type 0 where
   pub others : List Started
   pub front : Front q qs others
 
+-- any task of a run may be taken to the front
 pub front_of : (q : Started) (qs : List Started) → In q qs → Others q qs
 front_of q [] i = absurd i
 front_of q (x ∷ qs) (inl e) = subst (λ (y : Started). Others q (y ∷ qs)) e (record { others = qs; front = is_front q qs })
@@ -75,8 +76,13 @@ in_nth k t m (b ∷ bs) d x (inl e) =
     record { place = 0; below = omega arith; serial = ap (λ (y : Started). y.serial) e ∙ omega arith; is = e }
 in_nth k t m (b ∷ bs) d x (inr i) =
     let h = in_nth k t (suc m) bs d x i in
-    record { place = suc h.place; below = (let e = h.below in omega (arith, e)); serial = (let e = h.serial in omega (arith, e)); is =
-        h.is }
+    record {
+      place = suc h.place;
+      below = (let e = h.below in omega (arith, e));
+      serial = (let e = h.serial in omega (arith, e));
+      is =
+          h.is;
+    }
 
 nth_at : (k : Table) (t m : ℕ) (bs : List Begun) (i : ℕ) (d : Started) (b : Begun) → slice_get bs i ≡ Some b →
     nth_child k t m bs i d ≡ child_at k t (m + i) b
@@ -122,7 +128,7 @@ wait_moved qs rs q t children ended e x back h =
 pub ready_by : (f g : Table) (qs rs : List Started) (t : ℕ) (q : Started) (w : Wake) (s : Stopped) →
     seen (stack_at f q.places) t ≡ seen (stack_at g q.places) t →
     ((children : List ℕ) (ended : ℕ) (e x : Option Exc) → WaitIsOver qs q t children ended e x → WaitIsOver rs q t children ended e x) →
-        MayWake f qs t q w s → MayWake g rs t q w s
+    MayWake f qs t q w s → MayWake g rs t q w s
 ready_by f g qs rs t q begins to_begin same over h = h
 ready_by f g qs rs t q begins (asking k p) same over h = absurd h
 ready_by f g qs rs t q begins (asleep n u) same over h = absurd h
@@ -149,6 +155,7 @@ ready_by f g qs rs t q (settles x) (asleep n u) same over h = absurd h
 ready_by f g qs rs t q (settles x) (awaiting cs u e) same over h = over cs u e x h
 ready_by f g qs rs t q (settles x) (at_end u e) same over h = absurd h
 
+-- who may be woken among some tasks may be so among fewer of them
 pub may_moved : (f : Table) (qs rs : List Started) (t : ℕ) (q : Started) (w : Wake) (s : Stopped) → ((c : Started) → In c rs → In c qs) →
     MayWake f qs t q w s → MayWake f rs t q w s
 may_moved f qs rs t q w s back h =
@@ -200,11 +207,12 @@ pub record WentOn (k : Table) (job : Job) (input : List ℕ) (t m s : ℕ) (was 
   pub of_child : (i : ℕ) (b : Begun) → slice_get o.begun i ≡ Some b → is.at (m + i) ≡ child_at k t (m + i) b
   pub of_other : (p : ℕ) → p < m → p ≢ s → is.at p ≡ was.at p
 
+-- a turn of a task that may be woken so takes a run on
 pub went_on : (k : Table) (job : Job) (input : List ℕ) (t m s : ℕ) (was : Course k job input t m) (wake : Wake) (o : Move)
     (stopped : Stopped) → s < m →
     MayWake was.froms was.tasks t (was.at s) wake (was.at s).rest.stopped →
     TurnsOver (was.at s).stop t (was.at s).here was.froms wake (was.at s).rest (was.at s).places (was.at s).count o →
-        o.stopped ≡ Some stopped →
+    o.stopped ≡ Some stopped →
     WentOn k job input t m s was o stopped
 went_on k job input t m s was wake o stopped less may goes stops =
     record {
@@ -264,7 +272,7 @@ went_on k job input t m s was wake o stopped less may goes stops =
       where
         by_same : (b : Bool) → (p == s) ≡ b → (c : Bool) → nat_lt p m ≡ c →
             picked b c (turned k t m q o stopped) (was.at p) (nth_child k t m o.begun (p - m) (was.at p))
-                ≡ nth_child k t m o.begun (p - m) (was.at p)
+            ≡ nth_child k t m o.begun (p - m) (was.at p)
         by_same true e c f = absurd (let g : p ≡ s = eqb-true p s e in omega (arith, g, le, less))
         by_same false e true f = absurd (grind (arith, nat_tests))
         by_same false e false f = refl
@@ -294,15 +302,17 @@ went_on k job input t m s was wake o stopped less may goes stops =
         by_same false e true f =
             let lower : p < m = grind (arith, nat_tests) in
             let differs : p ≢ s = λ g. absurd (let x : true ≡ false = sym (eq-eqb p s g) ∙ e in cc) in
-            subst Has (sym (at_other p lower differs))
-            (in_second (was.at p) (turned k t m q o stopped ∷ children_from k t m o.begun) others (has_old p lower differs),
-                (was.has p lower).1)
+            subst Has (sym (at_other p lower differs)) (
+              in_second (was.at p) (turned k t m q o stopped ∷ children_from k t m o.begun) others (has_old p lower differs),
+              (was.has p lower).1,
+            )
         by_same false e false f =
             let upper : m ≤ p = grind (arith, nat_tests) in
             let h = nth_in k t m o.begun (p - m) (was.at p) (omega (arith, lt, upper)) in
-            subst Has (sym (at_born p upper))
-            (inr (in_first (nth_child k t m o.begun (p - m) (was.at p)) (children_from k t m o.begun) others h.0),
-                (let e = h.1 in omega (arith, e, upper)))
+            subst Has (sym (at_born p upper)) (
+              inr (in_first (nth_child k t m o.begun (p - m) (was.at p)) (children_from k t m o.begun) others h.0),
+              (let e = h.1 in omega (arith, e, upper)),
+            )
 
     one_after : (x : Started) → In x ((turned k t m q o stopped ∷ children_from k t m o.begun) ++ others) → (x ≡ at_after x.serial)
         × (x.serial < m + length o.begun)
@@ -316,9 +326,11 @@ went_on k job input t m s was wake o stopped less may goes stops =
         by_part (inl (inr j)) =
             let h = in_nth k t m o.begun (was.at x.serial) x j in
             let upper : m ≤ x.serial = (let e = h.serial in omega (arith, e)) in
-            let place : h.place ≡ x.serial - m = (let e = h.serial in omega (arith, e)) in
-            (h.is ∙ ap (λ (n : ℕ). nth_child k t m o.begun n (was.at x.serial)) place
-                ∙ sym (at_born x.serial upper), (let e = h.serial in let f = h.below in omega (arith, e, f)))
+            let place : h.place ≡ x.serial - m = (let e = h.serial in omega (arith, e)) in (
+              h.is ∙ ap (λ (n : ℕ). nth_child k t m o.begun n (was.at x.serial)) place
+                  ∙ sym (at_born x.serial upper),
+              (let e = h.serial in let f = h.below in omega (arith, e, f)),
+            )
         by_part (inr j) =
             let h = was.one x (same.back x (inr j)) in
             let differs : x.serial ≢ s = λ e. absurd (apart.0 x j (e ∙ sym (was.has s less).1)) in
@@ -331,7 +343,7 @@ went_on k job input t m s was wake o stopped less may goes stops =
         later : (x y : Started) → In x (children_from k t m o.begun) → In y others → y.serial ≢ x.serial
         later x y i j e =
             let h = in_nth k t m o.begun x x i in let g = (was.one y (same.back y (inr j))).1 in let z =
-                h.serial in absurd (omega (arith, e, g, z))
+            h.serial in absurd (omega (arith, e, g, z))
 
         by_either : (x : Started) → In x (children_from k t m o.begun) ⊎ In x others → x.serial ≢ q.serial
         by_either x (inl i) e =

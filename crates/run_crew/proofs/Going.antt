@@ -103,14 +103,18 @@ turn_stopped : (k f : Table) (t m : ℕ) (q : Started) (qs others : List Started
     TurnsOver q.stop t q.here f wake q.rest q.places q.count o → o.stopped ≡ Some s → ((z : Started) → In z qs → StoppedBy t z) →
     (x : Started) → In x ((turned k t m q o s ∷ children_from k t m o.begun) ++ others) → StoppedBy t x
 turn_stopped k f t m q qs others wake o s at goes e before x (inl g) =
-    subst (StoppedBy t) (sym g) (record { stop = omega arith; body =
-        body_at t (froms_after f o.made) s o.places (stops_at t f wake q o s goes e) })
+    subst (StoppedBy t) (sym g) (record {
+      stop = omega arith;
+      body =
+          body_at t (froms_after f o.made) s o.places (stops_at t f wake q o s goes e);
+    })
 turn_stopped k f t m q qs others wake o s at goes e before x (inr i) = by_place (in_either x (children_from k t m o.begun) others i)
   where
     by_place : In x (children_from k t m o.begun) ⊎ In x others → StoppedBy t x
     by_place (inl j) = begun_stopped k t m o.begun x j
     by_place (inr j) = before x ((front_same q qs others at).back x (inr j))
 
+-- each task of a run stopped by the present tick, and the body of a nursery that it waits for ended by then
 pub stopped_by : (k : Table) (job : Job) (input : List ℕ) → {f : Table} {t m : ℕ} {qs : List Started} → Reached k job input f t m qs →
     (q : Started) → In q qs → StoppedBy t q
 stopped_by k job input (begun f) q (inl e) = subst (StoppedBy 0) (sym e) (record { stop = omega arith; body = tt })
@@ -198,7 +202,7 @@ module _ (at : ℕ → Started) (t : ℕ) (child : ℕ → ℕ) where
   ended_so (j ∷ is) (None ∷ es) h i among = absurd h
   ended_so (j ∷ is) (Some exc ∷ es) h i (inl e) =
       subst (λ (s : Stopped). s ≡ at_end (member_of s).end (member_of s).exc) (sym (ap (λ (n : ℕ). (at (child n)).rest.stopped) e ∙ h.0.2))
-          refl
+      refl
   ended_so (j ∷ is) (Some exc ∷ es) h i (inr among) = ended_so is es h.1 i among
 
   same_excs : (is : List ℕ) (es : List End) → AllEnded at t child is es → excs_in es ≡ excs_of (members_by ends is)
@@ -223,7 +227,7 @@ module _ (at : ℕ → Started) (t : ℕ) (child : ℕ → ℕ) where
 latest_told : (k f : Table) (whole : Result) (qs : List Started) → OnCourse k f whole qs → (q : Started) → In q qs →
     (ends : ℕ → Member) (is : List ℕ) →
     ((n : ℕ) → IsAmong n is → n < q.count) → ((n : ℕ) → IsAmong n is → (c : Started) → In c qs → c.serial ≡ q.child n →
-        c.rest.stopped ≡ at_end (ends n).end (ends n).exc) →
+    c.rest.stopped ≡ at_end (ends n).end (ends n).exc) →
     (u : ℕ) → latest u (told_members q.told is) ≡ latest u (members_by ends is)
 latest_told k f whole qs o q i ends [] below over u = refl
 latest_told k f whole qs o q i ends (n ∷ is) below over u =
@@ -295,7 +299,7 @@ settled_children n s = by_body (is_some n.body) s
 pub settled_waits : (k : Table) (job : Job) (input : List ℕ) (t m : ℕ) (crew : Crew) → IsCrew k job input t m None crew →
     (s : ℕ) (a : Task) (id : ℕ) → crew.task s ≡ Some a →
     HasNurseryOf id (blocks_of a.frames.items) (waits_of a.halt) → HasNursery crew.world.book id (λ n. is_settled n ≡ true) →
-        waits_of a.halt ≡ Some id
+    waits_of a.halt ≡ Some id
 settled_waits k job input t m crew c s a id e (inl has) over =
     let book = crew.world.book in
     let n = finds book id (λ n. is_settled n ≡ true) over in
@@ -306,6 +310,7 @@ settled_waits k job input t m crew c s a id e (inr waits) over = waits
 
 -- ---- going on
 
+-- a task that may go on by what the code sees may be woken so in the run of the definitions
 pub may_wake : (k : Table) (job : Job) (input : List ℕ) (t m : ℕ) (crew : Crew) → IsSettled k job input → GivesNamesOnce job →
     StartsInNurseries job →
     (c : IsCrew k job input t m None crew) → (s : ℕ) (task : Task) → crew.task s ≡ Some task → (wake : Wake) → MayGo crew.world task wake →
@@ -368,19 +373,23 @@ may_wake k job input t m crew settled names starting c s task lives wake may =
     sleeps_now : (w : Wake) (ticks since n u : ℕ) → ticks ≡ n → since ≡ u → WakesFrom (Asleep ticks since) task.part book w →
         IsTimely crew.world (scope_of task) (Asleep ticks since) w →
         MayWake f qs t q (wake_in book (Asleep ticks since) w) (asleep n u)
-    sleeps_now Due ticks since n u e g h timely =
-        (let a : since + ticks ≡ crew.world.tick = timely.0 in let b : crew.world.tick ≡ t = c.tick in
-            omega (arith, a, b, e, g), same_seen false timely.1)
-    sleeps_now Seen ticks since n u e g h timely =
-        (let a : since < crew.world.tick = timely.0 in let b : crew.world.tick ≡ t = c.tick in
-            omega (arith, a, b, g), same_seen true timely.1)
+    sleeps_now Due ticks since n u e g h timely = (
+      let a : since + ticks ≡ crew.world.tick = timely.0 in let b : crew.world.tick ≡ t = c.tick in
+          omega (arith, a, b, e, g),
+      same_seen false timely.1,
+    )
+    sleeps_now Seen ticks since n u e g h timely = (
+      let a : since < crew.world.tick = timely.0 in let b : crew.world.tick ≡ t = c.tick in
+          omega (arith, a, b, g),
+      same_seen true timely.1,
+    )
     sleeps_now _ ticks since n u e g h timely = absurd h
 
     -- a nursery that is waited for is over when it is settled
     over_now : (id since u : ℕ) (children : List ℕ) (exc : Option Exc) → task.halt ≡ Awaits id since → c.numbers s id ≡ children →
         HasNursery book id (λ n. n.body ≡ Some exc) →
         t ≤ latest u (told_members q.told children) → u ≤ t → HasNursery book id (λ n. is_settled n ≡ true) →
-            WaitIsOver qs q t children u exc (raised_in (nursery_at book id))
+        WaitIsOver qs q t children u exc (raised_in (nursery_at book id))
     over_now id since u children exc halt numbers body late ended over =
         record {
           ends = found;
@@ -402,9 +411,9 @@ may_wake k job input t m crew settled names starting c s task lives wake may =
         has_ended =
             subst (λ (is : List ℕ). AllEnded c.course.at t q.child is n.0.children) numbers
             (all_ended c.course.at t q.child (c.numbers s id) n.0.children n.2.long
-                (settled_children n.0 (gives book id n.0 (λ n. is_settled n ≡ true) n.1 over))
+            (settled_children n.0 (gives book id n.0 (λ n. is_settled n ≡ true) n.1 over))
             (λ place number e. ends_as crew c.course.at t id place (q.child number) (slice_get n.0.children place)
-                (n.2.members place number e).1))
+            (n.2.members place number e).1))
 
         is_child : (i : ℕ) → IsAmong i children → i < q.count
         is_child i among =
@@ -415,7 +424,7 @@ may_wake k job input t m crew settled names starting c s task lives wake may =
             x.rest.stopped ≡ at_end (found i).end (found i).exc
         child_over i among x j e =
             ap (λ (y : Started). y.rest.stopped) ((c.course.one x j).0 ∙ ap c.course.at e)
-                ∙ ended_so c.course.at t q.child children n.0.children has_ended i among
+            ∙ ended_so c.course.at t q.child children n.0.children has_ended i among
 
         ends_now : latest u (members_by found children) ≡ t
         ends_now =
@@ -445,23 +454,23 @@ may_wake k job input t m crew settled names starting c s task lives wake may =
         raises =
             ap (λ (l : Label). group_of (by_nursery l) (parts_of (with_exc exc (excs_of (members_by found children))))) first.3
             ∙ ap (λ (es : List Exc). group_of (by_nursery n.0.label) (parts_of (with_exc exc es)))
-                (sym (same_excs c.course.at t q.child children n.0.children has_ended))
+            (sym (same_excs c.course.at t q.child children n.0.children has_ended))
             ∙ ap (λ (es : List Exc). group_of (by_nursery n.0.label) (parts_of es)) (sym (same_with exc (excs_in n.0.children)))
             ∙ ap (λ (b : End). group_of (by_nursery n.0.label) (parts_of (nursery.with_exc b (excs_in n.0.children))))
-                (sym (gives book id n.0 (λ n. n.body ≡ Some exc) n.1 body))
+            (sym (gives book id n.0 (λ n. n.body ≡ Some exc) n.1 body))
             ∙ sym (ap raised_in n.1)
 
     settles_now : (w : Wake) (id since u : ℕ) (children : List ℕ) (exc : Option Exc) → task.halt ≡ Awaits id since →
         c.numbers s id ≡ children → HasNursery book id (λ n. n.body ≡ Some exc) →
         t ≤ latest u (told_members q.told children) → u ≤ t → WakesFrom (Awaits id since) task.part book w →
-            MayWake f qs t q (wake_in book (Awaits id since) w) (awaiting children u exc)
+        MayWake f qs t q (wake_in book (Awaits id since) w) (awaiting children u exc)
     settles_now Settled id since u children exc halt numbers body late ended h =
         over_now id since u children exc halt numbers body late ended h
     settles_now _ id since u children exc halt numbers body late ended h = absurd h
 
     by_stop : (halt : Halt) (stopped : Stopped) → task.halt ≡ halt → IsHalt (c.numbers s) book halt stopped →
         (live stopped ≡ true → t ≤ goes_on q.told stopped (stack_at k q.places) q.stop) → BodyBy t stopped →
-            WakesFrom halt task.part book wake → IsTimely crew.world (scope_of task) halt wake →
+        WakesFrom halt task.part book wake → IsTimely crew.world (scope_of task) halt wake →
         MayWake f qs t q (wake_in book halt wake) stopped
     by_stop ToBegin to_begin e h late body fits timely = begins_now wake fits (now (late refl))
     by_stop (Asked kernel purpose) (asking asked p) e h late body fits timely =

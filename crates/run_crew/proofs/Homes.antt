@@ -43,10 +43,19 @@ home_further l h =
 home_first : {P : ℕ → ℕ → Type 0} {now : Numbers} {labels : Labels} {froms : Table} {number : ℕ} {home : List Place} →
     (id : ℕ) (l : Level ℕ) (st : Stack) (p : Place)
     (ps : List Place) → IsAmong number (now id) → P id l.label → AreAt labels froms (l ∷ st) (p ∷ ps) → home ≡ p ∷ ps →
-        HomeIn P now labels froms number home (l ∷ st)
+    HomeIn P now labels froms number home (l ∷ st)
 home_first {labels = labels} {froms = froms} id l st p ps among is a e =
-    record { id = id; level = l; among = among; is = is; before = []; behind = st; split = refl; places =
-        subst (AreAt labels froms (l ∷ st)) (sym e) a }
+    record {
+      id = id;
+      level = l;
+      among = among;
+      is = is;
+      before = [];
+      behind = st;
+      split = refl;
+      places =
+          subst (AreAt labels froms (l ∷ st)) (sym e) a;
+    }
 
 home_in : (P : ℕ → ℕ → Type 0) (now : Numbers) (labels : Labels) (froms : Table) (number : ℕ) (home : List Place) (fs : List Frame)
     (st : Stack) (ps : List Place) →
@@ -79,7 +88,7 @@ home_working P now labels froms number home waits fs st ps w k a h =
 home_waiting : (P : ℕ → ℕ → Type 0) (now : Numbers) (labels : Labels) (froms : Table) (number : ℕ) (home : List Place) (id : ℕ)
     (fs : List Frame) (st : Stack)
     (ps : List Place) (stopped : Stopped) → WaitsAs now (Some id) stopped → KeyedAfter P (Some id) now fs (keys_of st) →
-        AreAt labels froms st ps →
+    AreAt labels froms st ps →
     HasChildAfter number home (Some stopped) fs ps → HomeIn P now labels froms number home st
 home_waiting P now labels froms number home id fs [] ps stopped w k a h = absurd k
 home_waiting P now labels froms number home id fs (l ∷ st) [] stopped w k a h = absurd a
@@ -119,6 +128,7 @@ nil_not : (before : Stack) (l : Level ℕ) (behind : Stack) → [] ≡ before ++
 nil_not [] l behind e = let f : [] ≡ l ∷ behind = e in cc
 nil_not (x ∷ before) l behind e = let f : [] ≡ x ∷ (before ++ l ∷ behind) = e in cc
 
+-- of what stands round a task, the rest from one scope on is that scope's stack
 pub chain_round : (tree : Tree) → IsChain tree → (scope : Option ℕ) (before : Stack) (l : Level ℕ) (behind : Stack) →
     outer_of tree scope ≡ before ++ l ∷ behind →
     stack_of tree l.label ≡ Some (l ∷ behind)

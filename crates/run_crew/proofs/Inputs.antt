@@ -20,6 +20,7 @@ abbrev pub AllOn : List ℕ → List Begun → Type 0
 AllOn input [] = Unit {0}
 AllOn input (b ∷ bs) = (b.here.input ≡ input) × AllOn input bs
 
+-- where all children begun are on one input, the one at a place is
 pub on_at : (input : List ℕ) (bs : List Begun) → AllOn input bs → (i : ℕ) (b : Begun) → slice_get bs i ≡ Some b → b.here.input ≡ input
 on_at input [] h i b e = absurd (not_both refl e)
 on_at input (c ∷ bs) h zero b e = subst (λ (z : Begun). z.here.input ≡ input) (one_of c b e) h.0
@@ -136,8 +137,18 @@ unfolding turn_from
 turn_on_input n froms t here w s fs ps count =
     let o = wake_of froms t here w s fs ps in
     then_on here.input o.stopped o
-    (turn_of n (froms_after froms o.made) t here (record { frames = o.frames; places = o.places; exc = o.exc; count =
-        count + length o.begun }))
+    (turn_of n (froms_after froms o.made) t here (record {
+      frames = o.frames;
+      places = o.places;
+      exc = o.exc;
+      count =
+          count + length o.begun;
+    }))
     (wake_on here.input froms t here w s fs ps)
-    (steps_on_input n (froms_after froms o.made) t here (record { frames = o.frames; places = o.places; exc = o.exc; count =
-        count + length o.begun }))
+    (steps_on_input n (froms_after froms o.made) t here (record {
+      frames = o.frames;
+      places = o.places;
+      exc = o.exc;
+      count =
+          count + length o.begun;
+    }))

@@ -46,8 +46,11 @@ module _ (t u m : ℕ) (le : t ≤ u) (old new : Crew) (at : ℕ → Started) (n
 
   members_moved : (ns : Numbers) (q : Started) (id : ℕ) (n : Nursery) → HasMembers old at t ns q id n → HasMembers there at u ns q id n
   members_moved ns q id n h =
-      record { long = h.long; members = λ place number e. (let g = h.members place number e in
-          (g.0, member_moved id place (q.child number) (slice_get n.children place) g.1)) }
+      record {
+        long = h.long;
+        members = λ place number e. (let g = h.members place number e in
+            (g.0, member_moved id place (q.child number) (slice_get n.children place) g.1));
+      }
 
   nursery_moved : (ns : Numbers) (q : Started) (id : ℕ) (o : Option Nursery) → IsSomeAnd o (λ n. HasMembers old at t ns q id n) →
       IsSomeAnd o (λ n. HasMembers there at u ns q id n)
@@ -63,8 +66,14 @@ module _ (t u m : ℕ) (le : t ≤ u) (old new : Crew) (at : ℕ → Started) (n
         input_is = h.input_is;
         lives = h.lives;
         frames = h.frames;
-        stands = record { places = h.stands.places; numbered = h.stands.numbered; placed = h.stands.placed; new = h.stands.new; own =
-            h.stands.own };
+        stands = record {
+          places = h.stands.places;
+          numbered = h.stands.numbered;
+          placed = h.stands.placed;
+          new = h.stands.new;
+          own =
+              h.stands.own;
+        };
         halt = h.halt;
         modest = h.modest;
         goes =
@@ -78,15 +87,28 @@ module _ (t u m : ℕ) (le : t ≤ u) (old new : Crew) (at : ℕ → Started) (n
               opened = h.goes.opened;
             };
         notes = h.notes;
-        tracks = record { labels = h.tracks.labels; differ = h.tracks.differ; named = h.tracks.named; kept = h.tracks.kept; left =
-            h.tracks.left };
+        tracks = record {
+          labels = h.tracks.labels;
+          differ = h.tracks.differ;
+          named = h.tracks.named;
+          kept = h.tracks.kept;
+          left =
+              h.tracks.left;
+        };
         home = home_moved s task.home h.home;
         nurseries = λ id has. nursery_moved (numbers s) (at s) id (nursery_at old.world.book id) (h.nurseries id has);
       }
 
   opened_back : (key s : ℕ) → OpenedBy there key s → OpenedBy old key s
-  opened_back key s h = record { task = h.task; lives = sym (same.task s) ∙ h.lives; place = h.place; scope = h.scope; own = h.own; is =
-      h.is }
+  opened_back key s h = record {
+    task = h.task;
+    lives = sym (same.task s) ∙ h.lives;
+    place = h.place;
+    scope = h.scope;
+    own = h.own;
+    is =
+        h.is;
+  }
 
   opened_there : (key s : ℕ) → OpenedBy old key s → OpenedBy there key s
   opened_there key s h = record { task = h.task; lives = same.task s ∙ h.lives; place = h.place; scope = h.scope; own = h.own; is = h.is }
@@ -102,7 +124,7 @@ module _ (t u m : ℕ) (le : t ≤ u) (old new : Crew) (at : ℕ → Started) (n
 crew_moved : (k : Table) (job : Job) (input : List ℕ) (t u m : ℕ) (leaving : Option ℕ) (old new : Crew) → t ≤ u → SameTasks old new →
     new.world ≡ moved_world old.world u new.world →
     (c : IsCrew k job input t m leaving old) → (d : Course k job input u m) → d.froms ≡ c.course.froms → d.at ≡ c.course.at →
-        turns_taken d.reached ≡ turns_taken c.course.reached →
+    turns_taken d.reached ≡ turns_taken c.course.reached →
     (x : IsCrew k job input u m leaving new) × (x.course.at ≡ d.at)
 crew_moved k job input t u m leaving old new le same world c d froms at taken =
     subst (λ (w : World). (x : IsCrew k job input u m leaving (record new { world = w })) × (x.course.at ≡ d.at)) (sym world) (
@@ -120,7 +142,7 @@ crew_moved k job input t u m leaving old new le same world c d froms at taken =
             subst (λ (f : Table). Follows (there t u m le old new d.at c.numbers same) f input u d.at c.numbers leaving s task) (sym froms)
             (follows_moved t u m le old new d.at c.numbers same c.course.froms input leaving s task
             (subst (λ (a : ℕ → Started). Follows old c.course.froms input t a c.numbers leaving s task) (sym at)
-                (c.follows s task (sym (same.task s) ∙ e))));
+            (c.follows s task (sym (same.task s) ∙ e))));
         owned = λ key o. (let h = c.owned key o in (h.0, opened_there t u m le old new d.at c.numbers same key h.0 h.1));
         apart = λ key s v x y. c.apart key s v (opened_back t u m le old new d.at c.numbers same key s x)
             (opened_back t u m le old new d.at c.numbers same key v y);
@@ -140,8 +162,14 @@ crew_moved k job input t u m leaving old new le same world c d froms at taken =
       same.gone s ∙ h.1,
       subst (λ (f : Table). HasEnded f input u (d.at s) h.0) (sym froms)
           (subst (λ (a : ℕ → Started). HasEnded c.course.froms input u (a s) h.0) (sym at)
-          (record { label = h.2.label; stopped = h.2.stopped; before = (let e = h.2.before in omega (arith, e, le)); notes =
-              h.2.notes; froms = h.2.froms })),
+          (record {
+            label = h.2.label;
+            stopped = h.2.stopped;
+            before = (let e = h.2.before in omega (arith, e, le));
+            notes =
+                h.2.notes;
+            froms = h.2.froms;
+          })),
     )
 
 -- the clock jumps where no task is ready

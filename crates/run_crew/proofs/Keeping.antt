@@ -56,7 +56,7 @@ use Rattle.run_crew.proofs.Told.{same_owner, Told, stays, tells, told}
 -- one that fits does so where what the task waits for is settled still
 fits_still : (halt : Halt) (part : Part) (old new : NurseryBook) (wake : Wake) →
     ((id : ℕ) → waits_of halt ≡ Some id → HasNursery old id (λ n. is_settled n ≡ true) → HasNursery new id (λ n. is_settled n ≡ true)) →
-        WakesFrom halt part old wake →
+    WakesFrom halt part old wake →
     WakesFrom halt part new wake
 fits_still (Awaits id since) part old new Settled over h = over id refl h
 fits_still _ part old new _ over h = h
@@ -64,7 +64,7 @@ fits_still _ part old new _ over h = h
 -- and is timely where the same is seen in the same tick
 timely_still : (old new : World) (scope : Option ℕ) (halt : Halt) (wake : Wake) → new.tick ≡ old.tick →
     seen (outer_of new.scopes scope) new.tick ≡ seen (outer_of old.scopes scope) old.tick → IsTimely old scope halt wake →
-        IsTimely new scope halt wake
+    IsTimely new scope halt wake
 timely_still old new scope (Asleep ticks since) Due tick same h = (h.0 ∙ sym tick, same ∙ h.1)
 timely_still old new scope (Asleep ticks since) Seen tick same h = (subst (λ (v : ℕ). since < v) (sym tick) h.0, same ∙ h.1)
 timely_still old new scope _ _ tick same h = h
@@ -75,7 +75,7 @@ timely_still old new scope _ _ tick same h = h
 pub seen_still : {k : Table} {job : Job} {input : List ℕ} {t m s : ℕ} {old new : Crew} {before after : Task} {stop : Stop} →
     IsSettled k job input → GivesNamesOnce job → StartsInNurseries job →
     (c : IsCrew k job input t m None old) → (T : Turning k job input t m s old new c.numbers before after stop c.course) → (u : ℕ) → u < m →
-        u ≢ s → (task : Task) → old.task u ≡ Some task →
+    u ≢ s → (task : Task) → old.task u ≡ Some task →
     Follows new T.is.froms input t T.is.at (numbers_then c.numbers s m T.took.numbers_after) (leaving_by stop s) u task →
     seen (outer_of new.world.scopes (scope_of task)) t ≡ seen (outer_of old.world.scopes (scope_of task)) t
 seen_still {k} {job} {input} {t} {m} {s} {old} {new} {before} {after} {stop} settled names starting c T u below differs task lives now =
@@ -83,7 +83,7 @@ seen_still {k} {job} {input} {t} {m} {s} {old} {new} {before} {after} {stop} set
     ∙ ap (λ (x : Started). seen (stack_at T.is.froms x.places) t) other
     ∙ sym seen_after ∙ seen_before
     ∙ sym (seen_at (label_at old.world) c.course.froms (outer_of old.world.scopes (scope_of task)) q.places t
-        (c.follows u task lives).stands.places)
+    (c.follows u task lives).stands.places)
   where
     q : Started
     q = c.course.at u
@@ -106,26 +106,26 @@ seen_still {k} {job} {input} {t} {m} {s} {old} {new} {before} {after} {stop} set
     seen_before : seen (stack_at k q.places) t ≡ seen (stack_at c.course.froms q.places) t
     seen_before =
         seen_near (suc t) (stack_at k q.places) (stack_at c.course.froms q.places) t
-            (near_places t k c.course.froms q.places (on_before.2 q (c.course.has u below).0)) (omega arith)
+        (near_places t k c.course.froms q.places (on_before.2 q (c.course.has u below).0)) (omega arith)
 
     seen_after : seen (stack_at k q.places) t ≡ seen (stack_at T.is.froms q.places) t
     seen_after =
         seen_near (suc t) (stack_at k q.places) (stack_at T.is.froms q.places) t
         (near_places t k T.is.froms q.places (on_after.2 q (subst (λ (x : Started). In x T.is.tasks) other (T.is.has u less).0)))
-            (omega arith)
+        (omega arith)
 
 -- who may go on may do so still
 pub still_goes : {k : Table} {job : Job} {input : List ℕ} {t m s : ℕ} {old new : Crew} {before after : Task} {stop : Stop} →
     IsSettled k job input → GivesNamesOnce job → StartsInNurseries job →
     (c : IsCrew k job input t m None old) → (T : Turning k job input t m s old new c.numbers before after stop c.course) → (u : ℕ) → u < m →
-        u ≢ s → (task : Task) → old.task u ≡ Some task →
+    u ≢ s → (task : Task) → old.task u ≡ Some task →
     Follows new T.is.froms input t T.is.at (numbers_then c.numbers s m T.took.numbers_after) (leaving_by stop s) u task → (wake : Wake) →
-        MayGo old.world task wake → MayGo new.world task wake
+    MayGo old.world task wake → MayGo new.world task wake
 still_goes {t = t} {old = old} {new = new} settled names starting c T u below differs task lives now wake may =
     record {
       fits = fits_still task.halt task.part old.world.book new.world.book wake
           (λ id e. same_nursery (λ n. is_settled n ≡ true) old.world.book new.world.book id
-              (nursery_same c T u task differs lives id (inr e))) may.fits;
+          (nursery_same c T u task differs lives id (inr e))) may.fits;
       timely = timely_still old.world new.world (scope_of task) task.halt wake tick same may.timely;
     }
   where
@@ -135,24 +135,25 @@ still_goes {t = t} {old = old} {new = new} settled names starting c T u below di
     same : seen (outer_of new.world.scopes (scope_of task)) new.world.tick ≡ seen (outer_of old.world.scopes (scope_of task)) old.world.tick
     same =
         ap (λ (v : ℕ). seen (outer_of new.world.scopes (scope_of task)) v) (tick ∙ c.tick)
-            ∙ seen_still settled names starting c T u below differs task lives now
+        ∙ seen_still settled names starting c T u below differs task lives now
         ∙ ap (λ (v : ℕ). seen (outer_of old.world.scopes (scope_of task)) v) (sym c.tick)
 
 -- and a nursery of a task is as it was
 pub still_waits : {k : Table} {job : Job} {input : List ℕ} {t m s : ℕ} {old new : Crew} {before after : Task} {stop : Stop} →
     (c : IsCrew k job input t m None old) →
     Turning k job input t m s old new c.numbers before after stop c.course → (u : ℕ) → u ≢ s → (task : Task) → old.task u ≡ Some task →
-        (P : Nursery → Type 0) → (id : ℕ) →
+    (P : Nursery → Type 0) → (id : ℕ) →
     HasNurseryOf id (blocks_of task.frames.items) (waits_of task.halt) → HasNursery old.world.book id P → HasNursery new.world.book id P
 still_waits {old = old} {new = new} c T u differs task lives P id has h =
     same_nursery P old.world.book new.world.book id (nursery_same c T u task differs lives id has) h
 
 -- ---- homes after a turn
 
+-- after a turn each home is a nursery of its owner still, and the owner of a new child's is the mover
 pub homes_kept : {k : Table} {job : Job} {input : List ℕ} {t m s : ℕ} {old new : Crew} {before after : Task} {stop : Stop} →
     (c : IsCrew k job input t m None old) →
     (T : Turning k job input t m s old new c.numbers before after stop c.course) → (parent next : ℕ → ℕ) →
-        ((p : ℕ) → p < m → next p ≡ parent p) →
+    ((p : ℕ) → p < m → next p ≡ parent p) →
     ((i : ℕ) → i < length T.move.begun → next (m + i) ≡ s) → AreHomesOf old parent → AreHomesOf new next
 homes_kept {k} {job} {input} {t} {m} {s} {old} {new} {before} {after} {stop} c T parent next same born homes p x home lives at_home =
     by_order (cases_lt p m)
@@ -176,8 +177,12 @@ homes_kept {k} {job} {input} {t} {m} {s} {old} {new} {before} {after} {stop} c T
             (record { task = after; lives = T.task_after; owned = (mover_owned c T p home l e).1 })
         by_parent (inr differs) =
             let low : l.parent < m = (let a : l.parent < p = l.earlier in omega (arith, a, below)) in
-            subst (λ (n : ℕ). Keeps new n home.nursery) one (record { task = l.starter; lives = T.other_after l.parent low differs
-                ∙ l.lives; owned = l.owned })
+            subst (λ (n : ℕ). Keeps new n home.nursery) one (record {
+              task = l.starter;
+              lives = T.other_after l.parent low differs
+                  ∙ l.lives;
+              owned = l.owned;
+            })
 
     by_old : p < m → Keeps new (parent p) home.nursery
     by_old below = by_mover (same_or p s)
@@ -186,21 +191,25 @@ homes_kept {k} {job} {input} {t} {m} {s} {old} {new} {before} {after} {stop} c T
         by_mover (inl e) =
             let is : x ≡ after = one_of x after (sym lives ∙ (ap new.task e ∙ T.task_after)) in
             old_home below before (ap old.task e ∙ T.task) (sym (ap (λ (z : Task). z.home) T.stays) ∙ ap (λ (z : Task). z.home) (sym is)
-                ∙ at_home)
+            ∙ at_home)
         by_mover (inr differs) = old_home below x (sym (T.other_after p below differs) ∙ lives) at_home
 
     -- that of one that was started
     new_home : (i : ℕ) → new.task (m + i) ≡ Some x → Keeps new (next (m + i)) home.nursery
     new_home i e =
         subst (λ (n : ℕ). Keeps new n home.nursery) (sym (born i (below_length T.move.begun i b.0 b.1)))
-        (record { task = after; lives = T.task_after; owned = subst (λ (h : Home).
-            HasNurseryOf h.nursery (blocks_of after.frames.items) (waits_of after.halt)) is b.2.owned })
+        (record {
+          task = after;
+          lives = T.task_after;
+          owned = subst (λ (h : Home).
+              HasNurseryOf h.nursery (blocks_of after.frames.items) (waits_of after.halt)) is b.2.owned;
+        })
       where
         b : (b : _) × (slice_get T.move.begun i ≡ Some b) × IsBegun T.took.numbers_after new.world.book (blocks_of after.frames.items)
             (waits_of after.halt) x b
         b =
             begun_at T.took.numbers_after new.world.book (blocks_of after.frames.items) (waits_of after.halt) T.took.tasks T.move.begun
-                T.took.begun i x
+            T.took.begun i x
             (sym (T.child_after i) ∙ e)
 
         is : b.2.home ≡ home
@@ -223,7 +232,7 @@ module _ (k : Table) (job : Job) (input : List ℕ) (t m s : ℕ) (old new : Cre
       by_either
       (subst (λ (w : Option ℕ). HasNurseryOf id [] w) waits
       (subst (λ (bs : List Block). HasNurseryOf id bs (waits_of task.halt)) blocks
-          (subst (λ (y : Task). HasNurseryOf id (blocks_of y.frames.items) (waits_of y.halt)) is h)))
+      (subst (λ (y : Task). HasNurseryOf id (blocks_of y.frames.items) (waits_of y.halt)) is h)))
     where
       q : Started
       q = c.course.at s

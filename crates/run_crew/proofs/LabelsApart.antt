@@ -35,6 +35,7 @@ use Rattle.task_machine.proofs.Stacked.{one_of, alone_at}
 
 -- ---- who entered a label
 
+-- a label among those entered in events is one that an event enters
 pub known_enters : (l : Label) (es : List Event) → Known l (entered_made es) → EntersIn l es
 known_enters l [] k = absurd k
 known_enters l (noted t e ∷ es) k = known_enters l es k
@@ -51,10 +52,10 @@ two_counted l x y [] i j differs = absurd i
 two_counted l x y (q ∷ qs) (inl e) (inl f) differs = absurd (differs (ap (λ (z : Started). z.serial) (e ∙ sym f)))
 two_counted l x y (q ∷ qs) (inl e) (inr j) differs =
     let g = made_counted l y qs j in let h : times_made l x.made ≡ times_made l q.made =
-        ap (λ (z : Started). times_made l z.made) e in omega (arith, g, h)
+    ap (λ (z : Started). times_made l z.made) e in omega (arith, g, h)
 two_counted l x y (q ∷ qs) (inr i) (inl f) differs =
     let g = made_counted l x qs i in let h : times_made l y.made ≡ times_made l q.made =
-        ap (λ (z : Started). times_made l z.made) f in omega (arith, g, h)
+    ap (λ (z : Started). times_made l z.made) f in omega (arith, g, h)
 two_counted l x y (q ∷ qs) (inr i) (inr j) differs = let g = two_counted l x y qs i j differs in omega (arith, g)
 
 -- A label was entered by one task of a run.
@@ -100,11 +101,13 @@ own_entered {entered = entered} h o i e l labelled =
     let n = h.named o i e in
     subst (λ (m : Label). Known m entered) (one_of n.0.label l (sym n.2 ∙ labelled)) (from_entered h o.at n.0 n.1)
 
+-- the key of a scope that a task opened is among the keys of those
 pub key_got : (own : List Own) (o : Own) (i : ℕ) → slice_get own i ≡ Some o → IsAmong o.id (keys_in own)
 key_got [] o i e = absurd (not_both refl e)
 key_got (x ∷ own) o zero e = among_right o.id (keys_in own) (x.id ∷ []) (inl (sym (ap (λ (z : Own). z.id) (one_of x o e))))
 key_got (x ∷ own) o (suc i) e = among_left o.id (keys_in own) (x.id ∷ []) (key_got own o i e)
 
+-- a key among those of a stack is the key of a scope in it
 pub is_key : (key : ℕ) (st : Stack) → IsAmong key (keys_of st) → IsKey key st
 is_key key [] i = i
 is_key key (l ∷ ls) (inl e) = inl e
@@ -156,7 +159,7 @@ labels_apart {k} {job} {input} {t} {m} {leaving} {crew} c settled names nurserie
     same : x.0 ≡ y.0
     same =
         one_entered c.course settled names nurseries l x.0 y.0 (below_of c x.0 x.1.task x.1.lives) (below_of c y.0 y.1.task y.1.lives)
-            (opened_entered c a x.0 l x.1 e)
+        (opened_entered c a x.0 l x.1 e)
         (opened_entered c b y.0 l y.1 f)
 
     task : Task
@@ -173,12 +176,12 @@ labels_apart {k} {job} {input} {t} {m} {leaving} {crew} c settled names nurserie
         let tasks : z.task ≡ task = one_of z.task task (sym z.lives ∙ x.1.lives) in
         let round : IsKey b (outer_of crew.world.scopes (scope_of task)) =
         subst (λ (i : ℕ). IsKey i (outer_of crew.world.scopes (scope_of task))) z.is
-            (within z.scope z.place (sym (ap (λ (v : Task). slice_get v.own.items z.place) tasks) ∙ z.own)) in
+        (within z.scope z.place (sym (ap (λ (v : Task). slice_get v.own.items z.place) tasks) ∙ z.own)) in
         let inside : IsKey a (outer_of crew.world.scopes (scope_of task)) =
         subst (λ (i : ℕ). IsKey i (outer_of crew.world.scopes (scope_of task))) x.1.is (within x.1.scope x.1.place x.1.own) in
         let alone =
         alone_at (label_at crew.world) c.course.froms (outer_of crew.world.scopes (scope_of task)) (c.course.at x.0).places b l f round
-            follows.stands.own follows.stands.places in
+        follows.stands.own follows.stands.places in
         alone_is (label_at crew.world) b a l (outer_of crew.world.scopes (scope_of task)) alone inside e
 
 -- each label that a scope has was entered by a task

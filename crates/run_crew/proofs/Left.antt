@@ -51,8 +51,10 @@ opened_kept labels old new [] (o ∷ own) None like h = absurd h
 opened_kept labels old new [] (o ∷ own) (Some key) like h = (
   h.0,
   carry old new key (λ n. IsMine labels o n × IsSome n.body) (λ n. IsMine labels o n × IsSome n.body) like
-      (λ n m l i. (record { scope = l.scope ∙ i.0.scope; label = i.0.label ∙ ap (λ (x : Label). Some x) (sym l.label) },
-          subst IsSome (sym l.body) i.1)) h.1,
+      (λ n m l i. (
+        record { scope = l.scope ∙ i.0.scope; label = i.0.label ∙ ap (λ (x : Label). Some x) (sym l.label) },
+        subst IsSome (sym l.body) i.1,
+      )) h.1,
 )
 opened_kept labels old new (b ∷ bs) [] waits like h = absurd h
 opened_kept labels old new (a_scope ∷ bs) (o ∷ own) waits like h = (h.0, h.1, opened_kept labels old new bs own waits like h.2)
@@ -96,13 +98,13 @@ halt_kept numbers old new Over (rest.awaiting children u exc) like h = absurd h
 stands_kept : (task : Task) (w : World) (book : NurseryBook) (f : Table) (numbers : Numbers) (stopped : rest.Stopped) (ps : List Place) →
     AllLike w.book book →
     Stands task.frames.items task w f numbers (Some stopped) ps →
-        Stands task.frames.items task (record w { book = book }) f numbers (Some stopped) ps
+    Stands task.frames.items task (record w { book = book }) f numbers (Some stopped) ps
 stands_kept task w book f numbers stopped ps like h =
     record {
       places = h.places;
       numbered =
           λ id i. carry w.book book id (λ n. length (numbers id) ≡ length n.children) (λ n. length (numbers id) ≡ length n.children) like
-              (λ n m l e. e ∙ sym l.long)
+          (λ n m l e. e ∙ sym l.long)
           (h.numbered id i);
       placed = h.placed;
       new = h.new;
@@ -130,6 +132,7 @@ pub ended_blocks : (task : Task) (numbers : Numbers) (ps : List Place) (stopped 
 ended_blocks task numbers ps stopped u e placed ends =
     no_blocks numbers task.frames.items (subst (λ (x : rest.Stopped). PlacedStop x (frames_of numbers task.frames.items) ps) ends placed)
 
+-- a task that has ended waits for no nursery
 pub over_halt : (numbers : Numbers) (book : NurseryBook) (halt : Halt) (u : ℕ) (e : Option Exc) →
     IsHalt numbers book halt (rest.at_end u e) → waits_of halt ≡ None
 over_halt numbers book ToBegin u e h = absurd h
@@ -169,6 +172,7 @@ home_parts (Some y) id place e =
 
 -- ---- the crew without it
 
+-- a task that has ended leaves the crew, and its home is told: then nobody's end is left to tell
 pub crew_left : (k : Table) (job : Job) (input : List ℕ) (t m s : ℕ) (old new : Crew) (task : Task) (exc : Option Exc) →
     (c : IsCrew k job input t m (Some s) old) →
     Leaving t s old new (c.course.at s) task exc → IsCrew k job input t m None new
@@ -224,14 +228,14 @@ crew_left k job input t m s old new task exc c l =
         none_opened (label_at old.world) old.world.book task.own.items
         (subst (λ (w : Option ℕ). Opened (label_at old.world) old.world.book [] task.own.items w) waits
         (subst (λ (bs : List Block). Opened (label_at old.world) old.world.book bs task.own.items (waits_of task.halt)) blocks
-            it.goes.opened))
+        it.goes.opened))
 
     no_nursery : (id : ℕ) (x : Task) → old.task s ≡ Some x → HasNurseryOf id (blocks_of x.frames.items) (waits_of x.halt) → ⊥
     no_nursery id x e h =
         by_either
         (subst (λ (w : Option ℕ). HasNurseryOf id [] w) waits
         (subst (λ (bs : List Block). HasNurseryOf id bs (waits_of task.halt)) blocks
-            (subst (λ (y : Task). HasNurseryOf id (blocks_of y.frames.items) (waits_of y.halt)) is h)))
+        (subst (λ (y : Task). HasNurseryOf id (blocks_of y.frames.items) (waits_of y.halt)) is h)))
       where
         is : x ≡ task
         is = let g : Some x ≡ Some task = sym e ∙ l.was in cc
@@ -268,8 +272,15 @@ crew_left k job input t m s old new task exc c l =
     after p x differs e = (l.others p differs).0 ∙ e
 
     opened_before : (key p : ℕ) → OpenedBy new key p → OpenedBy old key p
-    opened_before key p o = record { task = o.task; lives = before p o.task o.lives; place = o.place; scope = o.scope; own = o.own; is =
-        o.is }
+    opened_before key p o = record {
+      task = o.task;
+      lives = before p o.task o.lives;
+      place = o.place;
+      scope = o.scope;
+      own = o.own;
+      is =
+          o.is;
+    }
 
     opened_after : (key p : ℕ) → OpenedBy old key p → OpenedBy new key p
     opened_after key p o =
@@ -280,7 +291,7 @@ crew_left k job input t m s old new task exc c l =
             let e : Some o.task ≡ Some task = sym o.lives ∙ ap old.task g ∙ l.was in
             let is : o.task ≡ task = cc in
             let none : None ≡ Some o.scope = ap (λ (os : List Own). slice_get os o.place) (sym own)
-                ∙ ap (λ (x : Task). slice_get x.own.items o.place) (sym is) ∙ o.own in
+            ∙ ap (λ (x : Task). slice_get x.own.items o.place) (sym is) ∙ o.own in
             absurd cc
 
     ended_after : (p : ℕ) → p < m → new.task p ≡ None → (g : Gone) × (new.gone p ≡ Some g) × HasEnded f input t (c.course.at p) g
@@ -316,7 +327,7 @@ crew_left k job input t m s old new task exc c l =
         both : Some number ≡ Some its.number
         both =
             sym stands ∙ ap (λ (n : ℕ). slice_get (c.numbers u id) n) (sym is_place)
-                ∙ ap (λ (n : ℕ). slice_get (c.numbers u n) y.place) (sym is_nursery)
+            ∙ ap (λ (n : ℕ). slice_get (c.numbers u n) y.place) (sym is_nursery)
             ∙ ap (λ (n : ℕ). slice_get (c.numbers n y.nursery) y.place) (sym same) ∙ its.stands
 
         one : number ≡ its.number
@@ -338,9 +349,13 @@ crew_left k job input t m s old new task exc c l =
         by_same true e =
             let is : serial ≡ s = eqb-true serial s e in
             let ends : rest.at_end h.0.end x ≡ rest.at_end t exc = sym h.3 ∙ ap (λ (n : ℕ). (c.course.at n).rest.stopped) is ∙ l.ended in
-            let same : x ≡ exc = cc in
-            (kept, ap new.gone is ∙ l.kept, omega arith, ap (λ (n : ℕ). (c.course.at n).rest.stopped) is ∙ l.ended
-                ∙ ap (λ (y : Option Exc). rest.at_end t y) (sym same))
+            let same : x ≡ exc = cc in (
+              kept,
+              ap new.gone is ∙ l.kept,
+              omega arith,
+              ap (λ (n : ℕ). (c.course.at n).rest.stopped) is ∙ l.ended
+                  ∙ ap (λ (y : Option Exc). rest.at_end t y) (sym same),
+            )
         by_same false e =
             let differs : serial ≢ s = λ g. absurd (let z : true ≡ false = sym (eq-eqb serial s g) ∙ e in cc) in
             (h.0, (l.others serial differs).1 ∙ h.1, h.2, h.3)
@@ -403,7 +418,7 @@ crew_left k job input t m s old new task exc c l =
                   n.2.0,
                   set_else n.0.children y.place home.place (Some exc)
                       (λ v. there p x e (sym h.serial ∙ at_place y is h.parent h.starter h.lives home.nursery home.place h.number h.owned
-                          h.stands z v)) ∙ n.2.1,
+                      h.stands z v)) ∙ n.2.1,
                 )
 
         nurseries : (id : ℕ) → HasNurseryOf id (blocks_of x.frames.items) (waits_of x.halt) →
@@ -422,9 +437,11 @@ crew_left k job input t m s old new task exc c l =
                 (record {
                   long = n.2.long;
                   members =
-                      λ place number stands. let m = n.2.members place number stands in
-                      (m.0, member_kept id place (r.child number) (slice_get n.0.children place)
-                          (λ v. let a = home_parts task.home id place v in w a.0 (sym is ∙ a.1) a.2) m.1);
+                      λ place number stands. let m = n.2.members place number stands in (
+                        m.0,
+                        member_kept id place (r.child number) (slice_get n.0.children place)
+                            (λ v. let a = home_parts task.home id place v in w a.0 (sym is ∙ a.1) a.2) m.1,
+                      );
                 })
             by_told _ is (tells y z w) =
                 puts book id (with_child y.place exc n.0) (Members new) w
@@ -441,7 +458,7 @@ crew_left k job input t m s old new task exc c l =
                 by_place : (place number : ℕ) → slice_get (c.numbers p id) place ≡ Some number →
                     IsMember old c.course.at t id place (r.child number) (slice_get n.0.children place) →
                     (b : Bool) → (y.place == place) ≡ b → IsMember new c.course.at t id place (r.child number)
-                        (slice_get (slice_set n.0.children y.place (Some exc)) place)
+                    (slice_get (slice_set n.0.children y.place (Some exc)) place)
                 by_place place number stands m true v =
                     let at : y.place ≡ place = eqb-true y.place place v in
                     let was = by_end place (r.child number) (slice_get n.0.children place) m in
@@ -454,8 +471,8 @@ crew_left k job input t m s old new task exc c l =
                 by_place place number stands m false v =
                     let differs : y.place ≢ place = λ a. absurd (let b : true ≡ false = sym (eq-eqb y.place place a) ∙ v in cc) in
                     subst (IsMember new c.course.at t id place (r.child number))
-                        (sym (set_else n.0.children y.place place (Some exc) differs))
+                    (sym (set_else n.0.children y.place place (Some exc) differs))
                     (member_kept id place (r.child number) (slice_get n.0.children place)
                     (λ a. let h = home_parts task.home id place a in let same : Some h.0 ≡ Some y = sym h.1 ∙ is in let one : h.0 ≡ y =
-                        cc in
+                    cc in
                     differs (ap (λ (z : Home). z.place) (sym one) ∙ h.3)) m)

@@ -43,9 +43,13 @@ module _ (k : Table) (job : Job) (input : List ℕ) (t m s : ℕ) (old new : Cre
       let below : serial < m = below_of c serial h.0 h.1 in
       let later : s < serial = home_earlier k job input t m None old c serial h.0 h.1 id place h.2 s before T.task (inl has) in
       (h.0, T.other_after serial below (λ e. omega (arith, later, e)) ∙ h.1, h.2)
-  member_stays id place serial (Some exc) has h =
-      (h.0, T.gone_after serial ∙ h.1, h.2, ap (λ (q : Started). q.rest.stopped)
-          (T.of_other serial (gone_below k job input t m None old c serial h.0 h.1) differs) ∙ h.3)
+  member_stays id place serial (Some exc) has h = (
+    h.0,
+    T.gone_after serial ∙ h.1,
+    h.2,
+    ap (λ (q : Started). q.rest.stopped)
+        (T.of_other serial (gone_below k job input t m None old c serial h.0 h.1) differs) ∙ h.3,
+  )
     where
       lives : live (c.course.at s).rest.stopped ≡ true
       lives = mover.lives (λ e. not_both refl e)
@@ -68,7 +72,7 @@ module _ (k : Table) (job : Job) (input : List ℕ) (t m s : ℕ) (old new : Cre
       let below : number < (c.course.at s).count = one.0 in
       let longer : slice_get n.children place ≡ slice_get (o.0.children ++ g.2.more) place =
       ap (λ (x : Nursery). slice_get x.children place) (one_of n g.0 (sym at ∙ g.1))
-          ∙ ap (λ (es : List End). slice_get es place) g.2.children in (
+      ∙ ap (λ (es : List End). slice_get es place) g.2.children in (
         omega (arith, below),
         subst (λ (z : ℕ). IsMember new T.is.at t id place z (slice_get n.children place))
             (sym (old_child (c.course.at s).count (c.course.at s).child m number below))
@@ -82,17 +86,17 @@ module _ (k : Table) (job : Job) (input : List ℕ) (t m s : ℕ) (old new : Cre
       by_end None r h xs ys zs same e = absurd h
       by_end (Some x) r h xs ys zs same e =
           subst (λ (z : Option End). IsMember new T.is.at t id place ((c.course.at s).child number) z)
-              (sym (same ∙ got_first xs ys place x e))
+          (sym (same ∙ got_first xs ys place x e))
           (member_stays id place ((c.course.at s).child number) x has h)
 
   -- where a child that was begun is at home
   begun_there : (id place number : ℕ) (n : Nursery) → nursery_at new.world.book id ≡ Some n →
       (r : BeginsThere id place number T.took.tasks T.move.begun) →
       (b : Begun) → IsBegun T.took.numbers_after new.world.book (blocks_of after.frames.items) (waits_of after.halt) r.task b →
-          slice_get n.children place ≡ Some None
+      slice_get n.children place ≡ Some None
   begun_there id place number n at r b h =
       let here : Some (h.home.nursery, h.home.place) ≡ Some (id, place) =
-          sym (ap (option_map (λ (x : Home). (x.nursery, x.place))) h.at_home) ∙ r.home in
+      sym (ap (option_map (λ (x : Home). (x.nursery, x.place))) h.at_home) ∙ r.home in
       let pair : (h.home.nursery, h.home.place) ≡ (id, place) = one_of (h.home.nursery, h.home.place) (id, place) here in
       let o = finds new.world.book h.home.nursery _ h.nursery in
       let same : Some o.0 ≡ Some n = sym o.1 ∙ (ap (λ (z : ℕ × ℕ). nursery_at new.world.book z.0) pair ∙ at) in
@@ -104,7 +108,7 @@ module _ (k : Table) (job : Job) (input : List ℕ) (t m s : ℕ) (old new : Cre
       (number < moved_to.count) × IsMember new T.is.at t id place (moved_to.child number) (slice_get n.children place)
   new_member id place number n at r =
       let h = begun_at T.took.numbers_after new.world.book (blocks_of after.frames.items) (waits_of after.halt) T.took.tasks T.move.begun
-          T.took.begun r.index r.task r.is in
+      T.took.begun r.index r.task r.is in
       let is : number ≡ (c.course.at s).count + r.index =
       sym r.number_is ∙ numbered_on (c.course.at s).count T.move.made T.move.begun T.promise.starts r.index r.child r.begun in
       let short : r.index < length T.move.begun = below_length T.move.begun r.index r.child r.begun in

@@ -80,14 +80,14 @@ module _ (k : Table) (job : Job) (input : List ℕ) (t m s : ℕ) (old new : Cre
   noted_after : Notes input result.made after.entries.items
   noted_after =
       let more : AreNoted input T.took.entries T.move.made =
-          subst (λ (xs : List ℕ). AreNoted xs T.took.entries T.move.made) input_here T.took.shown in
+      subst (λ (xs : List ℕ). AreNoted xs T.took.entries T.move.made) input_here T.took.shown in
       record {
         shown =
             ap (map entry_of) T.took.noted
             ∙ (map-append entry_of before.entries.items T.took.entries
             ∙ (ap (λ (x : List Shown). x ++ map entry_of T.took.entries) mover.notes.shown
             ∙ (ap (λ (x : List Shown). shown_made input (c.course.at s).made ++ x) more.shown
-                ∙ sym (shown_append input (c.course.at s).made T.move.made))));
+            ∙ sym (shown_append input (c.course.at s).made T.move.made))));
         slices = subst (All (IsSlice input)) (sym T.took.noted) (All-append (IsSlice input) before.entries.items T.took.entries
             mover.notes.slices more.slices);
       }
@@ -147,14 +147,14 @@ module _ (k : Table) (job : Job) (input : List ℕ) (t m s : ℕ) (old new : Cre
         by_own (inl h) = h
         by_own (inr h) =
             let mine : OpenedBy old there.0.scope s =
-                record { task = before; lives = T.task; place = h.0; scope = h.1; own = h.2; is = h.3 } in
+            record { task = before; lives = T.task; place = h.0; scope = h.1; own = h.2; is = h.3 } in
             absurd (differs (c.apart there.0.scope l.parent s
             (owner k job input t m None old c l.parent l.starter l.lives home.nursery there.0 l.owned there.1) mine))
 
     no_block : HasBlock home.nursery (blocks_of before.frames.items) → ⊥
     no_block has =
         has_scope (label_at old.world) old.world.book (blocks_of before.frames.items) before.own.items (waits_of before.halt) home.nursery
-            there.0 mover.goes.opened (inl has)
+        there.0 mover.goes.opened (inl has)
         there.1 others
 
     is_open : IsOpen old.world.scopes there.0.scope
@@ -174,7 +174,7 @@ module _ (k : Table) (job : Job) (input : List ℕ) (t m s : ℕ) (old new : Cre
           number = l.number;
           stands =
               subst (λ (n : Numbers). slice_get (n home.nursery) home.place ≡ Some l.number)
-                  (sym (numbers_other c.numbers s m now l.parent below differs)) l.stands;
+              (sym (numbers_other c.numbers s m now l.parent below differs)) l.stands;
           below = subst (λ (q : Started). l.number < q.count) (sym same) l.below;
           serial = ap (λ (q : Started). q.child l.number) same ∙ l.serial;
         }
@@ -182,7 +182,7 @@ module _ (k : Table) (job : Job) (input : List ℕ) (t m s : ℕ) (old new : Cre
   home_after : HasHome new T.is.at (numbers_then c.numbers s m now) s after.home
   home_after =
       subst (HasHome new T.is.at (numbers_then c.numbers s m now) s) (sym (ap (λ (z : Task). z.home) T.stays))
-          (by_home before.home refl mover.home)
+      (by_home before.home refl mover.home)
     where
       by_home : (h : Option Home) → before.home ≡ h → HasHome old c.course.at c.numbers s h →
           HasHome new T.is.at (numbers_then c.numbers s m now) s h
@@ -205,7 +205,7 @@ module _ (k : Table) (job : Job) (input : List ℕ) (t m s : ℕ) (old new : Cre
     entered_here =
         ap (λ (q : Started). entered_made q.made) T.of_task
         ∙ (entered_append (c.course.at s).made T.move.made ∙ ap (λ (ls : List Label). entered_made (c.course.at s).made ++ ls)
-            (sym (entered_same T.move.made)))
+        (sym (entered_same T.move.made)))
 
     entered_before : (l : Label) (p : ℕ) → Known l (entered_made (c.course.at p).made) → (p ≡ s) ⊎ (p ≢ s) → (p < m) ⊎ (m ≤ p) →
         IsEntered T.is.at l
@@ -213,24 +213,27 @@ module _ (k : Table) (job : Job) (input : List ℕ) (t m s : ℕ) (old new : Cre
       s,
       subst (Known l) (sym entered_here)
           (known_first l (entered_made (c.course.at s).made) (labels_entered T.move.made)
-              (subst (λ (z : ℕ). Known l (entered_made (c.course.at z).made)) e h)),
+          (subst (λ (z : ℕ). Known l (entered_made (c.course.at z).made)) e h)),
     )
     entered_before l p h (inr d) (inl below) = (p, subst (λ (q : Started). Known l (entered_made q.made)) (sym (T.of_other p below d)) h)
     entered_before l p h (inr d) (inr beyond) = absurd (subst (Known l) (quiet p beyond) h)
 
     entered_after : (l : Label) → KnownWith (IsEntered c.course.at) T.move.made l → IsEntered T.is.at l
     entered_after l (inl h) = entered_before l h.0 h.1 (same_or h.0 s) (cases_lt h.0 m)
-    entered_after l (inr h) = (s, subst (Known l) (sym entered_here)
-        (known_last l (entered_made (c.course.at s).made) (labels_entered T.move.made) h))
+    entered_after l (inr h) = (
+      s,
+      subst (Known l) (sym entered_here)
+          (known_last l (entered_made (c.course.at s).made) (labels_entered T.move.made) h),
+    )
 
     tracks_after : Tracks (IsEntered T.is.at) T.is.froms (scoping_of after new.world) (entered_made result.made)
     tracks_after =
         let apart : Apart (scoping_of before old.world) = record { labels = labels_apart } in
         let all = tracked (IsEntered c.course.at) c.course.froms (entered_made (c.course.at s).made) T.took.acts sound apart known T.fresh
-            mover.tracks in
+        mover.tracks in
         subst (λ (f : Table). Tracks (IsEntered T.is.at) f (scoping_of after new.world) (entered_made result.made)) (sym T.froms)
         (subst (Tracks (IsEntered T.is.at) _ (scoping_of after new.world))
-            (sym entered_here ∙ ap (λ (q : Started). entered_made q.made) T.of_task) (tracks_more entered_after all))
+        (sym entered_here ∙ ap (λ (q : Started). entered_made q.made) T.of_task) (tracks_more entered_after all))
 
     -- ---- all of it
 
@@ -253,5 +256,5 @@ module _ (k : Table) (job : Job) (input : List ℕ) (t m s : ℕ) (old new : Cre
     pub mover_follows : Follows new T.is.froms input t T.is.at (numbers_then c.numbers s m T.took.numbers_after) (leaving_by stop s) s after
     mover_follows =
         follows_by new T.is.froms input t T.is.at (numbers_then c.numbers s m now) (leaving_by stop s) s after now result
-            (numbers_mover c.numbers s m now) T.of_task stood
+        (numbers_mover c.numbers s m now) T.of_task stood
         home_after

@@ -112,7 +112,7 @@ module _ (k : Table) (job : Job) (input : List ℕ) (t m s : ℕ) (old new : Cre
     found : HomeIn IsNursery now (label_at new.world) T.is.froms b.number b.places stack
     found =
         home_there IsNursery now (label_at new.world) T.is.froms b.number b.places (waits_of after.halt) T.move.frames stack T.move.places
-            T.stopped
+        T.stopped
         (halt_waits now new.world.book after.halt T.stopped halt_after) keyed_after places_after
         (subst (λ (o : Option Stopped). HasChildAfter b.number b.places o T.move.frames T.move.places) T.stops
         (housed_at T.move.begun T.move.stopped T.move.frames T.move.places T.promise.housed i b begun))
@@ -137,11 +137,11 @@ module _ (k : Table) (job : Job) (input : List ℕ) (t m s : ℕ) (old new : Cre
         by_cover (inr o) =
             let r = begins_there found.id place.0 b.number T.took.tasks T.move.begun o in
             let on : r.child.number ≡ (c.course.at s).count + r.index =
-                numbered_on (c.course.at s).count T.move.made T.move.begun T.promise.starts r.index r.child r.begun in
+            numbered_on (c.course.at s).count T.move.made T.move.begun T.promise.starts r.index r.child r.begun in
             let one : r.index ≡ i = omega (arith, on, r.number_is, numbered) in
             let mine : r.task ≡ task = same_got T.took.tasks i r.task task (sym (ap (slice_get T.took.tasks) one) ∙ r.is) is in
             ap (λ (z : ℕ × ℕ). z.0) (one_of (h.home.nursery, h.home.place) (found.id, place.0)
-                (sym here_is ∙ (sym (ap (λ (z : Task). home_of z) mine) ∙ r.home)))
+            (sym here_is ∙ (sym (ap (λ (z : Task). home_of z) mine) ∙ r.home)))
 
     same_scope : h.home.scope ≡ found.level.label
     same_scope =
@@ -181,7 +181,7 @@ module _ (k : Table) (job : Job) (input : List ℕ) (t m s : ℕ) (old new : Cre
     stands_there : Stands task.frames.items task new.world T.is.froms (λ id. []) (Some to_begin) b.places
     stands_there =
         let new_names : names.AreNew (names_at b.places) b.body × OwnNames (names_at b.places) =
-            new_at T.move.begun T.names.begun i b begun in
+        new_at T.move.begun T.names.begun i b begun in
         record {
           places = subst (λ (st : Stack). AreAt (label_at new.world) T.is.froms st b.places) (sym round_is) found.places;
           numbered = λ id has. absurd (subst (HasBlock id) no_blocks has);
@@ -241,8 +241,11 @@ module _ (k : Table) (job : Job) (input : List ℕ) (t m s : ℕ) (old new : Cre
           halt = subst (λ z. IsHalt (λ id. []) new.world.book z to_begin) (sym h.halt) tt;
           modest = subst IsModestHalt (sym h.halt) tt;
           goes = goes_there;
-          notes = record { shown = ap (map entry_of) h.entries; slices =
-              subst (All (IsSlice input)) (sym h.entries) (All-nil (IsSlice input)) };
+          notes = record {
+            shown = ap (map entry_of) h.entries;
+            slices =
+                subst (All (IsSlice input)) (sym h.entries) (All-nil (IsSlice input));
+          };
           tracks = tracks_none (IsEntered T.is.at) T.is.froms (scoping_of task new.world) h.own h.froms;
           nurseries = λ id has. absurd (none_owned id (blocks_of task.frames.items) (waits_of task.halt) no_blocks no_waits has);
         }
@@ -252,7 +255,7 @@ module _ (k : Table) (job : Job) (input : List ℕ) (t m s : ℕ) (old new : Cre
       (leaving : Option ℕ) → Follows new T.is.froms input t T.is.at (numbers_then c.numbers s m T.took.numbers_after) leaving (m + i) task
   child_follows inputs i task is leaving =
       let o = begun_at now new.world.book (blocks_of after.frames.items) (waits_of after.halt) T.took.tasks T.move.begun T.took.begun i task
-          is in
+      is in
       follows_by new T.is.froms input t T.is.at (numbers_then c.numbers s m now) leaving (m + i) task (λ id. []) (child_at k t (m + i) o.0)
       (numbers_child c.numbers s m now i T.below) (T.of_child i o.0 o.1) (stood i task is o.0 o.1 o.2 leaving (inputs i o.0 o.1))
       (subst (HasHome new T.is.at (numbers_then c.numbers s m now) (m + i)) (sym o.2.at_home) (lives_there i task is o.0 o.1 o.2))

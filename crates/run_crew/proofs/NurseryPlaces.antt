@@ -120,6 +120,7 @@ IsStop numbers None stopped = ((ps : List Place) → places_behind (Some stopped
 IsStop numbers (Some id) stopped = (children : List ℕ) × (u : ℕ) × (e : Option Exc) × (stopped ≡ rest.awaiting children u e)
     × (numbers id ≡ children)
 
+-- what a task goes on with waits for the nursery for which its stop does, or for none
 pub is_stop : (numbers : Numbers) (book : NurseryBook) (halt : Halt) (stopped : rest.Stopped) → IsHalt numbers book halt stopped →
     IsStop numbers (waits_of halt) stopped
 is_stop numbers book ToBegin rest.to_begin h = ((λ ps. refl), (λ i home ps w. w))
@@ -134,7 +135,7 @@ is_stop numbers book _ _ h = absurd h
 -- a nursery of the task has this child, and its scope's stack is these places
 pub record Found
     (labels : Labels) (book : NurseryBook) (f : Table) (numbers : Numbers) (bs : List Block) (waits : Option ℕ) (st : Stack) (i : ℕ)
-        (home : List Place) : Type 0
+    (home : List Place) : Type 0
   where
     pub id : ℕ
     pub scope : Own
@@ -158,7 +159,7 @@ found_more {bs = bs} {cs = cs} {waits = waits} more h =
 -- is one of theirs, or of the inner blocks.
 pub record Outer
     (labels : Labels) (book : NurseryBook) (f : Table) (numbers : Numbers) (bs : List Block) (waits : Option ℕ) (stopped : rest.Stopped)
-        (keys : List ℕ) (outer fs : List rest.Frame) (st : Stack) (ps : List Place) : Type 0
+    (keys : List ℕ) (outer fs : List rest.Frame) (st : Stack) (ps : List Place) : Type 0
   where
     pub before : Stack
     pub stack : Stack
@@ -179,7 +180,7 @@ has_weaker (Some n) weaker h = weaker n h
 outer_plain : {labels : Labels} {book : NurseryBook} {f : Table} {numbers : Numbers} {bs : List Block} {waits : Option ℕ}
     {stopped : rest.Stopped} {keys : List ℕ} {outer more fs : List rest.Frame} {st : Stack} {ps : List Place} →
     ((i : ℕ) (home qs : List Place) → HasChild i home outer qs → HasChild i home more qs) →
-        ((i : ℕ) (home qs : List Place) → HasChild i home more qs → HasChild i home outer qs) →
+    ((i : ℕ) (home qs : List Place) → HasChild i home more qs → HasChild i home outer qs) →
     Outer labels book f numbers bs waits stopped keys more fs st ps → Outer labels book f numbers bs waits stopped keys outer fs st ps
 outer_plain {labels} {book} {f} {numbers} {bs} {waits} {stopped} {keys} {outer} {more} {fs} {st} {ps} to back r =
     record {
@@ -223,7 +224,7 @@ outer_block : {labels : Labels} {book : NurseryBook} {f : Table} {numbers : Numb
     ((i : ℕ) (home : List Place) (p : Place) (qs : List Place) → StandsIn labels f o.id st (p ∷ qs) → HasChild i home more (p ∷ qs) →
     Found labels book f numbers cs waits st i home ⊎ HasChild i home outer qs) →
     Outer labels book f numbers bs waits stopped (o.id ∷ keys) more fs st ps →
-        Outer labels book f numbers cs waits stopped keys outer fs st ps
+    Outer labels book f numbers cs waits stopped keys outer fs st ps
 outer_block {labels} {book} {f} {numbers} {bs} {cs} {waits} {stopped} {keys} {outer} {more} {fs} {st} {ps} o to blocks back r =
     record {
       before = r.before ++ first.level ∷ [];
@@ -247,10 +248,11 @@ outer_block {labels} {book} {f} {numbers} {bs} {cs} {waits} {stopped} {keys} {ou
     by_case i home (inl x) = inl (found_more blocks x)
     by_case i home (inr c) = back i home first.place first.places here (subst (HasChild i home more) first.are c)
 
+-- frames round a task's own stand at a rest of its stack and places, and each of its children is theirs or its own frames'
 pub carry : (labels : Labels) (book : NurseryBook) (f : Table) (numbers : Numbers) (fs : List Frame) (own : List Own) (waits : Option ℕ)
     (stopped : rest.Stopped) (keys : List ℕ) (outer : List rest.Frame)
     (st : Stack) (ps : List Place) → Opened labels book (blocks_of fs) own waits → IsStop numbers waits stopped → AreAt labels f st ps →
-        keys_of st ≡ keys_in own ++ keys →
+    keys_of st ≡ keys_in own ++ keys →
     Outer labels book f numbers (blocks_of fs) waits stopped keys outer (frames_onto numbers fs outer) st ps
 carry labels book f numbers [] [] None stopped keys outer st ps opened stop at e =
     record {
@@ -317,26 +319,26 @@ carry labels book f numbers [] (o ∷ own) (Some id) stopped keys outer st ps op
     by_case i home (inr c) = inr (subst (HasChild i home outer) behind c)
 carry labels book f numbers (Steps steps ∷ fs) own waits stopped keys outer st ps opened stop at e =
     outer_plain (λ i home qs c. c) (λ i home qs c. c) (carry labels book f numbers fs own waits stopped keys
-        (frame_of numbers (Steps steps) ∷ outer) st ps opened stop at e)
+    (frame_of numbers (Steps steps) ∷ outer) st ps opened stop at e)
 carry labels book f numbers (Try handler cleanup ∷ fs) own waits stopped keys outer st ps opened stop at e =
     outer_plain (λ i home qs c. c) (λ i home qs c. c) (carry labels book f numbers fs own waits stopped keys
-        (frame_of numbers (Try handler cleanup) ∷ outer) st ps opened stop at e)
+    (frame_of numbers (Try handler cleanup) ∷ outer) st ps opened stop at e)
 carry labels book f numbers (Handler others cleanup ∷ fs) own waits stopped keys outer st ps opened stop at e =
     outer_plain (λ i home qs c. c) (λ i home qs c. c) (carry labels book f numbers fs own waits stopped keys
-        (frame_of numbers (Handler others cleanup) ∷ outer) st ps opened stop at e)
+    (frame_of numbers (Handler others cleanup) ∷ outer) st ps opened stop at e)
 carry labels book f numbers (Cleanup outcome ∷ fs) own waits stopped keys outer st ps opened stop at e =
     outer_plain (λ i home qs c. c) (λ i home qs c. c) (carry labels book f numbers fs own waits stopped keys
-        (frame_of numbers (Cleanup outcome) ∷ outer) st ps opened stop at e)
+    (frame_of numbers (Cleanup outcome) ∷ outer) st ps opened stop at e)
 carry labels book f numbers (Scope fail ∷ fs) [] waits stopped keys outer st ps opened stop at e = absurd opened
 carry labels book f numbers (Scope fail ∷ fs) (o ∷ own) waits stopped keys outer st ps opened stop at e =
     outer_block o (λ i home p qs c. c) (λ id b. b) (λ i home p qs here c. inr c)
     (carry labels book f numbers fs own waits stopped (o.id ∷ keys) (rest.in_scope fail ∷ outer) st ps opened.2 stop at
-        (e ∙ append_assoc (keys_in own) (o.id ∷ []) keys))
+    (e ∙ append_assoc (keys_in own) (o.id ∷ []) keys))
 carry labels book f numbers (Nursery key ∷ fs) [] waits stopped keys outer st ps opened stop at e = absurd opened
 carry labels book f numbers (Nursery key ∷ fs) (o ∷ own) waits stopped keys outer st ps opened stop at e =
     outer_block o (λ i home p qs c. inr c) (λ id b. inr b) back
     (carry labels book f numbers fs own waits stopped (o.id ∷ keys) (rest.in_nursery (numbers key) ∷ outer) st ps opened.2 stop at
-        (e ∙ append_assoc (keys_in own) (o.id ∷ []) keys))
+    (e ∙ append_assoc (keys_in own) (o.id ∷ []) keys))
   where
     back : (i : ℕ) (home : List Place) (p : Place) (qs : List Place) → StandsIn labels f o.id st (p ∷ qs) →
         HasChild i home (rest.in_nursery (numbers key) ∷ outer) (p ∷ qs) →
@@ -357,9 +359,9 @@ carry labels book f numbers (Nursery key ∷ fs) (o ∷ own) waits stopped keys 
 pub found : (labels : Labels) (book : NurseryBook) (f : Table) (numbers : Numbers) (fs : List Frame) (own : List Own) (waits : Option ℕ)
     (stopped : rest.Stopped) (keys : List ℕ)
     (st : Stack) (ps : List Place) → Opened labels book (blocks_of fs) own waits → IsStop numbers waits stopped → AreAt labels f st ps →
-        keys_of st ≡ keys_in own ++ keys →
+    keys_of st ≡ keys_in own ++ keys →
     (i : ℕ) (home : List Place) → HasChildAfter i home (Some stopped) (frames_of numbers fs) ps →
-        Found labels book f numbers (blocks_of fs) waits st i home
+    Found labels book f numbers (blocks_of fs) waits st i home
 found labels book f numbers fs own waits stopped keys st ps opened stop at e i home c = by_case (r.outside i home c)
   where
     r : Outer labels book f numbers (blocks_of fs) waits stopped keys [] (frames_of numbers fs) st ps
@@ -380,33 +382,34 @@ pub record Housed
     pub nursery : HasNursery book id (λ n. n.scope ≡ scope.id)
     pub at : StandsIn labels f scope.id st home
 
+-- each child of a nursery among a task's frames is at the places of the stack of the nursery's scope
 pub housed_onto : (labels : Labels) (book : NurseryBook) (f : Table) (numbers : Numbers) (fs : List Frame) (own : List Own)
     (waits : Option ℕ) (stopped : rest.Stopped) (keys : List ℕ) (outer : List rest.Frame)
     (st : Stack) (ps : List Place) → Opened labels book (blocks_of fs) own waits → IsStop numbers waits stopped → AreAt labels f st ps →
-        keys_of st ≡ keys_in own ++ keys →
+    keys_of st ≡ keys_in own ++ keys →
     (id i : ℕ) → HasBlock id (blocks_of fs) → IsAmong i (numbers id) →
-        Housed labels book f id i (frames_onto numbers fs outer) st (places_behind (Some stopped) ps)
+    Housed labels book f id i (frames_onto numbers fs outer) st (places_behind (Some stopped) ps)
 housed_onto labels book f numbers [] own waits stopped keys outer st ps opened stop at e id i has among = absurd has
 housed_onto labels book f numbers (Steps steps ∷ fs) own waits stopped keys outer st ps opened stop at e id i has among =
     housed_onto labels book f numbers fs own waits stopped keys (frame_of numbers (Steps steps) ∷ outer) st ps opened stop at e id i has
-        among
+    among
 housed_onto labels book f numbers (Try handler cleanup ∷ fs) own waits stopped keys outer st ps opened stop at e id i has among =
     housed_onto labels book f numbers fs own waits stopped keys (frame_of numbers (Try handler cleanup) ∷ outer) st ps opened stop at e id i
-        has among
+    has among
 housed_onto labels book f numbers (Handler others cleanup ∷ fs) own waits stopped keys outer st ps opened stop at e id i has among =
     housed_onto labels book f numbers fs own waits stopped keys (frame_of numbers (Handler others cleanup) ∷ outer) st ps opened stop at e
-        id i has among
+    id i has among
 housed_onto labels book f numbers (Cleanup outcome ∷ fs) own waits stopped keys outer st ps opened stop at e id i has among =
     housed_onto labels book f numbers fs own waits stopped keys (frame_of numbers (Cleanup outcome) ∷ outer) st ps opened stop at e id i has
-        among
+    among
 housed_onto labels book f numbers (Scope fail ∷ fs) [] waits stopped keys outer st ps opened stop at e id i has among = absurd opened
 housed_onto labels book f numbers (Scope fail ∷ fs) (o ∷ own) waits stopped keys outer st ps opened stop at e id i has among =
     housed_onto labels book f numbers fs own waits stopped (o.id ∷ keys) (rest.in_scope fail ∷ outer) st ps opened.2 stop at
-        (e ∙ append_assoc (keys_in own) (o.id ∷ []) keys) id i has among
+    (e ∙ append_assoc (keys_in own) (o.id ∷ []) keys) id i has among
 housed_onto labels book f numbers (Nursery key ∷ fs) [] waits stopped keys outer st ps opened stop at e id i has among = absurd opened
 housed_onto labels book f numbers (Nursery key ∷ fs) (o ∷ own) waits stopped keys outer st ps opened stop at e id i (inr has) among =
     housed_onto labels book f numbers fs own waits stopped (o.id ∷ keys) (rest.in_nursery (numbers key) ∷ outer) st ps opened.2 stop at
-        (e ∙ append_assoc (keys_in own) (o.id ∷ []) keys) id i has among
+    (e ∙ append_assoc (keys_in own) (o.id ∷ []) keys) id i has among
 housed_onto labels book f numbers (Nursery key ∷ fs) (o ∷ own) waits stopped keys outer st ps opened stop at e id i (inl same) among =
     record {
       home = first.place ∷ first.places;

@@ -50,9 +50,9 @@ unsettled n i e s = by_body (is_some n.body) s
 pub home_block : {k : Table} {job : Job} {input : List ℕ} {t m s : ℕ} {old new : Crew} {before after : Task} {stop : Stop} →
     (c : IsCrew k job input t m None old) →
     Turning k job input t m s old new c.numbers before after stop c.course → (home : Home) →
-        HasNurseryOf home.nursery (blocks_of before.frames.items) (waits_of before.halt) →
+    HasNurseryOf home.nursery (blocks_of before.frames.items) (waits_of before.halt) →
     HasNursery old.world.book home.nursery (λ n. (n.scope ≡ home.scope) × (slice_get n.children home.place ≡ Some None)) →
-        HasBlock home.nursery (blocks_of before.frames.items)
+    HasBlock home.nursery (blocks_of before.frames.items)
 home_block c T home (inl has) runs = has
 home_block {old = old} c T home (inr waits) runs =
     let n = finds old.world.book home.nursery _ runs in
@@ -64,7 +64,7 @@ pub grown : {k : Table} {job : Job} {input : List ℕ} {t m s : ℕ} {old new : 
     (c : IsCrew k job input t m None old) →
     (T : Turning k job input t m s old new c.numbers before after stop c.course) → (id : ℕ) → HasBlock id (blocks_of before.frames.items) →
     (n : Members) → nursery_at old.world.book id ≡ Some n → (x : Members) × (nursery_at new.world.book id ≡ Some x)
-        × Grown n x (c.numbers s id) (T.took.numbers_after id)
+    × Grown n x (c.numbers s id) (T.took.numbers_after id)
 grown {new = new} c T id has n e = finds new.world.book id _ (T.took.grow id has n e)
 
 -- ---- the home of another task
@@ -73,7 +73,7 @@ grown {new = new} c T id has n e = finds new.world.book id _ (T.took.grow id has
 pub mover_owned : {k : Table} {job : Job} {input : List ℕ} {t m s : ℕ} {old new : Crew} {before after : Task} {stop : Stop} →
     (c : IsCrew k job input t m None old) →
     (T : Turning k job input t m s old new c.numbers before after stop c.course) → (u : ℕ) (home : Home) →
-        (h : LivesIn old c.course.at c.numbers u home) → h.parent ≡ s →
+    (h : LivesIn old c.course.at c.numbers u home) → h.parent ≡ s →
     HasBlock home.nursery (blocks_of before.frames.items) × HasNurseryOf home.nursery (blocks_of after.frames.items) (waits_of after.halt)
 mover_owned {old = old} {before = before} c T u home h e = (block, T.took.kept home.nursery block)
   where
@@ -84,10 +84,11 @@ mover_owned {old = old} {before = before} c T u home h e = (block, T.took.kept h
     block = home_block c T home (subst (λ (x : Task). HasNurseryOf home.nursery (blocks_of x.frames.items) (waits_of x.halt)) starter
         h.owned) h.runs
 
+-- a task that lives in a nursery of the mover does so after its turn
 pub mover_home : {k : Table} {job : Job} {input : List ℕ} {t m s : ℕ} {old new : Crew} {before after : Task} {stop : Stop} →
     (c : IsCrew k job input t m None old) →
     (T : Turning k job input t m s old new c.numbers before after stop c.course) → (u : ℕ) (home : Home) →
-        (h : LivesIn old c.course.at c.numbers u home) → h.parent ≡ s →
+    (h : LivesIn old c.course.at c.numbers u home) → h.parent ≡ s →
     LivesIn new T.is.at (numbers_then c.numbers s m T.took.numbers_after) u home
 mover_home {k} {job} {input} {t} {m} {s} {old} {new} {before} {after} c T u home h e =
     record {
@@ -124,7 +125,7 @@ mover_home {k} {job} {input} {t} {m} {s} {old} {new} {before} {after} c T u home
     number =
         ap (λ (is : List ℕ). slice_get is home.place) g.2.numbers
         ∙ got_first (c.numbers s home.nursery) g.2.added home.place h.number
-            (subst (λ (p : ℕ). slice_get (c.numbers p home.nursery) home.place ≡ Some h.number) e h.stands)
+        (subst (λ (p : ℕ). slice_get (c.numbers p home.nursery) home.place ≡ Some h.number) e h.stands)
 
     below : h.number < (c.course.at s).count
     below = subst (λ (p : ℕ). h.number < (c.course.at p).count) e h.below
@@ -133,7 +134,7 @@ mover_home {k} {job} {input} {t} {m} {s} {old} {new} {before} {after} c T u home
 else_home : {k : Table} {job : Job} {input : List ℕ} {t m s : ℕ} {old new : Crew} {before after : Task} {stop : Stop} →
     (c : IsCrew k job input t m None old) →
     (T : Turning k job input t m s old new c.numbers before after stop c.course) → (u : ℕ) (home : Home) → u < m →
-        (h : LivesIn old c.course.at c.numbers u home) → h.parent ≢ s →
+    (h : LivesIn old c.course.at c.numbers u home) → h.parent ≢ s →
     LivesIn new T.is.at (numbers_then c.numbers s m T.took.numbers_after) u home
 else_home {k} {job} {input} {t} {m} {s} {old} {new} {before} {after} c T u home small h differs =
     record {
@@ -155,10 +156,11 @@ else_home {k} {job} {input} {t} {m} {s} {old} {new} {before} {after} c T u home 
     low : h.parent < m
     low = let e : h.parent < u = h.earlier in omega arith
 
+-- a task that lives in another's nursery does so after any turn
 pub lives_in : {k : Table} {job : Job} {input : List ℕ} {t m s : ℕ} {old new : Crew} {before after : Task} {stop : Stop} →
     (c : IsCrew k job input t m None old) →
     (T : Turning k job input t m s old new c.numbers before after stop c.course) → (u : ℕ) (home : Home) → u < m →
-        LivesIn old c.course.at c.numbers u home →
+    LivesIn old c.course.at c.numbers u home →
     LivesIn new T.is.at (numbers_then c.numbers s m T.took.numbers_after) u home
 lives_in {k} {job} {input} {t} {m} {s} {old} {new} {before} {after} c T u home small h = by_parent (same_or h.parent s)
   where
@@ -166,10 +168,11 @@ lives_in {k} {job} {input} {t} {m} {s} {old} {new} {before} {after} c T u home s
     by_parent (inl e) = mover_home c T u home h e
     by_parent (inr differs) = else_home c T u home small h differs
 
+-- a task has the home that it had after any turn, or none if it had none
 pub home_stays : {k : Table} {job : Job} {input : List ℕ} {t m s : ℕ} {old new : Crew} {before after : Task} {stop : Stop} →
     (c : IsCrew k job input t m None old) →
     (T : Turning k job input t m s old new c.numbers before after stop c.course) → (u : ℕ) (home : Option Home) → u < m →
-        HasHome old c.course.at c.numbers u home →
+    HasHome old c.course.at c.numbers u home →
     HasHome new T.is.at (numbers_then c.numbers s m T.took.numbers_after) u home
 home_stays c T u None small h = h
 home_stays c T u (Some home) small h = lives_in c T u home small h
@@ -180,13 +183,13 @@ home_stays c T u (Some home) small h = lives_in c T u home small h
 pub home_else : {k : Table} {job : Job} {input : List ℕ} {t m s : ℕ} {old new : Crew} {before after : Task} {stop : Stop} →
     (c : IsCrew k job input t m None old) →
     Turning k job input t m s old new c.numbers before after stop c.course → (u : ℕ) (home : Home) →
-        (h : LivesIn old c.course.at c.numbers u home) → h.parent ≢ s →
+    (h : LivesIn old c.course.at c.numbers u home) → h.parent ≢ s →
     IsOpen old.world.scopes home.scope × AreOthers home.scope before.own.items
 home_else {old = old} {before = before} c T u home h differs =
     let n = finds old.world.book home.nursery _ h.runs in
     let x : HasScope old.world.book h.starter.own.items home.nursery =
     scope_of_nursery (label_at old.world) old.world.book (blocks_of h.starter.frames.items) h.starter.own.items (waits_of h.starter.halt)
-        home.nursery
+    home.nursery
     (c.follows h.parent h.starter h.lives).goes.opened h.owned in
     let same : x.scope.id ≡ home.scope = sym x.same ∙ (ap (λ (y : Members). y.scope) (one_of x.nursery n.0 (sym x.at ∙ n.1)) ∙ n.2.0) in (
       subst (IsOpen old.world.scopes) same (own_open c h.parent h.starter h.lives x.scope x.place x.got),
@@ -197,25 +200,25 @@ home_else {old = old} {before = before} c T u home h differs =
 mover_open : {k : Table} {job : Job} {input : List ℕ} {t m s : ℕ} {old new : Crew} {before after : Task} {stop : Stop} →
     (c : IsCrew k job input t m None old) →
     (T : Turning k job input t m s old new c.numbers before after stop c.course) → (u : ℕ) (home : Home) →
-        (h : LivesIn old c.course.at c.numbers u home) → h.parent ≡ s →
+    (h : LivesIn old c.course.at c.numbers u home) → h.parent ≡ s →
     IsOpen new.world.scopes home.scope
 mover_open {new = new} {after = after} c T u home h e =
     let now = mover_home c T u home h e in
     let n = finds new.world.book home.nursery _ now.runs in
     let x : HasScope new.world.book after.own.items home.nursery =
     scope_of_nursery (label_at new.world) new.world.book (blocks_of after.frames.items) after.own.items (waits_of after.halt) home.nursery
-        T.fits_after.opened
+    T.fits_after.opened
     (mover_owned c T u home h e).1 in
     let same : x.scope.id ≡ home.scope = sym x.same ∙ (ap (λ (y : Members). y.scope) (one_of x.nursery n.0 (sym x.at ∙ n.1)) ∙ n.2.0) in
     subst (IsOpen new.world.scopes) same
     (open_round new.world.scopes T.sound_after.chain (scope_of after) x.scope.id
-        (own_round (outer_of new.world.scopes (scope_of after)) after.own.items _ x.scope x.place T.fits_after.first x.got))
+    (own_round (outer_of new.world.scopes (scope_of after)) after.own.items _ x.scope x.place T.fits_after.first x.got))
 
 -- so the scope of each home stays open
 pub home_open : {k : Table} {job : Job} {input : List ℕ} {t m s : ℕ} {old new : Crew} {before after : Task} {stop : Stop} →
     (c : IsCrew k job input t m None old) →
     (T : Turning k job input t m s old new c.numbers before after stop c.course) → ActsOf c T → (u : ℕ) (home : Option Home) →
-        HasHome old c.course.at c.numbers u home →
+    HasHome old c.course.at c.numbers u home →
     ForSome (option_map (λ (h : Home). h.scope) home) (IsOpen new.world.scopes)
 home_open c T a u None h key e = absurd (not_both refl e)
 home_open {s = s} {new = new} c T a u (Some home) h key e =

@@ -41,6 +41,7 @@ the_first Q labels book o own key id e h =
     let n = finds book key _ h in
     record { nursery = n.0; at = sym (ap (nursery_at book) e) ∙ n.1; scope = o; place = zero; got = refl; same = n.2.0.scope }
 
+-- each nursery of a task has a scope that the task opened
 pub scope_of_nursery : (labels : Labels) (book : NurseryBook) (bs : List Block) (own : List Own) (waits : Option ℕ) (id : ℕ) →
     Opened labels book bs own waits → HasNurseryOf id bs waits →
     HasScope book own id
@@ -64,7 +65,7 @@ scope_of_nursery labels book (a_nursery key ∷ bs) (o ∷ own) waits id h (inr 
 pub nursery_stays : (labels : Labels) (book new : NurseryBook) (bs : List Block) (own : List Own) (waits : Option ℕ) (tree : Tree) →
     Opened labels book bs own waits →
     OthersStay bs own tree book new → (id : ℕ) (n : Members) → nursery_at book id ≡ Some n → IsOpen tree n.scope → AreOthers n.scope own →
-        nursery_at new id ≡ Some n
+    nursery_at new id ≡ Some n
 nursery_stays labels book new bs own waits tree opened stay id n e is others =
     stay id n e (λ has. has_scope labels book bs own waits id n opened (inl has) e others) (is, others)
 
@@ -72,24 +73,26 @@ nursery_stays labels book new bs own waits tree opened stay id n e is others =
 pub nurseries_stay : (labels : Labels) (book new : NurseryBook) (bs cs : List Block) (own mine : List Own) (waits waited : Option ℕ)
     (tree : Tree) → Opened labels book bs own waits →
     OthersStay bs own tree book new → Opened labels book cs mine waited → AreElse mine own →
-        ((o : Own) (i : ℕ) → slice_get mine i ≡ Some o → IsOpen tree o.id) →
+    ((o : Own) (i : ℕ) → slice_get mine i ≡ Some o → IsOpen tree o.id) →
     (id : ℕ) → HasNurseryOf id cs waited → nursery_at new id ≡ nursery_at book id
 nurseries_stay labels book new bs cs own mine waits waited tree opened stay fits others are id has =
     let h = scope_of_nursery labels book cs mine waited id fits has in
     nursery_stays labels book new bs own waits tree opened stay id h.nursery h.at
-        (subst (IsOpen tree) (sym h.same) (are h.scope h.place h.got))
+    (subst (IsOpen tree) (sym h.same) (are h.scope h.place h.got))
     (subst (λ (k : ℕ). AreOthers k own) (sym h.same) (others h.scope h.place h.got))
     ∙ sym h.at
 
+-- what is true of a nursery is so in each book in which it is the same
 pub same_nursery : (P : Members → Type 0) (book new : NurseryBook) (id : ℕ) → nursery_at new id ≡ nursery_at book id →
     HasNursery book id P → HasNursery new id P
 same_nursery P book new id e h = subst (λ (p : Option Members). IsSomeAnd p P) (sym e) h
 
 -- ---- what a task opened
 
+-- the scopes of a task are those of its blocks where their labels and its nurseries are the same
 pub opened_stays : (labels more : Labels) (book new : NurseryBook) (bs : List Block) (own : List Own) (waits : Option ℕ) →
     ((o : Own) (i : ℕ) → slice_get own i ≡ Some o → more o.id ≡ labels o.id) →
-        ((id : ℕ) → HasNurseryOf id bs waits → nursery_at new id ≡ nursery_at book id) →
+    ((id : ℕ) → HasNurseryOf id bs waits → nursery_at new id ≡ nursery_at book id) →
     Opened labels book bs own waits → Opened more new bs own waits
 opened_stays labels more book new bs own waits same stay h = by_blocks bs own same stay h
   where
@@ -120,8 +123,11 @@ opened_stays labels more book new bs own waits same stay h = by_blocks bs own sa
     by_blocks [] own e f i = awaited own waits e f i
     by_blocks (b ∷ bs) [] e f i = i
     by_blocks (a_scope ∷ bs) (o ∷ own) e f i = (subst IsSome (sym (e o zero refl)) i.0, i.1, by_blocks bs own (λ x j. e x (suc j)) f i.2)
-    by_blocks (a_nursery key ∷ bs) (o ∷ own) e f i = (block (λ n. n.body ≡ None) o key (e o zero refl) (f key (inl (inl refl))) i.0, i.1,
-        by_blocks bs own (λ x j. e x (suc j)) inner i.2)
+    by_blocks (a_nursery key ∷ bs) (o ∷ own) e f i = (
+      block (λ n. n.body ≡ None) o key (e o zero refl) (f key (inl (inl refl))) i.0,
+      i.1,
+      by_blocks bs own (λ x j. e x (suc j)) inner i.2,
+    )
       where
         inner : (id : ℕ) → HasNurseryOf id bs waits → nursery_at new id ≡ nursery_at book id
         inner id (inl has) = f id (inl (inr has))
@@ -129,6 +135,7 @@ opened_stays labels more book new bs own waits same stay h = by_blocks bs own sa
 
 -- ---- where a task stopped
 
+-- what a task goes on with is its stop where the nursery that it waits for is the same
 pub halt_stays : (numbers : Numbers) (book new : NurseryBook) (halt : Halt) (stopped : rest.Stopped) →
     ((id : ℕ) → waits_of halt ≡ Some id → nursery_at new id ≡ nursery_at book id) →
     IsHalt numbers book halt stopped → IsHalt numbers new halt stopped

@@ -63,6 +63,7 @@ begins_late id place number n (rest.starts i l u ∷ es) (t ∷ ts) (b ∷ bs) s
 
 -- ---- a child's home is the nursery that has its number
 
+-- a task that has not ended and is a member of a nursery at a place has its home there
 pub member_home : {k : Table} {job : Job} {input : List ℕ} {t m : ℕ} {old : Crew} → (c : IsCrew k job input t m None old) →
     (u : ℕ) (task : Task) → old.task u ≡ Some task → (id place : ℕ) (e : Option End) →
     IsMember old c.course.at t id place u e → home_of task ≡ Some (id, place)
@@ -73,12 +74,13 @@ member_home c u task is id place (Some (Some exc)) h =
     let ended : live (c.course.at u).rest.stopped ≡ false = ap live h.3 in
     absurd (let clash : true ≡ false = sym alive ∙ ended in cc)
 
+-- the nursery of the mover that has the number of a child is the home of that child
 pub home_is : {k : Table} {job : Job} {input : List ℕ} {t m s : ℕ} {old new : Crew} {before after : Task} {stop : Stop} →
     (c : IsCrew k job input t m None old) →
     (T : Turning k job input t m s old new c.numbers before after stop c.course) → (u : ℕ) (task : Task) → old.task u ≡ Some task →
-        (home : Home) → task.home ≡ Some home →
+    (home : Home) → task.home ≡ Some home →
     (h : LivesIn old c.course.at c.numbers u home) → h.parent ≡ s → (id place : ℕ) →
-        HasNurseryOf id (blocks_of after.frames.items) (waits_of after.halt) →
+    HasNurseryOf id (blocks_of after.frames.items) (waits_of after.halt) →
     slice_get (T.took.numbers_after id) place ≡ Some h.number → id ≡ home.nursery
 home_is {k} {job} {input} {t} {m} {s} {old} {new} {before} {after} c T u task is home at_home h e id place has got =
     by_case (T.took.covered id place h.number has got)
@@ -97,11 +99,11 @@ home_is {k} {job} {input} {t} {m} {s} {old} {new} {before} {after} c T u task is
         subst (λ (p : ℕ). IsMember old c.course.at t id place p (slice_get n.0.children place)) serial (n.2.members place h.number x.1).1 in
         let same : Some (id, place) ≡ Some (home.nursery, home.place) =
         sym (member_home c u task is id place (slice_get n.0.children place) member)
-            ∙ ap (option_map (λ (y : Home). (y.nursery, y.place))) at_home in
+        ∙ ap (option_map (λ (y : Home). (y.nursery, y.place))) at_home in
         ap (λ (z : ℕ × ℕ). z.0) (one_of (id, place) (home.nursery, home.place) same)
     by_case (inr b) =
         let late : (c.course.at s).count ≤ h.number =
-            begins_late id place h.number (c.course.at s).count T.move.made T.took.tasks T.move.begun T.promise.starts b in
+        begins_late id place h.number (c.course.at s).count T.move.made T.took.tasks T.move.begun T.promise.starts b in
         let low : h.number < (c.course.at s).count = below in
         absurd (omega arith)
 
@@ -111,13 +113,13 @@ home_is {k} {job} {input} {t} {m} {s} {old} {new} {before} {after} c T u task is
 mover_places : {k : Table} {job : Job} {input : List ℕ} {t m s : ℕ} {old new : Crew} {before after : Task} {stop : Stop} →
     (c : IsCrew k job input t m None old) →
     (T : Turning k job input t m s old new c.numbers before after stop c.course) → (u : ℕ) (task : Task) → old.task u ≡ Some task →
-        (home : Home) → task.home ≡ Some home →
+    (home : Home) → task.home ≡ Some home →
     (h : LivesIn old c.course.at c.numbers u home) → h.parent ≡ s → (ps : List Place) →
-        AreAt (label_at old.world) c.course.froms (outer_of old.world.scopes (Some home.scope)) ps →
+    AreAt (label_at old.world) c.course.froms (outer_of old.world.scopes (Some home.scope)) ps →
     AreAt (label_at new.world) (froms_after c.course.froms T.move.made) (outer_of new.world.scopes (Some home.scope)) ps
 mover_places {k} {job} {input} {t} {m} {s} {old} {new} {before} {after} {stop} c T u task is home at_home h e ps at =
     subst (λ (x : Stack). AreAt (label_at new.world) (froms_after f T.move.made) x ps)
-        (sym (outer_is new.world.scopes home.scope now.0 (ap (stack_of new.world.scopes) (sym last) ∙ now.1))) now.2
+    (sym (outer_is new.world.scopes home.scope now.0 (ap (stack_of new.world.scopes) (sym last) ∙ now.1))) now.2
   where
     f : Table
     f = c.course.froms
@@ -136,9 +138,9 @@ mover_places {k} {job} {input} {t} {m} {s} {old} {new} {before} {after} {stop} c
         (outer_of old.world.scopes (scope_of before)) (places_behind (Some q.rest.stopped) q.places)
     housed =
         housed_onto (label_at old.world) old.world.book f (c.numbers s) before.frames.items before.own.items (waits_of before.halt)
-            q.rest.stopped _ []
+        q.rest.stopped _ []
         (outer_of old.world.scopes (scope_of before)) q.places T.fits.opened
-            (is_stop (c.numbers s) old.world.book before.halt q.rest.stopped follows.halt) follows.stands.places T.fits.first
+        (is_stop (c.numbers s) old.world.book before.halt q.rest.stopped follows.halt) follows.stands.places T.fits.first
         home.nursery h.number (mover_owned c T u home h e).0 among
 
     was : (st : Stack) × (stack_of old.world.scopes housed.scope.id ≡ Some st) × AreAt (label_at old.world) f st housed.home
@@ -155,19 +157,19 @@ mover_places {k} {job} {input} {t} {m} {s} {old} {new} {before} {after} {stop} c
     same =
         same_places (label_at old.world) f was.0 housed.home ps was.2
         (subst (λ (x : Stack). AreAt (label_at old.world) f x ps) (outer_is old.world.scopes home.scope was.0
-            (ap (stack_of old.world.scopes) (sym first) ∙ was.1)) at)
+        (ap (stack_of old.world.scopes) (sym first) ∙ was.1)) at)
 
     child : HasChild h.number ps q.rest.frames (places_behind (Some q.rest.stopped) q.places)
     child =
         subst (λ (fs : List rest.Frame). HasChild h.number ps fs (places_behind (Some q.rest.stopped) q.places)) follows.frames
         (subst (λ (x : List Place). HasChild h.number x (frames_of (c.numbers s) before.frames.items)
-            (places_behind (Some q.rest.stopped) q.places)) same housed.child)
+        (places_behind (Some q.rest.stopped) q.places)) same housed.child)
 
     stays : HasChildAfter h.number ps (Some T.stopped) (frames_of T.took.numbers_after after.frames.items) T.move.places
     stays =
         subst (λ (fs : List rest.Frame). HasChildAfter h.number ps (Some T.stopped) fs T.move.places) (sym T.took.frames_after)
         (subst (λ (o : Option rest.Stopped). HasChildAfter h.number ps o T.move.frames T.move.places) T.stops
-            (T.promise.stays h.number ps child))
+        (T.promise.stays h.number ps child))
 
     halt : StopsAs T.took.numbers_after new.world.book before.part stop after.halt (Some T.stopped)
     halt = subst (StopsAs T.took.numbers_after new.world.book before.part stop after.halt) T.stops T.took.moves.1
@@ -176,9 +178,9 @@ mover_places {k} {job} {input} {t} {m} {s} {old} {new} {before} {after} {stop} c
         (waits_of after.halt) (outer_of new.world.scopes (scope_of after)) h.number ps
     there =
         found (label_at new.world) new.world.book (froms_after f T.move.made) T.took.numbers_after after.frames.items after.own.items
-            (waits_of after.halt) T.stopped _
+        (waits_of after.halt) T.stopped _
         (outer_of new.world.scopes (scope_of after)) T.move.places T.fits_after.opened
-            (is_stop T.took.numbers_after new.world.book after.halt T.stopped halt.0) T.took.places T.fits_after.first
+        (is_stop T.took.numbers_after new.world.book after.halt T.stopped halt.0) T.took.places T.fits_after.first
         h.number ps stays
 
     now : (st : Stack) × (stack_of new.world.scopes there.scope.id ≡ Some st) × AreAt (label_at new.world) (froms_after f T.move.made) st ps
@@ -197,10 +199,11 @@ nowhere : (labels more : Labels) (f g : Table) (ps : List Place) → AreAt label
 nowhere labels more f g [] a = a
 nowhere labels more f g (p ∷ ps) a = absurd a
 
+-- after a turn the places of every other task are those of its stack, by the new froms
 pub places_other : {k : Table} {job : Job} {input : List ℕ} {t m s : ℕ} {old new : Crew} {before after : Task} {stop : Stop} →
     (c : IsCrew k job input t m None old) →
     (T : Turning k job input t m s old new c.numbers before after stop c.course) → ActsOf c T → (u : ℕ) (task : Task) → u ≢ s →
-        old.task u ≡ Some task →
+    old.task u ≡ Some task →
     AreAt (label_at new.world) (froms_after c.course.froms T.move.made) (outer_of new.world.scopes (scope_of task)) (c.course.at u).places
 places_other {k} {job} {input} {t} {m} {s} {old} {new} {before} {after} c T a u task differs is =
     by_own task.own.items refl (c.follows u task is).stands.places
@@ -225,9 +228,9 @@ places_other {k} {job} {input} {t} {m} {s} {old} {new} {before} {after} c T a u 
     by_own : (own : List Own) → task.own.items ≡ own → AreAt (label_at old.world) f
         (outer_of old.world.scopes (last_or (home_scope task) (map (λ (o : Own). o.id) own))) ps →
         AreAt (label_at new.world) (froms_after f T.move.made) (outer_of new.world.scopes
-            (last_or (home_scope task) (map (λ (o : Own). o.id) own))) ps
+        (last_or (home_scope task) (map (λ (o : Own). o.id) own))) ps
     by_own [] e at = by_home task.home refl (c.follows u task is).home at
     by_own (x ∷ own) e at =
         own_places_stay a f (home_scope task) x own ps (subst (λ (xs : List Own). AreElse xs before.own.items) e
-            (else_own c T u task differs is))
+        (else_own c T u task differs is))
         (subst (λ (xs : List Own). (o : Own) (i : ℕ) → slice_get xs i ≡ Some o → IsOpen old.world.scopes o.id) e (own_open c u task is)) at

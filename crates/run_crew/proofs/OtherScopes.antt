@@ -47,11 +47,13 @@ open_stack tree key i = by_stack (stack_of tree key) refl i
     by_stack None e j = absurd (not_closed None refl j)
     by_stack (Some st) e j = (st, e)
 
+-- what stands round a task in an open scope is the scope's stack
 pub outer_is : (tree : Tree) (key : ℕ) (st : Stack) → stack_of tree key ≡ Some st → outer_of tree (Some key) ≡ st
 outer_is tree key st e = ap (λ (o : Option Stack). unwrap_or o []) e
 
 -- ---- one scope
 
+-- an open scope that is none of the mover's stays open
 pub key_stays_open : {known : Label → Type 0} {t : ℕ} {s u : Scoping} {es : List Event} → Acted known t s u es → (key : ℕ) →
     IsOpen s.tree key → AreOthers key s.own → IsOpen u.tree key
 key_stays_open {s = s} {u = u} a key i others =
@@ -78,6 +80,7 @@ places_stay {known} {t} {s} {u} {es} a f key ps i others at =
 abbrev pub with_own : Scoping → List Own → List ScopeFrom → Scoping
 with_own s own froms = record { tree = s.tree; labels = s.labels; own = own; froms = froms }
 
+-- the froms of another task are those of the world after the turn
 pub tracks_other : {known : Label → Type 0} {t : ℕ} {s u : Scoping} {es : List Event} → Acted known t s u es →
     (was now : Label → Type 0) (f : Table) (own : List Own) (froms : List ScopeFrom)
     (entered : List Label) → AreElse own s.own → ((l : Label) → Known l entered → known l) → ((l : Label) → Known l entered → now l) →
@@ -117,10 +120,11 @@ pub last_is : (x : Own) (own : List Own) → (o : Own) × (i : ℕ) × (slice_ge
 last_is x [] = (x, zero, refl, refl)
 last_is x (y ∷ own) = let r = last_is y own in (r.0, suc r.1, r.2, r.3)
 
+-- the innermost scope of another task is open after the turn, if its home's is
 pub scope_stays : {known : Label → Type 0} {t : ℕ} {s u : Scoping} {es : List Event} → Acted known t s u es →
     (home : Option ℕ) (own : List Own) → AreElse own s.own →
     ((o : Own) (i : ℕ) → slice_get own i ≡ Some o → IsOpen s.tree o.id) → ForSome home (IsOpen u.tree) →
-        ForSome (last_or home (map (λ (o : Own). o.id) own)) (IsOpen u.tree)
+    ForSome (last_or home (map (λ (o : Own). o.id) own)) (IsOpen u.tree)
 scope_stays a home [] others are h key e = h key e
 scope_stays {u = u} a home (x ∷ own) others are h key e =
     let o = last_is x own in
@@ -136,7 +140,7 @@ own_places_stay {known} {t} {s} {u} {es} a f home x own ps others are at =
     let o = last_is x own in
     subst (λ (k : Option ℕ). AreAt u.labels (froms_after f es) (outer_of u.tree k) ps) (sym o.3)
     (places_stay a f o.0.id ps (are o.0 o.1 o.2) (others o.0 o.1 o.2)
-        (subst (λ (k : Option ℕ). AreAt s.labels f (outer_of s.tree k) ps) o.3 at))
+    (subst (λ (k : Option ℕ). AreAt s.labels f (outer_of s.tree k) ps) o.3 at))
 
 -- ---- the stack of a task, and that of its home
 
@@ -159,8 +163,11 @@ own_first tree key own i = by_stack st.0 st.1 (own key st.0 st.1)
 
     by_stack : (x : Stack) → stack_of tree key ≡ Some x → own_label x ≡ Some key → Own_first tree key
     by_stack [] e f = absurd (not_both refl f)
-    by_stack (l ∷ ls) e f = record { more = keys_of ls; is = ap keys_of (outer_is tree key (l ∷ ls) e)
-        ∙ ap (λ (k : ℕ). k ∷ keys_of ls) (one_of l.label key f) }
+    by_stack (l ∷ ls) e f = record {
+      more = keys_of ls;
+      is = ap keys_of (outer_is tree key (l ∷ ls) e)
+          ∙ ap (λ (k : ℕ). k ∷ keys_of ls) (one_of l.label key f);
+    }
 
 -- the keys of the home's stack stay, where those of the task's do
 home_keys : (old new : Tree) (home : Option ℕ) (key : ℕ) (keys : List ℕ) → IsOwn old → IsChain new → ForSome home (IsOpen old) →
@@ -169,7 +176,7 @@ home_keys : (old new : Tree) (home : Option ℕ) (key : ℕ) (keys : List ℕ) �
 home_keys old new None key keys own chain was now e = refl
 home_keys old new (Some home) key keys own chain was now e =
     first.is ∙ sym (ap keys_of (outer_is new home (c.level ∷ c.behind) here)
-        ∙ (ap (λ (k : ℕ). k ∷ keys_of c.behind) c.named ∙ ap (λ (ks : List ℕ). home ∷ ks) c.outer))
+    ∙ (ap (λ (k : ℕ). k ∷ keys_of c.behind) c.named ∙ ap (λ (ks : List ℕ). home ∷ ks) c.outer))
   where
     first : Own_first old home
     first = own_first old home own (was home refl)
@@ -183,14 +190,15 @@ home_keys old new (Some home) key keys own chain was now e =
     here : stack_of new home ≡ Some (c.level ∷ c.behind)
     here = ap (stack_of new) (sym c.named) ∙ chain key st.0 st.1 c.before c.level c.behind c.is
 
+-- the scopes that another task opened are those round it still, as far as its home
 pub first_stays : {known : Label → Type 0} {t : ℕ} {s u : Scoping} {es : List Event} → Acted known t s u es →
     (home : Option ℕ) (own : List Own) → AreElse own s.own →
     ((o : Own) (i : ℕ) → slice_get own i ≡ Some o → IsOpen s.tree o.id) → ForSome home (IsOpen s.tree) → OwnFirst s.tree home own →
-        OwnFirst u.tree home own
+    OwnFirst u.tree home own
 first_stays a home [] others are was h = refl
 first_stays {known} {t} {s} {u} {es} a home (x ∷ own) others are was h =
     subst (λ (k : Option ℕ). keys_of (outer_of u.tree k) ≡ keys_in (x ∷ own) ++ keys_of (outer_of u.tree home)) (sym o.3)
-        (now ∙ ap (λ (ks : List ℕ). keys_in (x ∷ own) ++ ks) homes)
+    (now ∙ ap (λ (ks : List ℕ). keys_in (x ∷ own) ++ ks) homes)
   where
     o : (y : Own) × (i : ℕ) × (slice_get (x ∷ own) i ≡ Some y) × (last_or (Some x.id) (map (λ (z : Own). z.id) own) ≡ Some y.id)
     o = last_is x own
@@ -206,7 +214,7 @@ first_stays {known} {t} {s} {u} {es} a home (x ∷ own) others are was h =
         ap keys_of (outer_is u.tree o.0.id n.after n.at)
         ∙ (keys_same st.0 n.after n.levels
         ∙ (sym (ap keys_of (outer_is s.tree o.0.id st.0 st.1)) ∙ subst
-            (λ (k : Option ℕ). keys_of (outer_of s.tree k) ≡ keys_in (x ∷ own) ++ keys_of (outer_of s.tree home)) o.3 h))
+        (λ (k : Option ℕ). keys_of (outer_of s.tree k) ≡ keys_in (x ∷ own) ++ keys_of (outer_of s.tree home)) o.3 h))
 
     homes : keys_of (outer_of s.tree home) ≡ keys_of (outer_of u.tree home)
     homes = home_keys s.tree u.tree home o.0.id (keys_in (x ∷ own)) a.sound.own a.sound_after.chain was (is_open u.tree o.0.id n.after n.at)

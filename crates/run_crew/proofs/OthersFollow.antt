@@ -53,9 +53,13 @@ module _ (k : Table) (job : Job) (input : List ℕ) (t m s : ℕ) (old new : Cre
       IsMember new T.is.at t id place serial e
   member_stays id place serial None h = absurd h
   member_stays id place serial (Some None) h = running_stays id place serial h (same_or serial s)
-  member_stays id place serial (Some (Some exc)) h =
-      (h.0, T.gone_after serial ∙ h.1, h.2, ap (λ (q : Started). q.rest.stopped)
-          (T.of_other serial (gone_below k job input t m None old c serial h.0 h.1) differs) ∙ h.3)
+  member_stays id place serial (Some (Some exc)) h = (
+    h.0,
+    T.gone_after serial ∙ h.1,
+    h.2,
+    ap (λ (q : Started). q.rest.stopped)
+        (T.of_other serial (gone_below k job input t m None old c serial h.0 h.1) differs) ∙ h.3,
+  )
     where
       lives : live (c.course.at s).rest.stopped ≡ true
       lives = (c.follows s before T.task).lives (λ e. not_both refl e)
@@ -90,7 +94,7 @@ module _ (k : Table) (job : Job) (input : List ℕ) (t m s : ℕ) (old new : Cre
     tracks =
         subst (λ (f : Table). Tracks (IsEntered T.is.at) f (scoping_of task new.world) (entered_made (c.course.at u).made)) (sym T.froms)
         (tracks_other a (IsEntered c.course.at) (IsEntered T.is.at) c.course.froms task.own.items task.froms.items
-            (entered_made (c.course.at u).made) others (λ l h. (u, h))
+        (entered_made (c.course.at u).made) others (λ l h. (u, h))
         (λ l h. (u, subst (λ (q : Started). Known l (entered_made q.made)) (sym same) h)) was.tracks)
 
     -- each of its scopes has the label that it had
@@ -114,7 +118,7 @@ module _ (k : Table) (job : Job) (input : List ℕ) (t m s : ℕ) (old new : Cre
           froms = was.goes.froms;
           opened =
               opened_stays (label_at old.world) (label_at new.world) old.world.book new.world.book (blocks_of task.frames.items)
-                  task.own.items (waits_of task.halt) label_same nursery
+              task.own.items (waits_of task.halt) label_same nursery
               was.goes.opened;
         }
 
@@ -123,12 +127,12 @@ module _ (k : Table) (job : Job) (input : List ℕ) (t m s : ℕ) (old new : Cre
         record {
           places =
               subst (λ (f : Table). AreAt (label_at new.world) f (outer_of new.world.scopes (scope_of task)) (c.course.at u).places)
-                  (sym T.froms)
+              (sym T.froms)
               (places_other c T a u task differs is);
           numbered =
               λ id has.
               same_nursery (λ n. length (c.numbers u id) ≡ length n.children) old.world.book new.world.book id (nursery id (inl has))
-                  (was.stands.numbered id has);
+              (was.stands.numbered id has);
           placed = was.stands.placed;
           new = was.stands.new;
           own = was.stands.own;
@@ -149,7 +153,7 @@ module _ (k : Table) (job : Job) (input : List ℕ) (t m s : ℕ) (old new : Cre
               members =
                   λ place number got.
                   let one = h.members place number got in
-                      (one.0, member_stays id place ((c.course.at u).child number) (slice_get n.children place) one.1);
+                  (one.0, member_stays id place ((c.course.at u).child number) (slice_get n.children place) one.1);
             }
 
     stood : Stood new T.is.froms input t T.is.at (leaving_by stop s) u task (c.numbers u) (c.course.at u)
@@ -173,5 +177,5 @@ module _ (k : Table) (job : Job) (input : List ℕ) (t m s : ℕ) (old new : Cre
     pub others_follow : Follows new T.is.froms input t T.is.at (numbers_then c.numbers s m T.took.numbers_after) (leaving_by stop s) u task
     others_follow =
         follows_by new T.is.froms input t T.is.at (numbers_then c.numbers s m T.took.numbers_after) (leaving_by stop s) u task (c.numbers u)
-            (c.course.at u)
+        (c.course.at u)
         (numbers_other c.numbers s m T.took.numbers_after u below differs) same stood (home_stays c T u task.home below was.home)

@@ -41,15 +41,17 @@ root_stays k job input _ _ _ _ (begun f) = (omega arith, by_in)
     by_in x (inl e) z = ap (λ (y : Started). y.here) e
     by_in x (inr i) z = absurd i
 root_stays k job input _ _ _ _ (turn f t m q qs others wake o s r front may goes stopped) =
-    let inner = root_stays k job input f t m qs r in
-    (let some = inner.0 in omega (arith, some), λ x i z. by_part inner x z
-        (in_either x (turned k t m q o s ∷ children_from k t m o.begun) others i))
+    let inner = root_stays k job input f t m qs r in (
+      let some = inner.0 in omega (arith, some),
+      λ x i z. by_part inner x z
+          (in_either x (turned k t m q o s ∷ children_from k t m o.begun) others i),
+    )
   where
     by_part : RootStays job input m qs → (x : Started) → x.serial ≡ 0 → In x (turned k t m q o s ∷ children_from k t m o.begun)
         ⊎ In x others → x.here ≡ root_here job input
     by_part inner x z (inl (inl e)) =
         ap (λ (y : Started). y.here) e ∙ inner.1 q ((front_same q qs others front).back q (inl refl))
-            (sym (ap (λ (y : Started). y.serial) e) ∙ z)
+        (sym (ap (λ (y : Started). y.serial) e) ∙ z)
     by_part inner x z (inl (inr j)) = absurd (let h = children_later k t m o.begun x j in let some = inner.0 in omega (arith, h, some, z))
     by_part inner x z (inr j) = inner.1 x ((front_same q qs others front).back x (inr j)) z
 root_stays k job input _ _ _ _ (jump f t u m qs r le blocked) = root_stays k job input f t m qs r
@@ -101,6 +103,7 @@ rows_started f start at child (starts i l t ∷ es) h = (h.0, h.1, rows_started 
 ended_row : (s : Stopped) (u : ℕ) (e : Option Exc) → s ≡ at_end u e → s ≡ at_end (end_at s) (exc_at s)
 ended_row s u e h = subst (λ (x : Stopped). x ≡ at_end (end_at x) (exc_at x)) (sym h) refl
 
+-- where every task of a crew has ended, what is kept of them says what the job means
 pub crew_over : (job : Job) (input : List ℕ) → GivesNamesOnce job → StartsInNurseries job → (t m : ℕ) (crew : Crew) →
     IsCrew (meaning_table job input) job input t m None crew →
     ((p : ℕ) → crew.task p ≡ None) → IsOver job input m crew
@@ -166,5 +169,5 @@ crew_over job input names starting t m crew c none =
 
     means : (taken : List ℕ) → DepthFirst rows (0 ∷ []) taken →
         (records_by rows taken ≡ meaning_records job input) × (froms_in rows taken ≡ meaning_froms job input)
-            × ((rows 0).end ≡ meaning_end job input)
+        × ((rows 0).end ≡ meaning_end job input)
     means taken d = runs_are_the_meaning job input names starting f t m c.course.tasks c.course.reached rows has_row label c.begun taken d

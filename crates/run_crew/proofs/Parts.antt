@@ -25,14 +25,17 @@ use Rattle.task_machine.proofs.Stacked.{one_of}
 
 -- ---- the numbers of a task's children after a turn
 
+-- after a turn the mover's children have the numbers that it gave
 pub numbers_mover : (numbers : ℕ → Numbers) (s m : ℕ) (now : Numbers) → numbers_then numbers s m now s ≡ now
 numbers_mover numbers s m now = ap (λ (b : Bool). numbers_if b (nat_lt m (s + 1)) now (numbers s)) (eq-eqb s s refl)
 
+-- after a turn the children of each other task have the numbers that they had
 pub numbers_other : (numbers : ℕ → Numbers) (s m : ℕ) (now : Numbers) (p : ℕ) → p < m → p ≢ s → numbers_then numbers s m now p ≡ numbers p
 numbers_other numbers s m now p below differs =
     ap (λ (b : Bool). numbers_if b (nat_lt m (p + 1)) now (numbers p)) (ne_eqb p s differs)
     ∙ ap (λ (b : Bool). numbers_if false b now (numbers p)) (le-ltb m (p + 1) (omega (arith, below)))
 
+-- after a turn a task that has just begun has given no numbers
 pub numbers_child : (numbers : ℕ → Numbers) (s m : ℕ) (now : Numbers) (i : ℕ) → s < m → numbers_then numbers s m now (m + i) ≡ (λ id. [])
 numbers_child numbers s m now i below =
     ap (λ (b : Bool). numbers_if b (nat_lt m (m + i + 1)) now (numbers (m + i))) (ne_eqb (m + i) s (λ e. omega (arith, below, e)))
@@ -40,6 +43,7 @@ numbers_child numbers s m now i below =
 
 -- ---- what is at a place
 
+-- a number among others stands at a place
 pub among_got : (x : ℕ) (xs : List ℕ) → IsAmong x xs → (i : ℕ) × (slice_get xs i ≡ Some x)
 among_got x [] a = absurd a
 among_got x (y ∷ xs) (inl e) = (zero, ap (λ (z : ℕ). Some z) (sym e))
@@ -47,6 +51,7 @@ among_got x (y ∷ xs) (inr a) = let g = among_got x xs a in (suc g.0, g.1)
 
 -- ---- the children begun
 
+-- a task that was started is the child begun at the same place
 pub begun_at : (numbers : Numbers) (book : NurseryBook) (blocks : List Block) (waits : Option ℕ) (ts : List Task) (bs : List Begun) →
     AreBegun numbers book blocks waits ts bs →
     (i : ℕ) (task : Task) → slice_get ts i ≡ Some task → (b : Begun) × (slice_get bs i ≡ Some b) × IsBegun numbers book blocks waits task b
@@ -66,6 +71,7 @@ pub record BeginsThere (id place number : ℕ) (ts : List Task) (bs : List Begun
   pub home : home_of task ≡ Some (id, place)
   pub number_is : child.number ≡ number
 
+-- who begins at a place of a nursery is one of the tasks that were started
 pub begins_there : (id place number : ℕ) (ts : List Task) (bs : List Begun) → BeginsAt id place number ts bs →
     BeginsThere id place number ts bs
 begins_there id place number [] bs h = absurd h
@@ -91,11 +97,13 @@ numbered_on n (starts j l t ∷ es) (c ∷ bs) h zero b e =
     omega arith
 numbered_on n (starts j l t ∷ es) (c ∷ bs) h (suc i) b e = let f : b.number ≡ suc n + i = numbered_on (suc n) es bs h.3 i b e in omega arith
 
+-- each child begun has steps that start tasks in nurseries alone
 pub starts_at : (ls : List Label) (bs : List Begun) → BegunIn ls bs → (i : ℕ) (b : Begun) → slice_get bs i ≡ Some b → StartsIn false b.body
 starts_at ls [] h i b e = absurd (not_both refl e)
 starts_at ls (c ∷ bs) h zero b e = subst (λ (z : Begun). StartsIn false z.body) (one_of c b e) h.1
 starts_at ls (c ∷ bs) h (suc i) b e = starts_at ls bs h.2 i b e
 
+-- the steps of each child begun give no name that is round them, and no two of its places have one name
 pub new_at : (bs : List Begun) → AllNew bs → (i : ℕ) (b : Begun) → slice_get bs i ≡ Some b → names.AreNew (names_at b.places) b.body
     × OwnNames (names_at b.places)
 new_at [] h i b e = absurd (not_both refl e)
@@ -103,6 +111,7 @@ new_at (c ∷ bs) h zero b e = subst (λ (z : Begun). names.AreNew (names_at z.p
     (h.0, h.1)
 new_at (c ∷ bs) h (suc i) b e = new_at bs h.2 i b e
 
+-- each child begun has its number in a nursery of its starter, at its places
 pub housed_at : (bs : List Begun) (s : Option Stopped) (fs : List Frame) (ps : List Place) → AllHoused bs s fs ps → (i : ℕ) (b : Begun) →
     slice_get bs i ≡ Some b →
     HasChildAfter b.number b.places s fs ps
@@ -127,6 +136,7 @@ own_or key (o ∷ own) = by_test (same_or o.id key) (own_or key own)
 
 -- ---- events
 
+-- the labels entered in events and in further ones are those of the first and then those of the others
 pub entered_append : (es fs : List Event) → entered_made (es ++ fs) ≡ entered_made es ++ entered_made fs
 entered_append [] fs = refl
 entered_append (noted t e ∷ es) fs = entered_append es fs
@@ -134,6 +144,7 @@ entered_append (signs l t ∷ es) fs = entered_append es fs
 entered_append (enters l t d ∷ es) fs = ap (λ (ls : List Label). l ∷ ls) (entered_append es fs)
 entered_append (starts i l t ∷ es) fs = entered_append es fs
 
+-- both ways to say which labels events enter give the same
 pub entered_same : (es : List Event) → labels_entered es ≡ entered_made es
 entered_same [] = refl
 entered_same (noted t e ∷ es) = entered_same es
@@ -141,11 +152,13 @@ entered_same (signs l t ∷ es) = entered_same es
 entered_same (enters l t d ∷ es) = ap (λ (ls : List Label). l ∷ ls) (entered_same es)
 entered_same (starts i l t ∷ es) = entered_same es
 
+-- a label among the first ones is among all
 pub known_first : (l : Label) (xs ys : List Label) → Known l xs → Known l (xs ++ ys)
 known_first l [] ys k = absurd k
 known_first l (x ∷ xs) ys (inl e) = inl e
 known_first l (x ∷ xs) ys (inr k) = inr (known_first l xs ys k)
 
+-- a label among the last ones is among all
 pub known_last : (l : Label) (xs ys : List Label) → Known l ys → Known l (xs ++ ys)
 known_last l [] ys k = k
 known_last l (x ∷ xs) ys k = inr (known_last l xs ys k)

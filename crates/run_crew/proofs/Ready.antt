@@ -33,12 +33,13 @@ no_weight rest ps u e placed ends =
     ap (λ (x : Stopped). rest_weight (record { stopped = x; frames = rest.frames })) ends
     ∙ ap (λ (fs : List Frame). rest_weight (record { stopped = at_end u e; frames = fs })) none
 
+-- who may be woken in a tick may be so after the turn of another task in that tick
 pub still_ready : (k : Table) (job : Job) (input : List ℕ) (t m s : ℕ) (old new : Crew) (numbers : ℕ → Numbers) (before after : Task)
     (stop : Stop) (was : Course k job input t m) →
     IsSettled k job input → GivesNamesOnce job → StartsInNurseries job →
-        (turn : Turning k job input t m s old new numbers before after stop was) → (p : ℕ) → p < m → p ≢ s →
+    (turn : Turning k job input t m s old new numbers before after stop was) → (p : ℕ) → p < m → p ≢ s →
     (w : Wake) → MayWake was.froms was.tasks t (was.at p) w (was.at p).rest.stopped →
-        MayWake turn.is.froms turn.is.tasks t (turn.is.at p) w (turn.is.at p).rest.stopped
+    MayWake turn.is.froms turn.is.tasks t (turn.is.at p) w (turn.is.at p).rest.stopped
 still_ready k job input t m s old new numbers before after stop was settled names starting turn p below differs w may =
     subst (λ (x : Started). MayWake turn.is.froms turn.is.tasks t x w x.rest.stopped) (sym other)
     (ready_by was.froms turn.is.froms was.tasks turn.is.tasks t q w q.rest.stopped (sym seen_before ∙ seen_after) over may)
@@ -69,7 +70,7 @@ still_ready k job input t m s old new numbers before after stop was settled name
     seen_after =
         seen_near (suc t) (stack_at k q.places) (stack_at turn.is.froms q.places) t
         (near_places t k turn.is.froms q.places (on_after.2 q (subst (λ (x : Started). In x turn.is.tasks) other (turn.is.has p less).0)))
-            (omega arith)
+        (omega arith)
 
     -- the task that had its turn had not ended
     alive : (u : ℕ) (e : Option Exc) → (was.at s).rest.stopped ≡ at_end u e → ⊥

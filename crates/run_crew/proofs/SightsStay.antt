@@ -44,20 +44,20 @@ scope_label : (labels : Labels) (f : Table) (tree : Tree) (scope : Option ℕ) (
 scope_label labels f tree scope key ps own is st opened at =
     label_first labels f key st ps (own key st opened)
     (subst (λ (x : Stack). AreAt labels f x ps) (outer_is tree key st opened)
-        (subst (λ (o : Option ℕ). AreAt labels f (outer_of tree o) ps) is at))
+    (subst (λ (o : Option ℕ). AreAt labels f (outer_of tree o) ps) is at))
 
 -- The scope of another task shows the sight that it showed, or is marked.
 pub shows_still : {k : Table} {job : Job} {input : List ℕ} {t m s : ℕ} {old new : Crew} {before after : Task} {stop : Stop} →
     IsSettled k job input → GivesNamesOnce job → StartsInNurseries job →
     (c : IsCrew k job input t m None old) → (T : Turning k job input t m s old new c.numbers before after stop c.course) → (u : ℕ) → u < m →
-        u ≢ s → (task : Task) → old.task u ≡ Some task →
+    u ≢ s → (task : Task) → old.task u ≡ Some task →
     Follows new T.is.froms input t T.is.at (numbers_then c.numbers s m T.took.numbers_after) (leaving_by stop s) u task → (key : ℕ) →
-        scope_of task ≡ Some key → (kept : Tick) →
+    scope_of task ≡ Some key → (kept : Tick) →
     Shows old.world.scopes key kept → Shows new.world.scopes key kept
 shows_still {k} {job} {input} {t} {m} {s} {old} {new} {before} {after} {stop} settled names starting c T u below differs task lives now key
     is kept h =
     shows_acts (IsEntered c.course.at) (λ l. None) key was.0 kept a.acts a.apart a.has a.new (a.has key was.0 was.1) was.1
-        (then.1 ∙ ap (λ (l : Label). Some l) same) h
+    (then.1 ∙ ap (λ (l : Label). Some l) same) h
   where
     a : ActsOf c T
     a = acted c T settled names starting
@@ -76,7 +76,7 @@ shows_still {k} {job} {input} {t} {m} {s} {old} {new} {before} {after} {stop} se
     then : (l : Label) × (label_at new.world key ≡ Some l) × (first_label (T.is.at u).places ≡ Some l)
     then =
         scope_label (label_at new.world) T.is.froms new.world.scopes (scope_of task) key (T.is.at u).places T.sound_after.own is
-            after_stack.0 after_stack.1 now.stands.places
+        after_stack.0 after_stack.1 now.stands.places
 
     same : then.0 ≡ was.0
     same = one_of then.0 was.0 (sym then.2 ∙ (ap (λ (x : Started). first_label x.places) (T.of_other u below differs) ∙ was.2))

@@ -85,9 +85,9 @@ some_there (Some n) P h = refl
 says_now : (numbers : Numbers) (book : NurseryBook) (part : Part) (stop : Stop) (halt : Halt) (t : ℕ) (froms : Table) (ps : List Place)
     (s : Stopped) →
     IsToldNow numbers book part stop halt t froms ps s → (world : World) (task : Task) → task.halt ≡ halt → task.part ≡ part →
-        world.tick ≡ t →
+    world.tick ≡ t →
     AreAt (label_at world) froms (outer_of world.scopes (scope_of task)) ps → IsModestHalt halt → book ≡ world.book →
-        StopSays world task stop
+    StopSays world task stop
 says_now numbers book part (Ask request) ToBegin t froms ps s h world task e of tick at modest held = absurd h.told
 says_now numbers book part (Ask request) (Asked kernel purpose) t froms ps s h world task e of tick at modest held =
     record { purpose = purpose; halt = e ∙ ap (λ (k : Kernel). Asked k purpose) (sym h.told.0); part = h.told.1 ∙ sym of }
@@ -144,65 +144,65 @@ says_now numbers book part (Ended exc) halt t froms ps s h world task e of tick 
 pub other_follows : (k : Table) (job : Job) (input : List ℕ) (t m s : ℕ) (old new : Crew) (before after : Task) (stop : Stop) →
     IsSettled k job input → GivesNamesOnce job →
     StartsInNurseries job → (c : IsCrew k job input t m None old) →
-        (T : Turning k job input t m s old new c.numbers before after stop c.course) → (u : ℕ) → u < m → u ≢ s →
+    (T : Turning k job input t m s old new c.numbers before after stop c.course) → (u : ℕ) → u < m → u ≢ s →
     (task : Task) → old.task u ≡ Some task → Follows new T.is.froms input t T.is.at (numbers_then c.numbers s m T.took.numbers_after)
-        (leaving_by stop s) u task
+    (leaving_by stop s) u task
 other_follows k job input t m s old new before after stop settled names starting c T u below differs task is =
     others_follow k job input t m s old new before after stop c T (acted c T settled names starting) u below differs task is
 
 module _ (k : Table) (job : Job) (input : List ℕ) (t m s : ℕ) (old new : Crew) (before after : Task) (wake : Wake) (stop : Stop)
     (settled : IsSettled k job input)
     (names : GivesNamesOnce job) (starting : StartsInNurseries job) (c : IsCrew k job input t m None old)
-        (x : TakesTurn t m s old new before after wake stop)
+    (x : TakesTurn t m s old new before after wake stop)
     (may : MayWake c.course.froms c.course.tasks t (c.course.at s) (wake_in old.world.book before.halt wake) (c.course.at s).rest.stopped)
-        where
-  -- what the code says of it is all that is known of a turn
-  turn : Turning k job input t m s old new c.numbers before after stop c.course
-  turn =
-      turning k job input t m s old new before after wake stop settled names starting c x.task x.stays x.world x.sound x.sound_after
-          x.none_left
-      (crew_fits k job input t m None old c x.sound s before x.task) x.fits_after x.modest x.goes.fits x.turn may x.task_after x.child_after
-          x.other_after x.gone_after x.start_after
-      x.start_child x.more_children x.children_after x.no_children x.turns
+  where
+    -- what the code says of it is all that is known of a turn
+    turn : Turning k job input t m s old new c.numbers before after stop c.course
+    turn =
+        turning k job input t m s old new before after wake stop settled names starting c x.task x.stays x.world x.sound x.sound_after
+        x.none_left
+        (crew_fits k job input t m None old c x.sound s before x.task) x.fits_after x.modest x.goes.fits x.turn may x.task_after x.child_after
+        x.other_after x.gone_after x.start_after
+        x.start_child x.more_children x.children_after x.no_children x.turns
 
-  -- and it began the tasks that wait in the world
-  pub turning_of : (T : Turning k job input t m s old new c.numbers before after stop c.course)
-      × (length T.move.begun ≡ length new.world.started.items)
-  turning_of = (turn, sym (tasks_long turn) ∙ sym (ap (λ (ts : List Task). length ts) started))
-    where
-      started : new.world.started.items ≡ turn.took.tasks
-      started = turn.took.started ∙ ap (λ (ts : List Task). ts ++ turn.took.tasks) x.none_left
+    -- and it began the tasks that wait in the world
+    pub turning_of : (T : Turning k job input t m s old new c.numbers before after stop c.course)
+        × (length T.move.begun ≡ length new.world.started.items)
+    turning_of = (turn, sym (tasks_long turn) ∙ sym (ap (λ (ts : List Task). length ts) started))
+      where
+        started : new.world.started.items ≡ turn.took.tasks
+        started = turn.took.started ∙ ap (λ (ts : List Task). ts ++ turn.took.tasks) x.none_left
 
-  module _ (T : Turning k job input t m s old new c.numbers before after stop c.course) where
-    told : IsToldNow T.took.numbers_after new.world.book before.part stop after.halt t (froms_after c.course.froms T.move.made)
-        T.move.places T.stopped
-    told =
-        told_now T.took.numbers_after new.world.book before.part stop after.halt t (froms_after c.course.froms T.move.made) T.move.places
-            T.move.stopped T.stopped T.stops T.took.moves.1
-        T.promise.stops
+    module _ (T : Turning k job input t m s old new c.numbers before after stop c.course) where
+      told : IsToldNow T.took.numbers_after new.world.book before.part stop after.halt t (froms_after c.course.froms T.move.made)
+          T.move.places T.stopped
+      told =
+          told_now T.took.numbers_after new.world.book before.part stop after.halt t (froms_after c.course.froms T.move.made) T.move.places
+          T.move.stopped T.stopped T.stops T.took.moves.1
+          T.promise.stops
 
-    now : EndsAs stop t (T.is.at s)
-    now =
-        ends_now T.took.numbers_after new.world.book before.part stop after.halt t (froms_after c.course.froms T.move.made) T.move.places
-            T.stopped told (T.is.at s)
-        (ap (λ (q : Started). q.rest.stopped) T.of_task)
+      now : EndsAs stop t (T.is.at s)
+      now =
+          ends_now T.took.numbers_after new.world.book before.part stop after.halt t (froms_after c.course.froms T.move.made) T.move.places
+          T.stopped told (T.is.at s)
+          (ap (λ (q : Started). q.rest.stopped) T.of_task)
 
-    step : StoppedIn k job input t (m + length T.move.begun) s stop new
-    step =
-        let after = crew_turned c T settled names starting (other_follows k job input t m s old new before after stop settled names starting
-            c T) in
-        record { is = after.0; ended = subst (λ (at : ℕ → Started). EndsAs stop t (at s)) (sym after.1) now }
+      step : StoppedIn k job input t (m + length T.move.begun) s stop new
+      step =
+          let after = crew_turned c T settled names starting (other_follows k job input t m s old new before after stop settled names starting
+          c T) in
+          record { is = after.0; ended = subst (λ (at : ℕ → Started). EndsAs stop t (at s)) (sym after.1) now }
 
-    says : StopSays new.world after stop
-    says =
-        says_now T.took.numbers_after new.world.book before.part stop after.halt t (froms_after c.course.froms T.move.made) T.move.places
-            T.stopped told new.world after refl
-        (ap (λ (z : Task). z.part) T.stays) (ap (λ (w : World). w.tick) T.world ∙ c.tick) T.took.places T.modest refl
+      says : StopSays new.world after stop
+      says =
+          says_now T.took.numbers_after new.world.book before.part stop after.halt t (froms_after c.course.froms T.move.made) T.move.places
+          T.stopped told new.world after refl
+          (ap (λ (z : Task). z.part) T.stays) (ap (λ (w : World). w.tick) T.world ∙ c.tick) T.took.places T.modest refl
 
-  -- A crew in which a task took a turn is one with the tasks that it started, in which that task stopped so.
-  pub stepped : StoppedIn k job input t (m + length new.world.started.items) s stop new
-  stepped = let T = turning_of in subst (λ (n : ℕ). StoppedIn k job input t (m + n) s stop new) T.1 (step T.0)
+    -- A crew in which a task took a turn is one with the tasks that it started, in which that task stopped so.
+    pub stepped : StoppedIn k job input t (m + length new.world.started.items) s stop new
+    stepped = let T = turning_of in subst (λ (n : ℕ). StoppedIn k job input t (m + n) s stop new) T.1 (step T.0)
 
-  -- And what the stop says of it is so.
-  pub stop_says : StopSays new.world after stop
-  stop_says = says turning_of.0
+    -- And what the stop says of it is so.
+    pub stop_says : StopSays new.world after stop
+    stop_says = says turning_of.0

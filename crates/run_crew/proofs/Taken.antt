@@ -45,12 +45,13 @@ begun_long numbers book bs waits [] (c ∷ cs) h = absurd h
 begun_long numbers book bs waits (t ∷ ts) [] h = absurd h
 begun_long numbers book bs waits (t ∷ ts) (c ∷ cs) h = ap suc (begun_long numbers book bs waits ts cs h.1)
 
+-- a turn of the code starts as many tasks as that of the definitions begins children
 pub tasks_long : {k : Table} {job : Job} {input : List ℕ} {t m s : ℕ} {old new : Crew} {numbers : ℕ → Numbers} {before after : Task}
     {stop : Stop} {was : Course k job input t m} →
     (T : Turning k job input t m s old new numbers before after stop was) → length T.took.tasks ≡ length T.move.begun
 tasks_long {new = new} {after = after} T =
     begun_long T.took.numbers_after new.world.book (blocks_of after.frames.items) (waits_of after.halt) T.took.tasks T.move.begun
-        T.took.begun
+    T.took.begun
 
 -- ---- a turn of the definitions, at the tick, the place and the frames of a task
 
@@ -58,33 +59,38 @@ took_at : (before after : Task) (old new : World) (stop : Stop) (froms : Table) 
     (stopped : rest.Stopped) (ps : List Place) (count t : ℕ)
     (here : Here) (fs : List rest.Frame) → old.tick ≡ t → here_of before ≡ here → frames_of numbers before.frames.items ≡ fs →
     TookTo before after old new stop froms numbers (turn_from n froms old.tick (here_of before) w stopped
-        (frames_of numbers before.frames.items) ps count) →
+    (frames_of numbers before.frames.items) ps count) →
     TookTo before after old new stop froms numbers (turn_from n froms t here w stopped fs ps count)
 took_at before after old new stop froms numbers n w stopped ps count t here fs tick at held h =
     subst (λ (gs : List rest.Frame). TookTo before after old new stop froms numbers (turn_from n froms t here w stopped gs ps count)) held
     (subst (λ (x : Here). TookTo before after old new stop froms numbers
-        (turn_from n froms t x w stopped (frames_of numbers before.frames.items) ps count)) at
+    (turn_from n froms t x w stopped (frames_of numbers before.frames.items) ps count)) at
     (subst (λ (x : ℕ). TookTo before after old new stop froms numbers
-        (turn_from n froms x (here_of before) w stopped (frames_of numbers before.frames.items) ps count)) tick h))
+    (turn_from n froms x (here_of before) w stopped (frames_of numbers before.frames.items) ps count)) tick h))
 
 -- What the code says of a turn, and of the crew after it, is all that is known of a turn.
 pub turning : (k : Table) (job : Job) (input : List ℕ) (t m s : ℕ) (old new : Crew) (before after : Task) (wake : Wake) (stop : Stop) →
     IsSettled k job input → GivesNamesOnce job →
     StartsInNurseries job → (c : IsCrew k job input t m None old) → old.task s ≡ Some before →
     after ≡ record before { frames = after.frames; own = after.own; halt = after.halt; entries = after.entries; froms = after.froms } →
-    new.world ≡ record old.world { scopes = new.world.scopes; labels = new.world.labels; book = new.world.book; started =
-        new.world.started } → IsSound old.world.scopes →
+    new.world ≡ record old.world {
+      scopes = new.world.scopes;
+      labels = new.world.labels;
+      book = new.world.book;
+      started =
+          new.world.started;
+    } → IsSound old.world.scopes →
     IsSound new.world.scopes → old.world.started.items ≡ [] → Fits before.frames.items before old.world (waits_of before.halt) →
     Fits after.frames.items after new.world (waits_of after.halt) → IsModestHalt after.halt →
-        WakesFrom before.halt before.part old.world.book wake →
+    WakesFrom before.halt before.part old.world.book wake →
     TurnsAs before after old.world new.world wake stop →
     MayWake c.course.froms c.course.tasks t (c.course.at s) (wake_in old.world.book before.halt wake) (c.course.at s).rest.stopped →
-        new.task s ≡ Some after →
+    new.task s ≡ Some after →
     ((i : ℕ) → new.task (m + i) ≡ slice_get new.world.started.items i) → ((p : ℕ) → p < m → p ≢ s → new.task p ≡ old.task p) →
-        ((p : ℕ) → new.gone p ≡ old.gone p) →
+    ((p : ℕ) → new.gone p ≡ old.gone p) →
     ((p : ℕ) → p < m → new.start p ≡ old.start p) → ((i : ℕ) → i < length new.world.started.items → new.start (m + i) ≡ t) →
     new.children s ≡ old.children s ++ serials_from m (length new.world.started.items) →
-        ((p : ℕ) → p < m → p ≢ s → new.children p ≡ old.children p) →
+    ((p : ℕ) → p < m → p ≢ s → new.children p ≡ old.children p) →
     ((i : ℕ) → i < length new.world.started.items → new.children (m + i) ≡ []) → new.turns ≡ old.turns + 1 →
     Turning k job input t m s old new c.numbers before after stop c.course
 turning k job input t m s old new before after wake stop settled names starting c lives stays world sound sound_after none fits fits_after
@@ -155,7 +161,7 @@ turning k job input t m s old new before after wake stop settled names starting 
     took : TookTo before after old.world new.world stop c.course.froms (c.numbers s) o
     took =
         took_at before after old.world new.world stop c.course.froms (c.numbers s) turn.steps w q.rest.stopped q.places q.count t q.here
-            q.rest.frames c.tick f.here f.frames turn.took
+        q.rest.frames c.tick f.here f.frames turn.took
 
     at_stop : (x : rest.Stopped) × (o.stopped ≡ Some x) × IsHalt took.numbers_after new.world.book after.halt x
     at_stop = stop_of took.numbers_after new.world.book before.part stop after.halt o took.moves

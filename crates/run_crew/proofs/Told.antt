@@ -25,10 +25,10 @@ use Rattle.run_crew.proofs.Crews.{one_nursery}
 pub same_owner : (k : Table) (job : Job) (input : List ℕ) (t m : ℕ) (leaving : Option ℕ) (crew : Crew) →
     IsCrew k job input t m leaving crew → (p u : ℕ) (a b : Task) (id : ℕ) →
     crew.task p ≡ Some a → crew.task u ≡ Some b → HasNurseryOf id (blocks_of a.frames.items) (waits_of a.halt) →
-        HasNurseryOf id (blocks_of b.frames.items) (waits_of b.halt) → p ≡ u
+    HasNurseryOf id (blocks_of b.frames.items) (waits_of b.halt) → p ≡ u
 same_owner k job input t m leaving crew c p u a b id e f h g =
     let x = scope_of_nursery (label_at crew.world) crew.world.book (blocks_of a.frames.items) a.own.items (waits_of a.halt) id
-        (c.follows p a e).goes.opened h in
+    (c.follows p a e).goes.opened h in
     one_nursery k job input t m leaving crew c p u a b e f id x.nursery h g x.at
 
 -- ---- what stays of nurseries where an end is told
@@ -49,6 +49,7 @@ pub data Told (new : NurseryBook) (exc : Option Exc) (id : ℕ) (n : Nursery) : 
   stays : (home : Option Home) → nursery_at new id ≡ Some n → ((h : Home) → home ≡ Some h → h.nursery ≢ id) → Told new exc id n home
   tells : (h : Home) → h.nursery ≡ id → nursery_at new id ≡ Some (with_child h.place exc n) → Told new exc id n (Some h)
 
+-- where an end is told, each nursery is as it was, or is the home and has the end at its place
 pub told : (old new : NurseryBook) (home : Option Home) (exc : Option Exc) → EndIsTold old new home exc → (id : ℕ) (n : Nursery) →
     nursery_at old id ≡ Some n → Told new exc id n home
 told old new None exc h id n e =
@@ -69,17 +70,20 @@ told old new (Some x) exc h id n e = by_key (x.nursery == id) refl
         stays (Some x) (u.2.others id (λ g. differs (sym g)) ∙ e)
         (λ y g w. let same : Some x ≡ Some y = g in let one : x ≡ y = cc in differs (ap (λ (z : Home). z.nursery) one ∙ w))
 
+-- a nursery has as many children once the end of one is told
 pub set_long : (es : List End) (n : ℕ) (x : End) → length (slice_set es n x) ≡ length es
 set_long [] zero x = refl
 set_long [] (suc n) x = refl
 set_long (e ∷ es) zero x = refl
 set_long (e ∷ es) (suc n) x = ap suc (set_long es n x)
 
+-- the child whose end is told has that end
 pub set_at : (es : List End) (n : ℕ) (x y : End) → slice_get es n ≡ Some y → slice_get (slice_set es n x) n ≡ Some x
 set_at [] n x y e = absurd (let f : None ≡ Some y = e in cc)
 set_at (e ∷ es) zero x y f = refl
 set_at (e ∷ es) (suc n) x y f = set_at es n x y f
 
+-- every other child stands as it did
 pub set_else : (es : List End) (n p : ℕ) (x : End) → n ≢ p → slice_get (slice_set es n x) p ≡ slice_get es p
 set_else [] zero p x differs = refl
 set_else [] (suc n) p x differs = refl
@@ -88,13 +92,18 @@ set_else (e ∷ es) zero (suc p) x differs = refl
 set_else (e ∷ es) (suc n) zero x differs = refl
 set_else (e ∷ es) (suc n) (suc p) x differs = set_else es n p x (λ f. differs (ap suc f))
 
+-- where an end is told, each nursery keeps its scope, its label, its body's end and the count of its children
 pub all_like : (old new : NurseryBook) (home : Option Home) (exc : Option Exc) → EndIsTold old new home exc → AllLike old new
 all_like old new home exc h id n e = by_told home (told old new home exc h id n e)
   where
     by_told : (x : Option Home) → Told new exc id n x → (m : Nursery) × (nursery_at new id ≡ Some m) × Like n m
     by_told _ (stays x f g) = (n, f, record { scope = refl; label = refl; body = refl; long = refl })
-    by_told _ (tells x f g) = (with_child x.place exc n, g, record
-        { scope = refl; label = refl; body = refl; long = set_long n.children x.place (Some exc) })
+    by_told _ (tells x f g) = (
+      with_child x.place exc n,
+      g,
+      record
+          { scope = refl; label = refl; body = refl; long = set_long n.children x.place (Some exc) },
+    )
 
 -- what is true of nurseries like one
 pub carry : (old new : NurseryBook) (id : ℕ) (P Q : Nursery → Type 0) → AllLike old new → ((n m : Nursery) → Like n m → P n → Q m) →

@@ -59,6 +59,7 @@ froms_same f g (l ∷ ls) same =
 abbrev pub IsSameChild : (was are : ℕ → ℕ) (at now : ℕ → Started) (child later : ℕ → ℕ) → ℕ → Type 0
 IsSameChild was are at now child later i = ((now (later i)).here.task ≡ (at (child i)).here.task) × (are (later i) ≡ was (child i))
 
+-- children that keep their labels and starts are still as their starter's events say
 pub started_same : (was are : ℕ → ℕ) (at now : ℕ → Started) (child later : ℕ → ℕ) (es : List Event) →
     ((i : ℕ) → StartsChild i es → IsSameChild was are at now child later i) →
     AreStarted was at child es → AreStarted are now later es
@@ -70,6 +71,7 @@ started_same was are at now child later (starts i l t ∷ es) same h =
     let o = same i (inl refl) in
     (o.0 ∙ h.0, o.1 ∙ h.1, started_same was are at now child later es (λ j among. same j (inr among)) h.2)
 
+-- children that are as events say, and as further ones say, are as all of them say
 pub started_join : (start : ℕ → ℕ) (at : ℕ → Started) (child : ℕ → ℕ) (es fs : List Event) → AreStarted start at child es →
     AreStarted start at child fs →
     AreStarted start at child (es ++ fs)
@@ -100,7 +102,7 @@ started_now start at child t ls n (starts i l u ∷ es) (b ∷ bs) made h are =
       ap (λ (x : ℕ). start (child x)) first ∙ (o.1 ∙ sym made.0),
       started_now start at child t ls (suc n) es bs made.1 h.3
           (λ j c e. let on : n + suc j ≡ suc n + j = omega arith in subst (λ (x : ℕ). IsStartedAs start at t (child x) c) on
-              (are (suc j) c e)),
+          (are (suc j) c e)),
     )
 
 -- ---- after a turn
@@ -108,7 +110,7 @@ started_now start at child t ls n (starts i l u ∷ es) (b ∷ bs) made h are =
 module _ (k : Table) (job : Job) (input : List ℕ) (t m s : ℕ) (old new : Crew) (before after : Task) (stop : Stop)
     (settled : IsSettled k job input) (names : GivesNamesOnce job)
     (starting : StartsInNurseries job) (c : IsCrew k job input t m None old)
-        (T : Turning k job input t m s old new c.numbers before after stop c.course) where
+    (T : Turning k job input t m s old new c.numbers before after stop c.course) where
   abbrev numbers : ℕ → Numbers
   numbers = numbers_then c.numbers s m T.took.numbers_after
 
@@ -144,7 +146,7 @@ module _ (k : Table) (job : Job) (input : List ℕ) (t m s : ℕ) (old new : Cre
   none_has p below ended l i key e =
       let x = c.owned key (c.labelled key l e) in
       let same : x.0 ≡ p = one_entered c.course settled names starting l x.0 p (below_of c x.0 x.1.task x.1.lives) below
-          (opened_entered c key x.0 l x.1 e) i in
+      (opened_entered c key x.0 l x.1 e) i in
       not_both ended (ap old.task (sym same) ∙ x.1.lives)
 
   ended_other : (p : ℕ) → p < m → p ≢ s → old.task p ≡ None → (g : Gone) × (new.gone p ≡ Some g) × HasEnded T.is.froms input t (T.is.at p) g
@@ -188,7 +190,7 @@ module _ (k : Table) (job : Job) (input : List ℕ) (t m s : ℕ) (old new : Cre
   differs_by key p others o e =
       let is : o.task ≡ before = one_of o.task before (sym o.lives ∙ (ap old.task e ∙ T.task)) in
       all_got (λ (x : Own). x.id ≢ key) before.own.items o.place o.scope others
-          (sym (ap (λ (z : Task). slice_get z.own.items o.place) is) ∙ o.own) o.is
+      (sym (ap (λ (z : Task). slice_get z.own.items o.place) is) ∙ o.own) o.is
 
   opened_on : (key p : ℕ) → p ≢ s → OpenedBy old key p → OpenedBy new key p
   opened_on key p differs o =
@@ -203,8 +205,15 @@ module _ (k : Table) (job : Job) (input : List ℕ) (t m s : ℕ) (old new : Cre
 
   opened_back : (key p : ℕ) → p < m → p ≢ s → OpenedBy new key p → OpenedBy old key p
   opened_back key p below differs o =
-      record { task = o.task; lives = sym (T.other_after p below differs) ∙ o.lives; place = o.place; scope = o.scope; own = o.own; is =
-          o.is }
+      record {
+        task = o.task;
+        lives = sym (T.other_after p below differs) ∙ o.lives;
+        place = o.place;
+        scope = o.scope;
+        own = o.own;
+        is =
+            o.is;
+      }
 
   owned_after : (key : ℕ) → IsOpen new.world.scopes key → (p : ℕ) × OpenedBy new key p
   owned_after key opens = by_own (own_or key after.own.items)
@@ -221,7 +230,7 @@ module _ (k : Table) (job : Job) (input : List ℕ) (t m s : ℕ) (old new : Cre
   not_both_own : (key u : ℕ) → u < m → u ≢ s → OpenedBy new key s → OpenedBy new key u → ⊥
   not_both_own key u below differs mine theirs =
       all_got (λ (x : Own). x.id ≢ key) after.own.items mine.place mine.scope stay.others
-          (sym (ap (λ (z : Task). slice_get z.own.items mine.place) is) ∙ mine.own) mine.is
+      (sym (ap (λ (z : Task). slice_get z.own.items mine.place) is) ∙ mine.own) mine.is
     where
       o : OpenedBy old key u
       o = opened_back key u below differs theirs
@@ -245,7 +254,7 @@ module _ (k : Table) (job : Job) (input : List ℕ) (t m s : ℕ) (old new : Cre
   child_owns_none : (key i : ℕ) → OpenedBy new key (m + i) → ⊥
   child_owns_none key i o =
       let b = begun_at T.took.numbers_after new.world.book (blocks_of after.frames.items) (waits_of after.halt) T.took.tasks T.move.begun
-          T.took.begun i o.task (sym (T.child_after i) ∙ o.lives) in
+      T.took.begun i o.task (sym (T.child_after i) ∙ o.lives) in
       not_both refl (sym (ap (λ (os : List Own). slice_get os o.place) b.2.own) ∙ o.own)
 
   apart_after : (key p u : ℕ) → OpenedBy new key p → OpenedBy new key u → p ≡ u
@@ -303,9 +312,11 @@ module _ (k : Table) (job : Job) (input : List ℕ) (t m s : ℕ) (old new : Cre
       are : (i : ℕ) (b : Begun) → slice_get T.move.begun i ≡ Some b → IsStartedAs new.start T.is.at t (child (q.count + i)) b
       are i b e =
           let f : m + (q.count + i - q.count) ≡ m + i = omega arith in
-          let is : child (q.count + i) ≡ m + i = later_child q.count q.child m (q.count + i) (omega arith) ∙ f in
-          (ap (λ (n : ℕ). (T.is.at n).here.task) is ∙ ap (λ (x : Started). x.here.task) (T.of_child i b e), ap new.start is
-              ∙ T.start_child i (below_length T.move.begun i b e))
+          let is : child (q.count + i) ≡ m + i = later_child q.count q.child m (q.count + i) (omega arith) ∙ f in (
+            ap (λ (n : ℕ). (T.is.at n).here.task) is ∙ ap (λ (x : Started). x.here.task) (T.of_child i b e),
+            ap new.start is
+                ∙ T.start_child i (below_length T.move.begun i b e),
+          )
 
   started_after : (p : ℕ) → p < m + length T.move.begun → AreStarted new.start T.is.at (T.is.at p).child (T.is.at p).made
   started_after p less = by_whose (whose p)
@@ -315,7 +326,7 @@ module _ (k : Table) (job : Job) (input : List ℕ) (t m s : ℕ) (old new : Cre
       by_whose (inr (inl o)) =
           subst (λ (x : Started). AreStarted new.start T.is.at x.child x.made) (sym (T.of_other p o.0 o.1))
           (started_same old.start new.start c.course.at T.is.at (c.course.at p).child (c.course.at p).child (c.course.at p).made
-              (same_child p o.0) (c.started p o.0))
+          (same_child p o.0) (c.started p o.0))
       by_whose (inr (inr i)) =
           let is : m + i.0 ≡ p = i.1 in
           let b = nth T.move.begun i.0 (omega (arith, is, less)) in
@@ -333,14 +344,14 @@ module _ (k : Table) (job : Job) (input : List ℕ) (t m s : ℕ) (old new : Cre
         by_whose (inl is) =
             subst (λ (u : ℕ). Follows new T.is.froms input t T.is.at numbers (leaving_by stop s) u task) (sym is)
             (subst (λ (x : Task). Follows new T.is.froms input t T.is.at numbers (leaving_by stop s) s x)
-                (one_of after task (sym T.task_after ∙ (ap new.task (sym is) ∙ e)))
+            (one_of after task (sym T.task_after ∙ (ap new.task (sym is) ∙ e)))
             (mover_follows k job input t m s old new before after stop c T (λ u le. ap entered_made (c.course.none u le))
-                (labels_apart c settled names starting) (labels_known c)))
+            (labels_apart c settled names starting) (labels_known c)))
         by_whose (inr (inl o)) = others p o.0 o.1 task (sym (T.other_after p o.0 o.1) ∙ e)
         by_whose (inr (inr i)) =
             subst (λ (u : ℕ). Follows new T.is.froms input t T.is.at numbers (leaving_by stop s) u task) i.1
             (child_follows k job input t m s old new before after stop c T
-                (λ j b begun. T.inputs j b begun ∙ (c.follows s before T.task).input_is) i.0 task
+            (λ j b begun. T.inputs j b begun ∙ (c.follows s before T.task).input_is) i.0 task
             (sym (T.child_after i.0) ∙ (ap new.task i.1 ∙ e)) (leaving_by stop s))
 
     crew_after : (x : IsCrew k job input t (m + length T.move.begun) (leaving_by stop s) new) × (x.course.at ≡ T.is.at)
@@ -369,7 +380,7 @@ module _ (k : Table) (job : Job) (input : List ℕ) (t m s : ℕ) (old new : Cre
 pub crew_turned : {k : Table} {job : Job} {input : List ℕ} {t m s : ℕ} {old new : Crew} {before after : Task} {stop : Stop} →
     (c : IsCrew k job input t m None old) →
     (T : Turning k job input t m s old new c.numbers before after stop c.course) → IsSettled k job input → GivesNamesOnce job →
-        StartsInNurseries job →
+    StartsInNurseries job →
     ((u : ℕ) → u < m → u ≢ s → (task : Task) → old.task u ≡ Some task →
     Follows new T.is.froms input t T.is.at (numbers_then c.numbers s m T.took.numbers_after) (leaving_by stop s) u task) →
     (x : IsCrew k job input t (m + length T.move.begun) (leaving_by stop s) new) × (x.course.at ≡ T.is.at)

@@ -27,21 +27,21 @@ use Rattle.run_crew.specs.Ready.{AllStay, HasSleeper}
 abbrev pub CrewsBegin : Type 0
 CrewsBegin =
     (k : Table) (job : Job) (input : List ℕ) (crew : Crew) → IsModest job → GivesNamesOnce job → StartsInNurseries job →
-        length input ≤ MOST_INPUT →
+    length input ≤ MOST_INPUT →
     IsNewCrew job input crew → IsCrew k job input 0 1 None crew
 
 -- Each task that has not ended has all that a turn of it asks of the world.
 abbrev pub TasksFit : Type 0
 TasksFit =
     (k : Table) (job : Job) (input : List ℕ) (t m : ℕ) (leaving : Option ℕ) (crew : Crew) → IsCrew k job input t m leaving crew →
-        IsSound crew.world.scopes →
+    IsSound crew.world.scopes →
     (s : ℕ) (task : Task) → crew.task s ≡ Some task → Fits task.frames.items task crew.world (waits_of task.halt)
 
 -- What holds after each turn of a task.
 abbrev pub AfterTurns : (Table → Job → List ℕ → ℕ → ℕ → ℕ → Crew → Task → Stop → Type 0) → Type 0
 AfterTurns Holds =
     (k : Table) (job : Job) (input : List ℕ) (t m s : ℕ) (old new : Crew) (before after : Task) (wake : Wake) (stop : Stop) →
-        IsSettled k job input →
+    IsSettled k job input →
     GivesNamesOnce job → StartsInNurseries job → IsCrew k job input t m None old → TakesTurn t m s old new before after wake stop →
     Holds k job input t m s new after stop
 
@@ -58,42 +58,42 @@ StopsSay = AfterTurns (λ k job input t m s new after stop. StopSays new.world a
 abbrev pub CrewsLeave : Type 0
 CrewsLeave =
     (k : Table) (job : Job) (input : List ℕ) (t m s : ℕ) (old new : Crew) (task : Task) (exc : Option Exc) →
-        (c : IsCrew k job input t m (Some s) old) →
+    (c : IsCrew k job input t m (Some s) old) →
     Leaving t s old new (c.course.at s) task exc → IsCrew k job input t m None new
 
 -- Tasks that were started are taken from the world: it is a run of the same tasks of the definitions.
 abbrev pub CrewsTake : Type 0
 CrewsTake =
     (k : Table) (job : Job) (input : List ℕ) (t m : ℕ) (leaving : Option ℕ) (old new : Crew) → SameTasks old new →
-        new.world ≡ moved_world old.world t new.world →
+    new.world ≡ moved_world old.world t new.world →
     (c : IsCrew k job input t m leaving old) → (x : IsCrew k job input t m leaving new) × (x.course.at ≡ c.course.at)
 
 -- Where no task goes on before a later tick, the clock may jump to it.
 abbrev pub CrewsJump : Type 0
 CrewsJump =
     (k : Table) (job : Job) (input : List ℕ) (t u m : ℕ) (old new : Crew) → t ≤ u → SameTasks old new →
-        new.world ≡ moved_world old.world u new.world →
+    new.world ≡ moved_world old.world u new.world →
     IsCrew k job input t m None old → AllStay old u → IsCrew k job input u m None new
 
 -- While a task has not ended and none goes on before a tick, one sleeps.
 abbrev pub CrewsSleep : Type 0
 CrewsSleep =
     (k : Table) (job : Job) (input : List ℕ) (t m : ℕ) (crew : Crew) → IsSettled k job input → GivesNamesOnce job → StartsInNurseries job →
-        IsCrew k job input t m None crew →
+    IsCrew k job input t m None crew →
     (u : ℕ) → AllStay crew u → (s : ℕ) (task : Task) → crew.task s ≡ Some task → HasSleeper crew
 
 -- While a task has not ended, the job does not end before the present tick.
 abbrev pub CrewsAreInTime : Type 0
 CrewsAreInTime =
     (job : Job) (input : List ℕ) (t m : ℕ) (crew : Crew) → GivesNamesOnce job → StartsInNurseries job →
-        IsCrew (meaning_table job input) job input t m None crew →
+    IsCrew (meaning_table job input) job input t m None crew →
     (s : ℕ) (task : Task) → crew.task s ≡ Some task → t ≤ meaning_end job input
 
 -- There are at most twice as many turns as the job has steps, and one.
 abbrev pub TurnsAreFew : Type 0
 TurnsAreFew =
     (k : Table) (job : Job) (input : List ℕ) (t m : ℕ) (leaving : Option ℕ) (crew : Crew) → IsCrew k job input t m leaving crew →
-        crew.turns ≤ 2 * size_of job.steps + 1
+    crew.turns ≤ 2 * size_of job.steps + 1
 
 -- no two of the numbers are the same
 abbrev pub AreDistinct : List ℕ → Type 0
@@ -110,5 +110,5 @@ TasksAreFew =
 abbrev pub CrewsEnd : Type 0
 CrewsEnd =
     (job : Job) (input : List ℕ) → GivesNamesOnce job → StartsInNurseries job → (t m : ℕ) (crew : Crew) →
-        IsCrew (meaning_table job input) job input t m None crew →
+    IsCrew (meaning_table job input) job input t m None crew →
     ((p : ℕ) → crew.task p ≡ None) → IsOver job input m crew

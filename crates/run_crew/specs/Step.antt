@@ -34,8 +34,13 @@ pub record TakesTurn (t m s : ℕ) (old new : Crew) (before after : Task) (wake 
   pub stays :
       after ≡ record before { frames = after.frames; own = after.own; halt = after.halt; entries = after.entries; froms = after.froms }
   pub world :
-      new.world ≡ record old.world { scopes = new.world.scopes; labels = new.world.labels; book = new.world.book; started =
-          new.world.started }
+      new.world ≡ record old.world {
+        scopes = new.world.scopes;
+        labels = new.world.labels;
+        book = new.world.book;
+        started =
+            new.world.started;
+      }
   pub sound : IsSound old.world.scopes
   pub sound_after : IsSound new.world.scopes
   pub none_left : old.world.started.items ≡ []

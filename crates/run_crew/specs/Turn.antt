@@ -78,7 +78,7 @@ serials_from m (suc n) = m ∷ serials_from (suc m) n
 -- that it started have the next serial numbers.
 pub record Turning
     (k : Table) (job : Job) (input : List ℕ) (t m s : ℕ) (old new : Crew) (numbers : ℕ → Numbers) (before after : Task) (stop : Stop)
-        (was : Course k job input t m) : Type 0
+    (was : Course k job input t m) : Type 0
   where
     -- in the code
     pub task : old.task s ≡ Some before
@@ -86,8 +86,13 @@ pub record Turning
     pub stays :
         after ≡ record before { frames = after.frames; own = after.own; halt = after.halt; entries = after.entries; froms = after.froms }
     pub world :
-        new.world ≡ record old.world { scopes = new.world.scopes; labels = new.world.labels; book = new.world.book; started =
-            new.world.started }
+        new.world ≡ record old.world {
+          scopes = new.world.scopes;
+          labels = new.world.labels;
+          book = new.world.book;
+          started =
+              new.world.started;
+        }
     pub sound : IsSound old.world.scopes
     pub sound_after : IsSound new.world.scopes
     pub none_left : old.world.started.items ≡ []

@@ -5,9 +5,11 @@ use Rattle.std.proofs.lemmas.List.{length-append, get_or_append_left}
 use Rattle.std.proofs.Math.Seq.{get_or-append_seam}
 use Rattle.sleeper_sights.specs.Kept.{IsPlaced}
 
+-- two numbers are the same where they are as options
 pub some_same : (a b : ℕ) → Some a ≡ Some b → a ≡ b
 some_same a b e = cc
 
+-- an option does not hold nothing and a number
 pub none_some : {X : Type 0} (o : Option ℕ) (a : ℕ) → o ≡ None → o ≡ Some a → X
 none_some o a none some = absurd (let e : None ≡ Some a = sym none ∙ some in cc)
 
@@ -43,6 +45,7 @@ pub record Removed (list rest : List ℕ) (place : ℕ) : Type 0 where
   pub seam : place + 1 < length list → get_or rest place 0 ≡ get_or list (length list - 1) 0
   pub keeps : (k : ℕ) → k ≢ place → k + 1 < length list → get_or rest k 0 ≡ get_or list k 0
 
+-- a list and its rest are so by their lengths and by what is read of them, whatever is read past the end
 pub removed : (list rest : List ℕ) (place n m : ℕ) → n ≡ length list → m ≡ length rest → m + 1 ≡ n →
     ((d : ℕ) → place + 1 < n → get_or rest place d ≡ get_or list (n - 1) d) →
     ((k d : ℕ) → k ≢ place → k + 1 < n → get_or rest k d ≡ get_or list k d) → Removed list rest place
@@ -102,7 +105,7 @@ placed-removed old new list rest task place h at r gone moved others = record {
             elsewhere_or (inl inside) =
                 let last : p ≡ length list - 1 = omega (arith, in_list, past) in
                 apart (omega (arith, inside, r.long)) (sym found ∙ ap (λ (n : ℕ). get_or list n 0) last
-                    ∙ sym (r.seam (omega (arith, inside))))
+                ∙ sym (r.seam (omega (arith, inside))))
             elsewhere_or (inr out) = elsewhere (omega (arith, in_list, past, placed, out))
 
     stands_again : (k p : ℕ) → new k ≡ Some p → (p < length rest) × (get_or rest p 0 ≡ k)
@@ -135,9 +138,9 @@ placed-removed old new list rest task place h at r gone moved others = record {
               let differs : get_or rest p 0 ≢ task = λ same. elsewhere (some_same p place (sym was ∙ ap old (sym e ∙ same) ∙ at)) in
               let apart : place < length rest → get_or rest p 0 ≢ get_or rest place 0 = λ inside same.
               let last : old (get_or list (length list - 1) 0) ≡ Some (length list - 1) =
-                  h.placed (length list - 1) (omega (arith, inside, r.long)) in
+              h.placed (length list - 1) (omega (arith, inside, r.long)) in
               let q : p ≡ length list - 1 = some_same p (length list - 1) (sym was
-                  ∙ ap old (sym e ∙ same ∙ r.seam (omega (arith, inside, r.long))) ∙ last) in
+              ∙ ap old (sym e ∙ same ∙ r.seam (omega (arith, inside, r.long))) ∙ last) in
               absurd (omega (arith, q, within, r.long)) in
               others (get_or rest p 0) differs apart ∙ ap old e ∙ was
         ]

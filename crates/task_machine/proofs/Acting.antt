@@ -56,6 +56,7 @@ halts_not numbers book (Awaits id since) (awaiting children ended exc) not h = a
 halts_not numbers book (Awaits id since) (at_end u e) not h = absurd h
 halts_not numbers book Over s not h = refl
 
+-- after a move that does not stop to wait for children the task waits for no nursery
 pub waits_not : (numbers : Numbers) (book : NurseryBook) (part : Part) (goes : Moved) (halt : Halt) (o : Move) → WaitsNot o.stopped →
     MovesAs numbers book part goes halt o →
     waits_by goes halt ≡ None
@@ -65,7 +66,7 @@ waits_not numbers book part (Stops stop) halt o not h = by_stop o.stopped refl
     by_stop : (s : Option Stopped) → o.stopped ≡ s → waits_of halt ≡ None
     by_stop None e =
         absurd (let f : MovesAs numbers book part (Stops stop) halt (record o { stopped = None }) =
-            subst (λ (x : Option Stopped). MovesAs numbers book part (Stops stop) halt (record o { stopped = x })) e h in f.1)
+        subst (λ (x : Option Stopped). MovesAs numbers book part (Stops stop) halt (record o { stopped = x })) e h in f.1)
     by_stop (Some s) e =
         let f : MovesAs numbers book part (Stops stop) halt (record o { stopped = Some s }) =
         subst (λ (x : Option Stopped). MovesAs numbers book part (Stops stop) halt (record o { stopped = x })) e h in
@@ -76,6 +77,7 @@ pub block_of : (id : ℕ) (bs : List Block) (waits : Option ℕ) → waits ≡ N
 block_of id bs waits none (inl h) = h
 block_of id bs waits none (inr e) = absurd (let f : None ≡ Some id = sym none ∙ e in cc)
 
+-- a nursery is among blocks, or it is not
 pub has_or_not : (id : ℕ) (bs : List Block) → HasBlock id bs ⊎ (HasBlock id bs → ⊥)
 has_or_not id [] = inr (λ h. h)
 has_or_not id (a_scope ∷ bs) = has_or_not id bs
@@ -93,12 +95,15 @@ has_or_not id (a_nursery key ∷ bs) = by_key (id == key) refl (has_or_not id bs
 
 -- ---- acts that change nothing
 
+-- with no event made the scopes may stay as they are
 pub same_acts : (tick : ℕ) (s u : Scoping) → u ≡ s → Acts tick s [] u
 same_acts tick s u e = subst (λ (x : Scoping). Acts tick s [] x) (sym e) (no_act s)
 
+-- the same where it is only known that no event was made
 pub no_acts : (tick : ℕ) (s u : Scoping) (es : List Event) → es ≡ [] → u ≡ s → Acts tick s es u
 no_acts tick s u es none e = subst (λ (fs : List Event). Acts tick s fs u) (sym none) (same_acts tick s u e)
 
+-- acts one after the other make the events of the first, then those of the second
 pub acts_append : (tick : ℕ) (s m u : Scoping) (es fs : List Event) → Acts tick s es m → Acts tick m fs u → Acts tick s (es ++ fs) u
 acts_append tick _ _ u _ fs (no_act s) b = b
 acts_append tick _ _ u _ fs (act_noted s m t e ds a) b = act_noted s u t e (ds ++ fs) (acts_append tick s m u ds fs a b)
@@ -107,19 +112,22 @@ acts_append tick _ _ u _ fs (act_signs s x m l ds h a) b = act_signs s x u l (ds
 acts_append tick _ _ u _ fs (act_enters s x m l t d ds h a) b = act_enters s x u l t d (ds ++ fs) h (acts_append tick x m u ds fs a b)
 acts_append tick _ _ u _ fs (act_leaves s x m es h a) b = act_leaves s x u (es ++ fs) h (acts_append tick x m u es fs a b)
 
+-- lines that are noted leave the scopes as they are
 pub lines_acts : (tick t : ℕ) (spans : List Span) (s u : Scoping) → u ≡ s → Acts tick s (lines_made t spans) u
 lines_acts tick t [] s u e = same_acts tick s u e
 lines_acts tick t (l ∷ spans) s u e = act_noted s u t (log.line l) (lines_made t spans) (lines_acts tick t spans s u e)
 
+-- a child that is started leaves the scopes as they are
 pub start_acts : (tick : ℕ) (i : ℕ) (l : Label) (t : ℕ) (s u : Scoping) → u ≡ s → Acts tick s (starts i l t ∷ []) u
 start_acts tick i l t s u e = act_starts s u i l t [] (same_acts tick s u e)
 
+-- children that are started over cuts leave the scopes as they are
 pub starts_acts : (tick : ℕ) (name : List ℕ) (here : Here) (t first k : ℕ) (s u : Scoping) → u ≡ s →
     Acts tick s (starts_over name here t first k) u
 starts_acts tick name here t first zero s u e = same_acts tick s u e
 starts_acts tick name here t first (suc k) s u e =
     acts_append tick s u u (starts_over name here t first k) _ (starts_acts tick name here t first k s u e)
-        (start_acts tick _ (label_over name here k) t u u refl)
+    (start_acts tick _ (label_over name here k) t u u refl)
 
 -- ---- signs
 
@@ -153,7 +161,7 @@ pub found_signed : (before after : Task) (old new : World) (found : Option ℕ) 
     Acts old.tick (scoping_of before old) (signs_to label old.tick) (scoping_of after new)
 found_signed before after old new None label own froms labels at signed =
     subst (λ (o : Option Label). Acts old.tick (scoping_of before old) (signs_to o old.tick) (scoping_of after new)) (sym at)
-        (none_signed before after old new own froms labels signed)
+    (none_signed before after old new own froms labels signed)
 found_signed before after old new (Some key) label own froms labels at signed =
     subst (λ (o : Option Label). Acts old.tick (scoping_of before old) (signs_to o old.tick) (scoping_of after new)) (sym at.1.1)
     (one_signed before after old new key at.1.0 own froms labels (at.0 ∙ at.1.1) signed)
@@ -162,7 +170,7 @@ found_signed before after old new (Some key) label own froms labels at signed =
 pub home_signed : (before after : Task) (old new : World) (exc : Option Exc) (froms : Table) (st : Stack) (ps : List Place) →
     after.own.items ≡ before.own.items →
     after.froms.items ≡ before.froms.items → label_at new ≡ label_at old → AreAt (label_at old) froms st ps →
-        Signed old new (key_failed exc st) →
+    Signed old new (key_failed exc st) →
     Acts old.tick (scoping_of before old) (signs_home exc ps old.tick) (scoping_of after new)
 home_signed before after old new None table st ps own froms labels at signed = none_signed before after old new own froms labels signed
 home_signed before after old new (Some e) table [] [] own froms labels at signed = none_signed before after old new own froms labels signed
@@ -173,6 +181,7 @@ home_signed before after old new (Some e) table (l ∷ ls) (p ∷ ps) own froms 
 
 -- ---- scopes that are entered and left
 
+-- a task that opened one scope acted as the event of entering its label says
 pub entered_acts : (before after : Task) (old new : World) (label : Label) (deadline : Tick) →
     EntersOne before after old new label deadline →
     Acts old.tick (scoping_of before old) (enters label old.tick deadline ∷ []) (scoping_of after new)
@@ -195,6 +204,7 @@ entered_acts before after old new label deadline e =
     })
     (no_act (scoping_of after new))
 
+-- a task that closed the last of its scopes acted so, with an entry noted
 pub left_acts : (before after : Task) (old new : World) (t : ℕ) (entry : log.Entry) → LeavesOne before after old new →
     Acts old.tick (scoping_of before old) (noted t entry ∷ []) (scoping_of after new)
 left_acts before after old new t entry e =

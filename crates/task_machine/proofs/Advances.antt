@@ -64,7 +64,7 @@ stands_as frames task before world froms numbers stopped ps same stands =
 pub took_as : (frames : List Frame) (task before after : Task) (old new : World) (goes : Moved) (froms : Table) (numbers : Numbers)
     (o : Move) → before.part ≡ task.part →
     before.entries.items ≡ task.entries.items → scoping_of before old ≡ scoping_of task old →
-        Took frames before after old new goes froms numbers o → Took frames task after old new goes froms numbers o
+    Took frames before after old new goes froms numbers o → Took frames task after old new goes froms numbers o
 took_as frames task before after old new goes froms numbers o part noted scoping took =
     record {
       numbers_after = took.numbers_after;
@@ -91,7 +91,7 @@ took_as frames task before after old new goes froms numbers o part noted scoping
 stands_popped : (frames : List Frame) (task before : Task) (world : World) (froms : Table) (numbers : Numbers) (stopped : Option Stopped)
     (ps : List Place) →
     before ≡ record task { frames = before.frames } → Stands frames task world froms numbers stopped ps →
-        Stands frames before world froms numbers stopped ps
+    Stands frames before world froms numbers stopped ps
 stands_popped frames task before world froms numbers stopped ps same stands =
     stands_as frames task before world froms numbers stopped ps (ap (λ (t : Task). scope_of t) same) stands
 
@@ -101,23 +101,23 @@ took_popped : (frames : List Frame) (task before after : Task) (old new : World)
     Took frames before after old new goes froms numbers o → Took frames task after old new goes froms numbers o
 took_popped frames task before after old new goes froms numbers o same took =
     took_as frames task before after old new goes froms numbers o (ap (λ (t : Task). t.part) same) (ap (λ (t : Task). t.entries.items) same)
-        (ap (λ (t : Task). scoping_of t old) same) took
+    (ap (λ (t : Task). scoping_of t old) same) took
 
 -- what the definitions do by the innermost frame is their step
 pub takes_step : (frames fs : List Frame) (f : Frame) (task before after : Task) (old new : World) (goes : Moved) (exc : Option Exc) →
     frames ≡ fs ++ f ∷ [] →
     before ≡ record task { frames = before.frames } →
     Takes frames before after old new goes (λ froms numbers ps count.
-        step_frames froms old.tick (here_of before) (frame_of numbers f ∷ frames_of numbers fs) ps exc count) →
+    step_frames froms old.tick (here_of before) (frame_of numbers f ∷ frames_of numbers fs) ps exc count) →
     Takes frames task after old new goes (step_at task old frames exc)
 unfolding step_of
 takes_step frames fs f task before after old new goes exc popped same takes froms numbers ps count stands =
     took_popped frames task before after old new goes froms numbers
-        (step_frames froms old.tick (here_of task) (frames_of numbers frames) ps exc count) same
+    (step_frames froms old.tick (here_of task) (frames_of numbers frames) ps exc count) same
     (subst (λ (h : Here). Took frames before after old new goes froms numbers
-        (step_frames froms old.tick h (frames_of numbers frames) ps exc count)) (ap (λ (t : Task). here_of t) same)
+    (step_frames froms old.tick h (frames_of numbers frames) ps exc count)) (ap (λ (t : Task). here_of t) same)
     (subst (λ (gs : List rest.Frame). Took frames before after old new goes froms numbers
-        (step_frames froms old.tick (here_of before) gs ps exc count)) (sym
+    (step_frames froms old.tick (here_of before) gs ps exc count)) (sym
     (frames_pushed numbers fs frames f popped))
     (takes froms numbers ps count (stands_popped frames task before old froms numbers None ps same stands))))
 
@@ -176,34 +176,34 @@ pub takes_end : (frames : List Frame) (task before after : Task) (old new : Worl
     frames ≡ before.frames.items ++ [] →
     (0 < length frames → false ≡ true) →
     before ≡ record task { frames = before.frames } → goes ≡ Stops (Ended exc) → after ≡ record before { halt = Over } →
-        new ≡ record old { scopes = new.scopes } →
+    new ≡ record old { scopes = new.scopes } →
     FailsAt old new (scope_of before) (option_map exc_of exc) → Takes frames task after old new goes
-        (step_at task old frames (option_map exc_of exc))
+    (step_at task old frames (option_map exc_of exc))
 unfolding step_of
 takes_end frames task before after old new exc goes popped none same goes_is stays world fails froms numbers ps count stands =
     let empty : frames ≡ [] = none_left frames none in
     took_popped frames task before after old new goes froms numbers
-        (step_frames froms old.tick (here_of task) (frames_of numbers frames) ps (option_map exc_of exc) count) same
+    (step_frames froms old.tick (here_of task) (frames_of numbers frames) ps (option_map exc_of exc) count) same
     (subst (λ (fs : List Frame). Took fs before after old new goes froms numbers
-        (step_frames froms old.tick (here_of task) (frames_of numbers fs) ps
+    (step_frames froms old.tick (here_of task) (frames_of numbers fs) ps
     (option_map exc_of exc) count)) (sym empty)
     (took_end before after old new exc goes froms numbers None ps
     (subst (λ (fs : List Frame). Stands fs before old froms numbers None ps) empty
-        (stands_popped frames task before old froms numbers None ps same stands))
+    (stands_popped frames task before old froms numbers None ps same stands))
     (sym (append-nil before.frames.items) ∙ sym popped ∙ empty) goes_is stays world fails))
 
 -- the innermost scope is left
 pub takes_exit : (frames : List Frame) (fail : Bool) (task before after : Task) (old new : World) (exc goes : Option held.Exc) →
     frames ≡ before.frames.items ++ Scope fail ∷ [] →
     before ≡ record task { frames = before.frames } → after ≡ record before
-        { own = after.own; froms = after.froms; entries = after.entries } →
+    { own = after.own; froms = after.froms; entries = after.entries } →
     new ≡ record old { scopes = new.scopes; labels = new.labels } →
-        ExitsAt before after old new (kind.Scope fail) (option_map exc_of exc) (option_map exc_of goes) →
+    ExitsAt before after old new (kind.Scope fail) (option_map exc_of exc) (option_map exc_of goes) →
     LeavesOne before after old new → Takes frames task after old new (On goes) (step_at task old frames (option_map exc_of exc))
 takes_exit frames fail task before after old new exc goes popped same stays world exits one =
     takes_step frames before.frames.items (Scope fail) task before after old new (On goes) (option_map exc_of exc) popped same
     (λ froms numbers ps count stands. took_exit frames fail before after old new exc goes froms numbers ps (here_of before) count stands
-        popped stays world exits one)
+    popped stays world exits one)
 
 -- the body of the innermost nursery has ended
 pub takes_body : (frames : List Frame) (id : ℕ) (task before after : Task) (old new : World) (exc : Option held.Exc) (goes : Moved) →
@@ -215,7 +215,7 @@ pub takes_body : (frames : List Frame) (id : ℕ) (task before after : Task) (ol
 takes_body frames id task before after old new exc goes popped same goes_is stays world changes fails =
     takes_step frames before.frames.items (Nursery id) task before after old new goes (option_map exc_of exc) popped same
     (λ froms numbers ps count stands. took_body frames id before after old new exc goes froms numbers ps (here_of before) count stands
-        popped goes_is stays world changes fails)
+    popped goes_is stays world changes fails)
 
 -- ---- a task in a `try`
 
@@ -235,9 +235,9 @@ try_blocks (tree.except name body) cleanup fs ps (Some e) = if_blocks (keep (nam
 pub takes_try : (frames : List Frame) (handler : Option (Bor HandlerOf)) (cleanup : Bor (Option tree.Steps)) (task before after : Task)
     (world : World) (exc goes : Option held.Exc) →
     frames ≡ before.frames.items ++ Try handler cleanup ∷ [] → before ≡ record task { frames = before.frames } →
-        after ≡ record before { frames = after.frames } →
+    after ≡ record before { frames = after.frames } →
     ((numbers : Numbers) (ps : List Place) → step_try (handled_of (option_copied handler)) (cleaned_of cleanup.now)
-        (frames_of numbers before.frames.items) ps (option_map exc_of exc)
+    (frames_of numbers before.frames.items) ps (option_map exc_of exc)
     ≡ onward (frames_of numbers after.frames.items) ps (option_map exc_of goes)) →
     Takes frames task after world world (On goes) (step_at task world frames (option_map exc_of exc))
 takes_try frames handler cleanup task before after world exc goes popped same stays step =
@@ -245,10 +245,10 @@ takes_try frames handler cleanup task before after world exc goes popped same st
     (λ froms numbers ps count stands.
     took_onward frames before after world goes froms numbers None ps
     (step_try (handled_of (option_copied handler)) (cleaned_of cleanup.now) (frames_of numbers before.frames.items) ps
-        (option_map exc_of exc)) stands stays
+    (option_map exc_of exc)) stands stays
     (blocks_same before.frames.items after.frames.items (sym (ap (λ (o : Move). blocks_onto o.frames []) (step own_keys ps))
     ∙ try_blocks (handled_of (option_copied handler)) (cleaned_of cleanup.now) (frames_of own_keys before.frames.items) ps
-        (option_map exc_of exc))
+    (option_map exc_of exc))
     ∙ blocks_off before.frames.items frames (Try handler cleanup) popped refl)
     (step numbers ps))
 
@@ -256,18 +256,18 @@ takes_try frames handler cleanup task before after world exc goes popped same st
 pub takes_handler : (frames : List Frame) (others : Option held.Exc) (cleanup : Bor (Option tree.Steps)) (task before after : Task)
     (world : World) (exc goes : Option held.Exc) →
     frames ≡ before.frames.items ++ Handler others cleanup ∷ [] → before ≡ record task { frames = before.frames } →
-        after ≡ record before { frames = after.frames } →
+    after ≡ record before { frames = after.frames } →
     ((numbers : Numbers) → frames_of numbers after.frames.items ≡ rest.in_try tree.unhandled (cleaned_of cleanup.now)
-        ∷ frames_of numbers before.frames.items) →
+    ∷ frames_of numbers before.frames.items) →
     option_map exc_of goes ≡ handler_exc (option_map exc_of exc) (option_map exc_of others) →
     Takes frames task after world world (On goes) (step_at task world frames (option_map exc_of exc))
 takes_handler frames others cleanup task before after world exc goes popped same stays held raised =
     takes_step frames before.frames.items (Handler others cleanup) task before after world world (On goes) (option_map exc_of exc) popped
-        same
+    same
     (λ froms numbers ps count stands.
     took_onward frames before after world goes froms numbers None ps
     (onward (rest.in_try tree.unhandled (cleaned_of cleanup.now) ∷ frames_of numbers before.frames.items) ps
-        (handler_exc (option_map exc_of exc)
+    (handler_exc (option_map exc_of exc)
     (option_map exc_of others))) stands stays
     (blocks_same before.frames.items after.frames.items (ap (λ (fs : List rest.Frame). blocks_onto fs []) (held own_keys))
     ∙ blocks_off before.frames.items frames (Handler others cleanup) popped refl)
@@ -278,16 +278,16 @@ takes_handler frames others cleanup task before after world exc goes popped same
 pub takes_cleanup : (frames : List Frame) (outcome : Option held.Exc) (task after : Task) (world : World) (exc goes : Option held.Exc) →
     frames ≡ after.frames.items ++ Cleanup outcome ∷ [] →
     after ≡ record task { frames = after.frames } → option_map exc_of goes
-        ≡ outcome_after (option_map exc_of outcome) (option_map exc_of exc) →
+    ≡ outcome_after (option_map exc_of outcome) (option_map exc_of exc) →
     Takes frames task after world world (On goes) (step_at task world frames (option_map exc_of exc))
 takes_cleanup frames outcome task after world exc goes popped same raised =
     takes_step frames after.frames.items (Cleanup outcome) task after after world world (On goes) (option_map exc_of exc) popped same
     (λ froms numbers ps count stands.
     took_onward frames after after world goes froms numbers None ps
-        (onward (frames_of numbers after.frames.items) ps (outcome_after (option_map exc_of outcome)
+    (onward (frames_of numbers after.frames.items) ps (outcome_after (option_map exc_of outcome)
     (option_map exc_of exc))) stands refl
     (blocks_off after.frames.items frames (Cleanup outcome) popped refl)
-        (ap (λ (e : Option Exc). onward (frames_of numbers after.frames.items) ps e) (sym raised)))
+    (ap (λ (e : Option Exc). onward (frames_of numbers after.frames.items) ps e) (sym raised)))
 
 -- ---- a task at the end of steps
 
@@ -296,20 +296,20 @@ pub takes_skipped : (frames : List Frame) (steps : Bor (List Step)) (task after 
     (e : held.Exc) →
     frames ≡ after.frames.items ++ Steps steps ∷ [] →
     after ≡ record task { frames = after.frames } → exc ≡ Some e →
-        Takes frames task after world world (On (Some e)) (step_at task world frames (option_map exc_of exc))
+    Takes frames task after world world (On (Some e)) (step_at task world frames (option_map exc_of exc))
 takes_skipped frames steps task after world exc e popped same is =
     subst (λ (x : Option held.Exc). Takes frames task after world world (On (Some e)) (step_at task world frames (option_map exc_of x)))
-        (sym is)
+    (sym is)
     (takes_step frames after.frames.items (Steps steps) task after after world world (On (Some e)) (Some (exc_of e)) popped same
     (λ froms numbers ps count stands.
     took_onward frames after after world (Some e) froms numbers None ps (onward (frames_of numbers after.frames.items) ps (Some (exc_of e)))
-        stands refl
+    stands refl
     (blocks_off after.frames.items frames (Steps steps) popped refl) refl))
 
 -- where nothing was raised
 pub takes_well : (frames : List Frame) (task after : Task) (old new : World) (goes : Moved) (exc : Option held.Exc) → exc ≡ None →
     Takes frames task after old new goes (step_at task old frames None) →
-        Takes frames task after old new goes (step_at task old frames (option_map exc_of exc))
+    Takes frames task after old new goes (step_at task old frames (option_map exc_of exc))
 takes_well frames task after old new goes exc is takes =
     subst (λ (x : Option held.Exc). Takes frames task after old new goes (step_at task old frames (option_map exc_of x))) (sym is) takes
 
@@ -318,7 +318,7 @@ pub takes_last : (frames : List Frame) (steps : Bor (List Step)) (task after : T
     frames ≡ after.frames.items ++ Steps steps ∷ [] →
     steps.now ≡ [] →
     after ≡ record task { frames = after.frames } → exc ≡ None →
-        Takes frames task after world world (On None) (step_at task world frames (option_map exc_of exc))
+    Takes frames task after world world (On None) (step_at task world frames (option_map exc_of exc))
 takes_last frames steps task after world exc popped none same well =
     takes_well frames task after world world (On None) exc well
     (takes_step frames after.frames.items (Steps steps) task after after world world (On None) None popped same
@@ -327,7 +327,7 @@ takes_last frames steps task after world exc popped none same well =
     (λ (ss : List Step).
     Took frames after after world world (On None) froms numbers
     (step_frames froms world.tick (here_of after) (rest.steps_left (steps_of ss) ∷ frames_of numbers after.frames.items) ps None count))
-        (sym none)
+    (sym none)
     (took_onward frames after after world None froms numbers None ps (onward (frames_of numbers after.frames.items) ps None) stands refl
     (blocks_off after.frames.items frames (Steps steps) popped refl) refl)))
 
@@ -338,11 +338,11 @@ pub takes_popped : (frames gs : List Frame) (task before after : Task) (old new 
 unfolding step_of
 takes_popped frames gs task before after old new goes exc whole same takes froms numbers ps count stands =
     took_popped gs task before after old new goes froms numbers (step_frames froms old.tick (here_of task) (frames_of numbers gs) ps exc
-        count) same
+    count) same
     (subst (λ (h : Here). Took gs before after old new goes froms numbers
-        (step_frames froms old.tick h (frames_of numbers gs) ps exc count)) (ap (λ (t : Task). here_of t) same)
+    (step_frames froms old.tick h (frames_of numbers gs) ps exc count)) (ap (λ (t : Task). here_of t) same)
     (subst (λ (fs : List Frame). Took fs before after old new goes froms numbers
-        (step_frames froms old.tick (here_of before) (frames_of numbers fs) ps exc count)) (sym whole)
+    (step_frames froms old.tick (here_of before) (frames_of numbers fs) ps exc count)) (sym whole)
     (takes froms numbers ps count
     (subst (λ (fs : List Frame). Stands fs before old froms numbers None ps) whole
-        (stands_popped gs task before old froms numbers None ps same stands)))))
+    (stands_popped gs task before old froms numbers None ps same stands)))))

@@ -72,7 +72,7 @@ apart_waits labels book (b ∷ bs) [] id h has = h
 apart_waits labels book (a_scope ∷ bs) (o ∷ own) id h has = apart_waits labels book bs own id h.2 has
 apart_waits labels book (a_nursery key ∷ bs) (o ∷ own) id h (inl is) =
     first_apart labels book bs own (Some id) o id (subst (λ (k : ℕ). HasNursery book k (λ m. IsMine labels o m × (m.body ≡ None))) (sym is)
-        h.0) h.1 h.2 (inr refl)
+    h.0) h.1 h.2 (inr refl)
 apart_waits labels book (a_nursery key ∷ bs) (o ∷ own) id h (inr has) = apart_waits labels book bs own id h.2 has
 
 -- that of the innermost block is none of the others
@@ -83,7 +83,7 @@ apart_inner labels book (b ∷ bs) [] id h has = h
 apart_inner labels book (a_scope ∷ bs) (o ∷ own) id h has = apart_inner labels book bs own id h.2 has
 apart_inner labels book (a_nursery key ∷ bs) (o ∷ own) id h (inl is) =
     first_apart labels book (bs ++ a_nursery id ∷ []) own None o id
-        (subst (λ (k : ℕ). HasNursery book k (λ m. IsMine labels o m × (m.body ≡ None))) (sym is) h.0) h.1 h.2
+    (subst (λ (k : ℕ). HasNursery book k (λ m. IsMine labels o m × (m.body ≡ None))) (sym is) h.0) h.1 h.2
     (inl (has_last id bs (a_nursery id ∷ []) (inl refl)))
 apart_inner labels book (a_nursery key ∷ bs) (o ∷ own) id h (inr has) = apart_inner labels book bs own id h.2 has
 
@@ -99,14 +99,14 @@ pub apart_body : (fs gs : List Frame) (part : Part) (home : Option ℕ) (own : L
     FitsIn gs part home own n tree labels book None → blocks_of gs ≡ blocks_of (fs ++ Nursery id ∷ []) → HasBlock id (blocks_of fs) → ⊥
 apart_body fs gs part home own n tree labels book id h same has =
     apart_inner labels book (blocks_of fs) own id (subst (λ (bs : List Block). Opened labels book bs own None)
-        (same ∙ blocks_append fs (Nursery id ∷ [])) h.opened) has
+    (same ∙ blocks_append fs (Nursery id ∷ [])) h.opened) has
 
 -- and of a task whose steps are such a body's
 pub apart_steps : (fs outer gs : List Frame) (steps : Bor (List Step)) (part : Part) (home : Option ℕ) (own : List Own) (n : ℕ)
     (tree : Tree) (labels : Labels)
     (book : NurseryBook) (id : ℕ) →
     gs ≡ outer ++ Steps steps ∷ [] → outer ≡ fs ++ Nursery id ∷ [] → FitsIn gs part home own n tree labels book None →
-        HasBlock id (blocks_of fs) → ⊥
+    HasBlock id (blocks_of fs) → ⊥
 apart_steps fs outer gs steps part home own n tree labels book id popped within h has =
     apart_body fs gs part home own n tree labels book id h
     (blocks_pushed outer gs (Steps steps) popped ∙ append-nil (blocks_of outer) ∙ ap blocks_of within) has

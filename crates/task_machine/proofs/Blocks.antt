@@ -12,6 +12,7 @@ use Rattle.task_machine.specs.declared.task.Own.{Own}
 use Rattle.task_machine.specs.Fitting.{Block, a_scope, a_nursery, blocks_of, AreOthers, IsMine, IsBlockOf, Opened, HasRunning, RunsIn}
 use Rattle.task_machine.specs.Labels.{Labels}
 
+-- the blocks of some frames, and of others inside them
 pub blocks_append : (fs gs : List Frame) → blocks_of (fs ++ gs) ≡ blocks_of fs ++ blocks_of gs
 blocks_append [] gs = refl
 blocks_append (Steps steps ∷ fs) gs = blocks_append fs gs
@@ -33,7 +34,7 @@ opened_in labels book (c ∷ bs) (x ∷ own) b o h i e = (
   h.0,
   All-append (λ (y : Own). y.id ≢ x.id) own (o ∷ []) h.1
       (All-cons (λ (y : Own). y.id ≢ x.id) o [] (λ f. All-head (λ (y : Own). y.id ≢ o.id) x own e (sym f))
-          (All-nil (λ (y : Own). y.id ≢ x.id))),
+      (All-nil (λ (y : Own). y.id ≢ x.id))),
   opened_in labels book bs own b o h.2 i (All-tail (λ (y : Own). y.id ≢ o.id) x own e),
 )
 
@@ -43,6 +44,7 @@ pub record Innermost (labels : Labels) (book : NurseryBook) (bs : List Block) (o
   pub others : AreOthers o.id own
   pub outer : Opened labels book bs own None
 
+-- the last scope that a task opened is that of its innermost block, and the others are those of the outer ones
 pub opened_out : (labels : Labels) (book : NurseryBook) (bs : List Block) (own : List Own) (b : Block) (o : Own) →
     Opened labels book (bs ++ b ∷ []) (own ++ o ∷ []) None → Innermost labels book bs own b o
 opened_out labels book [] [] b o h = record { block = h.0; others = All-nil (λ (x : Own). x.id ≢ o.id); outer = tt }
@@ -86,7 +88,7 @@ opened_waits labels book (c ∷ bs) (x ∷ own) id o h e n = (
   h.0,
   All-append (λ (y : Own). y.id ≢ x.id) own (o ∷ []) h.1
       (All-cons (λ (y : Own). y.id ≢ x.id) o [] (λ f. All-head (λ (y : Own). y.id ≢ o.id) x own e (sym f))
-          (All-nil (λ (y : Own). y.id ≢ x.id))),
+      (All-nil (λ (y : Own). y.id ≢ x.id))),
   opened_waits labels book bs own id o h.2 (All-tail (λ (y : Own). y.id ≢ o.id) x own e) n,
 )
 
@@ -107,9 +109,10 @@ block_stays labels more old new key (a_nursery id) o s differs i = by_nursery (n
     by_nursery None e i = absurd i
     by_nursery (Some n) e i =
         subst (λ (m : Option Members). IsSomeAnd m (λ n. IsMine more o n × (n.body ≡ None)))
-            (sym (s.nurseries id n e (λ f. differs (sym i.0.scope ∙ f))))
+        (sym (s.nurseries id n e (λ f. differs (sym i.0.scope ∙ f))))
         (record { scope = i.0.scope; label = s.named o.id differs ∙ i.0.label }, i.1)
 
+-- the scopes of a task are those of its blocks still, where the world changed for another scope alone
 pub opened_stays : (labels more : Labels) (old new : NurseryBook) (key : ℕ) (bs : List Block) (own : List Own) →
     StaysBut labels more old new key → AreOthers key own → Opened labels old bs own None → Opened more new bs own None
 opened_stays labels more old new key [] [] s e h = tt
@@ -123,6 +126,7 @@ opened_stays labels more old new key (b ∷ bs) (x ∷ own) s e h = (
 
 -- ---- children that run
 
+-- where a child runs in a block or one inside it, it does so with one more block inside
 pub runs_in_more : (book : NurseryBook) (bs : List Block) (b : Block) (i : ℕ) → RunsIn book bs i None → RunsIn book (bs ++ b ∷ []) i None
 runs_in_more book [] b i r = absurd r
 runs_in_more book (a_scope ∷ bs) b zero r = runs_in_more book bs b zero r

@@ -35,13 +35,14 @@ frames_last2 : (fs : List Frame) (l : Last2 fs) → frames_of (λ id. []) fs ≡
 frames_last2 fs l =
     ap (frames_of (λ id. [])) (l.is ∙ sym (append_assoc l.outer (l.round ∷ []) (l.top ∷ [])))
     ∙ frames_push (λ id. []) (l.outer ++ l.round ∷ []) l.top ∙ ap (λ (xs : List rest.Frame). frame_of (λ id. []) l.top ∷ xs)
-        (frames_push (λ id. []) l.outer l.round)
+    (frames_push (λ id. []) l.outer l.round)
 
 -- a frame that is a nursery's
 pub record IsBody (fs : List Frame) : Type 0 where
   pub id : ℕ
   pub at : InBody fs id
 
+-- where the frame round the innermost one is a nursery's, the task is in the body of that
 pub is_body : (fs : List Frame) → IsTrue (in_body (frames_behind (frames_of (λ id. []) fs))) → IsBody fs
 is_body [] b = absurd (let e : false ≡ true = b in cc)
 is_body (f ∷ []) b = absurd (let e : false ≡ true = b in cc)
@@ -58,6 +59,7 @@ is_body (f ∷ g ∷ fs) b =
     by_round (Handler others cleanup) e b = absurd (let e : false ≡ true = b in cc)
     by_round (Cleanup outcome) e b = absurd (let e : false ≡ true = b in cc)
 
+-- in the body of a nursery a task has two frames at least
 pub body_long : (fs : List Frame) (id : ℕ) → InBody fs id → 2 ≤ length fs
 body_long fs id b = (let e = ap (λ (xs : List Frame). length xs) b.is in let f = length-append b.outer (Nursery id ∷ b.top ∷ []) in
     omega (arith, e, f))
@@ -66,6 +68,7 @@ at_two : (outer : List Frame) (y x : Frame) → slice_get (outer ++ y ∷ x ∷ 
 at_two [] y x = refl
 at_two (z ∷ outer) y x = at_two outer y x
 
+-- the last frame but one is that of the nursery whose body the task is in
 pub body_at : (fs : List Frame) (id : ℕ) → InBody fs id → slice_get fs (length fs - 2) ≡ Some (Nursery id)
 body_at fs id b =
     ap (λ (xs : List Frame). slice_get xs (length fs - 2)) b.is
@@ -88,18 +91,20 @@ body_block labels book [] cs id (o ∷ own) waits h = by_nursery (nursery_at boo
 body_block labels book (b ∷ bs) cs id [] waits h = absurd h
 body_block labels book (b ∷ bs) cs id (o ∷ own) waits h = body_block labels book bs cs id own waits h.2
 
+-- a nursery whose body a task is in stands in the book, and its body runs
 pub body_runs : (labels : Labels) (book : NurseryBook) (fs : List Frame) (id : ℕ) (own : List Own) → InBody fs id →
     Opened labels book (blocks_of fs) own None → HasNursery book id (λ n. n.body ≡ None)
 body_runs labels book fs id own b h =
     body_block labels book (blocks_of b.outer) (blocks_of (b.top ∷ [])) id own None
     (subst (λ (bs : List Block). Opened labels book bs own None)
-        (ap blocks_of b.is ∙ blocks_append b.outer (Nursery id ∷ b.top ∷ [])
-        ∙ ap (λ (bs : List Block). blocks_of b.outer ++ bs) (blocks_append (Nursery id ∷ []) (b.top ∷ []))) h)
+    (ap blocks_of b.is ∙ blocks_append b.outer (Nursery id ∷ b.top ∷ [])
+    ∙ ap (λ (bs : List Block). blocks_of b.outer ++ bs) (blocks_append (Nursery id ∷ []) (b.top ∷ []))) h)
 
 -- what stands there
 pub body_frame : (fs xs : List Frame) (b : IsBody fs) (f : Frame) → xs ≡ fs → f ≡ get_or xs (length xs - 2) f → f ≡ Nursery b.id
 body_frame fs xs b f same at = at ∙ ap (λ (ys : List Frame). get_or ys (length ys - 2) f) same
     ∙ get_or_from_slice_get fs (length fs - 2) (Nursery b.id) f (body_at fs b.id b.at)
 
+-- a frame that is that of the nursery round the task, and that of a key: the task is in the body of the nursery of the key
 pub body_id : (fs : List Frame) (b : IsBody fs) (f : Frame) (id : ℕ) → f ≡ Nursery b.id → f ≡ Nursery id → InBody fs id
 body_id fs b f id e g = subst (λ (k : ℕ). InBody fs k) (let h : Nursery b.id ≡ Nursery id = sym e ∙ g in let i : b.id ≡ id = cc in i) b.at

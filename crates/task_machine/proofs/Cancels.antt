@@ -19,12 +19,13 @@ some_is o st e = subst IsSome (sym e) refl
 -- a scope of a stack is open
 open_in : (tree : Tree) (key : ℕ) (before st : Stack) →
     ((front : Stack) (l : Level ℕ) (behind : Stack) → before ++ st ≡ front ++ l ∷ behind → stack_of tree l.label ≡ Some (l ∷ behind)) →
-        IsKey key st → IsOpen tree key
+    IsKey key st → IsOpen tree key
 open_in tree key before [] chain i = absurd i
 open_in tree key before (l ∷ ls) chain (inl e) = subst (IsOpen tree) (sym e) (some_is _ _ (chain before l ls refl))
 open_in tree key before (l ∷ ls) chain (inr i) =
     open_in tree key (before ++ l ∷ []) ls (λ front m behind e. chain front m behind (sym (append_assoc before (l ∷ []) ls) ∙ e)) i
 
+-- each scope of a stack is open
 pub open_round : (tree : Tree) → IsChain tree → (scope : Option ℕ) (key : ℕ) → IsKey key (outer_of tree scope) → IsOpen tree key
 open_round tree chain None key i = absurd i
 open_round tree chain (Some p) key i = by_stack (stack_of tree p) refl i
@@ -33,6 +34,7 @@ open_round tree chain (Some p) key i = by_stack (stack_of tree p) refl i
     by_stack None e i = absurd i
     by_stack (Some st) e i = open_in tree key [] st (λ front l behind f. chain p st e front l behind f) i
 
+-- a scope that is found in a stack by its name is open
 pub found_open : (labels : Labels) (tree : Tree) (name : List ℕ) (scope : Option ℕ) (key : ℕ) → IsChain tree →
     scope_named labels name (outer_of tree scope) ≡ Some key → IsOpen tree key
 found_open labels tree name scope key chain e = open_round tree chain scope key (named_is_in labels name (outer_of tree scope) key e)
@@ -48,9 +50,10 @@ round_after old new key t (Some p) h = ap (λ (o : Option Stack). unwrap_or o []
     by_stack None = refl
     by_stack (Some st) = refl
 
+-- where a scope of the name was found and signed, the froms of the places are lowered by the sign of its label
 pub cancels_at : (labels more : Labels) (old new : Tree) (scope : Option ℕ) (name : List ℕ) (key t : ℕ) → more ≡ labels →
     ((at : ℕ) → stack_of new at ≡ option_map (after_cancel key t) (stack_of old at)) →
-        scope_named labels name (outer_of old scope) ≡ Some key →
+    scope_named labels name (outer_of old scope) ≡ Some key →
     (froms : Table) (ps : List Place) → OwnNames (names_at ps) → AreAt labels froms (outer_of old scope) ps →
     AreAt more (froms_after froms (signs_to (label_among name ps) t)) (outer_of new scope) ps
 cancels_at labels more old new scope name key t same after found froms ps own a =
@@ -59,17 +62,18 @@ cancels_at labels more old new scope name key t same after found froms ps own a 
     let label : Label = at.1.0 in
     let signed : AreAt labels (lowered froms label t) (after_cancel key t (outer_of old scope)) ps =
     signed_alike labels froms (outer_of old scope) ps key t label (at.0 ∙ at.1.1) (named_is_in labels name (outer_of old scope) key found)
-        own a in
+    own a in
     subst (λ (ls : Labels). AreAt ls (froms_after froms (signs_to (label_among name ps) t)) (outer_of new scope) ps) (sym same)
     (subst (λ (st : Stack). AreAt labels (froms_after froms (signs_to (label_among name ps) t)) st ps)
-        (sym (round_after old new key t scope after))
+    (sym (round_after old new key t scope after))
     (subst (λ (o : Option Label). AreAt labels (froms_after froms (signs_to o t)) (after_cancel key t (outer_of old scope)) ps) (sym at.1.1)
-        signed))
+    signed))
 
+-- where no scope has the name, nothing is signed and the places stay as they are
 pub cancels_none : (labels : Labels) (st : Stack) (name : List ℕ) (t : ℕ) → scope_named labels name st ≡ None →
     (froms : Table) (ps : List Place) →
     AreAt labels froms st ps → AreAt labels (froms_after froms (signs_to (label_among name ps) t)) st ps
 cancels_none labels st name t none froms ps a =
     let found : label_among name ps ≡ None =
-        subst (λ (o : Option ℕ). FoundAs labels o (label_among name ps)) none (named_at labels froms name st ps a) in
+    subst (λ (o : Option ℕ). FoundAs labels o (label_among name ps)) none (named_at labels froms name st ps a) in
     subst (λ (o : Option Label). AreAt labels (froms_after froms (signs_to o t)) st ps) (sym found) a

@@ -62,7 +62,7 @@ keyed_onto : (P : ℕ → ℕ → Type 0) (now : Numbers) (labels : Labels) (boo
     (ks : List ℕ) →
     ((id : ℕ) (o : Own) → HasNurseryOf id (blocks_of fs) waits → HasNursery book id (λ n. n.scope ≡ o.id) → P id o.id) →
     Opened labels book (blocks_of fs) own waits → Keyed P now outer ks →
-        KeyedAfter P waits now (frames_onto now fs outer) (keys_in own ++ ks)
+    KeyedAfter P waits now (frames_onto now fs outer) (keys_in own ++ ks)
 keyed_onto P now labels book [] [] None outer ks has h k = k
 keyed_onto P now labels book [] [] (Some id) outer ks has h k = absurd h
 keyed_onto P now labels book [] (o ∷ own) None outer ks has h k = absurd h
@@ -74,12 +74,12 @@ keyed_onto P now labels book (Steps steps ∷ fs) own waits outer ks has h k =
 keyed_onto P now labels book (Scope fail ∷ fs) [] waits outer ks has h k = absurd h
 keyed_onto P now labels book (Scope fail ∷ fs) (o ∷ own) waits outer ks has h k =
     subst (λ (zs : List ℕ). KeyedAfter P waits now (frames_onto now fs (rest.in_scope fail ∷ outer)) zs)
-        (sym (append_assoc (keys_in own) (o.id ∷ []) ks))
+    (sym (append_assoc (keys_in own) (o.id ∷ []) ks))
     (keyed_onto P now labels book fs own waits (rest.in_scope fail ∷ outer) (o.id ∷ ks) has h.2 k)
 keyed_onto P now labels book (Nursery id ∷ fs) [] waits outer ks has h k = absurd h
 keyed_onto P now labels book (Nursery id ∷ fs) (o ∷ own) waits outer ks has h k =
     subst (λ (zs : List ℕ). KeyedAfter P waits now (frames_onto now fs (rest.in_nursery (now id) ∷ outer)) zs)
-        (sym (append_assoc (keys_in own) (o.id ∷ []) ks))
+    (sym (append_assoc (keys_in own) (o.id ∷ []) ks))
     (keyed_onto P now labels book fs own waits (rest.in_nursery (now id) ∷ outer) (o.id ∷ ks)
     (λ key x i n. has key x (one_behind key id (blocks_of fs) waits i) n) h.2
     ((id, refl, has id o (inl (inl refl)) (is_scope labels (λ n. n.body ≡ None) (nursery_at book id) o h.0)), k))
@@ -120,6 +120,7 @@ WaitsAs numbers waits (asleep n since) = waits ≡ None
 WaitsAs numbers waits (awaiting children ended exc) = (id : ℕ) × (waits ≡ Some id) × (numbers id ≡ children)
 WaitsAs numbers waits (at_end u e) = waits ≡ None
 
+-- a task that stopped to wait for children waits for their nursery by its halt, and any other for none
 pub halt_waits : (numbers : Numbers) (book : NurseryBook) (halt : Halt) (stopped : Stopped) → IsHalt numbers book halt stopped →
     WaitsAs numbers (waits_of halt) stopped
 halt_waits numbers book ToBegin to_begin h = refl

@@ -16,7 +16,7 @@ use Rattle.task_machine.proofs.Stacked.{entered_alike}
 same_on : (labels more : Labels) (tree : Tree) (key : ℕ) (label : Option Label) → stack_of tree key ≡ None → Updates labels more key label →
     (before st : Stack) →
     ((front : Stack) (l : Level ℕ) (behind : Stack) → before ++ st ≡ front ++ l ∷ behind → stack_of tree l.label ≡ Some (l ∷ behind)) →
-        SameOn labels more st
+    SameOn labels more st
 same_on labels more tree key label closed u before [] chain = tt
 same_on labels more tree key label closed u before (l ∷ ls) chain = (
   sym (u.others l.label other),
@@ -38,14 +38,15 @@ same_round labels more tree key label chain closed u (Some p) = by_stack (stack_
     by_stack None e = tt
     by_stack (Some st) e = same_on labels more tree key label closed u [] st (λ front l behind f. chain p st e front l behind f)
 
+-- a scope that is opened inside a stack has its place inside the others, with its deadline as its from
 pub enters_at : (labels more : Labels) (old new : Tree) (outer inner : Option ℕ) (key : ℕ) (label : Label) (shield : Bool) (d : Tick) →
     IsChain old → stack_of old key ≡ None →
     stack_of new key ≡ Some (record { label = key; shield = shield; from = d } ∷ outer_of old outer) →
-        Updates labels more key (Some label) → inner ≡ Some key →
+    Updates labels more key (Some label) → inner ≡ Some key →
     (froms : Table) (ps : List Place) → (IsName label.name (names_at ps) → ⊥) → AreAt labels froms (outer_of old outer) ps →
     AreAt more (opened froms label d) (outer_of new inner) (record { label = label; shield = shield } ∷ ps)
 enters_at labels more old new outer inner key label shield d chain closed top u within froms ps named a =
     subst (λ (st : Stack). AreAt more (opened froms label d) st (record { label = label; shield = shield } ∷ ps))
     (sym (ap (outer_of new) within ∙ ap (λ (o : Option Stack). unwrap_or o []) top))
     (entered_alike labels more froms (outer_of old outer) ps key label shield d u.changed
-        (same_round labels more old key (Some label) chain closed u outer) named a)
+    (same_round labels more old key (Some label) chain closed u outer) named a)

@@ -85,18 +85,19 @@ failed_at tree scope key (Some e) b h i own within is_open = top_at tree scope k
 pub fails_at : (labels more : Labels) (old new : Tree) (scope : Option ℕ) (key t : ℕ) (e : Exc) → more ≡ labels → IsOwn old →
     scope ≡ Some key → IsSome (stack_of old key) →
     ((at : ℕ) → stack_of new at ≡ option_map (after_cancel key t) (stack_of old at)) → (froms : Table) (ps : List Place) →
-        OwnNames (names_at ps) →
+    OwnNames (names_at ps) →
     AreAt labels froms (outer_of old scope) ps → AreAt more (froms_after froms (signs_home (Some e) ps t)) (outer_of new scope) ps
 fails_at labels more old new scope key t e same own within is_open after froms ps names a =
     subst (λ (ls : Labels). AreAt ls (froms_after froms (signs_home (Some e) ps t)) (outer_of new scope) ps) (sym same)
     (subst (λ (st : Stack). AreAt labels (froms_after froms (signs_home (Some e) ps t)) st ps) (sym (round_after old new key t scope after))
     (signed_first labels froms (outer_of old scope) ps key t e (top_at old scope key own within is_open) names a))
 
+-- who failed, as a test says, signs for the innermost scope: the from of the innermost place is lowered by that
 pub fails_if : (labels more : Labels) (old new : Tree) (scope : Option ℕ) (key t : ℕ) (o : Option held.Exc) (b : Bool) → is_some o ≡ not b →
     b ≡ false → more ≡ labels → IsOwn old → scope ≡ Some key →
     IsSome (stack_of old key) → ((at : ℕ) → stack_of new at ≡ option_map (after_cancel key t) (stack_of old at)) →
-        (froms : Table) (ps : List Place) → OwnNames (names_at ps) →
+    (froms : Table) (ps : List Place) → OwnNames (names_at ps) →
     AreAt labels froms (outer_of old scope) ps → AreAt more (froms_after froms (signs_home (option_map exc_of o) ps t)) (outer_of new scope)
-        ps
+    ps
 fails_if labels more old new scope key t None b h i = absurd (let f : false ≡ true = h ∙ ap not i in cc)
 fails_if labels more old new scope key t (Some e) b h i = fails_at labels more old new scope key t (exc_of e)

@@ -28,6 +28,7 @@ pub record LastOf (own : List Own) : Type 0 where
   pub last : Own
   pub is : own ≡ before ++ last ∷ []
 
+-- scopes that a task opened, if there are some, have a last one
 pub last_of : (own : List Own) → 0 < length own → LastOf own
 last_of [] some = absurd (omega (arith, some))
 last_of (o ∷ []) some = record { before = []; last = o; is = refl }
@@ -45,7 +46,7 @@ pub record Ready (home : Option ℕ) (own : List Own) (tree : Tree) (labels : La
 pub fits_frames : (fs gs : List Frame) (part : Part) (home : Option ℕ) (own : List Own) (n : ℕ) (tree : Tree) (labels : Labels)
     (book : NurseryBook) → blocks_of gs ≡ blocks_of fs →
     AreModestFrames (frames_of (λ id. []) gs) → StartsFit (frames_of (λ id. []) gs) → FitsIn fs part home own n tree labels book None →
-        FitsIn gs part home own n tree labels book None
+    FitsIn gs part home own n tree labels book None
 fits_frames fs gs part home own n tree labels book same modest starts h =
     record {
       modest = modest;
@@ -74,10 +75,10 @@ ready_scope fs fail part home own n tree labels book chain owns apart h =
           (innermost_of tree book chain owns apart home (blocks_of fs ++ a_scope ∷ []) l.before l.last None
           (top_of tree chain owns home own l.before l.last l.is (h.scope l.last.id scope_is) h.first scope_is)
           (subst (λ (os : List Own). OthersRun tree book (blocks_of fs ++ a_scope ∷ []) os None) l.is
-              (subst (λ (bs : List Block). OthersRun tree book bs own None) blocks h.others))
+          (subst (λ (bs : List Block). OthersRun tree book bs own None) blocks h.others))
           (λ r. runs_behind book (blocks_of fs) (length l.before) None
-              (let e = opened_length labels book (blocks_of fs) l.before inner.outer in omega (arith, e))
-              (runs_in_outer book (blocks_of fs) (length l.before) r)));
+          (let e = opened_length labels book (blocks_of fs) l.before inner.outer in omega (arith, e))
+          (runs_in_outer book (blocks_of fs) (length l.before) r)));
       labelled = λ id e. subst (λ (k : ℕ). IsSome (labels k)) (one_of l.last.id id (sym scope_is ∙ e)) inner.block;
     }
   where
@@ -102,6 +103,7 @@ ready_scope fs fail part home own n tree labels book chain owns apart h =
 
 -- ---- the tree once the innermost scope was left
 
+-- the innermost scope of the stack of an open home is that home
 pub first_key : (tree : Tree) (home : Option ℕ) → IsOwn tree → ForSome home (IsOpen tree) → head_of (keys_of (outer_of tree home)) ≡ home
 first_key tree None owns opened = refl
 first_key tree (Some k) owns opened = by_stack (stack_of tree k) refl (opened k refl)
@@ -114,6 +116,7 @@ first_key tree (Some k) owns opened = by_stack (stack_of tree k) refl (opened k 
     by_stack None e s = absurd (let f : false ≡ true = s in cc)
     by_stack (Some st) e s = by_label st (owns k st e)
 
+-- the first of some keys is among them
 pub head_among : (ks : List ℕ) (k : ℕ) → head_of ks ≡ Some k → IsAmong k ks
 head_among [] k e = absurd (let f : None ≡ Some k = e in cc)
 head_among (x ∷ ks) k e = inl (sym (one_of x k e))
@@ -126,7 +129,7 @@ round_open old new chain owns apart home os o opened top keep id e =
     let named : top.level.label ≡ o.id = one_of _ _ (owns o.id (top.level ∷ top.behind) top.at) in
     let first : head_of (keys_of top.behind) ≡ Some id =
     ap head_of top.keys ∙ first_is_last os (keys_of (outer_of old home))
-        ∙ ap (λ (h : Option ℕ). last_or h (ids os)) (first_key old home owns opened) ∙ e in
+    ∙ ap (λ (h : Option ℕ). last_or h (ids os)) (first_key old home owns opened) ∙ e in
     let at = level_at id top.behind (head_among (keys_of top.behind) id first) in
     let round : stack_of old at.level.label ≡ Some (at.level ∷ at.behind) =
     chain o.id (top.level ∷ top.behind) top.at (top.level ∷ at.before) at.level at.behind (ap (λ (s : Stack). top.level ∷ s) at.is) in
@@ -135,5 +138,5 @@ round_open old new chain owns apart home os o opened top keep id e =
     (all_behind (λ (m : Level ℕ). m.label ≢ o.id) at.before (at.level ∷ at.behind)
     (subst (λ (s : Stack). All (λ (m : Level ℕ). m.label ≢ o.id) s) at.is
     (subst (λ (k : ℕ). All (λ (m : Level ℕ). m.label ≢ k) top.behind) named
-        (apart o.id (top.level ∷ top.behind) top.at [] top.level top.behind refl)))) in
+    (apart o.id (top.level ∷ top.behind) top.at [] top.level top.behind refl)))) in
     subst (IsOpen new) at.named (subst IsSome (sym (keep at.level.label differs ∙ round)) refl)

@@ -16,6 +16,7 @@ pub frames_push : (children : ℕ → List ℕ) (fs : List Frame) (f : Frame) �
     frames_of children (fs ++ f ∷ []) ≡ frame_of children f ∷ frames_of children fs
 frames_push children fs f = onto_push children fs f []
 
+-- a frame that the code puts last is the innermost one
 pub frames_pushed : (children : ℕ → List ℕ) (fs gs : List Frame) (f : Frame) → gs ≡ fs ++ f ∷ [] →
     frames_of children gs ≡ frame_of children f ∷ frames_of children fs
 frames_pushed children fs gs f e = ap (frames_of children) e ∙ frames_push children fs f

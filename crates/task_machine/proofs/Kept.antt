@@ -41,8 +41,9 @@ keys_after : (key t : ℕ) (st : Stack) → keys_of (after_cancel key t st) ≡ 
 keys_after key t [] = refl
 keys_after key t (l ∷ ls) =
     ap (λ (k : ℕ). k ∷ keys_of (after_cancel key t ls)) (key_after key t l (l.label == key))
-        ∙ ap (λ (ks : List ℕ). l.label ∷ ks) (keys_after key t ls)
+    ∙ ap (λ (ks : List ℕ). l.label ∷ ks) (keys_after key t ls)
 
+-- a cancellation leaves each scope open or closed, inside the same ones
 pub signed_keys : (old new : Tree) (id t : ℕ) → ((key : ℕ) → stack_of new key ≡ option_map (after_cancel id t) (stack_of old key)) →
     SameKeys old new
 signed_keys old new id t h key = ap (λ (o : Option Stack). option_map keys_of o) (h key) ∙ by_stack (stack_of old key)
@@ -89,9 +90,10 @@ others_same old new book bs own waits same run key st e a i o got within = by_st
         cc)
     by_stack (Some su) f =
         let keys : keys_of st ≡ keys_of su =
-            same_outer (Some st) (Some su) (sym (ap (option_map keys_of) e) ∙ same key ∙ ap (option_map keys_of) f) in
+        same_outer (Some st) (Some su) (sym (ap (option_map keys_of) e) ∙ same key ∙ ap (option_map keys_of) f) in
         run key su f a i o got (is_key o.id su (subst (IsAmong o.id) keys (among_keys o.id st within)))
 
+-- what holds of a task is kept where each scope stays open or closed, inside the same ones
 pub fits_signed : (fs : List Frame) (part : Part) (home : Option ℕ) (own : List Own) (n : ℕ) (old new : Tree) (labels : Labels)
     (book : NurseryBook) (waits : Option ℕ) → SameKeys old new →
     FitsIn fs part home own n old labels book waits → FitsIn fs part home own n new labels book waits
@@ -118,7 +120,7 @@ own_open : (tree : Tree) → IsChain tree → (home : Option ℕ) (own : List Ow
 own_open tree chain home own key first i =
     open_round tree chain (last_or home (ids own)) key
     (is_key key (outer_of tree (last_or home (ids own))) (subst (IsAmong key) (sym first)
-        (among_left key (keys_in own) (keys_of (outer_of tree home)) i)))
+    (among_left key (keys_in own) (keys_of (outer_of tree home)) i)))
 
 -- so one that was not open is none of them
 pub fresh_others : (tree : Tree) → IsChain tree → (home : Option ℕ) (own : List Own) (key : ℕ) → OwnFirst tree home own →
@@ -145,16 +147,17 @@ all_below : (n : ℕ) (own : List Own) → All (λ (o : Own). o.at < n) own → 
 all_below n [] a = All-nil (λ (o : Own). o.at < suc n)
 all_below n (o ∷ own) a =
     All-cons (λ (x : Own). x.at < suc n) o own (let e = All-head (λ (x : Own). x.at < n) o own a in omega (arith, e))
-        (all_below n own (All-tail (λ (x : Own). x.at < n) o own a))
+    (all_below n own (All-tail (λ (x : Own). x.at < n) o own a))
 
+-- what holds of a task is kept when it enters one more block, with a scope that was not open
 pub fits_entered : (fs gs : List Frame) (b : Block) (part : Part) (home : Option ℕ) (own : List Own) (o : Own) (n : ℕ) (old new : Tree)
     (labels more : Labels) (book after : NurseryBook) (name : Label)
     (level : Level ℕ) → IsChain old → stack_of old o.id ≡ None → stack_of new o.id ≡ Some (level ∷ outer_of old (last_or home (ids own))) →
-        level.label ≡ o.id → OthersKeep old new o.id →
+    level.label ≡ o.id → OthersKeep old new o.id →
     label.Updates labels more o.id (Some name) → o.at ≡ n → ((id : ℕ) (m : Members) → nursery_at book id ≡ Some m →
-        nursery_at after id ≡ Some m) → IsBlockOf more after b o →
+    nursery_at after id ≡ Some m) → IsBlockOf more after b o →
     blocks_of gs ≡ blocks_of fs ++ b ∷ [] → AreModestFrames (frames_of (λ id. []) gs) → StartsFit (frames_of (λ id. []) gs) →
-        FitsIn fs part home own n old labels book None →
+    FitsIn fs part home own n old labels book None →
     FitsIn gs part home (own ++ o ∷ []) (suc n) new more after None
 fits_entered fs gs b part home own o n old new labels more book after name level chain closed stack named keep u at stay block blocks modest
     starts h =
@@ -172,7 +175,7 @@ fits_entered fs gs b part home own o n old new labels more book after name level
           subst (λ (bs : List Block). Opened more after bs (own ++ o ∷ []) None) (sym blocks)
           (opened_in more after (blocks_of fs) own b o
           (opened_stays labels more book after o.id (blocks_of fs) own
-              (record { named = u.others; nurseries = λ id m e differs. stay id m e }) apart h.opened) block apart);
+          (record { named = u.others; nurseries = λ id m e differs. stay id m e }) apart h.opened) block apart);
       others =
           subst (λ (bs : List Block). OthersRun new after bs (own ++ o ∷ []) None) (sym blocks)
           (others_entered old new book after chain (blocks_of fs) own b o closed keep run h.others);
@@ -200,11 +203,12 @@ fits_entered fs gs b part home own o n old new labels more book after name level
 
 -- ---- a scope that is left
 
+-- where the places of all scopes of a task are below a number, so are those without the last
 pub first_below : (n : ℕ) (own : List Own) (o : Own) → All (λ (x : Own). x.at < n) (own ++ o ∷ []) → All (λ (x : Own). x.at < n) own
 first_below n [] o a = All-nil (λ (x : Own). x.at < n)
 first_below n (x ∷ own) o a =
     All-cons (λ (y : Own). y.at < n) x own (All-head (λ (y : Own). y.at < n) x (own ++ o ∷ []) a)
-        (first_below n own o (All-tail (λ (y : Own). y.at < n) x (own ++ o ∷ []) a))
+    (first_below n own o (All-tail (λ (y : Own). y.at < n) x (own ++ o ∷ []) a))
 
 -- what is round the innermost scope stays open when that is closed
 behind_open : (old new : Tree) → IsChain old → IsOwn old → IsApart old → (home : Option ℕ) (os : List Own) (o : Own) → Top old home os o →
@@ -220,20 +224,22 @@ behind_open old new chain owns apart home os o top keep key i =
     (all_behind (λ (m : Level ℕ). m.label ≢ o.id) at.before (at.level ∷ at.behind)
     (subst (λ (s : Stack). All (λ (m : Level ℕ). m.label ≢ o.id) s) at.is
     (subst (λ (k : ℕ). All (λ (m : Level ℕ). m.label ≢ k) top.behind) named
-        (apart o.id (top.level ∷ top.behind) top.at [] top.level top.behind refl)))) in
+    (apart o.id (top.level ∷ top.behind) top.at [] top.level top.behind refl)))) in
     subst (IsOpen new) at.named (subst IsSome (sym (keep at.level.label differs ∙ round)) refl)
 
+-- the home of a task stays open when the innermost of its scopes is closed
 pub home_open : (old new : Tree) → IsChain old → IsOwn old → IsApart old → (home : Option ℕ) (os : List Own) (o : Own) → Top old home os o →
     OthersKeep old new o.id →
     ForSome home (IsOpen old) → ForSome home (IsOpen new)
 home_open old new chain owns apart home os o top keep opened key e =
     behind_open old new chain owns apart home os o top keep key (head_among (keys_of (outer_of old home)) key
-        (first_key old home owns opened ∙ e))
+    (first_key old home owns opened ∙ e))
 
+-- what holds of a task is kept when it leaves its innermost block, a scope
 pub fits_left : (fs : List Frame) (fail : Bool) (part : Part) (home : Option ℕ) (os : List Own) (o : Own) (n : ℕ) (old new : Tree)
     (labels more : Labels) (book : NurseryBook) → IsChain old → IsOwn old →
     IsApart old → Top old home os o → stack_of new o.id ≡ None → OthersKeep old new o.id → label.Updates labels more o.id None →
-        OwnFirst new home os →
+    OwnFirst new home os →
     FitsIn (fs ++ Scope fail ∷ []) part home (os ++ o ∷ []) n old labels book None → FitsIn fs part home os n new more book None
 fits_left fs fail part home os o n old new labels more book chain owns apart top closed keep u first h =
     record {
@@ -280,6 +286,7 @@ pub record Inside (fs : List Frame) (part : Part) (home : Option ℕ) (n : ℕ) 
   pub apart : AreOthers last.last.id last.before
   pub outer : Opened labels book (blocks_of fs) last.before None
 
+-- a task whose innermost block is a nursery opened its scope last, and the body of the nursery runs
 pub inside_of : (fs : List Frame) (id : ℕ) (part : Part) (home : Option ℕ) (own : List Own) (n : ℕ) (tree : Tree) (labels : Labels)
     (book : NurseryBook) →
     FitsIn (fs ++ Nursery id ∷ []) part home own n tree labels book None → Inside fs part home n tree labels book id own
@@ -300,10 +307,11 @@ inside_of fs id part home own n tree labels book h = by_nursery (nursery_at book
     by_nursery None e i = absurd i
     by_nursery (Some m) e i = record { last = l; members = m; at = e; mine = i.0; runs = i.1; apart = inner.others; outer = inner.outer }
 
+-- what holds of a task is kept when the body of its innermost nursery ends, and it waits for that one
 pub fits_awaits : (fs : List Frame) (id : ℕ) (part : Part) (home : Option ℕ) (own : List Own) (n : ℕ) (tree : Tree) (labels : Labels)
     (book after : NurseryBook) (exc : Option Exc) →
     Changes book after id (with_body exc) → FitsIn (fs ++ Nursery id ∷ []) part home own n tree labels book None →
-        FitsIn fs part home own n tree labels after (Some id)
+    FitsIn fs part home own n tree labels after (Some id)
 fits_awaits fs id part home own n tree labels book after exc changes h =
     record {
       modest = subst AreModestFrames (frames_push (λ key. []) fs (Nursery id)) h.modest;
@@ -317,14 +325,14 @@ fits_awaits fs id part home own n tree labels book after exc changes h =
           subst (λ (os : List Own). Opened labels after (blocks_of fs) os (Some id)) (sym i.last.is)
           (opened_waits labels after (blocks_of fs) i.last.before id i.last.last
           (opened_stays labels labels book after i.last.last.id (blocks_of fs) i.last.before
-              (stays_but labels book after id i.last.last i.members i.at i.mine.scope u.others) i.apart i.outer) i.apart
+          (stays_but labels book after id i.last.last i.members i.at i.mine.scope u.others) i.apart i.outer) i.apart
           (subst (λ (m : Option Members). IsSomeAnd m (λ n. IsMine labels i.last.last n × IsSome n.body)) (sym u.changed)
-              (record { scope = i.mine.scope; label = i.mine.label }, refl)));
+          (record { scope = i.mine.scope; label = i.mine.label }, refl)));
       others =
           λ key st e a at o got within.
           runs_in_later book after (blocks_of fs) at (Some id) run
           (runs_in_waits book (blocks_of fs) id at (subst (λ (bs : List Block). RunsIn book bs at None) (blocks_append fs (Nursery id ∷ []))
-              (h.others key st e a at o got within)));
+          (h.others key st e a at o got within)));
     }
   where
     i : Inside fs part home n tree labels book id own
@@ -341,7 +349,7 @@ fits_awaits fs id part home own n tree labels book after exc changes h =
             subst (λ (k : ℕ). HasRunning after (Some k)) (sym (eqb-true key id e))
             (subst (λ (m : Option Members). IsSomeAnd m (λ x. AnyRuns x.children)) (sym u.changed)
             (subst (λ (m : Option Members). IsSomeAnd m (λ x. AnyRuns x.children)) i.at
-                (subst (λ (k : ℕ). HasRunning book (Some k)) (eqb-true key id e) r)))
+            (subst (λ (k : ℕ). HasRunning book (Some k)) (eqb-true key id e) r)))
         by_key false e =
             subst (λ (m : Option Members). IsSomeAnd m (λ x. AnyRuns x.children))
             (sym (u.others key (λ f. absurd (let g : true ≡ false = sym (eq-eqb key id f) ∙ e in cc)))) r

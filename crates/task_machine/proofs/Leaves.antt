@@ -24,6 +24,7 @@ pub first_is_last : (os : List Own) (r : List ℕ) → head_of (keys_in os ++ r)
 first_is_last [] r = refl
 first_is_last (o ∷ os) r = ap head_of (append_assoc (keys_in os) (o.id ∷ []) r) ∙ first_is_last os (o.id ∷ r)
 
+-- the scope that a task opened last is the innermost of its own
 pub keys_pushed : (os : List Own) (x : Own) → keys_in (os ++ x ∷ []) ≡ x.id ∷ keys_in os
 keys_pushed [] x = refl
 keys_pushed (o ∷ os) x = ap (λ (ks : List ℕ). ks ++ o.id ∷ []) (keys_pushed os x)
@@ -72,7 +73,7 @@ keeps_outer old new key l ls others stack (Some p) short = ap (λ (o : Option St
     other : p ≢ key
     other e =
         let f : length (outer_of old (Some p)) ≡ length (l ∷ ls) = ap (λ (k : ℕ). length (unwrap_or (stack_of old k) [])) e
-            ∙ ap (λ (o : Option Stack). length (unwrap_or o [])) stack in
+        ∙ ap (λ (o : Option Stack). length (unwrap_or o [])) stack in
         omega (arith, short, f)
 
 -- a key is in no rest of its own stack, so its label may change
@@ -93,6 +94,7 @@ same_behind labels more tree key label whole before (l ∷ ls) u stack short cha
         let h : length (l ∷ ls) ≡ length whole = ap length g in
         omega (arith, short, h)
 
+-- a stack is the same places where its scopes keep their labels
 pub same_labels : (labels more : Labels) (froms : Table) (st : Stack) (ps : List Place) → SameOn labels more st → AreAt labels froms st ps →
     AreAt more froms st ps
 same_labels labels more froms [] [] same a = tt
@@ -102,6 +104,7 @@ same_labels labels more froms (l ∷ ls) (p ∷ ps) same a = (sym same.0 ∙ a.0
 
 -- ---- the scope that is left, at the top of its stack
 
+-- a scope that a task opened is open, and round it are those that it opened before, then those round its home
 pub record Top (tree : Tree) (home : Option ℕ) (os : List Own) (x : Own) : Type 0 where
   pub level : Level ℕ
   pub behind : Stack
@@ -116,6 +119,7 @@ length_keys (l ∷ ls) = ap suc (length_keys ls)
 tail_of : (a b : ℕ) (xs ys : List ℕ) → a ∷ xs ≡ b ∷ ys → xs ≡ ys
 tail_of a b xs ys e = cc
 
+-- the last scope that a task opened has the others of the task round it, then those round its home
 pub top_of : (tree : Tree) → IsChain tree → IsOwn tree → (home : Option ℕ) (own os : List Own) (x : Own) → own ≡ os ++ x ∷ [] →
     IsOpen tree x.id → OwnFirst tree home own →
     last_or home (ids own) ≡ Some x.id → Top tree home os x
@@ -127,7 +131,7 @@ top_of tree chain owns home own os x pushed opened first last = by_stack (stack_
         ap (λ (s : Option ℕ). keys_of (outer_of tree s)) last ∙ ap (λ (o : Option Stack). keys_of (unwrap_or o [])) e in
         let split : keys_in own ++ keys_of (outer_of tree home) ≡ x.id ∷ (keys_in os ++ keys_of (outer_of tree home)) =
         ap (λ (ks : List Own). keys_in ks ++ keys_of (outer_of tree home)) pushed
-            ∙ ap (λ (ks : List ℕ). ks ++ keys_of (outer_of tree home)) (keys_pushed os x) in
+        ∙ ap (λ (ks : List ℕ). ks ++ keys_of (outer_of tree home)) (keys_pushed os x) in
         let keys : keys_of ls ≡ keys_in os ++ keys_of (outer_of tree home) = tail_of l.label x.id _ _ (sym whole ∙ first ∙ split) in
         record { level = l; behind = ls; at = e; keys = keys; round = round_last tree chain owns home os x l ls e keys }
 
@@ -142,9 +146,9 @@ pub first_after : (old new : Tree) (home : Option ℕ) (os : List Own) (x : Own)
     OwnFirst new home os
 first_after old new home os x others top =
     let shorter : length (keys_of top.behind) ≡ length (keys_in os) + length (keys_of (outer_of old home)) =
-        ap length top.keys ∙ length-append (keys_in os) _ in
+    ap length top.keys ∙ length-append (keys_in os) _ in
     let n : length (outer_of old (last_or home (ids os))) < length (top.level ∷ top.behind) =
-        subst (λ (st : Stack). length st < length (top.level ∷ top.behind)) (sym top.round) (omega arith) in
+    subst (λ (st : Stack). length st < length (top.level ∷ top.behind)) (sym top.round) (omega arith) in
     let m : length (outer_of old home) < length (top.level ∷ top.behind) =
     (let a = length_keys (outer_of old home) in let b = length_keys top.behind in omega (arith, shorter, a, b)) in
     ap keys_of (keeps_outer old new x.id top.level top.behind others top.at (last_or home (ids os)) n)
@@ -158,12 +162,12 @@ pub places_after : (labels more : Labels) (old new : Tree) (home : Option ℕ) (
     AreAt more froms (outer_of new (last_or home (ids os))) ps
 places_after labels more old new home os x label chain others u top froms ps a =
     let n : length (outer_of old (last_or home (ids os))) < length (top.level ∷ top.behind) =
-        subst (λ (st : Stack). length st < length (top.level ∷ top.behind)) (sym top.round) (omega arith) in
+    subst (λ (st : Stack). length st < length (top.level ∷ top.behind)) (sym top.round) (omega arith) in
     subst (λ (st : Stack). AreAt more froms st ps)
-        (sym (keeps_outer old new x.id top.level top.behind others top.at (last_or home (ids os)) n ∙ top.round))
+    (sym (keeps_outer old new x.id top.level top.behind others top.at (last_or home (ids os)) n ∙ top.round))
     (same_labels labels more froms top.behind ps
     (same_behind labels more old x.id label (top.level ∷ top.behind) (top.level ∷ []) top.behind u top.at (omega arith)
-        (λ front l behind e. chain x.id (top.level ∷ top.behind) top.at front l behind e)) a)
+    (λ front l behind e. chain x.id (top.level ∷ top.behind) top.at front l behind e)) a)
 
 -- the innermost place, by the scope that is left
 pub left_from : (labels : Labels) (froms : Table) (tree : Tree) (home outer : Option ℕ) (os : List Own) (x : Own) (p : Place)

@@ -19,11 +19,13 @@ use Rattle.task_machine.proofs.Stacked.{one_of}
 
 -- ---- places in lists
 
+-- a key of the first of two lists is in both together
 pub among_left : (k : ℕ) (ks ms : List ℕ) → IsAmong k ks → IsAmong k (ks ++ ms)
 among_left k [] ms i = absurd i
 among_left k (x ∷ ks) ms (inl e) = inl e
 among_left k (x ∷ ks) ms (inr i) = inr (among_left k ks ms i)
 
+-- a key of the second of two lists is in both together
 pub among_right : (k : ℕ) (ks ms : List ℕ) → IsAmong k ms → IsAmong k (ks ++ ms)
 among_right k [] ms i = i
 among_right k (x ∷ ks) ms i = inr (among_right k ks ms i)
@@ -48,6 +50,7 @@ pub record LevelAt (key : ℕ) (st : Stack) : Type 0 where
   pub is : st ≡ before ++ level ∷ behind
   pub named : level.label ≡ key
 
+-- a key among those of a stack is that of one of its levels
 pub level_at : (key : ℕ) (st : Stack) → IsAmong key (keys_of st) → LevelAt key st
 level_at key [] i = absurd i
 level_at key (l ∷ ls) (inl e) = record { before = []; level = l; behind = ls; is = refl; named = sym e }
@@ -55,6 +58,7 @@ level_at key (l ∷ ls) (inr i) =
     let at = level_at key ls i in
     record { before = l ∷ at.before; level = at.level; behind = at.behind; is = ap (λ (st : Stack). l ∷ st) at.is; named = at.named }
 
+-- what holds of each level of a stack holds of each behind some of them
 pub all_behind : (P : Level ℕ → Type 0) (before st : Stack) → All P (before ++ st) → All P st
 all_behind P [] st a = a
 all_behind P (l ∷ before) st a = all_behind P before st (All-tail P l (before ++ st) a)
@@ -64,6 +68,7 @@ all_else key [] never = All-nil (λ (l : Level ℕ). l.label ≢ key)
 all_else key (l ∷ ls) never = All-cons (λ (m : Level ℕ). m.label ≢ key) l ls (λ e. never (inl (sym e)))
     (all_else key ls (λ i. never (inr i)))
 
+-- a scope of a task has the same place with one more behind them
 pub got_before : (own : List Own) (o x : Own) (i : ℕ) → slice_get own i ≡ Some x → slice_get (own ++ o ∷ []) i ≡ Some x
 got_before [] o x i e = absurd (let f : None ≡ Some x = e in cc)
 got_before (y ∷ own) o x zero e = e
@@ -79,6 +84,7 @@ got_one [] o x (suc i) e = absurd (let f : None ≡ Some x = e in cc)
 got_one (y ∷ own) o x zero e = inl e
 got_one (y ∷ own) o x (suc i) e = got_one own o x i e
 
+-- a key that is none of a task's scopes is none with one more, which has another
 pub others_but : (key : ℕ) (own : List Own) (o : Own) → AreOthers key own → o.id ≢ key → AreOthers key (own ++ o ∷ [])
 others_but key own o a differs = All-append (λ (x : Own). x.id ≢ key) own (o ∷ []) a
     (All-cons (λ (x : Own). x.id ≢ key) o [] differs (All-nil (λ (x : Own). x.id ≢ key)))
@@ -87,7 +93,7 @@ others_first : (key : ℕ) (own : List Own) (o : Own) → AreOthers key (own ++ 
 others_first key [] o a = All-nil (λ (x : Own). x.id ≢ key)
 others_first key (y ∷ own) o a =
     All-cons (λ (x : Own). x.id ≢ key) y own (All-head (λ (x : Own). x.id ≢ key) y (own ++ o ∷ []) a)
-        (others_first key own o (All-tail (λ (x : Own). x.id ≢ key) y (own ++ o ∷ []) a))
+    (others_first key own o (All-tail (λ (x : Own). x.id ≢ key) y (own ++ o ∷ []) a))
 
 others_last : (key : ℕ) (own : List Own) (o : Own) → AreOthers key (own ++ o ∷ []) → o.id ≢ key
 others_last key [] o a = All-head (λ (x : Own). x.id ≢ key) o [] a
@@ -102,7 +108,7 @@ not_mine : (tree : Tree) → IsChain tree → IsOwn tree → IsApart tree → (h
 not_mine tree chain owns apart home os o top other st i e =
     let named : top.level.label ≡ o.id = one_of _ _ (owns o.id (top.level ∷ top.behind) top.at) in
     let at = level_at other top.behind (subst (λ (ks : List ℕ). IsAmong other ks) (sym top.keys)
-        (among_left other (keys_in os) (keys_of (outer_of tree home)) i)) in
+    (among_left other (keys_in os) (keys_of (outer_of tree home)) i)) in
     let round : stack_of tree at.level.label ≡ Some (at.level ∷ at.behind) =
     chain o.id (top.level ∷ top.behind) top.at (top.level ∷ at.before) at.level at.behind (ap (λ (s : Stack). top.level ∷ s) at.is) in
     let same : at.level ∷ at.behind ≡ st = one_stack _ _ (sym round ∙ ap (stack_of tree) at.named ∙ e) in
@@ -110,11 +116,12 @@ not_mine tree chain owns apart home os o top other st i e =
     (all_behind (λ (l : Level ℕ). l.label ≢ o.id) at.before (at.level ∷ at.behind)
     (subst (λ (s : Stack). All (λ (l : Level ℕ). l.label ≢ o.id) s) at.is
     (subst (λ (k : ℕ). All (λ (l : Level ℕ). l.label ≢ k) top.behind) named
-        (apart o.id (top.level ∷ top.behind) top.at [] top.level top.behind refl))))
+    (apart o.id (top.level ∷ top.behind) top.at [] top.level top.behind refl))))
   where
     one_stack : (a b : Stack) → Some a ≡ Some b → a ≡ b
     one_stack a b f = cc
 
+-- no open scope has a task's last one round it, where no child of the task runs in there
 pub innermost_of : (tree : Tree) (book : NurseryBook) → IsChain tree → IsOwn tree → IsApart tree →
     (home : Option ℕ) (bs : List Block) (os : List Own) (o : Own) (waits : Option ℕ) →
     Top tree home os o → OthersRun tree book bs (os ++ o ∷ []) waits → (RunsIn book bs (length os) waits → ⊥) → IsInnermost tree o.id
@@ -154,7 +161,7 @@ pub others_left : (old new : Tree) (book more : NurseryBook) (bs : List Block) (
 others_left old new book more bs own o closed keep same run key st e a i x got within =
     subst (λ (b : NurseryBook). RunsIn b bs i None) (sym same)
     (runs_in_outer book bs i (run key st (sym (keep key differs) ∙ e) (others_but key own o a (λ f. differs (sym f))) i x
-        (got_before own o x i got) within))
+    (got_before own o x i got) within))
   where
     differs : key ≢ o.id
     differs f = let g : None ≡ Some st = sym closed ∙ sym (ap (stack_of new) f) ∙ e in cc

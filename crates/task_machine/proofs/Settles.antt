@@ -30,6 +30,7 @@ pub record Awaited (labels : Labels) (book : NurseryBook) (bs : List Block) (os 
   pub apart : AreOthers o.id os
   pub outer : Opened labels book bs os None
 
+-- a task that waits for a nursery opened its scope last, and the others are those of its blocks
 pub awaited_of : (labels : Labels) (book : NurseryBook) (bs : List Block) (os : List Own) (o : Own) (id : ℕ) →
     Opened labels book bs (os ++ o ∷ []) (Some id) → Awaited labels book bs os o id
 awaited_of labels book [] [] o id h = record { nursery = h.1; apart = All-nil (λ (x : Own). x.id ≢ o.id); outer = tt }
@@ -67,6 +68,7 @@ all_ended [] e r = r
 all_ended (None ∷ es) e r = (let f : false ≡ true = e in absurd (cc))
 all_ended (Some x ∷ es) e r = all_ended es e r
 
+-- no child runs in a nursery that is settled
 pub settled_quiet : (book : NurseryBook) (id : ℕ) → HasNursery book id (λ n. is_settled n ≡ true) → HasRunning book (Some id) → ⊥
 settled_quiet book id s r = by_nursery (nursery_at book id) s r
   where
@@ -92,7 +94,7 @@ ready_settled fs id part home own n tree labels book chain owns apart settled h 
           (top_of tree chain owns home own l.before l.last l.is (h.scope l.last.id scope_is) h.first scope_is)
           (subst (λ (os : List Own). OthersRun tree book (blocks_of fs) os (Some id)) l.is h.others)
           (λ r. settled_quiet book id settled (runs_behind book (blocks_of fs) (length l.before) (Some id)
-              (let e = opened_length labels book (blocks_of fs) l.before at.outer in omega (arith, e)) r)));
+          (let e = opened_length labels book (blocks_of fs) l.before at.outer in omega (arith, e)) r)));
       labelled = λ key e. subst (λ (k : ℕ). IsSome (labels k)) (one_of l.last.id key (sym scope_is ∙ e))
           (has_label (nursery_at book id) at.nursery);
     }
@@ -127,9 +129,9 @@ runs_unless book (a_nursery key ∷ bs) (suc i) id quiet r = runs_unless book bs
 pub fits_settled : (fs : List Frame) (id : ℕ) (part : Part) (home : Option ℕ) (os : List Own) (o : Own) (n : ℕ) (old new : Tree)
     (labels more : Labels) (book after : NurseryBook) → IsChain old → IsOwn old →
     IsApart old → Top old home os o → stack_of new o.id ≡ None → OthersKeep old new o.id → label.Updates labels more o.id None →
-        OwnFirst new home os →
+    OwnFirst new home os →
     HasNursery book id (λ m. is_settled m ≡ true) → Updates book after id None →
-        FitsIn fs part home (os ++ o ∷ []) n old labels book (Some id) → FitsIn fs part home os n new more after None
+    FitsIn fs part home (os ++ o ∷ []) n old labels book (Some id) → FitsIn fs part home os n new more after None
 fits_settled fs id part home os o n old new labels more book after chain owns apart top closed keep u first settled ended h =
     record {
       modest = h.modest;
@@ -145,7 +147,7 @@ fits_settled fs id part home os o n old new labels more book after chain owns ap
           runs_in_later book after (blocks_of fs) i None run
           (runs_unless book (blocks_of fs) i id (settled_quiet book id settled)
           (h.others key st (sym (keep key (differs key st e)) ∙ e) (others_but key os o a (λ f. differs key st e (sym f))) i x
-              (got_before os o x i got) within));
+          (got_before os o x i got) within));
     }
   where
     at : Awaited labels book (blocks_of fs) os o id
@@ -192,17 +194,18 @@ block_more labels book after id m more (a_nursery key) o was u i = by_key (key =
 opened_more : (labels : Labels) (book after : NurseryBook) (id : ℕ) (m : Members) (more : List End) (bs : List Block) (own : List Own) →
     nursery_at book id ≡ Some m →
     Updates book after id (Some (record m { children = m.children ++ more })) → Opened labels book bs own None →
-        Opened labels after bs own None
+    Opened labels after bs own None
 opened_more labels book after id m more [] [] was u h = tt
 opened_more labels book after id m more [] (x ∷ own) was u h = absurd h
 opened_more labels book after id m more (b ∷ bs) [] was u h = absurd h
 opened_more labels book after id m more (b ∷ bs) (x ∷ own) was u h =
     (block_more labels book after id m more b x was u h.0, h.1, opened_more labels book after id m more bs own was u h.2)
 
+-- what holds of a task is kept when a nursery gets more children
 pub fits_started : (fs : List Frame) (id : ℕ) (part : Part) (home : Option ℕ) (own : List Own) (n : ℕ) (tree : Tree) (labels : Labels)
     (book after : NurseryBook) (m : Members) (more : List End) →
     nursery_at book id ≡ Some m → Updates book after id (Some (record m { children = m.children ++ more })) →
-        FitsIn fs part home own n tree labels book None →
+    FitsIn fs part home own n tree labels book None →
     FitsIn fs part home own n tree labels after None
 fits_started fs id part home own n tree labels book after m more was u h =
     record {
@@ -227,5 +230,5 @@ fits_started fs id part home own n tree labels book after m more was u h =
         by_key true e =
             let same = eqb-true key id e in
             subst Runs (sym (ap (nursery_at after) same ∙ u.changed)) (any_more m.children more
-                (subst Runs (ap (nursery_at book) same ∙ was) r))
+            (subst Runs (ap (nursery_at book) same ∙ was) r))
         by_key false e = subst Runs (sym (u.others key (λ f. absurd (let g : true ≡ false = sym (eq-eqb key id f) ∙ e in cc)))) r

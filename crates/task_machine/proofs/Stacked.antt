@@ -16,6 +16,7 @@ use Rattle.task_turns.specs.Names.{IsName, names_at, OwnNames}
 use Rattle.task_machine.specs.Labels.{Labels, is_named, key_if, scope_named}
 use Rattle.task_machine.specs.Stacked.{AreAt, IsKey, Alone, SameOn, FoundAs}
 
+-- two options that are the same hold the same
 pub one_of : {A : Type 0} (a b : A) → Some a ≡ Some b → a ≡ b
 one_of a b e = cc
 
@@ -31,6 +32,7 @@ sight_at labels froms (l ∷ ls) (p ∷ ps) a = by_level l.shield p.shield l.fro
         (if b then x else earlier x u) ≡ (if c then y else earlier y v)
     by_level b c x y e f g = cc
 
+-- what is seen of a stack in a tick is what is seen of its places with the world's froms
 pub seen_at : (labels : Labels) (froms : Table) (st : scopes.Stack) (ps : List Place) (t : ℕ) → AreAt labels froms st ps →
     seen st t ≡ seen (stack_at froms ps) t
 seen_at labels froms st ps t a = ap (λ (x : Tick). reached x t) (sight_at labels froms st ps a)
@@ -46,6 +48,7 @@ catches_at labels froms l ls p ps t a = both l.from (froms p.label) l.shield p.s
 
 -- ---- the scope of a name
 
+-- the innermost scope of a name in a stack has the innermost label of that name among the places, or neither is there
 pub named_at : (labels : Labels) (froms : Table) (name : List ℕ) (st : scopes.Stack) (ps : List Place) → AreAt labels froms st ps →
     FoundAs labels (scope_named labels name st) (label_among name ps)
 named_at labels froms name [] [] a = refl
@@ -53,7 +56,7 @@ named_at labels froms name [] (p ∷ ps) a = absurd a
 named_at labels froms name (l ∷ ls) [] a = absurd a
 named_at labels froms name (l ∷ ls) (p ∷ ps) a =
     subst (λ (o : Option Label). FoundAs labels (key_if (is_named name o) l.label (scope_named labels name ls)) (label_among name (p ∷ ps)))
-        (sym a.0)
+    (sym a.0)
     (by_name (bytes_eq name p.label.name) _ _ (named_at labels froms name ls ps a.3))
   where
     by_name : (b : Bool) (further : Option ℕ) (found : Option Label) → FoundAs labels further found →
@@ -87,7 +90,7 @@ same_test labels l p key label named alone at = by_key (l.label == key) refl
         by_label : (c : Bool) → same_label p.label label ≡ c → false ≡ c
         by_label true f =
             absurd (clash (subst (λ (k : ℕ). (l.label == k) ≡ true) (alone
-                (at ∙ ap (λ (m : Label). Some m) (same_label_equal p.label label f))) (eq-eqb l.label l.label refl)))
+            (at ∙ ap (λ (m : Label). Some m) (same_label_equal p.label label f))) (eq-eqb l.label l.label refl)))
           where
             clash : (l.label == key) ≡ true → ⊥
             clash g = let f : false ≡ true = sym e ∙ g in cc
@@ -107,6 +110,7 @@ same_shield : (l : Level ℕ) (t : ℕ) (b : Bool) → (if b then record l { fro
 same_shield l t true = refl
 same_shield l t false = refl
 
+-- a scope that alone has its label in a stack is cancelled: the places stay, and the from of that label is lowered
 pub signed_at : (labels : Labels) (froms : Table) (st : scopes.Stack) (ps : List Place) (key t : ℕ) (label : Label) →
     labels key ≡ Some label →
     Alone labels key label st → AreAt labels froms st ps → AreAt labels (lowered froms label t) (after_cancel key t st) ps
@@ -146,10 +150,13 @@ pub opened_at : (labels more : Labels) (froms : Table) (st : scopes.Stack) (ps :
     (d : Tick) →
     more key ≡ Some label → SameOn labels more st → (Known label (labels_of ps) → ⊥) → AreAt labels froms st ps →
     AreAt more (opened froms label d) (record { label = key; shield = shield; from = d } ∷ st)
-        (record { label = label; shield = shield } ∷ ps)
-opened_at labels more froms st ps key label shield d named same new a =
-    (named, refl, sym (ap (λ (b : Bool). opened_if b d (froms label)) (same_label_itself label)),
-        opened_else labels more froms st ps label d same new a)
+    (record { label = label; shield = shield } ∷ ps)
+opened_at labels more froms st ps key label shield d named same new a = (
+  named,
+  refl,
+  sym (ap (λ (b : Bool). opened_if b d (froms label)) (same_label_itself label)),
+  opened_else labels more froms st ps label d same new a,
+)
 
 -- ---- names that are apart
 
@@ -187,9 +194,11 @@ alone_at labels froms [] [] key label named i own a = tt
 alone_at labels froms [] (p ∷ ps) key label named i own a = absurd a
 alone_at labels froms (l ∷ ls) [] key label named i own a = absurd a
 alone_at labels froms (l ∷ ls) (p ∷ ps) key label named (inl e) own a =
-    let same : label ≡ p.label = one_of label p.label (sym named ∙ ap labels e ∙ a.0) in
-    ((λ f. sym e), none_alone labels froms ls ps key label (λ k.
-        own.0 (subst (λ (m : Label). IsName m.name (names_at ps)) same (known_name label ps k))) a.3)
+    let same : label ≡ p.label = one_of label p.label (sym named ∙ ap labels e ∙ a.0) in (
+      (λ f. sym e),
+      none_alone labels froms ls ps key label (λ k.
+          own.0 (subst (λ (m : Label). IsName m.name (names_at ps)) same (known_name label ps k))) a.3,
+    )
 alone_at labels froms (l ∷ ls) (p ∷ ps) key label named (inr i) own a = (
   (λ e. absurd (own.0 (subst (λ (m : Label). IsName m.name (names_at ps)) (one_of label p.label (sym e ∙ a.0))
       (known_name label ps (key_known labels froms ls ps key label named i a.3))))),
@@ -198,16 +207,18 @@ alone_at labels froms (l ∷ ls) (p ∷ ps) key label named (inr i) own a = (
 
 -- ---- the laws
 
+-- a scope of a stack is cancelled, whose places all have different names: the from of its label is lowered
 pub signed_alike : (labels : Labels) (froms : Table) (st : scopes.Stack) (ps : List Place) (key t : ℕ) (label : Label) →
     labels key ≡ Some label → IsKey key st →
     OwnNames (names_at ps) → AreAt labels froms st ps → AreAt labels (lowered froms label t) (after_cancel key t st) ps
 signed_alike labels froms st ps key t label named i own a =
     signed_at labels froms st ps key t label named (alone_at labels froms st ps key label named i own a) a
 
+-- a scope is opened inside a stack whose places have other names: its place has its deadline as from
 pub entered_alike : (labels more : Labels) (froms : Table) (st : scopes.Stack) (ps : List Place) (key : ℕ) (label : Label) (shield : Bool)
     (d : Tick) → more key ≡ Some label →
     SameOn labels more st → (IsName label.name (names_at ps) → ⊥) → AreAt labels froms st ps →
     AreAt more (opened froms label d) (record { label = key; shield = shield; from = d } ∷ st)
-        (record { label = label; shield = shield } ∷ ps)
+    (record { label = label; shield = shield } ∷ ps)
 entered_alike labels more froms st ps key label shield d named same new a =
     opened_at labels more froms st ps key label shield d named same (λ k. new (known_name label ps k)) a

@@ -23,9 +23,9 @@ home_is id place scope len n e f = (let g : place ≡ len + 0 = omega (arith, e)
 pub starts_one : (old new : World) (id : ℕ) (label : Label) (part : Part) (body : Steps) (task : Task) (scope place : ℕ) →
     HasNursery old.book id (λ n. scope ≡ n.scope) →
     HasNursery old.book id (λ n. place ≡ length n.children) → Changes old.book new.book id with_start →
-        new.started.items ≡ old.started.items ++ task ∷ [] →
+    new.started.items ≡ old.started.items ++ task ∷ [] →
     IsChild task label (buffer_of part) (range_of part) body (record { nursery = id; place = place; scope = scope }) →
-        StartsOne old new id label part body
+    StartsOne old new id label part body
 starts_one old new id label part body task scope place s p b started child = by_nursery (nursery_at old.book id) refl s p b
   where
     by_nursery : (o : Option Nursery) → nursery_at old.book id ≡ o → IsSomeAnd o (λ n. scope ≡ n.scope) →
@@ -76,17 +76,21 @@ starts_none self world id k name body P has = by_nursery (nursery_at world.book 
         record {
           nursery = n;
           was = e;
-          book = record { changed = e ∙ ap (λ (es : List End). Some (record n { children = es })) (sym (append-nil n.children)); others =
-              λ other differs. refl };
+          book = record {
+            changed = e ∙ ap (λ (es : List End). Some (record n { children = es })) (sym (append-nil n.children));
+            others =
+                λ other differs. refl;
+          };
           tasks = [];
           started = sym (append-nil world.started.items);
           children = refl;
         }
 
+-- with one child more, on the next cut, one more of the children over cuts is started
 pub starts_more : (self : Task) (old mid new : World) (id k i : ℕ) (name : List ℕ) (label : Label) (part : Part) (body : Steps) →
     StartsOver self old mid id name k body i →
     StartsOne mid new id label part body → label ≡ record { name = name; indices = self.label.indices ++ i ∷ [] } →
-        buffer_of part ≡ buffer_of self.part →
+    buffer_of part ≡ buffer_of self.part →
     range_of part ≡ cut_of (buffer_of self.part) (range_of self.part) k i → StartsOver self old new id name k body (suc i)
 starts_more self old mid new id k i name label part body h g named input cut =
     record {
@@ -97,7 +101,7 @@ starts_more self old mid new id k i name label part body h g named input cut =
             changed =
                 g.book.changed ∙ ap (λ (n : Nursery). Some (with_start n)) same
                 ∙ ap (λ (es : List End). Some (record h.nursery { children = es }))
-                    (append_assoc h.nursery.children (running i) (None ∷ []));
+                (append_assoc h.nursery.children (running i) (None ∷ []));
             others = λ other differs. g.book.others other differs ∙ h.book.others other differs;
           };
       tasks = h.tasks ++ g.task ∷ [];

@@ -84,7 +84,7 @@ grouped o p q None =
 -- the task after two moves, and the froms then
 after_both : (f : Table → Midway → Move) (froms : Table) (m : Midway) (o p : Move) →
     f (froms_after (froms_after froms o.made) p.made) (moved (moved m o) p)
-        ≡ f (froms_after froms (then_move None o p).made) (moved m (then_move None o p))
+    ≡ f (froms_after froms (then_move None o p).made) (moved m (then_move None o p))
 after_both f froms m o p =
     ap (λ (fr : Table). f fr (moved (moved m o) p)) (sym (froms_append o.made p.made froms))
     ∙ ap (λ (n : ℕ). f (froms_after froms (o.made ++ p.made)) (record { frames = p.frames; places = p.places; exc = p.exc; count = n }))
@@ -104,7 +104,7 @@ then_both f froms m (Some s) o p e = ap (λ (z : Option Stopped). then_move z o 
 -- a turn of one step more is the turn, and a step from where it led
 pub turn_snoc : (n : ℕ) (froms : Table) (t : ℕ) (here : Here) (m : Midway) →
     (let o = turn_of n froms t here m in turn_of (suc n) froms t here m
-        ≡ then_move o.stopped o (step_of (froms_after froms o.made) t here (moved m o)))
+    ≡ then_move o.stopped o (step_of (froms_after froms o.made) t here (moved m o)))
 unfolding turn_of
 turn_snoc zero froms t here m =
     let o = step_of froms t here m in
@@ -113,7 +113,7 @@ turn_snoc (suc n) froms t here m =
     let o = step_of froms t here m in
     ap (λ (q : Move). then_move o.stopped o q) (turn_snoc n (froms_after froms o.made) t here (moved m o))
     ∙ then_both (λ (fr : Table) (k : Midway). step_of fr t here k) froms m o.stopped o
-        (turn_of n (froms_after froms o.made) t here (moved m o)) refl
+    (turn_of n (froms_after froms o.made) t here (moved m o)) refl
 
 -- ---- what two moves noted and began
 
@@ -131,7 +131,7 @@ noted_append input xs ys es fs h k =
     record {
       shown =
           map-append entry_of xs ys ∙ ap (λ x. x ++ map entry_of ys) h.shown ∙ ap (λ x. shown_made input es ++ x) k.shown
-              ∙ sym (shown_append input es fs);
+          ∙ sym (shown_append input es fs);
       slices = All-append (IsSlice input) xs ys h.slices k.slices;
     }
 
@@ -141,7 +141,7 @@ grew_twice xs ys zs more rest e f = f ∙ (ap (λ l. l ++ rest) e ∙ append_ass
 
 begun_append : (numbers : Numbers) (book : NurseryBook) (blocks : List Block) (waits : Option ℕ) (ts us : List Task) (bs cs : List Begun) →
     AreBegun numbers book blocks waits ts bs → AreBegun numbers book blocks waits us cs →
-        AreBegun numbers book blocks waits (ts ++ us) (bs ++ cs)
+    AreBegun numbers book blocks waits (ts ++ us) (bs ++ cs)
 begun_append numbers book blocks waits [] us [] cs h k = k
 begun_append numbers book blocks waits [] us (b ∷ bs) cs h k = absurd h
 begun_append numbers book blocks waits (t ∷ ts) us [] cs h k = absurd h
@@ -162,11 +162,13 @@ grown_number (Some m) n was are i x h e = subst (λ (l : List ℕ). slice_get l 
 
 grown_home : (o : Option Nursery) (n : Nursery) (was are : List ℕ) (scope place : ℕ) → IsSomeAnd o (λ m. Grown n m was are) →
     (n.scope ≡ scope) × (slice_get n.children place ≡ Some None) →
-        IsSomeAnd o (λ m. (m.scope ≡ scope) × (slice_get m.children place ≡ Some None))
+    IsSomeAnd o (λ m. (m.scope ≡ scope) × (slice_get m.children place ≡ Some None))
 grown_home None n was are scope place h e = absurd h
-grown_home (Some m) n was are scope place h e =
-    (h.scope ∙ e.0, subst (λ (es : List End). slice_get es place ≡ Some None) (sym h.children)
-        (got_longer n.children h.more place None e.1))
+grown_home (Some m) n was are scope place h e = (
+  h.scope ∙ e.0,
+  subst (λ (es : List End). slice_get es place ≡ Some None) (sym h.children)
+      (got_longer n.children h.more place None e.1),
+)
 
 grown_twice : (a b c : Nursery) (ns ms ks : List ℕ) → Grown a b ns ms → Grown b c ms ks → Grown a c ns ks
 grown_twice a b c ns ms ks h k =
@@ -207,7 +209,7 @@ grow_then fs gs numbers between after old mid new h kept k id has n e = by_nurse
 begun_on : (gs : List Frame) (between after : Numbers) (mid new : NurseryBook) (blocks : List Block) (waits : Option ℕ) →
     Grow gs between after mid new →
     ((id : ℕ) → HasBlock id (blocks_of gs) → HasNurseryOf id blocks waits) → (task : Task) (b : Begun) →
-        IsBegun between mid (blocks_of gs) None task b →
+    IsBegun between mid (blocks_of gs) None task b →
     IsBegun after new blocks waits task b
 begun_on gs between after mid new blocks waits grow kept task b h =
     record {
@@ -234,7 +236,7 @@ begun_on gs between after mid new blocks waits grow kept task b h =
     by_number None e s = absurd s
     by_number (Some n) e s =
         grown_number (nursery_at new h.home.nursery) n (between h.home.nursery) (after h.home.nursery) h.home.place b.number
-            (grow h.home.nursery among n e) h.number
+        (grow h.home.nursery among n e) h.number
 
     by_nursery : (o : Option Nursery) → nursery_at mid h.home.nursery ≡ o →
         IsSomeAnd o (λ n. (n.scope ≡ h.home.scope) × (slice_get n.children h.home.place ≡ Some None)) →
@@ -242,19 +244,20 @@ begun_on gs between after mid new blocks waits grow kept task b h =
     by_nursery None e s = absurd s
     by_nursery (Some n) e s =
         grown_home (nursery_at new h.home.nursery) n (between h.home.nursery) (after h.home.nursery) h.home.scope h.home.place
-            (grow h.home.nursery among n e) s
+        (grow h.home.nursery among n e) s
 
 all_begun_on : (gs : List Frame) (between after : Numbers) (mid new : NurseryBook) (blocks : List Block) (waits : Option ℕ) →
     Grow gs between after mid new →
     ((id : ℕ) → HasBlock id (blocks_of gs) → HasNurseryOf id blocks waits) → (ts : List Task) (bs : List Begun) →
-        AreBegun between mid (blocks_of gs) None ts bs →
+    AreBegun between mid (blocks_of gs) None ts bs →
     AreBegun after new blocks waits ts bs
 all_begun_on gs between after mid new blocks waits grow kept [] [] h = tt
 all_begun_on gs between after mid new blocks waits grow kept [] (b ∷ bs) h = absurd h
 all_begun_on gs between after mid new blocks waits grow kept (t ∷ ts) [] h = absurd h
-all_begun_on gs between after mid new blocks waits grow kept (t ∷ ts) (b ∷ bs) h =
-    (begun_on gs between after mid new blocks waits grow kept t b h.0,
-        all_begun_on gs between after mid new blocks waits grow kept ts bs h.1)
+all_begun_on gs between after mid new blocks waits grow kept (t ∷ ts) (b ∷ bs) h = (
+  begun_on gs between after mid new blocks waits grow kept t b h.0,
+  all_begun_on gs between after mid new blocks waits grow kept ts bs h.1,
+)
 
 -- how the second of two moves goes on is how both do
 moves_then : (numbers : Numbers) (book : NurseryBook) (was part : Part) (goes : Moved) (halt : Halt) (o q : Move) → part ≡ was →
@@ -268,7 +271,7 @@ took_both : (fs : List Frame) (before mid after : Task) (old w new : World) (exc
     (numbers : Numbers) (o q : Move) →
     (first : Took fs before mid old w (On exc) froms numbers o) →
     (second : Took mid.frames.items mid after w new goes (froms_after froms o.made) first.numbers_after q) → mid.part ≡ before.part →
-        w.tick ≡ old.tick →
+    w.tick ≡ old.tick →
     (took : Took fs before after old new goes froms numbers (then_move None o q)) × (took.numbers_after ≡ second.numbers_after)
 took_both fs before mid after old w new exc goes froms numbers o q first second part tick = (both, refl)
   where
@@ -315,18 +318,18 @@ took_both fs before mid after old w new exc goes froms numbers o q first second 
         by_first : (HasBlock id (blocks_of fs) × (slice_get (numbers id) place ≡ Some number))
             ⊎ BeginsAt id place number first.tasks o.begun →
             (HasBlock id (blocks_of fs) × (slice_get (numbers id) place ≡ Some number))
-                ⊎ BeginsAt id place number (first.tasks ++ second.tasks) (o.begun ++ q.begun)
+            ⊎ BeginsAt id place number (first.tasks ++ second.tasks) (o.begun ++ q.begun)
         by_first (inl h) = inl h
         by_first (inr h) = inr (begins_more id place number first.tasks second.tasks o.begun q.begun h)
 
         by_second : (HasBlock id (blocks_of mid.frames.items) × (slice_get (first.numbers_after id) place ≡ Some number))
             ⊎ BeginsAt id place number second.tasks q.begun →
             (HasBlock id (blocks_of fs) × (slice_get (numbers id) place ≡ Some number))
-                ⊎ BeginsAt id place number (first.tasks ++ second.tasks) (o.begun ++ q.begun)
+            ⊎ BeginsAt id place number (first.tasks ++ second.tasks) (o.begun ++ q.begun)
         by_second (inl h) = by_first (first.covered id place number (inl h.0) h.1)
         by_second (inr h) =
             inr (begins_last id place number first.numbers_after w.book (blocks_of mid.frames.items) None first.tasks second.tasks o.begun
-                q.begun first.begun h)
+            q.begun first.begun h)
 
     noted_there : AreNoted (buffer_of before.part) second.entries q.made
     noted_there = subst (λ (p : Part). AreNoted (buffer_of p) second.entries q.made) part second.shown
@@ -347,9 +350,9 @@ took_both fs before mid after old w new exc goes froms numbers o q first second 
           started = grew_twice old.started.items w.started.items new.started.items first.tasks second.tasks first.started second.started;
           begun =
               begun_append second.numbers_after new.book (blocks_of after.frames.items) (waits_by goes after.halt) first.tasks second.tasks
-                  o.begun q.begun
+              o.begun q.begun
               (all_begun_on mid.frames.items first.numbers_after second.numbers_after w.book new.book (blocks_of after.frames.items)
-                  (waits_by goes after.halt)
+              (waits_by goes after.halt)
               second.grow second.kept first.tasks o.begun first.begun)
               second.begun;
           grow = grow_then fs mid.frames.items numbers first.numbers_after second.numbers_after old.book w.book new.book first.grow kept
@@ -367,7 +370,7 @@ took_both fs before mid after old w new exc goes froms numbers o q first second 
 pub took_then : (fs : List Frame) (before mid after : Task) (old w new : World) (exc : Option held.Exc) (goes : Moved) (froms : Table)
     (numbers : Numbers) (o q : Move) →
     (first : Took fs before mid old w (On exc) froms numbers o) →
-        Took mid.frames.items mid after w new goes (froms_after froms o.made) first.numbers_after q →
+    Took mid.frames.items mid after w new goes (froms_after froms o.made) first.numbers_after q →
     mid.part ≡ before.part → w.tick ≡ old.tick → Took fs before after old new goes froms numbers (then_move o.stopped o q)
 took_then fs before mid after old w new exc goes froms numbers o q first second part tick =
     subst (λ (s : Option Stopped). Took fs before after old new goes froms numbers (then_move s o q)) (sym first.moves.1)
@@ -381,7 +384,7 @@ pub stands_where : (fs : List Frame) (before after : Task) (old new : World) (fr
     Stands fs before old froms numbers None ps → (count : ℕ) (exc : Option Exc) (goes : Moved) →
     (let o = step_of froms t here (record { frames = frames_of numbers fs; places = ps; exc = exc; count = count }) in
     (took : Took fs before after old new goes froms numbers o) →
-        Stands after.frames.items after new (froms_after froms o.made) took.numbers_after o.stopped o.places)
+    Stands after.frames.items after new (froms_after froms o.made) took.numbers_after o.stopped o.places)
 stands_where fs before after old new froms numbers ps t here stands count exc goes took =
     let m : Midway = record { frames = frames_of numbers fs; places = ps; exc = exc; count = count } in
     let o = step_of froms t here m in
@@ -401,11 +404,11 @@ pub stands_after : (fs : List Frame) (before after : Task) (old new : World) (fr
     Stands fs before old froms numbers None ps → (count : ℕ) (exc : Option Exc) (goes : Option held.Exc) →
     (let o = step_of froms t here (record { frames = frames_of numbers fs; places = ps; exc = exc; count = count }) in
     (took : Took fs before after old new (On goes) froms numbers o) →
-        Stands after.frames.items after new (froms_after froms o.made) took.numbers_after None o.places)
+    Stands after.frames.items after new (froms_after froms o.made) took.numbers_after None o.places)
 stands_after fs before after old new froms numbers ps t here stands count exc goes took =
     let o = step_of froms t here (record { frames = frames_of numbers fs; places = ps; exc = exc; count = count }) in
     subst (λ (s : Option Stopped). Stands after.frames.items after new (froms_after froms o.made) took.numbers_after s o.places)
-        took.moves.1
+    took.moves.1
     (stands_where fs before after old new froms numbers ps t here stands count exc (On goes) took)
 
 -- ---- the steps of a turn of the code, one after another
@@ -430,8 +433,13 @@ pub took_nothing : (task : Task) (world : World) (exc : Option held.Exc) (froms 
     Stands task.frames.items task world froms numbers None ps →
     (took :
     Took task.frames.items task task world world (On exc) froms numbers
-    (turn_of zero froms t here (record { frames = frames_of numbers task.frames.items; places = ps; exc = option_map exc_of exc; count =
-        count })))
+    (turn_of zero froms t here (record {
+      frames = frames_of numbers task.frames.items;
+      places = ps;
+      exc = option_map exc_of exc;
+      count =
+          count;
+    })))
     × (took.numbers_after ≡ numbers)
 unfolding turn_of
 took_nothing task world exc froms numbers t here ps count stands = (
@@ -463,17 +471,17 @@ one_more : (n : ℕ) (froms : Table) (t : ℕ) (here : Here) (m : Midway) (gs : 
     (let o = turn_of n froms t here m in
     gs ≡ o.frames → exc ≡ o.exc → o.stopped ≡ None →
     then_move None o (step_of (froms_after froms o.made) t here (record
-        { frames = gs; places = o.places; exc = exc; count = m.count + length o.begun }))
+    { frames = gs; places = o.places; exc = exc; count = m.count + length o.begun }))
     ≡ turn_of (suc n) froms t here m)
 one_more n froms t here m gs exc frames raised going =
     let o = turn_of n froms t here m in
     let step : Midway → Move = λ k. step_of (froms_after froms o.made) t here k in
     ap (λ (s : Option Stopped). then_move s o
-        (step (record { frames = gs; places = o.places; exc = exc; count = m.count + length o.begun }))) (sym going)
+    (step (record { frames = gs; places = o.places; exc = exc; count = m.count + length o.begun }))) (sym going)
     ∙ ap (λ (fs : List rest.Frame).
-        then_move o.stopped o (step (record { frames = fs; places = o.places; exc = exc; count = m.count + length o.begun }))) frames
+    then_move o.stopped o (step (record { frames = fs; places = o.places; exc = exc; count = m.count + length o.begun }))) frames
     ∙ ap (λ (e : Option Exc). then_move o.stopped o
-        (step (record { frames = o.frames; places = o.places; exc = e; count = m.count + length o.begun }))) raised
+    (step (record { frames = o.frames; places = o.places; exc = e; count = m.count + length o.begun }))) raised
     ∙ sym (turn_snoc n froms t here m)
 
 -- A turn of so many steps, and a step from where it led, are the turn of one step more, and the task stands where they led, with the same
@@ -485,31 +493,41 @@ pub goes_and_stands : (n : ℕ) (fs : List Frame) (before mid after : Task) (old
     let o = turn_of n froms t here m in
     let more = turn_of (suc n) froms t here m in
     (first : Took fs before mid old w (On exc) froms numbers o) →
-        Stands mid.frames.items mid w (froms_after froms o.made) first.numbers_after None o.places →
+    Stands mid.frames.items mid w (froms_after froms o.made) first.numbers_after None o.places →
     mid.part ≡ before.part → w.tick ≡ old.tick →
     Took mid.frames.items mid after w new goes (froms_after froms o.made) first.numbers_after
     (step_of (froms_after froms o.made) t here
-    (record { frames = frames_of first.numbers_after mid.frames.items; places = o.places; exc = option_map exc_of exc; count =
-        count + length o.begun })) →
+    (record {
+      frames = frames_of first.numbers_after mid.frames.items;
+      places = o.places;
+      exc = option_map exc_of exc;
+      count =
+          count + length o.begun;
+    })) →
     (took : Took fs before after old new goes froms numbers more)
-        × Stands after.frames.items after new (froms_after froms more.made) took.numbers_after more.stopped more.places)
+    × Stands after.frames.items after new (froms_after froms more.made) took.numbers_after more.stopped more.places)
 goes_and_stands n fs before mid after old w new exc goes froms numbers t here ps count exc0 first stands part tick second =
     let m : Midway = record { frames = frames_of numbers fs; places = ps; exc = exc0; count = count } in
     let o = turn_of n froms t here m in
     let q = step_of (froms_after froms o.made) t here
-    (record { frames = frames_of first.numbers_after mid.frames.items; places = o.places; exc = option_map exc_of exc; count =
-        count + length o.begun }) in
+    (record {
+      frames = frames_of first.numbers_after mid.frames.items;
+      places = o.places;
+      exc = option_map exc_of exc;
+      count =
+          count + length o.begun;
+    }) in
     let both = took_both fs before mid after old w new exc goes froms numbers o q first second part tick in
     let there = stands_where mid.frames.items mid after w new (froms_after froms o.made) first.numbers_after o.places t here stands
-        (count + length o.begun) _ goes second in
+    (count + length o.begun) _ goes second in
     subst
     (λ (p : Move). (took : Took fs before after old new goes froms numbers p)
-        × Stands after.frames.items after new (froms_after froms p.made) took.numbers_after p.stopped p.places)
+    × Stands after.frames.items after new (froms_after froms p.made) took.numbers_after p.stopped p.places)
     (one_more n froms t here m (frames_of first.numbers_after mid.frames.items) (option_map exc_of exc) first.frames_after first.moves.0
-        first.moves.1) (
+    first.moves.1) (
       both.0,
       subst (λ (ns : Numbers). Stands after.frames.items after new (froms_after froms (o.made ++ q.made)) ns q.stopped q.places)
           (sym both.1)
           (subst (λ (f : Table). Stands after.frames.items after new f second.numbers_after q.stopped q.places)
-              (sym (froms_append o.made q.made froms)) there),
+          (sym (froms_append o.made q.made froms)) there),
     )

@@ -55,14 +55,15 @@ pub record Laws (world : World) : Type 0 where
 
 -- ---- a nursery that is settled
 
+-- a task whose nursery is settled may leave the scope of that
 pub ready_awaits : (self : Task) (world : World) (id since : ℕ) → Laws world → self.halt ≡ Awaits id since →
     WakesFrom self.halt self.part world.book Settled →
     Fits self.frames.items self world (waits_of self.halt) → Ready (home_scope self) self.own.items world.scopes (label_at world)
 ready_awaits self world id since laws is wake h =
     ready_settled self.frames.items id self.part (home_scope self) self.own.items (length self.froms.items) world.scopes (label_at world)
-        world.book laws.chain laws.own laws.apart
+    world.book laws.chain laws.own laws.apart
     (subst (λ (x : Halt). WakesFrom x self.part world.book Settled) is wake)
-        (subst (λ (x : Halt). Fits self.frames.items self world (waits_of x)) is h)
+    (subst (λ (x : Halt). Fits self.frames.items self world (waits_of x)) is h)
 
 -- ---- a scope that is left
 
@@ -76,32 +77,33 @@ fits_after : (before after : Task) (mid new : World) → after
     ≡ record before { own = after.own; froms = after.froms; entries = after.entries } →
     new ≡ record mid { scopes = new.scopes; labels = new.labels } → length after.froms.items ≡ length before.froms.items →
     FitsIn before.frames.items before.part (home_scope before) after.own.items (length before.froms.items) new.scopes (label_at new)
-        mid.book None → Fits after.frames.items after new None
+    mid.book None → Fits after.frames.items after new None
 fits_after before after mid new stays world same h =
     subst (λ (w : World). FitsIn after.frames.items after.part (home_scope after) after.own.items (length after.froms.items) new.scopes
-        (label_at new) w.book None) (sym world)
+    (label_at new) w.book None) (sym world)
     (subst (λ (n : ℕ). FitsIn after.frames.items after.part (home_scope after) after.own.items n new.scopes (label_at new) mid.book None)
-        (sym same)
+    (sym same)
     (subst (λ (t : Task). FitsIn t.frames.items t.part (home_scope t) after.own.items (length before.froms.items) new.scopes (label_at new)
-        mid.book None) (sym stays) h))
+    mid.book None) (sym stays) h))
 
+-- what holds of a task is kept when the nursery that it waited for is closed and its scope is left
 pub settled_fits : (before after : Task) (old new : World) (book : NurseryBook) (id since : ℕ) → Laws old → before.halt ≡ Awaits id since →
     WakesFrom before.halt before.part old.book Settled →
     Fits before.frames.items before old (waits_of before.halt) → Updates old.book book id None →
-        LeavesOne before after (record old { book = book }) new →
+    LeavesOne before after (record old { book = book }) new →
     OwnFirst new.scopes (home_scope before) after.own.items → after
-        ≡ record before { own = after.own; froms = after.froms; entries = after.entries } →
+    ≡ record before { own = after.own; froms = after.froms; entries = after.entries } →
     new ≡ record old { book = book; scopes = new.scopes; labels = new.labels } → Fits after.frames.items after new None
 settled_fits before after old new book id since laws is wake h ended l first stays world =
     fits_after before after (record old { book = book }) new stays world (same_froms before after (record old { book = book }) new l)
     (fits_settled before.frames.items id before.part (home_scope before) after.own.items l.last (length before.froms.items) old.scopes
-        new.scopes (label_at old) (label_at new) old.book book
+    new.scopes (label_at old) (label_at new) old.book book
     laws.chain laws.own laws.apart
     (top_of old.scopes laws.chain laws.own (home_scope before) before.own.items after.own.items l.last l.taken (waits.scope l.last.id last)
-        waits.first last) l.closed l.others l.unlabelled first
+    waits.first last) l.closed l.others l.unlabelled first
     (subst (λ (x : Halt). WakesFrom x before.part old.book Settled) is wake) ended
     (subst (λ (own : List Own). FitsIn before.frames.items before.part (home_scope before) own (length before.froms.items) old.scopes
-        (label_at old) old.book (Some id)) l.taken waits))
+    (label_at old) old.book (Some id)) l.taken waits))
   where
     waits : Fits before.frames.items before old (Some id)
     waits = subst (λ (x : Halt). Fits before.frames.items before old (waits_of x)) is h
@@ -109,19 +111,20 @@ settled_fits before after old new book id since laws is wake h ended l first sta
     last : last_or (home_scope before) (ids before.own.items) ≡ Some l.last.id
     last = last_pushed (home_scope before) after.own.items before.own.items l.last l.taken
 
+-- what holds of a task is kept when it leaves the scope that is its innermost block
 pub exited_fits : (fail : Bool) (before after : Task) (old new : World) → Laws old →
     Fits (before.frames.items ++ Scope fail ∷ []) before old None → LeavesOne before after old new →
     OwnFirst new.scopes (home_scope before) after.own.items → after
-        ≡ record before { own = after.own; froms = after.froms; entries = after.entries } →
+    ≡ record before { own = after.own; froms = after.froms; entries = after.entries } →
     new ≡ record old { scopes = new.scopes; labels = new.labels } → Fits after.frames.items after new None
 exited_fits fail before after old new laws h l first stays world =
     fits_after before after old new stays world (same_froms before after old new l)
     (fits_left before.frames.items fail before.part (home_scope before) after.own.items l.last (length before.froms.items) old.scopes
-        new.scopes (label_at old) (label_at new) old.book laws.chain laws.own laws.apart
+    new.scopes (label_at old) (label_at new) old.book laws.chain laws.own laws.apart
     (top_of old.scopes laws.chain laws.own (home_scope before) before.own.items after.own.items l.last l.taken (h.scope l.last.id last)
-        h.first last) l.closed l.others l.unlabelled first
+    h.first last) l.closed l.others l.unlabelled first
     (subst (λ (own : List Own). FitsIn (before.frames.items ++ Scope fail ∷ []) before.part (home_scope before) own
-        (length before.froms.items) old.scopes (label_at old) old.book None) l.taken h))
+    (length before.froms.items) old.scopes (label_at old) old.book None) l.taken h))
   where
     last : last_or (home_scope before) (ids before.own.items) ≡ Some l.last.id
     last = last_pushed (home_scope before) after.own.items before.own.items l.last l.taken
@@ -132,16 +135,16 @@ exited_fits fail before after old new laws h l first stays world =
 pub waits_fits : (id : ℕ) (exc : Option Exc) (before after : Task) (old new : World) →
     Fits (before.frames.items ++ Nursery id ∷ []) before old None → SameKeys old.scopes new.scopes →
     Changes old.book new.book id (with_body exc) → after ≡ record before { halt = after.halt } →
-        new ≡ record old { scopes = new.scopes; book = new.book } → Fits after.frames.items after new (Some id)
+    new ≡ record old { scopes = new.scopes; book = new.book } → Fits after.frames.items after new (Some id)
 waits_fits id exc before after old new h same changes stays world =
     subst (λ (w : World). FitsIn after.frames.items after.part (home_scope after) after.own.items (length after.froms.items) new.scopes
-        (label_at w) new.book (Some id)) (sym world)
+    (label_at w) new.book (Some id)) (sym world)
     (subst (λ (t : Task). FitsIn t.frames.items t.part (home_scope t) t.own.items (length t.froms.items) new.scopes (label_at old) new.book
-        (Some id)) (sym stays)
+    (Some id)) (sym stays)
     (fits_signed before.frames.items before.part (home_scope before) before.own.items (length before.froms.items) old.scopes new.scopes
-        (label_at old) new.book (Some id) same
+    (label_at old) new.book (Some id) same
     (fits_awaits before.frames.items id before.part (home_scope before) before.own.items (length before.froms.items) old.scopes
-        (label_at old) old.book new.book exc changes h)))
+    (label_at old) old.book new.book exc changes h)))
 
 -- the scopes of the world were signed
 pub signed_fits : (before after : Task) (old new : World) (waits : Option ℕ) → Fits before.frames.items before old waits →
@@ -149,43 +152,45 @@ pub signed_fits : (before after : Task) (old new : World) (waits : Option ℕ) �
     after ≡ record before { halt = after.halt } → new ≡ record old { scopes = new.scopes } → Fits after.frames.items after new waits
 signed_fits before after old new waits h same stays world =
     subst (λ (w : World). FitsIn after.frames.items after.part (home_scope after) after.own.items (length after.froms.items) new.scopes
-        (label_at w) w.book waits) (sym world)
+    (label_at w) w.book waits) (sym world)
     (subst (λ (t : Task). FitsIn t.frames.items t.part (home_scope t) t.own.items (length t.froms.items) new.scopes (label_at old) old.book
-        waits) (sym stays)
+    waits) (sym stays)
     (fits_signed before.frames.items before.part (home_scope before) before.own.items (length before.froms.items) old.scopes new.scopes
-        (label_at old) old.book waits same h))
+    (label_at old) old.book waits same h))
 
 -- ---- frames alone
 
+-- what holds of a task is kept with other frames of the same blocks that can run
 pub frames_fit : (fs : List Frame) (before after : Task) (old : World) → Fits fs before old None →
     blocks_of after.frames.items ≡ blocks_of fs →
     AreModestFrames (frames_of (λ id. []) after.frames.items) → StartsFit (frames_of (λ id. []) after.frames.items) →
-        after ≡ record before { frames = after.frames; halt = after.halt } →
+    after ≡ record before { frames = after.frames; halt = after.halt } →
     Fits after.frames.items after old None
 frames_fit fs before after old h same modest starts stays =
     subst (λ (t : Task). FitsIn after.frames.items t.part (home_scope t) t.own.items (length t.froms.items) old.scopes (label_at old)
-        old.book None) (sym stays)
+    old.book None) (sym stays)
     (fits_frames fs after.frames.items before.part (home_scope before) before.own.items (length before.froms.items) old.scopes
-        (label_at old) old.book same modest starts h)
+    (label_at old) old.book same modest starts h)
 
 -- ---- a scope that is entered
 
+-- what holds of a task is kept when it enters one more block, whatever that is
 pub entered_fits : (b : Block) (label : Label) (before after : Task) (old new : World) → Laws old →
     Fits before.frames.items before old None → {deadline : Tick} → (e : EntersOne before after old new label deadline) →
     ((id : ℕ) (m : Members) → nursery_at old.book id ≡ Some m → nursery_at new.book id ≡ Some m) →
-        IsBlockOf (label_at new) new.book b e.own →
+    IsBlockOf (label_at new) new.book b e.own →
     blocks_of after.frames.items ≡ blocks_of before.frames.items ++ b ∷ [] → AreModestFrames (frames_of (λ id. []) after.frames.items) →
-        StartsFit (frames_of (λ id. []) after.frames.items) →
+    StartsFit (frames_of (λ id. []) after.frames.items) →
     after ≡ record before { frames = after.frames; own = after.own; froms = after.froms } → Fits after.frames.items after new None
 entered_fits b label before after old new laws h e stay block blocks modest starts stays =
     subst (λ (t : Task). FitsIn after.frames.items t.part (home_scope t) after.own.items (length after.froms.items) new.scopes
-        (label_at new) new.book None) (sym stays)
+    (label_at new) new.book None) (sym stays)
     (subst (λ (n : ℕ). FitsIn after.frames.items before.part (home_scope before) after.own.items n new.scopes (label_at new) new.book None)
-        (sym froms)
+    (sym froms)
     (subst (λ (own : List Own). FitsIn after.frames.items before.part (home_scope before) own (suc (length before.froms.items)) new.scopes
-        (label_at new) new.book None) (sym e.opened)
+    (label_at new) new.book None) (sym e.opened)
     (fits_entered before.frames.items after.frames.items b before.part (home_scope before) before.own.items e.own
-        (length before.froms.items) old.scopes new.scopes (label_at old) (label_at new) old.book
+    (length before.froms.items) old.scopes new.scopes (label_at old) (label_at new) old.book
     new.book label e.level laws.chain e.fresh e.stack e.named e.others e.labelled e.place stay block blocks modest starts h)))
   where
     froms : length after.froms.items ≡ suc (length before.froms.items)
@@ -195,15 +200,16 @@ entered_fits b label before after old new laws h e stay block blocks modest star
 
 -- ---- children that are started
 
+-- what holds of a task is kept when children are started in a nursery
 pub started_fits : (id : ℕ) (m : Members) (more : List End) (before : Task) (old new : World) → Fits before.frames.items before old None →
     nursery_at old.book id ≡ Some m →
     Updates old.book new.book id (Some (record m { children = m.children ++ more })) →
-        new ≡ record old { book = new.book; started = new.started } → Fits before.frames.items before new None
+    new ≡ record old { book = new.book; started = new.started } → Fits before.frames.items before new None
 started_fits id m more before old new h was u world =
     subst (λ (w : World). FitsIn before.frames.items before.part (home_scope before) before.own.items (length before.froms.items) w.scopes
-        (label_at w) new.book None) (sym world)
+    (label_at w) new.book None) (sym world)
     (fits_started before.frames.items id before.part (home_scope before) before.own.items (length before.froms.items) old.scopes
-        (label_at old) old.book new.book m more was u h)
+    (label_at old) old.book new.book m more was u h)
 
 -- ---- what a block's frames are
 
@@ -228,8 +234,8 @@ block_blocks : (before after : Task) (exit : Frame) (body : Steps) → EntersBlo
 block_blocks before after exit body e =
     ap blocks_of e.frames ∙ blocks_append before.frames.items (exit ∷ e.top ∷ [])
     ∙ ap (λ (bs : List Block). blocks_of before.frames.items ++ bs)
-        (blocks_append (exit ∷ []) (e.top ∷ []) ∙ ap (λ (bs : List Block). blocks_of (exit ∷ []) ++ bs) (by_top e.top e.block)
-        ∙ append-nil (blocks_of (exit ∷ [])))
+    (blocks_append (exit ∷ []) (e.top ∷ []) ∙ ap (λ (bs : List Block). blocks_of (exit ∷ []) ++ bs) (by_top e.top e.block)
+    ∙ append-nil (blocks_of (exit ∷ [])))
   where
     by_top : (f : Frame) → IsBlock f body → blocks_of (f ∷ []) ≡ []
     by_top (frames.Steps steps) i = refl
@@ -239,29 +245,31 @@ block_blocks before after exit body e =
     by_top (frames.Handler others cleanup) i = absurd i
     by_top (frames.Cleanup outcome) i = absurd i
 
+-- what holds of a task is kept when it enters a scope
 pub scope_fits : (fail : Bool) (body : Steps) (label : Label) (before after : Task) (old new : World) → Laws old →
     Fits before.frames.items before old None → {deadline : Tick} → EntersOne before after old new label deadline →
     EntersBlock before after (Scope fail) body → AreModest body → StartsIn false body →
-        after ≡ record before { frames = after.frames; own = after.own; froms = after.froms } →
+    after ≡ record before { frames = after.frames; own = after.own; froms = after.froms } →
     new ≡ record old { scopes = new.scopes; labels = new.labels } → Fits after.frames.items after new None
 scope_fits fail body label before after old new laws h e inside modest starts stays world =
     entered_fits a_scope label before after old new laws h e (λ id m at. ap (λ (w : World). nursery_at w.book id) world ∙ at)
-        (subst IsSome (sym e.labelled.changed) refl)
+    (subst IsSome (sym e.labelled.changed) refl)
     (block_blocks before after (Scope fail) body inside) (subst AreModestFrames (sym (block_frames before after (Scope fail) body inside))
-        (modest, h.modest))
+    (modest, h.modest))
     (subst StartsFit (sym (block_frames before after (Scope fail) body inside)) (starts, h.starts)) stays
 
+-- what holds of a task is kept when it enters a nursery
 pub nursery_fits : (me : ℕ) (body : Steps) (label : Label) (before after : Task) (old new : World) → Laws old →
     Fits before.frames.items before old None → {deadline : Tick} → EntersOne before after old new label deadline →
     EntersNursery me before after old new label body → AreModest body → StartsIn true body →
-        after ≡ record before { frames = after.frames; own = after.own; froms = after.froms } →
+    after ≡ record before { frames = after.frames; own = after.own; froms = after.froms } →
     Fits after.frames.items after new None
 nursery_fits me body label before after old new laws h e n modest starts stays =
     entered_fits (a_nursery n.id) label before after old new laws h e (λ id m at. n.stands.others id (differs id m at) ∙ at)
     (subst (λ (m : Option Members). IsSomeAnd m (λ x. IsMine (label_at new) e.own x × (x.body ≡ None))) (sym n.stands.changed)
-        (record { scope = same; label = e.labelled.changed }, refl))
+    (record { scope = same; label = e.labelled.changed }, refl))
     (block_blocks before after (Nursery n.id) body n.frames) (subst AreModestFrames
-        (sym (block_frames before after (Nursery n.id) body n.frames)) (modest, h.modest))
+    (sym (block_frames before after (Nursery n.id) body n.frames)) (modest, h.modest))
     (subst StartsFit (sym (block_frames before after (Nursery n.id) body n.frames)) (starts, h.starts)) stays
   where
     differs : (id : ℕ) (m : Members) → nursery_at old.book id ≡ Some m → id ≢ n.id
@@ -270,14 +278,16 @@ nursery_fits me body label before after old new laws h e n modest starts stays =
     same : n.scope ≡ e.own.id
     same = one_of n.scope e.own.id (sym n.inner ∙ last_pushed (home_scope after) before.own.items after.own.items e.own e.opened)
 
+-- a turn has more steps to go once a scope is entered: those of its body and one that leaves it
 pub scope_length : (fail : Bool) (body : Steps) (before after : Task) → EntersBlock before after (Scope fail) body →
     frames_length (frames_of (λ id. []) after.frames.items) ≡ turn_length body
-        + (1 + frames_length (frames_of (λ id. []) before.frames.items))
+    + (1 + frames_length (frames_of (λ id. []) before.frames.items))
 scope_length fail body before after e = ap frames_length (block_frames before after (Scope fail) body e)
 
+-- a turn has more steps to go once a nursery is entered: those of its body and one that ends it
 pub nursery_length : (id : ℕ) (body : Steps) (before after : Task) → EntersBlock before after (Nursery id) body →
     frames_length (frames_of (λ key. []) after.frames.items) ≡ turn_length body
-        + (1 + frames_length (frames_of (λ key. []) before.frames.items))
+    + (1 + frames_length (frames_of (λ key. []) before.frames.items))
 nursery_length id body before after e = ap frames_length (block_frames before after (Nursery id) body e)
 
 -- ---- the steps of a block
@@ -288,7 +298,7 @@ pub frame_off : (fs : List Frame) (f : Frame) (task : Task) (world : World) → 
     StartsFit (frames_of (λ id. []) fs) → Fits fs task world None
 frame_off fs f task world none h modest starts =
     fits_frames (fs ++ f ∷ []) fs task.part (home_scope task) task.own.items (length task.froms.items) world.scopes (label_at world)
-        world.book
+    world.book
     (sym (blocks_append fs (f ∷ []) ∙ ap (λ (bs : List Block). blocks_of fs ++ bs) none ∙ append-nil (blocks_of fs))) modest starts h
 
 -- what holds of the frames with one more
@@ -296,6 +306,7 @@ pub modest_with : (fs : List Frame) (f : Frame) (task : Task) (world : World) �
     AreModestFrames (frame_of (λ id. []) f ∷ frames_of (λ id. []) fs)
 modest_with fs f task world h = subst AreModestFrames (frames_push (λ id. []) fs f) h.modest
 
+-- each `start` in the frames with one more stands directly in a nursery
 pub starts_with : (fs : List Frame) (f : Frame) (task : Task) (world : World) → Fits (fs ++ f ∷ []) task world None →
     StartsFit (frame_of (λ id. []) f ∷ frames_of (λ id. []) fs)
 starts_with fs f task world h = subst StartsFit (frames_push (λ id. []) fs f) h.starts
@@ -304,24 +315,25 @@ turn_some : (ss : Steps) → 0 < turn_length ss
 turn_some tree.stop = omega arith
 turn_some (tree.step s ss) = (let e = turn_some ss in omega (arith, e))
 
+-- a turn has more steps to go with the steps of a block left than without them
 pub steps_longer : (fs : List Frame) (f : Frame) (ss : Steps) → frame_of (λ id. []) f ≡ rest.steps_left ss →
     frames_length (frames_of (λ id. []) fs) < frames_length (frames_of (λ id. []) (fs ++ f ∷ []))
 steps_longer fs f ss e =
     (let g = ap frames_length (frames_push (λ id. []) fs f ∙ ap (λ (x : rest.Frame). x ∷ frames_of (λ id. []) fs) e) in let k =
-        turn_some ss in omega (arith, g, k))
+    turn_some ss in omega (arith, g, k))
 
 -- another frame in the place of the innermost one, neither of them a block
 pub pushed_fits : (fs : List Frame) (f g : Frame) (before after : Task) (world : World) → blocks_of (f ∷ []) ≡ [] →
     block_in g (blocks_of fs) ≡ blocks_of fs → Fits (fs ++ f ∷ []) before world None →
     blocks_of after.frames.items ≡ block_in g (blocks_of fs) → frames_of (λ id. []) after.frames.items ≡ frame_of (λ id. []) g
-        ∷ frames_of (λ id. []) fs →
+    ∷ frames_of (λ id. []) fs →
     AreModestFrames (frame_of (λ id. []) g ∷ frames_of (λ id. []) fs) → StartsFit (frame_of (λ id. []) g ∷ frames_of (λ id. []) fs) →
-        after ≡ record before { frames = after.frames } →
+    after ≡ record before { frames = after.frames } →
     Fits after.frames.items after world None
 pushed_fits fs f g before after world none same h blocks frames modest starts stays =
     frames_fit (fs ++ f ∷ []) before after world h
     (blocks ∙ same ∙ sym (blocks_append fs (f ∷ []) ∙ ap (λ (bs : List Block). blocks_of fs ++ bs) none ∙ append-nil (blocks_of fs)))
-        (subst AreModestFrames (sym frames) modest)
+    (subst AreModestFrames (sym frames) modest)
     (subst StartsFit (sym frames) starts) (stays ∙ ap (λ (t : Task). record before { frames = after.frames; halt = t.halt }) (sym stays))
 
 -- ---- the innermost frame is popped
@@ -333,11 +345,12 @@ pub popped_fits : (before : Task) (fs : List Frame) (f g : Frame) (world : World
 popped_fits before fs f g world items same h =
     subst (λ (x : Frame). Fits (fs ++ x ∷ []) before world None) same (subst (λ (xs : List Frame). Fits xs before world None) items h)
 
+-- how many steps a turn has to go with its innermost frame told apart, whatever that is known as
 pub popped_length : (all fs : List Frame) (f g : Frame) → all ≡ fs ++ f ∷ [] → f ≡ g →
     frames_length (frames_of (λ id. []) all) ≡ frames_length (frame_of (λ id. []) g ∷ frames_of (λ id. []) fs)
 popped_length all fs f g items same =
     ap (λ (xs : List Frame). frames_length (frames_of (λ id. []) xs)) (items ∙ ap (λ (x : Frame). fs ++ x ∷ []) same)
-        ∙ ap frames_length (frames_push (λ id. []) fs g)
+    ∙ ap frames_length (frames_push (λ id. []) fs g)
 
 -- the nursery of the innermost block has a body that runs
 pub popped_body : (labels : Labels) (book : NurseryBook) (fs : List Frame) (id : ℕ) (own : List Own) →
@@ -345,7 +358,7 @@ pub popped_body : (labels : Labels) (book : NurseryBook) (fs : List Frame) (id :
     HasNursery book id (λ n. n.body ≡ None)
 popped_body labels book fs id own h =
     body_block labels book (blocks_of fs) [] id own None (subst (λ (bs : List Block). Opened labels book bs own None)
-        (blocks_append fs (Nursery id ∷ [])) h)
+    (blocks_append fs (Nursery id ∷ [])) h)
 
 -- ---- a `try`
 
@@ -371,6 +384,7 @@ try_starts (tree.except name body) cleanup fs ps (Some e) h k m = by_match (keep
     by_match None r = (tt, k, m)
     by_match (Some x) r = (h, (k, m))
 
+-- a turn has fewer steps to go once the body of a `try` ended
 pub try_shorter : (h : tree.Handled) (k : tree.Cleaned) (fs : List rest.Frame) (ps : List Place) (exc : Option Exc) →
     frames_length (step_try h k fs ps exc).frames < frames_length (rest.in_try h k ∷ fs)
 try_shorter tree.unhandled tree.uncleaned fs ps exc = omega arith
@@ -383,10 +397,11 @@ try_shorter (tree.except name body) cleanup fs ps (Some e) = by_match (keep (nam
     by_match None r = omega arith
     by_match (Some x) r = omega arith
 
+-- what holds of a task is kept when the body of a `try` ends: its handler, its cleanup or what is behind it is left
 pub tried_fits : (h : tree.Handled) (k : tree.Cleaned) (fs : List Frame) (f : Frame) (exc after_exc : Option Exc) (before after : Task)
     (world : World) → blocks_of (f ∷ []) ≡ [] →
     frame_of (λ id. []) f ≡ rest.in_try h k → Fits (fs ++ f ∷ []) before world None →
-        step_try h k (frames_of (λ id. []) fs) [] exc ≡ onward (frames_of (λ id. []) after.frames.items) [] after_exc →
+    step_try h k (frames_of (λ id. []) fs) [] exc ≡ onward (frames_of (λ id. []) after.frames.items) [] after_exc →
     blocks_of after.frames.items ≡ blocks_of fs → after ≡ record before { frames = after.frames } → Fits after.frames.items after world None
 tried_fits h k fs f exc after_exc before after world none is fits step blocks stays =
     frames_fit (fs ++ f ∷ []) before after world fits
@@ -405,14 +420,14 @@ tried_fits h k fs f exc after_exc before after world none is fits step blocks st
 pub handled_fits : (k : tree.Cleaned) (o : Option Exc) (fs : List Frame) (f : Frame) (before after : Task) (world : World) →
     blocks_of (f ∷ []) ≡ [] → frame_of (λ id. []) f ≡ rest.in_handler o k →
     Fits (fs ++ f ∷ []) before world None → frames_of (λ id. []) after.frames.items ≡ rest.in_try tree.unhandled k
-        ∷ frames_of (λ id. []) fs → blocks_of after.frames.items ≡ blocks_of fs →
+    ∷ frames_of (λ id. []) fs → blocks_of after.frames.items ≡ blocks_of fs →
     after ≡ record before { frames = after.frames } → Fits after.frames.items after world None
 handled_fits k o fs f before after world none is fits frames blocks stays =
     frames_fit (fs ++ f ∷ []) before after world fits
     (blocks ∙ sym (blocks_append fs (f ∷ []) ∙ ap (λ (bs : List Block). blocks_of fs ++ bs) none ∙ append-nil (blocks_of fs)))
-        (subst AreModestFrames (sym frames) (tt, modest.0, modest.1))
+    (subst AreModestFrames (sym frames) (tt, modest.0, modest.1))
     (subst StartsFit (sym frames) (tt, starts.0, starts.1)) (stays
-        ∙ ap (λ (t : Task). record before { frames = after.frames; halt = t.halt }) (sym stays))
+    ∙ ap (λ (t : Task). record before { frames = after.frames; halt = t.halt }) (sym stays))
   where
     modest : AreModestFrames (rest.in_handler o k ∷ frames_of (λ id. []) fs)
     modest = subst (λ (x : rest.Frame). AreModestFrames (x ∷ frames_of (λ id. []) fs)) is (modest_with fs f before world fits)

@@ -60,6 +60,7 @@ has_more id (a_scope ∷ bs) cs h = has_more id bs cs h
 has_more id (a_nursery key ∷ bs) cs (inl e) = inl e
 has_more id (a_nursery key ∷ bs) cs (inr h) = inr (has_more id bs cs h)
 
+-- a nursery among blocks is among them behind others
 pub has_last : (id : ℕ) (bs cs : List Block) → HasBlock id cs → HasBlock id (bs ++ cs)
 has_last id [] cs h = h
 has_last id (a_scope ∷ bs) cs h = has_last id bs cs h
@@ -96,13 +97,16 @@ not_grown n ns =
       numbers = sym (append-nil ns);
     }
 
+-- a nursery of the book that stays as it was got no more children
 pub stays_grown : (o : Option Members) (n : Members) (ns : List ℕ) → o ≡ Some n → IsSomeAnd o (λ m. Grown n m ns ns)
 stays_grown o n ns e = subst (λ (p : Option Members). IsSomeAnd p (λ m. Grown n m ns ns)) (sym e) (not_grown n ns)
 
+-- where the book stays, no nursery of the task got more children
 pub grow_same : (fs : List Frame) (numbers : Numbers) (old new : NurseryBook) → new ≡ old → Grow fs numbers numbers old new
 grow_same fs numbers old new same id has n e =
     stays_grown (nursery_at new id) n (numbers id) (ap (λ (b : NurseryBook). nursery_at b id) same ∙ e)
 
+-- where the book stays and the task has no other nurseries, their children are numbered as before
 pub numbered_same : (fs gs : List Frame) (numbers : Numbers) (old new : NurseryBook) → new ≡ old →
     ((id : ℕ) → HasBlock id (blocks_of gs) → HasBlock id (blocks_of fs)) →
     AreNumbered numbers old fs → AreNumbered numbers new gs
@@ -111,19 +115,20 @@ numbered_same fs gs numbers old new same back h id has =
 
 -- ---- any move that leaves the book as it is, and starts nothing
 
+-- what the code does so is the definitions' move, with these entries noted
 pub took_with : (frames : List Frame) (before after : Task) (old new : World) (goes : Moved) (froms : Table) (numbers : Numbers) (o : Move)
     (entries : List Entry) →
     AreNumbered numbers old.book frames →
     new.book ≡ old.book → new.started.items ≡ old.started.items → after.entries.items ≡ before.entries.items ++ entries →
-        AreNoted (buffer_of before.part) entries o.made →
+    AreNoted (buffer_of before.part) entries o.made →
     o.begun ≡ [] →
     ((id : ℕ) → HasBlock id (blocks_of frames) → HasNurseryOf id (blocks_of after.frames.items) (waits_by goes after.halt)) →
     ((id : ℕ) → HasBlock id (blocks_of after.frames.items) → HasBlock id (blocks_of frames)) →
-        frames_of numbers after.frames.items ≡ o.frames →
+    frames_of numbers after.frames.items ≡ o.frames →
     AreAt (label_at new) (froms_after froms o.made) (outer_of new.scopes (scope_of after)) o.places →
-        MovesAs numbers new.book before.part goes after.halt o →
+    MovesAs numbers new.book before.part goes after.halt o →
     waits_by goes after.halt ≡ None → Acts old.tick (scoping_of before old) o.made (scoping_of after new) →
-        Took frames before after old new goes froms numbers o
+    Took frames before after old new goes froms numbers o
 took_with frames before after old new goes froms numbers o entries numbered book started noted shown none kept back gs at moves waits acts =
     record {
       numbers_after = numbers;
@@ -151,17 +156,17 @@ took_with frames before after old new goes froms numbers o entries numbered book
 pub took_quiet : (frames : List Frame) (before after : Task) (old new : World) (goes : Moved) (froms : Table) (numbers : Numbers)
     (o : Move) → AreNumbered numbers old.book frames →
     new.book ≡ old.book → new.started.items ≡ old.started.items → after.entries.items ≡ before.entries.items →
-        shown_made (buffer_of before.part) o.made ≡ [] → o.begun ≡ [] →
+    shown_made (buffer_of before.part) o.made ≡ [] → o.begun ≡ [] →
     blocks_of after.frames.items ≡ blocks_of frames → frames_of numbers after.frames.items ≡ o.frames →
     AreAt (label_at new) (froms_after froms o.made) (outer_of new.scopes (scope_of after)) o.places →
-        MovesAs numbers new.book before.part goes after.halt o →
+    MovesAs numbers new.book before.part goes after.halt o →
     waits_by goes after.halt ≡ None → Acts old.tick (scoping_of before old) o.made (scoping_of after new) →
-        Took frames before after old new goes froms numbers o
+    Took frames before after old new goes froms numbers o
 took_quiet frames before after old new goes froms numbers o numbered book started entries quiet none same gs at moves waits acts =
     took_with frames before after old new goes froms numbers o [] numbered book started (entries ∙ sym (append-nil before.entries.items))
     (record { shown = sym quiet; slices = All-nil (IsSlice (buffer_of before.part)) }) none
     (λ id has. inl (subst (λ (bs : List Block). HasBlock id bs) (sym same) has))
-        (λ id has. subst (λ (bs : List Block). HasBlock id bs) same has) gs at moves waits acts
+    (λ id has. subst (λ (bs : List Block). HasBlock id bs) same has) gs at moves waits acts
 
 -- ---- moves of the task alone
 
@@ -170,25 +175,25 @@ pub took_onward : (frames : List Frame) (before after : Task) (world : World) (e
     (stopped : Option Stopped)
     (ps : List Place) (o : Move) →
     Stands frames before world froms numbers stopped ps → after ≡ record before { frames = after.frames } →
-        blocks_of after.frames.items ≡ blocks_of frames →
+    blocks_of after.frames.items ≡ blocks_of frames →
     o ≡ onward (frames_of numbers after.frames.items) ps (option_map exc_of exc) →
-        Took frames before after world world (On exc) froms numbers o
+    Took frames before after world world (On exc) froms numbers o
 took_onward frames before after world exc froms numbers stopped ps o stands stays same is =
     subst (λ (m : Move). Took frames before after world world (On exc) froms numbers m) (sym is)
     (took_quiet frames before after world world (On exc) froms numbers
-        (onward (frames_of numbers after.frames.items) ps (option_map exc_of exc)) stands.numbered refl refl
+    (onward (frames_of numbers after.frames.items) ps (option_map exc_of exc)) stands.numbered refl refl
     (ap (λ (t : Task). t.entries.items) stays) refl refl same refl
     (subst (λ (s : Option ℕ). AreAt (label_at world) froms (outer_of world.scopes s) ps) (sym (ap (λ (t : Task). scope_of t) stays))
-        stands.places) (refl, refl) refl
+    stands.places) (refl, refl) refl
     (same_acts world.tick (scoping_of before world) (scoping_of after world) (ap (λ (t : Task). scoping_of t world) stays)))
 
 -- the task stops, or goes on, with another halt
 pub took_halts : (frames : List Frame) (before after : Task) (world : World) (goes : Moved) (froms : Table) (numbers : Numbers)
     (stopped : Option Stopped) (ps : List Place) (o : Move) →
     Stands frames before world froms numbers stopped ps → after ≡ record before { frames = after.frames; halt = after.halt } →
-        blocks_of after.frames.items ≡ blocks_of frames →
+    blocks_of after.frames.items ≡ blocks_of frames →
     o.frames ≡ frames_of numbers after.frames.items → o.places ≡ ps → o.made ≡ [] → o.begun ≡ [] → WaitsNot o.stopped →
-        MovesAs numbers world.book before.part goes after.halt o →
+    MovesAs numbers world.book before.part goes after.halt o →
     Took frames before after world world goes froms numbers o
 took_halts frames before after world goes froms numbers stopped ps o stands stays same gs round made none not moves =
     took_quiet frames before after world world goes froms numbers o stands.numbered refl refl (ap (λ (t : Task). t.entries.items) stays)
@@ -199,10 +204,10 @@ took_halts frames before after world goes froms numbers stopped ps o stands stay
     at : AreAt (label_at world) (froms_after froms o.made) (outer_of world.scopes (scope_of after)) o.places
     at =
         subst (λ (es : List rest.Event). AreAt (label_at world) (froms_after froms es) (outer_of world.scopes (scope_of after)) o.places)
-            (sym made)
+        (sym made)
         (subst (λ (qs : List Place). AreAt (label_at world) froms (outer_of world.scopes (scope_of after)) qs) (sym round)
         (subst (λ (s : Option ℕ). AreAt (label_at world) froms (outer_of world.scopes s) ps) (sym (ap (λ (t : Task). scope_of t) stays))
-            stands.places))
+        stands.places))
 
 -- what a sleep leaves as it is
 pub record LeavesAlone (o : Move) (fs : List rest.Frame) (ps : List Place) : Type 0 where
@@ -217,11 +222,12 @@ falls_alone true n t fs ps = record { frames = refl; places = refl; made = refl;
 falls_alone false zero t fs ps = record { frames = refl; places = refl; made = refl; begun = refl; waits = tt }
 falls_alone false (suc n) t fs ps = record { frames = refl; places = refl; made = refl; begun = refl; waits = tt }
 
+-- a task that stops or goes on as the sleep of the definitions does makes that move
 pub took_sleep : (frames : List Frame) (before after : Task) (world : World) (goes : Moved) (froms : Table) (numbers : Numbers)
     (stopped : Option Stopped) (ps : List Place)
     (ticks : ℕ) →
     Stands frames before world froms numbers stopped ps → after ≡ record before { halt = after.halt } →
-        blocks_of before.frames.items ≡ blocks_of frames →
+    blocks_of before.frames.items ≡ blocks_of frames →
     (AreAt (label_at world) froms (outer_of world.scopes (scope_of before)) ps →
     MovesAs numbers world.book before.part goes after.halt (sleeps froms ticks world.tick (frames_of numbers before.frames.items) ps)) →
     Took frames before after world world goes froms numbers (sleeps froms ticks world.tick (frames_of numbers before.frames.items) ps)
@@ -229,10 +235,10 @@ took_sleep frames before after world goes froms numbers stopped ps ticks stands 
     let gs = frames_of numbers before.frames.items in
     let alone : LeavesAlone (sleeps froms ticks world.tick gs ps) gs ps = falls_alone _ ticks world.tick gs ps in
     took_halts frames before after world goes froms numbers stopped ps (sleeps froms ticks world.tick gs ps) stands
-        (halted before after stays) (ap (λ
+    (halted before after stays) (ap (λ
     (t : Task). blocks_of t.frames.items) stays ∙ same)
     (alone.frames ∙ ap (λ (t : Task). frames_of numbers t.frames.items) (sym stays)) alone.places alone.made alone.begun alone.waits
-        (sleep stands.places)
+    (sleep stands.places)
   where
     halted : (before after : Task) → after ≡ record before { halt = after.halt } →
         after ≡ record before { frames = after.frames; halt = after.halt }
@@ -245,6 +251,7 @@ pub quiet_signs : (input : List ℕ) (label : Option Label) (t : ℕ) → shown_
 quiet_signs input None t = refl
 quiet_signs input (Some l) t = refl
 
+-- the sign of who fails is not shown
 pub quiet_home : (input : List ℕ) (exc : Option Exc) (ps : List Place) (t : ℕ) → shown_made input (signs_home exc ps t) ≡ []
 quiet_home input None ps t = refl
 quiet_home input (Some e) [] t = refl
@@ -254,50 +261,50 @@ quiet_home input (Some e) (p ∷ ps) t = refl
 pub took_cancel : (frames : List Frame) (before after : Task) (old new : World) (froms : Table) (numbers : Numbers)
     (stopped : Option Stopped) (ps : List Place) (name : List ℕ) →
     Stands frames before old froms numbers stopped ps → after ≡ record before { frames = after.frames } →
-        blocks_of after.frames.items ≡ blocks_of frames →
+    blocks_of after.frames.items ≡ blocks_of frames →
     new ≡ record old { scopes = new.scopes } → CancelsAt old new (scope_of before) name →
     Took frames before after old new (On None) froms numbers (making (signs_to (label_among name ps) old.tick)
-        (frames_of numbers after.frames.items) ps)
+    (frames_of numbers after.frames.items) ps)
 took_cancel frames before after old new froms numbers stopped ps name stands stays same world cancels =
     let made = signs_to (label_among name ps) old.tick in
     took_quiet frames before after old new (On None) froms numbers (making made (frames_of numbers after.frames.items) ps) stands.numbered
-        (ap (λ (w : World). w.book) world)
+    (ap (λ (w : World). w.book) world)
     (ap (λ (w : World). w.started.items) world) (ap (λ (t : Task). t.entries.items) stays)
-        (quiet_signs (buffer_of before.part) (label_among name ps) old.tick) refl same refl
+    (quiet_signs (buffer_of before.part) (label_among name ps) old.tick) refl same refl
     (subst (λ (s : Option ℕ). AreAt (label_at new) (froms_after froms made) (outer_of new.scopes s) ps)
-        (sym (ap (λ (t : Task). scope_of t) stays))
+    (sym (ap (λ (t : Task). scope_of t) stays))
     (cancels.lowered froms ps stands.own stands.places))
     (refl, refl) refl
     (found_signed before after old new _ (label_among name ps) (ap (λ (t : Task). t.own.items) stays)
-        (ap (λ (t : Task). t.froms.items) stays) (ap (λ (w : World). label_at w) world)
+    (ap (λ (t : Task). t.froms.items) stays) (ap (λ (w : World). label_at w) world)
     (named_at (label_at old) froms name (outer_of old.scopes (scope_of before)) ps stands.places) cancels.signed)
 
 -- the task ends, with no frame left
 pub took_end : (before after : Task) (old new : World) (exc : Option held.Exc) (goes : Moved) (froms : Table) (numbers : Numbers)
     (stopped : Option Stopped) (ps : List Place) →
     Stands [] before old froms numbers stopped ps → before.frames.items ≡ [] → goes ≡ Stops (Ended exc) →
-        after ≡ record before { halt = Over } →
+    after ≡ record before { halt = Over } →
     new ≡ record old { scopes = new.scopes } →
     FailsAt old new (scope_of before) (option_map exc_of exc) →
     Took [] before after old new goes froms numbers (ends_as (at_end old.tick (option_map exc_of exc)) (option_map exc_of exc) old.tick []
-        ps)
+    ps)
 took_end before after old new exc goes froms numbers stopped ps stands empty goes_is stays world fails =
     let e = option_map exc_of exc in
     let o = ends_as (at_end old.tick e) e old.tick [] ps in
     let left : after.frames.items ≡ [] = ap (λ (t : Task). t.frames.items) stays ∙ empty in
     took_quiet [] before after old new goes froms numbers o stands.numbered (ap (λ (w : World). w.book) world)
-        (ap (λ (w : World). w.started.items) world)
+    (ap (λ (w : World). w.started.items) world)
     (ap (λ (t : Task). t.entries.items) stays) (quiet_home (buffer_of before.part) e ps old.tick) refl (ap blocks_of left)
-        (ap (frames_of numbers) left)
+    (ap (frames_of numbers) left)
     (subst (λ (s : Option ℕ). AreAt (label_at new) (froms_after froms (signs_home e ps old.tick)) (outer_of new.scopes s) ps)
-        (sym (ap (λ (t : Task). scope_of t) stays))
+    (sym (ap (λ (t : Task). scope_of t) stays))
     (fails.lowered froms ps stands.own stands.places))
     (subst (λ (m : Moved). MovesAs numbers new.book before.part m after.halt o) (sym goes_is)
     (subst (λ (h : Halt). MovesAs numbers new.book before.part (Stops (Ended exc)) h o) (sym (ap (λ (t : Task). t.halt) stays))
-        (refl, (tt, refl))))
+    (refl, (tt, refl))))
     (ap (λ (m : Moved). waits_by m after.halt) goes_is ∙ ap waits_of (ap (λ (t : Task). t.halt) stays))
     (home_signed before after old new e froms (outer_of old.scopes (scope_of before)) ps (ap (λ (t : Task). t.own.items) stays)
-        (ap (λ (t : Task). t.froms.items) stays) (ap (λ (w : World). label_at w) world)
+    (ap (λ (t : Task). t.froms.items) stays) (ap (λ (w : World). label_at w) world)
     stands.places fails.signed)
 
 -- ---- blocks that are left
@@ -307,13 +314,13 @@ pub took_leaves : (frames : List Frame) (before after : Task) (old new : World) 
     (goes : Option held.Exc) (froms : Table) (numbers : Numbers)
     (p : Place)
     (ps : List Place) → ExitsFrom before after old new k (left_with (catches (froms p.label) p.shield (stack_at froms ps) old.tick) exc)
-        (option_map exc_of goes) froms p ps →
+    (option_map exc_of goes) froms p ps →
     new.started.items ≡ old.started.items → Grow frames numbers numbers old.book new.book →
-        ((id : ℕ) → HasBlock id (blocks_of frames) → HasBlock id (blocks_of after.frames.items)) →
+    ((id : ℕ) → HasBlock id (blocks_of frames) → HasBlock id (blocks_of after.frames.items)) →
     ((id : ℕ) → HasBlock id (blocks_of after.frames.items) → HasBlock id (blocks_of frames)) →
-        AreNumbered numbers new.book after.frames.items →
+    AreNumbered numbers new.book after.frames.items →
     OthersStay (blocks_of frames) before.own.items old.scopes old.book new.book →
-        ((e : log.Entry) → Acts old.tick (scoping_of before old) (rest.noted old.tick e ∷ []) (scoping_of after new)) →
+    ((e : log.Entry) → Acts old.tick (scoping_of before old) (rest.noted old.tick e ∷ []) (scoping_of after new)) →
     Took frames before after old new (On goes) froms numbers (leaves froms old.tick k (frames_of numbers after.frames.items) p ps exc)
 took_leaves frames before after old new k exc goes froms numbers p ps x started grow kept back numbered others acts =
     record {
@@ -349,17 +356,17 @@ pub took_exit : (frames : List Frame) (fail : Bool) (before after : Task) (old n
     (here : Here) (count : ℕ) →
     Stands frames before old froms numbers None ps → frames ≡ before.frames.items ++ Scope fail ∷ [] →
     after ≡ record before { own = after.own; froms = after.froms; entries = after.entries } →
-        new ≡ record old { scopes = new.scopes; labels = new.labels } →
+    new ≡ record old { scopes = new.scopes; labels = new.labels } →
     ExitsAt before after old new (kind.Scope fail) (option_map exc_of exc) (option_map exc_of goes) → LeavesOne before after old new →
     Took frames before after old new (On goes) froms numbers (step_frames froms old.tick here
-        (rest.in_scope fail ∷ frames_of numbers before.frames.items) ps
+    (rest.in_scope fail ∷ frames_of numbers before.frames.items) ps
     (option_map exc_of exc) count)
 took_exit frames fail before after old new exc goes froms numbers ps here count stands popped stays world exits one =
     by_place (λ (qs : List Place). Took frames before after old new (On goes) froms numbers
-        (step_frames froms old.tick here (rest.in_scope fail ∷ gs) qs
+    (step_frames froms old.tick here (rest.in_scope fail ∷ gs) qs
     (option_map exc_of exc) count)) fail gs ps
     (subst (λ (hs : List rest.Frame). Placed hs ps) (frames_pushed numbers before.frames.items frames (Scope fail) popped) stands.placed)
-        at_place
+    at_place
   where
     gs : List rest.Frame
     gs = frames_of numbers before.frames.items
@@ -391,11 +398,11 @@ took_exit frames fail before after old new exc goes froms numbers ps here count 
         (option_map exc_of exc))
     at_place p qs e =
         subst (λ (fs : List Frame). Took frames before after old new (On goes) froms numbers
-            (leaves froms old.tick (meaning.a_scope fail) (frames_of numbers fs) p qs
+        (leaves froms old.tick (meaning.a_scope fail) (frames_of numbers fs) p qs
         (option_map exc_of exc))) left
         (took_leaves frames before after old new (meaning.a_scope fail) (option_map exc_of exc) goes froms numbers p qs
         (exits froms p qs (subst (λ (rs : List Place). AreAt (label_at old) froms (outer_of old.scopes (scope_of before)) rs) e
-            stands.places))
+        stands.places))
         (ap (λ (w : World). w.started.items) world) (grow_same frames numbers old.book new.book book) kept back
         (numbered_same frames after.frames.items numbers old.book new.book book back stands.numbered)
         (λ id n e apart other. ap (λ (b : NurseryBook). nursery_at b id) book ∙ e) (λ e. left_acts before after old new old.tick e one))
@@ -405,7 +412,7 @@ took_exit frames fail before after old new exc goes froms numbers ps here count 
 -- what is true of a nursery when another is put at its key, and when it stays
 pub updated_has : (old new : NurseryBook) (id : ℕ) (o : Option Members) (key : ℕ) (P Q : Members → Type 0) → Updates old new id o →
     (key ≡ id → (n : Members) → nursery_at old key ≡ Some n → P n → IsSomeAnd o Q) →
-        (key ≢ id → (n : Members) → nursery_at old key ≡ Some n → P n → Q n) → HasNursery old key P →
+    (key ≢ id → (n : Members) → nursery_at old key ≡ Some n → P n → Q n) → HasNursery old key P →
     HasNursery new key Q
 updated_has old new id o key P Q u put stay h = by_nursery (nursery_at old key) refl h
   where
@@ -463,17 +470,17 @@ pub took_body : (frames : List Frame) (id : ℕ) (before after : Task) (old new 
     (ps : List Place) (here : Here) (count : ℕ) →
     Stands frames before old froms numbers None ps → frames ≡ before.frames.items ++ Nursery id ∷ [] → goes ≡ Stops (Wait id) →
     after ≡ record before { halt = Awaits id old.tick } → new ≡ record old { scopes = new.scopes; book = new.book } →
-        Changes old.book new.book id (with_body (option_map exc_of exc)) →
+    Changes old.book new.book id (with_body (option_map exc_of exc)) →
     FailsAt old new (scope_of before) (option_map exc_of exc) →
     Took frames before after old new goes froms numbers (step_frames froms old.tick here
-        (rest.in_nursery (numbers id) ∷ frames_of numbers before.frames.items) ps
+    (rest.in_nursery (numbers id) ∷ frames_of numbers before.frames.items) ps
     (option_map exc_of exc) count)
 took_body frames id before after old new exc goes froms numbers ps here count stands popped goes_is stays world changes fails =
     by_nursery_place
     (λ (qs : List Place). Took frames before after old new goes froms numbers
-        (step_frames froms old.tick here (rest.in_nursery (numbers id) ∷ gs) qs e count)) (numbers id) gs ps
+    (step_frames froms old.tick here (rest.in_nursery (numbers id) ∷ gs) qs e count)) (numbers id) gs ps
     (subst (λ (hs : List rest.Frame). Placed hs ps) (frames_pushed numbers before.frames.items frames (Nursery id) popped) stands.placed)
-        at_place
+    at_place
   where
     e : Option Exc
     e = option_map exc_of exc
@@ -487,7 +494,7 @@ took_body frames id before after old new exc goes froms numbers ps here count st
     waits : waits_by goes after.halt ≡ Some id
     waits =
         ap (λ (m : Moved). waits_by m after.halt) goes_is ∙ ap (λ (h : Halt). waits_by (Stops (Wait id)) h)
-            (ap (λ (t : Task). t.halt) stays)
+        (ap (λ (t : Task). t.halt) stays)
 
     same : blocks_of frames ≡ blocks_of before.frames.items ++ a_nursery id ∷ []
     same = blocks_pushed before.frames.items frames (Nursery id) popped
@@ -513,7 +520,7 @@ took_body frames id before after old new exc goes froms numbers ps here count st
     back key (inl has) =
         subst (λ (bs : List Block). HasBlock key bs) (sym same)
         (has_more key (blocks_of before.frames.items) (a_nursery id ∷ [])
-            (subst (λ (fs : List Frame). HasBlock key (blocks_of fs)) left has))
+        (subst (λ (fs : List Frame). HasBlock key (blocks_of fs)) left has))
     back key (inr has) =
         let is : Some key ≡ Some id = sym has ∙ waits in
         subst (λ (k : ℕ). HasBlock k (blocks_of frames)) (one_key id key (sym is)) innermost
@@ -529,22 +536,25 @@ took_body frames id before after old new exc goes froms numbers ps here count st
           frames_after = ap (frames_of numbers) left;
           places =
               subst (λ (s : Option ℕ). AreAt (label_at new) (froms_after froms (signs_home e (p ∷ qs) old.tick)) (outer_of new.scopes s)
-                  (p ∷ qs)) (sym (ap (λ
+              (p ∷ qs)) (sym (ap (λ
               (t : Task). scope_of t) stays))
               (subst (λ (rs : List Place). AreAt (label_at new) (froms_after froms (signs_home e rs old.tick))
-                  (outer_of new.scopes (scope_of before)) rs) f
+              (outer_of new.scopes (scope_of before)) rs) f
               (fails.lowered froms ps stands.own stands.places));
           moves =
               subst (λ (m : Moved). MovesAs numbers new.book before.part m after.halt
-                  (ends_as (awaiting (numbers id) old.tick e) e old.tick gs (p ∷ qs))) (sym goes_is)
+              (ends_as (awaiting (numbers id) old.tick e) e old.tick gs (p ∷ qs))) (sym goes_is)
               (subst (λ (h : Halt). MovesAs numbers new.book before.part (Stops (Wait id)) h
-                  (ends_as (awaiting (numbers id) old.tick e) e old.tick gs (p ∷ qs)))
+              (ends_as (awaiting (numbers id) old.tick e) e old.tick gs (p ∷ qs)))
               (sym (ap (λ (t : Task). t.halt) stays))
               (refl, ((refl, refl, subst (λ (o : Option Members). IsSomeAnd o (λ n. n.body ≡ Some e)) (sym c.2.changed) refl), refl)));
           entries = [];
           noted = ap (λ (t : Task). t.entries.items) stays ∙ sym (append-nil before.entries.items);
-          shown = record { shown = sym (quiet_home (buffer_of before.part) e (p ∷ qs) old.tick); slices =
-              All-nil (IsSlice (buffer_of before.part)) };
+          shown = record {
+            shown = sym (quiet_home (buffer_of before.part) e (p ∷ qs) old.tick);
+            slices =
+                All-nil (IsSlice (buffer_of before.part));
+          };
           tasks = [];
           started = ap (λ (w : World). w.started.items) world ∙ sym (append-nil old.started.items);
           begun = tt;
@@ -553,14 +563,14 @@ took_body frames id before after old new exc goes froms numbers ps here count st
               updated_has old.book new.book id (Some (with_body e c.0)) key (λ m. m ≡ n) (λ m. Grown n m (numbers key) (numbers key)) c.2
               (λ is m found one. body_grown c.0 n e (numbers key) (one_at c.0 n (sym c.1 ∙ ap (nursery_at old.book) (sym is) ∙ at)))
               (λ differs m found one. subst (λ (x : Members). Grown x m (numbers key) (numbers key)) one (not_grown m (numbers key)))
-                  (is_at (nursery_at old.book key) n at);
+              (is_at (nursery_at old.book key) n at);
           kept = kept;
           numbered =
               λ key has.
               updated_has old.book new.book id (Some (with_body e c.0)) key (λ n. length (numbers key) ≡ length n.children)
-                  (λ n. length (numbers key) ≡ length n.children) c.2
+              (λ n. length (numbers key) ≡ length n.children) c.2
               (λ is m found long. long ∙ ap (λ (x : Members). length x.children)
-                  (one_at m c.0 (sym found ∙ ap (nursery_at old.book) is ∙ c.1))) (λ differs m found long. long)
+              (one_at m c.0 (sym found ∙ ap (nursery_at old.book) is ∙ c.1))) (λ differs m found long. long)
               (stands.numbered key (back key has));
           owned = λ key has. inl (back key has);
           covered = λ key place number has at. inl (back key has, at);
@@ -569,7 +579,7 @@ took_body frames id before after old new exc goes froms numbers ps here count st
           acts =
               subst (λ (rs : List Place). Acts old.tick (scoping_of before old) (signs_home e rs old.tick) (scoping_of after new)) f
               (home_signed before after old new e froms (outer_of old.scopes (scope_of before)) ps (ap (λ (t : Task). t.own.items) stays)
-                  (ap (λ (t : Task). t.froms.items) stays)
+              (ap (λ (t : Task). t.froms.items) stays)
               (ap (λ (w : World). label_at w) world) stands.places fails.signed);
         }
       where

@@ -53,6 +53,7 @@ no_block (Try handler cleanup) body e = absurd e
 no_block (Handler others cleanup) body e = absurd e
 no_block (Cleanup outcome) body e = absurd e
 
+-- the frames once a block is entered: its body, its exit, and the outer ones
 pub entered_frames : (numbers : Numbers) (fs gs : List Frame) (exit top : Frame) (body : tree.Steps) → IsBlock top body →
     gs ≡ fs ++ exit ∷ top ∷ [] →
     frames_of numbers gs ≡ rest.steps_left body ∷ frame_of numbers exit ∷ frames_of numbers fs
@@ -61,12 +62,13 @@ entered_frames numbers fs gs exit top body block e =
     ∙ ap (λ (f : rest.Frame). f ∷ frames_of numbers (fs ++ exit ∷ [])) (block_frame numbers top body block)
     ∙ ap (λ (hs : List rest.Frame). rest.steps_left body ∷ hs) (frames_push numbers fs exit)
 
+-- the blocks once one is entered: that of its exit inside the outer ones
 pub entered_blocks : (fs gs : List Frame) (exit top : Frame) (body : tree.Steps) → IsBlock top body → gs ≡ fs ++ exit ∷ top ∷ [] →
     blocks_of gs ≡ blocks_of fs ++ blocks_of (exit ∷ [])
 entered_blocks fs gs exit top body block e =
     ap blocks_of e ∙ blocks_append fs (exit ∷ top ∷ [])
     ∙ ap (λ (bs : List Block). blocks_of fs ++ bs) (blocks_append (exit ∷ []) (top ∷ [])
-        ∙ ap (λ (bs : List Block). blocks_of (exit ∷ []) ++ bs)
+    ∙ ap (λ (bs : List Block). blocks_of (exit ∷ []) ++ bs)
     (no_block top body block) ∙ append-nil (blocks_of (exit ∷ [])))
 
 -- a scope is entered, whose name is none of those round it
@@ -74,22 +76,22 @@ pub took_scope : (frames : List Frame) (before after : Task) (old new : World) (
     (stopped : Option Stopped) (ps : List Place) (label : Label)
     (shield fail : Bool)
     (deadline : Tick) (body : tree.Steps) → Stands frames before old froms numbers stopped ps →
-        blocks_of before.frames.items ≡ blocks_of frames →
+    blocks_of before.frames.items ≡ blocks_of frames →
     (IsName label.name (names_at ps) → ⊥) →
     after ≡ record before { frames = after.frames; own = after.own; froms = after.froms } → EntersBlock before after (Scope fail) body →
     new ≡ record old { scopes = new.scopes; labels = new.labels } →
-        EntersAt old new (scope_of before) (scope_of after) label shield deadline →
+    EntersAt old new (scope_of before) (scope_of after) label shield deadline →
     EntersOne before after old new label deadline → Took frames before after old new (On None) froms numbers
-        (enters_block label shield deadline old.tick body (rest.in_scope fail) (frames_of numbers before.frames.items) ps)
+    (enters_block label shield deadline old.tick body (rest.in_scope fail) (frames_of numbers before.frames.items) ps)
 took_scope frames before after old new froms numbers stopped ps label shield fail deadline body stands same fresh stays block world enters
     one =
     took_with frames before after old new (On None) froms numbers
-        (enters_block label shield deadline old.tick body (rest.in_scope fail) (frames_of numbers before.frames.items) ps) []
+    (enters_block label shield deadline old.tick body (rest.in_scope fail) (frames_of numbers before.frames.items) ps) []
     stands.numbered (ap (λ (w : World). w.book) world) (ap (λ (w : World). w.started.items) world)
     (ap (λ (t : Task). t.entries.items) stays ∙ sym (append-nil before.entries.items))
     (record { shown = refl; slices = All-nil (IsSlice (buffer_of before.part)) }) refl kept back
     (entered_frames numbers before.frames.items after.frames.items (Scope fail) block.top body block.block block.frames)
-        (enters froms ps fresh stands.places) (refl, refl) refl
+    (enters froms ps fresh stands.places) (refl, refl) refl
     (entered_acts before after old new label deadline one)
   where
     blocks : blocks_of after.frames.items ≡ blocks_of frames ++ a_scope ∷ []
@@ -117,9 +119,11 @@ chosen false ns ms = ms
 abbrev pub with_numbers : Numbers → ℕ → List ℕ → Numbers
 with_numbers numbers id ns key = chosen (key == id) ns (numbers key)
 
+-- the children of the nursery of that key have these numbers
 pub numbers_put : (numbers : Numbers) (id : ℕ) (ns : List ℕ) (key : ℕ) → key ≡ id → with_numbers numbers id ns key ≡ ns
 numbers_put numbers id ns key e = ap (λ (b : Bool). chosen b ns (numbers key)) (eq-eqb key id e)
 
+-- the children of every other nursery keep their numbers
 pub numbers_else : (numbers : Numbers) (id : ℕ) (ns : List ℕ) (key : ℕ) → key ≢ id → with_numbers numbers id ns key ≡ numbers key
 numbers_else numbers id ns key differs = by_key (key == id) refl
   where
@@ -135,7 +139,7 @@ onto_others numbers more (Steps steps ∷ fs) outer same = onto_others numbers m
 onto_others numbers more (Scope fail ∷ fs) outer same = onto_others numbers more fs (rest.in_scope fail ∷ outer) same
 onto_others numbers more (Nursery id ∷ fs) outer same =
     ap (λ (ns : List ℕ). frames_onto more fs (rest.in_nursery ns ∷ outer)) (same id (inl refl))
-        ∙ onto_others numbers more fs (rest.in_nursery (numbers id) ∷ outer)
+    ∙ onto_others numbers more fs (rest.in_nursery (numbers id) ∷ outer)
     (λ key h. same key (inr h))
 onto_others numbers more (Try handler cleanup ∷ fs) outer same =
     onto_others numbers more fs (frame_of numbers (Try handler cleanup) ∷ outer) same
@@ -153,23 +157,23 @@ pub took_nursery : (me : ℕ) (frames : List Frame) (before after : Task) (old n
     (stopped : Option Stopped) (ps : List Place)
     (label : Label)
     (body : tree.Steps) → Stands frames before old froms numbers stopped ps → blocks_of before.frames.items ≡ blocks_of frames →
-        (IsName label.name (names_at ps) → ⊥) →
+    (IsName label.name (names_at ps) → ⊥) →
     after ≡ record before { frames = after.frames; own = after.own; froms = after.froms } →
-        EntersNursery me before after old new label body →
+    EntersNursery me before after old new label body →
     new ≡ record old { scopes = new.scopes; labels = new.labels; book = new.book } →
-        EntersAt old new (scope_of before) (scope_of after) label false None →
+    EntersAt old new (scope_of before) (scope_of after) label false None →
     EntersOne before after old new label None → Took frames before after old new (On None) froms numbers
-        (enters_block label false None old.tick body (rest.in_nursery []) (frames_of numbers before.frames.items) ps)
+    (enters_block label false None old.tick body (rest.in_nursery []) (frames_of numbers before.frames.items) ps)
 took_nursery me frames before after old new froms numbers stopped ps label body stands same fresh stays n world enters one =
     record {
       numbers_after = more;
       frames_after =
           entered_frames more before.frames.items after.frames.items (Nursery n.id) n.frames.top body n.frames.block n.frames.frames
           ∙ ap (λ (ns : List ℕ). rest.steps_left body ∷ rest.in_nursery ns ∷ frames_of more before.frames.items)
-              (numbers_put numbers n.id [] n.id refl)
+          (numbers_put numbers n.id [] n.id refl)
           ∙ ap (λ (gs : List rest.Frame). rest.steps_left body ∷ rest.in_nursery [] ∷ gs)
           (frames_others numbers more before.frames.items (λ key has. else_where key
-              (subst (λ (bs : List Block). HasBlock key bs) same has)));
+          (subst (λ (bs : List Block). HasBlock key bs) same has)));
       places = enters froms ps fresh stands.places;
       moves = (refl, refl);
       entries = [];
@@ -181,7 +185,7 @@ took_nursery me frames before after old new froms numbers stopped ps label body 
       grow =
           λ key has m at.
           updated_has old.book new.book n.id (Some (opens n.scope me label)) key (λ x. x ≡ m) (λ x. Grown m x (numbers key) (more key))
-              n.stands
+          n.stands
           (λ is x found one. absurd (closed key x is found))
           (λ differs x found one.
           subst (λ (ns : List ℕ). Grown m x (numbers key) ns) (sym (numbers_else numbers n.id [] key differs))
@@ -220,7 +224,7 @@ took_nursery me frames before after old new froms numbers stopped ps label body 
     old_or_new : (key : ℕ) → HasNurseryOf key (blocks_of after.frames.items) None → HasBlock key (blocks_of frames) ⊎ ((key ≡ n.id) ⊎ ⊥)
     old_or_new key has =
         has_either key (blocks_of frames) (a_nursery n.id ∷ []) (subst (λ (bs : List Block). HasBlock key bs) blocks
-            (block_of key (blocks_of after.frames.items) None refl has))
+        (block_of key (blocks_of after.frames.items) None refl has))
 
     by_owned : (key : ℕ) → HasBlock key (blocks_of frames) ⊎ ((key ≡ n.id) ⊎ ⊥) →
         HasBlock key (blocks_of frames) ⊎ ((m : Members) → nursery_at old.book key ≡ Some m → IsOfOther before.own.items old.scopes m → ⊥)
@@ -233,7 +237,7 @@ took_nursery me frames before after old new froms numbers stopped ps label body 
     by_covered key place number (inl has) at = inl (has, subst (λ (ns : List ℕ). slice_get ns place ≡ Some number) (else_where key has) at)
     by_covered key place number (inr (inl is)) at =
         absurd (let e : None ≡ Some number = subst (λ (ns : List ℕ). slice_get ns place ≡ Some number) (numbers_put numbers n.id [] key is)
-            at in cc)
+        at in cc)
     by_covered key place number (inr (inr h)) at = absurd h
 
     Numbered : ℕ → Members → Type 0
@@ -242,11 +246,11 @@ took_nursery me frames before after old new froms numbers stopped ps label body 
     by_either : (key : ℕ) → HasBlock key (blocks_of frames) ⊎ ((key ≡ n.id) ⊎ ⊥) → HasNursery new.book key (Numbered key)
     by_either key (inl has) =
         updated_has old.book new.book n.id (Some (opens n.scope me label)) key (λ x. length (numbers key) ≡ length x.children)
-            (Numbered key) n.stands
+        (Numbered key) n.stands
         (λ is x found long. absurd (closed key x is found)) (λ differs x found long. ap (λ (ns : List ℕ). length ns) (else_where key has)
-            ∙ long) (stands.numbered key has)
+        ∙ long) (stands.numbered key has)
     by_either key (inr (inl is)) =
         subst (λ (o : Option Members). IsSomeAnd o (Numbered key)) (sym (ap (nursery_at new.book) is ∙ n.stands.changed))
-            (ap (λ (ns : List ℕ). length ns)
+        (ap (λ (ns : List ℕ). length ns)
         (numbers_put numbers n.id [] key is))
     by_either key (inr (inr h)) = absurd h

@@ -84,7 +84,7 @@ numbered_at first (suc k) i less = by_order (λ lt. numbered_at first k i lt) (n
     by_order inner false e =
         let same : i ≡ k = grind (arith, nat_tests) in
         got_behind (numbered first k) ((first + k) ∷ []) 0 i (let f = numbered_length first k in omega (arith, f, same))
-            ∙ ap (λ (n : ℕ). Some (first + n)) (sym same)
+        ∙ ap (λ (n : ℕ). Some (first + n)) (sym same)
 
 running_length : (k : ℕ) → length (running k) ≡ k
 running_length zero = refl
@@ -129,7 +129,7 @@ has_innermost : (fs gs : List Frame) (id : ℕ) (left : Bor (List Step)) → gs 
     HasBlock id (blocks_of gs)
 has_innermost fs gs id left e =
     subst (λ (bs : List Block). HasBlock id bs) (sym (entered_blocks fs gs (Nursery id) (Steps left) (steps_of left.now) refl e))
-        (has_last id (blocks_of fs) (a_nursery id ∷ [])
+    (has_last id (blocks_of fs) (a_nursery id ∷ [])
     (inl refl))
 
 -- its children have as many numbers
@@ -143,18 +143,19 @@ long_at (Some m) n ns e h = h ∙ ap (λ (x : Members). length x.children) (let 
 
 -- ---- any children that are started in the innermost nursery
 
+-- a task that starts children in the nursery whose body it is in makes the move in which they begin with these numbers
 pub took_starts : (frames fs : List Frame) (id : ℕ) (left : Bor (List Step)) (task : Task) (old new : World) (froms : Table)
     (numbers : Numbers) (stopped : Option Stopped)
     (ps : List Place)
     (n : Members) (ends : List End) (added : List ℕ) (tasks : List Task) (bs : List Begun) (made : List Event) →
-        Stands frames task old froms numbers stopped ps →
+    Stands frames task old froms numbers stopped ps →
     task.frames.items ≡ fs ++ Nursery id ∷ Steps left ∷ [] → blocks_of task.frames.items ≡ blocks_of frames →
-        (HasBlock id (blocks_of fs) → ⊥) →
+    (HasBlock id (blocks_of fs) → ⊥) →
     new ≡ record old { book = new.book; started = new.started } → nursery_at old.book id ≡ Some n →
-        Updates old.book new.book id (Some (record n { children = n.children ++ ends })) →
+    Updates old.book new.book id (Some (record n { children = n.children ++ ends })) →
     All (λ (e : End). e ≡ None) ends → length added ≡ length ends → new.started.items ≡ old.started.items ++ tasks →
     AreBegun (with_numbers numbers id (numbers id ++ added)) new.book (blocks_of task.frames.items) None tasks bs →
-        froms_after froms made ≡ froms →
+    froms_after froms made ≡ froms →
     shown_made (buffer_of task.part) made ≡ [] → Acts old.tick (scoping_of task old) made (scoping_of task new) →
     ((i number : ℕ) → slice_get added i ≡ Some number → BeginsAt id (length n.children + i) number tasks bs) →
     Took frames task task old new (On None) froms numbers
@@ -173,10 +174,10 @@ took_starts frames fs id left task old new froms numbers stopped ps n ends added
       frames_after =
           entered_frames more fs task.frames.items (Nursery id) (Steps left) (steps_of left.now) refl held
           ∙ ap (λ (ns : List ℕ). rest.steps_left (steps_of left.now) ∷ rest.in_nursery ns ∷ frames_of more fs)
-              (numbers_put numbers id (numbers id ++ added) id refl)
+          (numbers_put numbers id (numbers id ++ added) id refl)
           ∙ ap (λ (gs : List rest.Frame). rest.steps_left (steps_of left.now) ∷ rest.in_nursery (numbers id ++ added) ∷ gs)
           (frames_others numbers more fs (λ key has. numbers_else numbers id (numbers id ++ added) key
-              (λ is. apart (subst (λ (k : ℕ). HasBlock k (blocks_of fs)) is has))));
+          (λ is. apart (subst (λ (k : ℕ). HasBlock k (blocks_of fs)) is has))));
       places =
           subst (λ (f : Table). AreAt (label_at new) f (outer_of new.scopes (scope_of task)) ps) (sym quiet)
           (subst (λ (w : World). AreAt (label_at w) froms (outer_of w.scopes (scope_of task)) ps) (sym world) stands.places);
@@ -190,7 +191,7 @@ took_starts frames fs id left task old new froms numbers stopped ps n ends added
       grow =
           λ key has m at.
           updated_has old.book new.book id (Some (record n { children = n.children ++ ends })) key (λ x. x ≡ m)
-              (λ x. Grown m x (numbers key) (more key)) u
+          (λ x. Grown m x (numbers key) (more key)) u
           (λ is x found one. grown key is m (one_at n m (sym was ∙ ap (nursery_at old.book) (sym is) ∙ at)))
           (λ differs x found one.
           subst (λ (ns : List ℕ). Grown m x (numbers key) ns) (sym (numbers_else numbers id (numbers id ++ added) key differs))
@@ -200,10 +201,10 @@ took_starts frames fs id left task old new froms numbers stopped ps n ends added
       numbered =
           λ key has.
           updated_has old.book new.book id (Some (record n { children = n.children ++ ends })) key
-              (λ x. length (numbers key) ≡ length x.children) (λ x. length
+          (λ x. length (numbers key) ≡ length x.children) (λ x. length
           (more key) ≡ length x.children) u
           (λ is x found count. by_lengths key is (count ∙ ap (λ (y : Members). length y.children)
-              (one_at x n (sym found ∙ ap (nursery_at old.book) is ∙ was))))
+          (one_at x n (sym found ∙ ap (nursery_at old.book) is ∙ was))))
           (λ differs x found count. ap (λ (ns : List ℕ). length ns) (numbers_else numbers id (numbers id ++ added) key differs) ∙ count)
           (stands.numbered key (there key has));
       owned = λ key has. inl (there key has);
@@ -240,7 +241,7 @@ took_starts frames fs id left task old new froms numbers stopped ps n ends added
           there key has,
           subst (λ (ns : List ℕ). slice_get ns place ≡ Some number)
               (numbers_else numbers id (numbers id ++ added) key (λ is. absurd (let x : true ≡ false = sym (eq-eqb key id is) ∙ e in cc)))
-                  at,
+              at,
         )
     by_key key place number has at true e =
         by_part (got_either (numbers key) added place number (subst (λ (ns : List ℕ). slice_get ns place ≡ Some number) (put key is) at))
@@ -256,7 +257,7 @@ took_starts frames fs id left task old new froms numbers stopped ps n ends added
             (subst (λ (k : ℕ). BeginsAt k place number tasks bs) (sym is)
             (subst (λ (x : ℕ). BeginsAt id x number tasks bs)
             (sym (got.behind ∙ ap (λ (x : ℕ). x + got.place) (ap (λ (k : ℕ). length (numbers k)) is ∙ have_numbers)))
-                (begins got.place number got.got)))
+            (begins got.place number got.got)))
 
     grown : (key : ℕ) → key ≡ id → (m : Members) → n ≡ m → Grown m (record n { children = n.children ++ ends }) (numbers key) (more key)
     grown key is m one =
@@ -266,7 +267,7 @@ took_starts frames fs id left task old new froms numbers stopped ps n ends added
     by_lengths : (key : ℕ) → key ≡ id → length (numbers key) ≡ length n.children → length (more key) ≡ length (n.children ++ ends)
     by_lengths key is count =
         ap (λ (ns : List ℕ). length ns) (put key is) ∙ length-append (numbers key) added ∙ ap (λ (x : ℕ). x + length added) count
-            ∙ ap (λ (x : ℕ). length n.children + x) long
+        ∙ ap (λ (x : ℕ). length n.children + x) long
         ∙ sym (length-append n.children ends)
 
 -- a child that was started is the one that began, by its place
@@ -274,18 +275,23 @@ begun_child : (more : Numbers) (book : NurseryBook) (blocks : List Block) (waits
     (range : Range) (body : tree.Steps)
     (id i : ℕ)
     (n : Members) (ps : List Place) (number : ℕ) → IsChild task label input range body (home_at id n i) →
-        slice_get (more id) (length n.children + i) ≡ Some number →
+    slice_get (more id) (length n.children + i) ≡ Some number →
     HasNursery book id (λ m. (m.scope ≡ n.scope) × (slice_get m.children (length n.children + i) ≡ Some None)) → HasBlock id blocks →
-        AreModest body →
+    AreModest body →
     IsBegun more book blocks waits task (begun_one number (record { input = input; part = range; task = label; path = label.indices }) body
-        ps)
+    ps)
 begun_child more book blocks waits task label input range body id i n ps number c at scope has modest =
     record {
       here =
-          ap (λ (x : List ℕ). (let h : Here = record { input = x; part = range_of task.part; task = task.label; path =
-              task.label.indices } in h)) c.input_is
+          ap (λ (x : List ℕ). (let h : Here = record {
+            input = x;
+            part = range_of task.part;
+            task = task.label;
+            path =
+                task.label.indices;
+          } in h)) c.input_is
           ∙ ap (λ (x : Range). (let h : Here = record { input = input; part = x; task = task.label; path = task.label.indices } in h))
-              c.range_is
+          c.range_is
           ∙ ap (λ (x : Label). (let h : Here = record { input = input; part = range; task = x; path = x.indices } in h)) c.label_is;
       frames = c.frames;
       own = c.own;
@@ -305,27 +311,27 @@ pub took_start : (frames fs : List Frame) (id : ℕ) (left : Bor (List Step)) (t
     (numbers : Numbers) (stopped : Option Stopped)
     (ps : List Place)
     (name : List ℕ) (body : tree.Steps) (count : ℕ) → Stands frames task old froms numbers stopped ps →
-        task.frames.items ≡ fs ++ Nursery id ∷ Steps left ∷ [] →
+    task.frames.items ≡ fs ++ Nursery id ∷ Steps left ∷ [] →
     blocks_of task.frames.items ≡ blocks_of frames → (HasBlock id (blocks_of fs) → ⊥) →
-        new ≡ record old { book = new.book; started = new.started } →
+    new ≡ record old { book = new.book; started = new.started } →
     StartsOne old new id (record { name = name; indices = task.label.indices }) task.part body → AreModest body →
     Took frames task task old new (On None) froms numbers
     (step_on froms old.tick (here_of task) (tree.start name None body) (steps_of left.now)
-        (rest.in_nursery (numbers id) ∷ frames_of numbers fs) ps count)
+    (rest.in_nursery (numbers id) ∷ frames_of numbers fs) ps count)
 took_start frames fs id left task old new froms numbers stopped ps name body count stands held same apart world s modest =
     took_starts frames fs id left task old new froms numbers stopped ps s.nursery (None ∷ []) (count ∷ []) (s.task ∷ [])
     (begun_one count (here_in (label_here name (here_of task)) (range_of task.part) (here_of task)) body ps ∷ [])
-        (starts count (label_here name (here_of task)) old.tick ∷ [])
+    (starts count (label_here name (here_of task)) old.tick ∷ [])
     stands held same apart world s.was s.book (All-cons (λ (e : End). e ≡ None) None [] refl (All-nil (λ (e : End). e ≡ None))) refl
-        s.started (
+    s.started (
       begun_child more new.book (blocks_of task.frames.items) None s.task (label_here name (here_of task)) (buffer_of task.part)
           (range_of task.part) body id 0 s.nursery ps count s.child got
           (subst (λ (o : Option Members). IsSomeAnd o (λ m. (m.scope ≡ s.nursery.scope)
-              × (slice_get m.children (length s.nursery.children + 0) ≡ Some None)))
+          × (slice_get m.children (length s.nursery.children + 0) ≡ Some None)))
           (sym s.book.changed) (refl, got_behind s.nursery.children (None ∷ []) 0 (length s.nursery.children + 0) refl)) has modest,
       tt,
     ) refl refl (start_acts old.tick count (label_here name (here_of task)) old.tick (scoping_of task old) (scoping_of task new)
-        (ap (λ (w : World). scoping_of task w) world)) begins
+    (ap (λ (w : World). scoping_of task w) world)) begins
   where
     more : Numbers
     more = with_numbers numbers id (numbers id ++ count ∷ [])
@@ -339,9 +345,11 @@ took_start frames fs id left task old new froms numbers stopped ps name body cou
 
     begins : (i number : ℕ) → slice_get (count ∷ []) i ≡ Some number →
         BeginsAt id (length s.nursery.children + i) number (s.task ∷ [])
-            (begun_one count (here_in (label_here name (here_of task)) (range_of task.part) (here_of task)) body ps ∷ [])
-    begins zero number e = inl (ap (λ (h : Option Home). home_in h) s.child.home_is,
-        (let f : Some count ≡ Some number = e in one_number count number f))
+        (begun_one count (here_in (label_here name (here_of task)) (range_of task.part) (here_of task)) body ps ∷ [])
+    begins zero number e = inl (
+      ap (λ (h : Option Home). home_in h) s.child.home_is,
+      (let f : Some count ≡ Some number = e in one_number count number f),
+    )
     begins (suc i) number e = absurd (let f : None ≡ Some number = e in cc)
 
     got : slice_get (more id) (length s.nursery.children + 0) ≡ Some count
@@ -360,7 +368,7 @@ over_unshown : (input name : List ℕ) (here : Here) (t first k : ℕ) → shown
 over_unshown input name here t first zero = refl
 over_unshown input name here t first (suc k) =
     shown_append input (starts_over name here t first k) (starts (first + k) (label_over name here k) t ∷ [])
-        ∙ append-nil (shown_made input (starts_over name here t first k))
+    ∙ append-nil (shown_made input (starts_over name here t first k))
     ∙ over_unshown input name here t first k
 
 -- as many tasks as children begun
@@ -405,16 +413,16 @@ begun_first : (more : Numbers) (book : NurseryBook) (blocks : List Block) (waits
     (ps : List Place)
     (first : ℕ) → ((i : ℕ) → i < k → slice_get (more id) (length n.children + i) ≡ Some (first + i)) →
     ((i : ℕ) → i < k → HasNursery book id (λ m. (m.scope ≡ n.scope) × (slice_get m.children (length n.children + i) ≡ Some None))) →
-        HasBlock id blocks →
+    HasBlock id blocks →
     AreModest body → (i : ℕ) → i ≤ k → (tasks : List Task) → AreChildren self id n name k body tasks i →
-        AreBegun more book blocks waits tasks (begun_over name (here_of self) k body ps first i)
+    AreBegun more book blocks waits tasks (begun_over name (here_of self) k body ps first i)
 begun_first more book blocks waits self id n name k body ps first got scope has modest zero few tasks c =
     subst (λ (ts : List Task). AreBegun more book blocks waits ts []) (sym c) tt
 begun_first more book blocks waits self id n name k body ps first got scope has modest (suc i) few tasks c =
     subst (λ (ts : List Task). AreBegun more book blocks waits ts (begun_over name (here_of self) k body ps first (suc i))) (sym c.2)
     (begun_more more book blocks waits c.0 (c.1 ∷ []) (begun_over name (here_of self) k body ps first i)
     (begun_one (first + i) (here_in (label_over name (here_of self) i) (cut_of (buffer_of self.part) (range_of self.part) k i)
-        (here_of self)) body ps ∷ [])
+    (here_of self)) body ps ∷ [])
     (begun_first more book blocks waits self id n name k body ps first got scope has modest i (omega (arith, few)) c.0 c.3) (
       begun_child more book blocks waits c.1 (label_over name (here_of self) i) (buffer_of self.part)
           (cut_of (buffer_of self.part) (range_of self.part) k i) body id i n ps
@@ -431,9 +439,9 @@ begins_over : (self : Task) (id : ℕ) (n : Members) (name : List ℕ) (k : ℕ)
 begins_over self id n name k body ps first zero tasks c at number e = absurd (let f : None ≡ Some number = e in cc)
 begins_over self id n name k body ps first (suc i) tasks c at number e =
     subst (λ (ts : List Task). BeginsAt id (length n.children + at) number ts (begun_over name (here_of self) k body ps first (suc i)))
-        (sym c.2)
+    (sym c.2)
     (by_part (λ got. begins_over self id n name k body ps first i c.0 c.3 at number got)
-        (got_either (numbered first i) ((first + i) ∷ []) at number e))
+    (got_either (numbered first i) ((first + i) ∷ []) at number e))
   where
     last : Begun
     last = begun_one (first + i) (here_in (label_over name (here_of self) i) (cut_of (buffer_of self.part) (range_of self.part) k i)
@@ -465,27 +473,27 @@ pub took_start_over : (frames fs : List Frame) (id : ℕ) (left : Bor (List Step
     (numbers : Numbers) (stopped : Option Stopped)
     (ps : List Place)
     (name : List ℕ) (k : ℕ) (body : tree.Steps) (count : ℕ) → Stands frames task old froms numbers stopped ps →
-        task.frames.items ≡ fs ++ Nursery id ∷ Steps left ∷ [] →
+    task.frames.items ≡ fs ++ Nursery id ∷ Steps left ∷ [] →
     blocks_of task.frames.items ≡ blocks_of frames → (HasBlock id (blocks_of fs) → ⊥) →
-        new ≡ record old { book = new.book; started = new.started } →
+    new ≡ record old { book = new.book; started = new.started } →
     StartsOver task old new id name k body k → AreModest body →
     Took frames task task old new (On None) froms numbers
     (step_on froms old.tick (here_of task) (tree.start name (Some k) body) (steps_of left.now)
-        (rest.in_nursery (numbers id) ∷ frames_of numbers fs) ps count)
+    (rest.in_nursery (numbers id) ∷ frames_of numbers fs) ps count)
 took_start_over frames fs id left task old new froms numbers stopped ps name k body count stands held same apart world s modest =
     took_starts frames fs id left task old new froms numbers stopped ps s.nursery (running k) (numbered count k) s.tasks
-        (begun_over name (here_of task) k body ps count k)
+    (begun_over name (here_of task) k body ps count k)
     (starts_over name (here_of task) old.tick count k) stands held same apart world s.was s.book (all_running k)
-        (numbered_length count k ∙ sym (running_length k)) s.started
+    (numbered_length count k ∙ sym (running_length k)) s.started
     (begun_first more new.book (blocks_of task.frames.items) None task id s.nursery name k body ps count got
     (λ i less.
     subst (λ (o : Option Members). IsSomeAnd o (λ m. (m.scope ≡ s.nursery.scope)
-        × (slice_get m.children (length s.nursery.children + i) ≡ Some None)))
+    × (slice_get m.children (length s.nursery.children + i) ≡ Some None)))
     (sym s.book.changed) (refl, got_behind s.nursery.children (running k) i (length s.nursery.children + i) refl ∙ running_at k i less))
     has modest k (omega arith) s.tasks s.children)
     (over_froms name (here_of task) old.tick count k froms) (over_unshown (buffer_of task.part) name (here_of task) old.tick count k)
     (starts_acts old.tick name (here_of task) old.tick count k (scoping_of task old) (scoping_of task new)
-        (ap (λ (w : World). scoping_of task w) world))
+    (ap (λ (w : World). scoping_of task w) world))
     (begins_over task id s.nursery name k body ps count k s.tasks s.children)
   where
     more : Numbers
@@ -502,4 +510,4 @@ took_start_over frames fs id left task old new froms numbers stopped ps name k b
     got i less =
         ap (λ (ns : List ℕ). slice_get ns (length s.nursery.children + i)) (numbers_put numbers id (numbers id ++ numbered count k) id refl)
         ∙ got_behind (numbers id) (numbered count k) i (length s.nursery.children + i) (ap (λ (x : ℕ). x + i) (sym long))
-            ∙ numbered_at count k i less
+        ∙ numbered_at count k i less

@@ -56,18 +56,18 @@ pub took_settled : (frames : List Frame) (id : ℕ) (before after : Task) (old m
     (earlier : Option Exc) (exc goes : Option held.Exc)
     (froms : Table)
     (numbers : Numbers) (ps : List Place) → Stands frames before old froms numbers (Some (awaiting kids ended earlier)) ps →
-        before.frames.items ≡ frames →
+    before.frames.items ≡ frames →
     (HasBlock id (blocks_of frames) → ⊥) →
     mid ≡ record old { book = mid.book } → Updates old.book mid.book id None →
-        after ≡ record before { own = after.own; froms = after.froms; entries = after.entries } →
+    after ≡ record before { own = after.own; froms = after.froms; entries = after.entries } →
     new ≡ record mid { scopes = new.scopes; labels = new.labels } →
-        ExitsAt before after mid new kind.Nursery (option_map exc_of exc) (option_map exc_of goes) →
+    ExitsAt before after mid new kind.Nursery (option_map exc_of exc) (option_map exc_of goes) →
     LeavesOne before after mid new → ((n : Members) → nursery_at old.book id ≡ Some n → IsOfOther before.own.items old.scopes n → ⊥) →
     Took frames before after old new (On goes) froms numbers (settled froms old.tick (option_map exc_of exc) (frames_of numbers frames) ps)
 took_settled frames id before after old mid new kids ended earlier exc goes froms numbers ps stands held apart closed u stays world exits
     one mine =
     by_wait (λ (qs : List Place). Took frames before after old new (On goes) froms numbers (settled froms old.tick e gs qs)) kids ended
-        earlier gs ps stands.placed at_place
+    earlier gs ps stands.placed at_place
   where
     e : Option Exc
     e = option_map exc_of exc
@@ -91,28 +91,28 @@ took_settled frames id before after old mid new kids ended earlier exc goes from
         (leaves froms old.tick meaning.a_nursery gs p qs e)
     at_place p qs f =
         let x = exits_old froms p qs (subst (λ (rs : List Place). AreAt (label_at old) froms (outer_of old.scopes (scope_of before)) rs) f
-            stands.places) in
+        stands.places) in
         subst (λ (fs : List Frame). Took frames before after old new (On goes) froms numbers
-            (leaves froms old.tick meaning.a_nursery (frames_of numbers fs) p qs e)) left
+        (leaves froms old.tick meaning.a_nursery (frames_of numbers fs) p qs e)) left
         (took_leaves frames before after old new meaning.a_nursery e goes froms numbers p qs
         (record { exc = x.exc; entry = x.entry; entries = x.entries; shown = x.shown; round = x.round })
         (ap (λ (w : World). w.started.items) world ∙ ap (λ (w : World). w.started.items) closed)
         (λ key has n at.
         updated_has old.book new.book id None key (λ m. m ≡ n) (λ m. Grown n m (numbers key) (numbers key)) ended_there
-            (λ is m found one. absurd (differs key has is))
+        (λ is m found one. absurd (differs key has is))
         (λ other m found one. subst (λ (y : Members). Grown y m (numbers key) (numbers key)) one (not_grown m (numbers key)))
-            (is_at (nursery_at old.book key) n at))
+        (is_at (nursery_at old.book key) n at))
         (λ key has. subst (λ (fs : List Frame). HasBlock key (blocks_of fs)) (sym left) has)
         (λ key has. subst (λ (fs : List Frame). HasBlock key (blocks_of fs)) left has)
         (λ key has.
         let there : HasBlock key (blocks_of frames) = subst (λ (fs : List Frame). HasBlock key (blocks_of fs)) left has in
         updated_has old.book new.book id None key (λ n. length (numbers key) ≡ length n.children)
-            (λ n. length (numbers key) ≡ length n.children) ended_there
+        (λ n. length (numbers key) ≡ length n.children) ended_there
         (λ is m found long. absurd (differs key there is)) (λ other m found long. long) (stands.numbered key there))
         (λ key n at out other. ended_there.others key (λ is. absurd (mine n (ap (nursery_at old.book) (sym is) ∙ at) other)) ∙ at)
         (λ entry.
         subst (λ (w : World). Acts w.tick (scoping_of before w) (rest.noted old.tick entry ∷ []) (scoping_of after new)) closed
-            (left_acts before after mid new old.tick entry one)))
+        (left_acts before after mid new old.tick entry one)))
 
 -- ---- lines that a kernel answers
 
@@ -126,20 +126,20 @@ lines_shown input t [] a = refl
 lines_shown input t (l ∷ lines) a =
     ap (λ (x : List ℕ). line_shown (span_of l).at x ∷ map entry_of (map entries.Line lines)) (All-head (IsLineOf input) l lines a).text
     ∙ ap (λ (xs : List Shown). line_shown (span_of l).at (text_of input (span_of l)) ∷ xs)
-        (lines_shown input t lines (All-tail (IsLineOf input) l lines a))
+    (lines_shown input t lines (All-tail (IsLineOf input) l lines a))
 
 lines_slices : (input : List ℕ) (lines : List Line) → All (IsLineOf input) lines → All (IsSlice input) (map entries.Line lines)
 lines_slices input [] a = All-nil (IsSlice input)
 lines_slices input (l ∷ lines) a =
     All-cons (IsSlice input) (entries.Line l) (map entries.Line lines) (All-head (IsLineOf input) l lines a)
-        (lines_slices input lines (All-tail (IsLineOf input) l lines a))
+    (lines_slices input lines (All-tail (IsLineOf input) l lines a))
 
 -- the task notes them, and goes on
 pub took_lines : (frames : List Frame) (before after : Task) (world : World) (froms : Table) (numbers : Numbers) (stopped : Option Stopped)
     (ps : List Place) (spans : List Span)
     (lines : List Line) →
     Stands frames before world froms numbers stopped ps → before.frames.items ≡ frames →
-        after ≡ record before { halt = after.halt; entries = after.entries } →
+    after ≡ record before { halt = after.halt; entries = after.entries } →
     after.entries.items ≡ before.entries.items ++ map entries.Line lines → AreLinesAt (buffer_of before.part) spans lines →
     Took frames before after world world (On None) froms numbers (making (lines_made world.tick spans) (frames_of numbers frames) ps)
 took_lines frames before after world froms numbers stopped ps spans lines stands held stays noted at =
@@ -152,13 +152,13 @@ took_lines frames before after world froms numbers stopped ps spans lines stands
       slices = lines_slices (buffer_of before.part) lines at.texts;
     })
     refl (λ id has. inl (subst (λ (fs : List Frame). HasBlock id (blocks_of fs)) (sym left) has))
-        (λ id has. subst (λ (fs : List Frame). HasBlock id (blocks_of fs)) left has)
+    (λ id has. subst (λ (fs : List Frame). HasBlock id (blocks_of fs)) left has)
     (ap (frames_of numbers) left)
     (subst (λ (f : Table). AreAt (label_at world) f (outer_of world.scopes (scope_of after)) ps) (sym (lines_quiet world.tick spans froms))
     (subst (λ (s : Option ℕ). AreAt (label_at world) froms (outer_of world.scopes s) ps) (sym (ap (λ (t : Task). scope_of t) stays))
-        stands.places))
+    stands.places))
     (refl, refl) refl (lines_acts world.tick world.tick spans (scoping_of before world) (scoping_of after world)
-        (ap (λ (t : Task). scoping_of t world) stays))
+    (ap (λ (t : Task). scoping_of t world) stays))
   where
     left : after.frames.items ≡ frames
     left = ap (λ (t : Task). t.frames.items) stays ∙ held

@@ -20,8 +20,13 @@ use Rattle.task_machine.proofs.Taking.{took_nothing, goes_and_stands}
 -- so many steps of a turn of a task with these frames
 abbrev pub so_many : ℕ → Task → World → Option Exc → Table → Numbers → List Place → ℕ → Move
 so_many n task world exc froms numbers ps count =
-    turn_of n froms world.tick (here_of task) (record { frames = frames_of numbers task.frames.items; places = ps; exc = exc; count =
-        count })
+    turn_of n froms world.tick (here_of task) (record {
+      frames = frames_of numbers task.frames.items;
+      places = ps;
+      exc = exc;
+      count =
+          count;
+    })
 
 -- a task went on by some steps, and stands there
 pub record GoneOn (before after : Task) (old new : World) (first : Option Exc) (exc : Option held.Exc) (froms : Table) (numbers : Numbers)
@@ -30,7 +35,7 @@ pub record GoneOn (before after : Task) (old new : World) (first : Option Exc) (
   pub took : Took before.frames.items before after old new (On exc) froms numbers (so_many steps before old first froms numbers ps count)
   pub stands :
       Stands after.frames.items after new (froms_after froms (so_many steps before old first froms numbers ps count).made)
-          took.numbers_after None (so_many steps before old first froms numbers ps count).places
+      took.numbers_after None (so_many steps before old first froms numbers ps count).places
 
 -- one step more
 pub record MoreGone (before after : Task) (old new : World) (first : Option Exc) (goes : Moved) (froms : Table) (numbers : Numbers)
@@ -38,27 +43,37 @@ pub record MoreGone (before after : Task) (old new : World) (first : Option Exc)
   pub took : Took before.frames.items before after old new goes froms numbers (so_many n before old first froms numbers ps count)
   pub stands :
       Stands after.frames.items after new (froms_after froms (so_many n before old first froms numbers ps count).made) took.numbers_after
-          (so_many n before old first froms numbers ps count).stopped
+      (so_many n before old first froms numbers ps count).stopped
       (so_many n before old first froms numbers ps count).places
 
+-- a task that went on by some steps of a turn and makes one more went so many and one
 pub goes_further : (before mid after : Task) (old w new : World) (first : Option Exc) (exc : Option held.Exc) (goes : Moved) (froms : Table)
     (numbers : Numbers) (ps : List Place) (count : ℕ) →
     mid.part ≡ before.part → mid.label ≡ before.label → w.tick ≡ old.tick → (g : GoneOn before mid old w first exc froms numbers ps count) →
-        StepsAs mid after w new (option_map exc_of exc) goes →
+    StepsAs mid after w new (option_map exc_of exc) goes →
     MoreGone before after old new first goes froms numbers ps count (suc g.steps)
 goes_further before mid after old w new first exc goes froms numbers ps count part label tick g step =
     let o = so_many g.steps before old first froms numbers ps count in
     let second = step (froms_after froms o.made) g.took.numbers_after o.places (count + length o.begun) g.stands in
     let both =
     goes_and_stands g.steps before.frames.items before mid after old w new exc goes froms numbers old.tick (here_of before) ps count first
-        g.took g.stands part tick
+    g.took g.stands part tick
     (subst (λ (t : ℕ). Took mid.frames.items mid after w new goes (froms_after froms o.made) g.took.numbers_after
-        (step_of (froms_after froms o.made) t (here_of before) (record
-        { frames = frames_of g.took.numbers_after mid.frames.items; places = o.places; exc = option_map exc_of exc; count =
-        count + length o.begun }))) tick
+    (step_of (froms_after froms o.made) t (here_of before) (record {
+      frames = frames_of g.took.numbers_after mid.frames.items;
+      places = o.places;
+      exc = option_map exc_of exc;
+      count =
+          count + length o.begun;
+    }))) tick
     (subst (λ (h : Here). Took mid.frames.items mid after w new goes (froms_after froms o.made) g.took.numbers_after
-        (step_of (froms_after froms o.made) w.tick h (record { frames = frames_of g.took.numbers_after mid.frames.items; places =
-        o.places; exc = option_map exc_of exc; count = count + length o.begun }))) here second)) in
+    (step_of (froms_after froms o.made) w.tick h (record {
+      frames = frames_of g.took.numbers_after mid.frames.items;
+      places =
+          o.places;
+      exc = option_map exc_of exc;
+      count = count + length o.begun;
+    }))) here second)) in
     record { took = both.0; stands = both.1 }
   where
     here : here_of mid ≡ here_of before
@@ -75,7 +90,7 @@ goes_on before after old new first exc froms numbers ps count n m =
       stands =
           subst
           (λ s. Stands after.frames.items after new (froms_after froms (so_many n before old first froms numbers ps count).made)
-              m.took.numbers_after s (so_many n before old first froms numbers ps count).places)
+          m.took.numbers_after s (so_many n before old first froms numbers ps count).places)
           m.took.moves.1 m.stands;
     }
 

@@ -47,6 +47,7 @@ use Rattle.task_machine.proofs.Advances.{stands_as, took_as}
 
 -- ---- where a task stopped, by what it goes on with
 
+-- a task that goes on with what it asked a kernel stopped to ask that, for the same purpose
 pub halts_asked : (numbers : Numbers) (book : NurseryBook) (kernel : Kernel) (purpose : Purpose) (stopped : Stopped) →
     IsHalt numbers book (Asked kernel purpose) stopped →
     stopped ≡ asking (kernel_in kernel) (purpose_in purpose)
@@ -63,6 +64,7 @@ pub record AwaitsSo (numbers : Numbers) (book : NurseryBook) (id since : ℕ) (s
   pub is : stopped ≡ awaiting (numbers id) since exc
   pub body : HasNursery book id (λ n. n.body ≡ Some exc)
 
+-- a task that goes on when a nursery is settled stopped to wait for its children
 pub halts_awaits : (numbers : Numbers) (book : NurseryBook) (id since : ℕ) (stopped : Stopped) →
     IsHalt numbers book (Awaits id since) stopped → AwaitsSo numbers book id since stopped
 halts_awaits numbers book id since to_begin h = absurd h
@@ -78,7 +80,7 @@ halts_awaits numbers book id since (at_end u e) h = absurd h
 stands_taken : (frames : List Frame) (task before : Task) (world : World) (froms : Table) (numbers : Numbers) (stopped : Option Stopped)
     (ps : List Place) →
     before ≡ record task { halt = before.halt } → Stands frames task world froms numbers stopped ps →
-        Stands frames before world froms numbers stopped ps
+    Stands frames before world froms numbers stopped ps
 stands_taken frames task before world froms numbers stopped ps same stands =
     stands_as frames task before world froms numbers stopped ps (ap (λ (t : Task). scope_of t) same) stands
 
@@ -88,21 +90,21 @@ took_taken : (frames : List Frame) (task before after : Task) (old new : World) 
     Took frames before after old new goes froms numbers o → Took frames task after old new goes froms numbers o
 took_taken frames task before after old new goes froms numbers o same took =
     took_as frames task before after old new goes froms numbers o (ap (λ (t : Task). t.part) same) (ap (λ (t : Task). t.entries.items) same)
-        (ap (λ (t : Task). scoping_of t old) same) took
+    (ap (λ (t : Task). scoping_of t old) same) took
 
 -- a wake that goes on, with that exception or well, wherever the task stopped
 wakes_onward : (task after : Task) (world : World) (exc : Option held.Exc) (w : Wake) → after ≡ record task { halt = after.halt } →
     ((froms : Table) (numbers : Numbers) (stopped : Stopped) (fs : List rest.Frame) (ps : List Place) →
-        IsHalt numbers world.book task.halt stopped →
+    IsHalt numbers world.book task.halt stopped →
     wake_of froms world.tick (here_of task) w stopped fs ps ≡ onward fs ps (option_map exc_of exc)) →
-        Wakens task after world world (On exc) w
+    Wakens task after world world (On exc) w
 wakes_onward task after world exc w stays is froms numbers stopped ps stands halt =
     subst (λ (o : Move). Took task.frames.items task after world world (On exc) froms numbers o)
-        (sym (is froms numbers stopped (frames_of numbers task.frames.items) ps halt))
+    (sym (is froms numbers stopped (frames_of numbers task.frames.items) ps halt))
     (took_halts task.frames.items task after world (On exc) froms numbers (Some stopped) ps
-        (onward (frames_of numbers task.frames.items) ps (option_map exc_of exc)) stands
+    (onward (frames_of numbers task.frames.items) ps (option_map exc_of exc)) stands
     (stays ∙ ap (λ (t : Task). record task { frames = t.frames; halt = after.halt }) (sym stays))
-        (ap (λ (t : Task). blocks_of t.frames.items) stays)
+    (ap (λ (t : Task). blocks_of t.frames.items) stays)
     (ap (λ (t : Task). frames_of numbers t.frames.items) (sym stays)) refl refl refl tt (refl, refl))
 
 -- it begins
@@ -130,7 +132,7 @@ answered_as : (task : Task) (world : World) (froms : Table) (numbers : Numbers) 
     (answer : ask.Answer) →
     task.halt ≡ Asked kernel purpose → IsHalt numbers world.book task.halt stopped →
     wake_of froms world.tick (here_of task) (has_answer answer) stopped fs ps
-        ≡ goes_on_with froms world.tick (here_of task) answer (purpose_in purpose) fs ps
+    ≡ goes_on_with froms world.tick (here_of task) answer (purpose_in purpose) fs ps
 answered_as task world froms numbers stopped fs ps kernel purpose answer asked h =
     ap (λ (s : Stopped). wake_of froms world.tick (here_of task) (has_answer answer) s fs ps)
     (halts_asked numbers world.book kernel purpose stopped (subst (λ (x : Halt). IsHalt numbers world.book x stopped) asked h))
@@ -140,7 +142,7 @@ pub wakes_answered : (task after : Task) (world : World) (kernel : Kernel) (purp
     after ≡ record task { halt = after.halt } →
     task.halt ≡ Asked kernel purpose →
     ((froms : Table) (fs : List rest.Frame) (ps : List Place) → goes_on_with froms world.tick (here_of task) answer (purpose_in purpose) fs
-        ps ≡ onward fs ps None) →
+    ps ≡ onward fs ps None) →
     Wakens task after world world (On None) (has_answer answer)
 wakes_answered task after world kernel purpose answer stays asked is =
     wakes_onward task after world None (has_answer answer) stays
@@ -152,7 +154,7 @@ pub wakes_missing : (task before after : Task) (world : World) (goes : Moved) (k
     task.halt ≡ Asked kernel purpose → purpose_in purpose ≡ ask.needs name → after ≡ record before { halt = after.halt } →
     ((numbers : Numbers) (book : NurseryBook) (fs : List rest.Frame) (ps : List Place) →
     MovesAs numbers book before.part goes after.halt (onward fs ps (Some (raised name before.label world.tick)))) →
-        Wakens task after world world goes (has_answer ask.missing)
+    Wakens task after world world goes (has_answer ask.missing)
 wakes_missing task before after world goes kernel purpose name taken asked for_name stays raises froms numbers stopped ps stands halt =
     let gs = frames_of numbers task.frames.items in
     subst (λ (o : Move). Took task.frames.items task after world world goes froms numbers o)
@@ -160,14 +162,14 @@ wakes_missing task before after world goes kernel purpose name taken asked for_n
     ∙ ap (λ (p : ask.Purpose). goes_on_with froms world.tick (here_of task) ask.missing p gs ps) for_name
     ∙ ap (λ (t : Task). onward gs ps (Some (raised name t.label world.tick))) (sym taken)))
     (took_taken task.frames.items task before after world world goes froms numbers
-        (onward gs ps (Some (raised name before.label world.tick))) taken
+    (onward gs ps (Some (raised name before.label world.tick))) taken
     (took_halts task.frames.items before after world goes froms numbers (Some stopped) ps
-        (onward gs ps (Some (raised name before.label world.tick)))
+    (onward gs ps (Some (raised name before.label world.tick)))
     (stands_taken task.frames.items task before world froms numbers (Some stopped) ps taken stands)
     (stays ∙ ap (λ (t : Task). record before { frames = t.frames; halt = after.halt }) (sym stays))
     (ap (λ (t : Task). blocks_of t.frames.items) stays ∙ ap (λ (t : Task). blocks_of t.frames.items) taken)
     (sym (ap (λ (t : Task). frames_of numbers t.frames.items) stays ∙ ap (λ (t : Task). frames_of numbers t.frames.items) taken)) refl refl
-        refl tt
+    refl tt
     (raises numbers world.book gs ps)))
 
 -- lines were counted to sleep by
@@ -175,9 +177,9 @@ pub wakes_counted : (task before after : Task) (world : World) (goes : Moved) (k
     before ≡ record task { halt = before.halt } →
     task.halt ≡ Asked kernel purpose → purpose_in purpose ≡ ask.paces k → ticks ≡ paced n k → after ≡ record before { halt = after.halt } →
     ((froms : Table) (numbers : Numbers) (book : NurseryBook) (fs : List rest.Frame) (ps : List Place) →
-        AreAt (label_at world) froms (outer_of world.scopes (scope_of before)) ps →
+    AreAt (label_at world) froms (outer_of world.scopes (scope_of before)) ps →
     MovesAs numbers book before.part goes after.halt (sleeps froms ticks world.tick fs ps)) →
-        Wakens task after world world goes (has_answer (ask.counted n))
+    Wakens task after world world goes (has_answer (ask.counted n))
 wakes_counted task before after world goes kernel purpose k n ticks taken asked by_count long stays sleep froms numbers stopped ps stands
     halt =
     let gs = frames_of numbers task.frames.items in
@@ -185,20 +187,20 @@ wakes_counted task before after world goes kernel purpose k n ticks taken asked 
     (sym (answered_as task world froms numbers stopped gs ps kernel purpose (ask.counted n) asked halt
     ∙ ap (λ (p : ask.Purpose). goes_on_with froms world.tick (here_of task) (ask.counted n) p gs ps) by_count
     ∙ ap (λ (x : ℕ). sleeps froms x world.tick gs ps) (sym long)
-        ∙ ap (λ (t : Task). sleeps froms ticks world.tick (frames_of numbers t.frames.items) ps) (sym taken)))
+    ∙ ap (λ (t : Task). sleeps froms ticks world.tick (frames_of numbers t.frames.items) ps) (sym taken)))
     (took_taken task.frames.items task before after world world goes froms numbers
-        (sleeps froms ticks world.tick (frames_of numbers before.frames.items) ps) taken
+    (sleeps froms ticks world.tick (frames_of numbers before.frames.items) ps) taken
     (took_sleep task.frames.items before after world goes froms numbers (Some stopped) ps ticks
-        (stands_taken task.frames.items task before world froms numbers
+    (stands_taken task.frames.items task before world froms numbers
     (Some stopped) ps taken stands) stays
     (ap (λ (t : Task). blocks_of t.frames.items) taken) (λ at. sleep froms numbers world.book (frames_of numbers before.frames.items) ps
-        at)))
+    at)))
 
 -- lines were found: it notes them
 pub wakes_lines : (task before after : Task) (world : World) (kernel : Kernel) (purpose : Purpose) (spans : List Span) (lines : List Line) →
     before ≡ record task { halt = before.halt } →
     task.halt ≡ Asked kernel purpose → after ≡ record before { halt = after.halt; entries = after.entries } →
-        after.entries.items ≡ before.entries.items ++ map entries.Line lines →
+    after.entries.items ≡ before.entries.items ++ map entries.Line lines →
     AreLinesAt (buffer_of before.part) spans lines → Wakens task after world world (On None) (has_answer (ask.lines spans))
 wakes_lines task before after world kernel purpose spans lines taken asked stays noted at froms numbers stopped ps stands halt =
     let gs = frames_of numbers task.frames.items in
@@ -206,7 +208,7 @@ wakes_lines task before after world kernel purpose spans lines taken asked stays
     (sym (answered_as task world froms numbers stopped gs ps kernel purpose (ask.lines spans) asked halt))
     (took_taken task.frames.items task before after world world (On None) froms numbers (making (lines_made world.tick spans) gs ps) taken
     (took_lines task.frames.items before after world froms numbers (Some stopped) ps spans lines
-        (stands_taken task.frames.items task before world froms numbers
+    (stands_taken task.frames.items task before world froms numbers
     (Some stopped) ps taken stands)
     (ap (λ (t : Task). t.frames.items) taken) stays noted at))
 
@@ -218,15 +220,15 @@ pub wakes_settled : (id since : ℕ) (task before after : Task) (old mid new : W
     task.halt ≡ Awaits id since →
     (HasBlock id (blocks_of task.frames.items) → ⊥) → mid ≡ record old { book = mid.book } → Updates old.book mid.book id None →
     after ≡ record before { own = after.own; froms = after.froms; entries = after.entries } →
-        new ≡ record mid { scopes = new.scopes; labels = new.labels } →
+    new ≡ record mid { scopes = new.scopes; labels = new.labels } →
     ExitsAt before after mid new kind.Nursery (option_map exc_of exc) (option_map exc_of goes) → LeavesOne before after mid new →
     ((n : Nursery) → nursery_at old.book id ≡ Some n → IsOfOther before.own.items old.scopes n → ⊥) →
-        Wakens task after old new (On goes) (settles (option_map exc_of exc))
+    Wakens task after old new (On goes) (settles (option_map exc_of exc))
 wakes_settled id since task before after old mid new exc goes taken waits apart closed u stays world exits one mine froms numbers stopped ps
     stands halt =
     let w = halts_awaits numbers old.book id since stopped (subst (λ (x : Halt). IsHalt numbers old.book x stopped) waits halt) in
     took_taken task.frames.items task before after old new (On goes) froms numbers
-        (settled froms old.tick (option_map exc_of exc) (frames_of numbers task.frames.items) ps) taken
+    (settled froms old.tick (option_map exc_of exc) (frames_of numbers task.frames.items) ps) taken
     (took_settled task.frames.items id before after old mid new (numbers id) since w.exc exc goes froms numbers ps
     (stands_taken task.frames.items task before old froms numbers (Some (awaiting (numbers id) since w.exc)) ps taken
     (subst (λ (s : Stopped). Stands task.frames.items task old froms numbers (Some s) ps) w.is stands))

@@ -22,6 +22,7 @@ use Rattle.line_kernels.specs.declared.kernel.Kernel.TheVariants.{Find, Head, Lo
 count_le : (input : List ℕ) (r : Range) → count_in input r ≤ length (bytes_of input r)
 count_le input r = length-lines_from r.from (bytes_of input r)
 
+-- a count of the lines of a part that is not too long is no greater than the longest input
 pub count_few : (kernel : Kernel) (part : Part) (n : ℕ) → length (bytes_of (buffer_of part) (range_of part)) ≤ MOST_INPUT →
     IsAnswer kernel part (answers.Count n) → n ≤ MOST_INPUT
 count_few (Find needle) part n small a = absurd a
@@ -49,6 +50,7 @@ lines_at (Need needle) part lines a = by_line (needed_in (buffer_of part) needle
     by_line (Some l) a = record { places = refl; texts = a.texts }
 lines_at Count part lines a = absurd a
 
+-- how long a `pace` sleeps: the count divided by the lines of a tick, rounded up
 pub paced_is : (n k : ℕ) → 1 ≤ k → (n + (k - 1)) / k ≡ paced n k
 paced_is n zero le = absurd (omega (arith, le))
 paced_is n (suc j) le = (let e : suc j - 1 ≡ j = omega arith in ap (λ (x : ℕ). (n + x) / suc j) e)

@@ -85,29 +85,30 @@ can_wake Over part book numbers Settled s f h = absurd f
 
 placed_on : (o : Move) (froms : Table) (t : ℕ) (here : Here) (count : ℕ) → o.stopped ≡ None →
     (let p = then_move o.stopped o (turn_of zero froms t here (record { frames = o.frames; places = o.places; exc = o.exc; count = count }))
-        in PlacedAfter p.stopped p.frames p.places) →
+    in PlacedAfter p.stopped p.frames p.places) →
     PlacedAfter None o.frames o.places
 unfolding turn_of
 placed_on o froms t here count e h =
     subst (λ (s : Option Stopped).
-        (let p = then_move s o (turn_of zero froms t here (record { frames = o.frames; places = o.places; exc = o.exc; count = count })) in
-        PlacedAfter p.stopped p.frames p.places)) e h
+    (let p = then_move s o (turn_of zero froms t here (record { frames = o.frames; places = o.places; exc = o.exc; count = count })) in
+    PlacedAfter p.stopped p.frames p.places)) e h
 
 names_on : (o : Move) (froms : Table) (t : ℕ) (here : Here) (count : ℕ) → o.stopped ≡ None →
     StaysNew (then_move o.stopped o
-        (turn_of zero froms t here (record { frames = o.frames; places = o.places; exc = o.exc; count = count }))) → NewIn o.frames o.places
-        × OwnNames (names_at o.places)
+    (turn_of zero froms t here (record { frames = o.frames; places = o.places; exc = o.exc; count = count }))) → NewIn o.frames o.places
+    × OwnNames (names_at o.places)
 unfolding turn_of
 names_on o froms t here count e h =
     let k = subst (λ (s : Option Stopped). StaysNew (then_move s o
-        (turn_of zero froms t here (record { frames = o.frames; places = o.places; exc = o.exc; count = count })))) e h in (k.frames, k.own)
+    (turn_of zero froms t here (record { frames = o.frames; places = o.places; exc = o.exc; count = count })))) e h in (k.frames, k.own)
 
+-- a task that woke and goes on stands in the middle of its turn, where the wake of the definitions leaves it
 pub wake_stands : (task after : Task) (old new : World) (exc : Option held.Exc) (froms : Table) (numbers : Numbers) (ps : List Place)
     (count : ℕ) (stopped : Stopped) (w : wakes.Wake) → CanWake w stopped →
     Stands task.frames.items task old froms numbers (Some stopped) ps →
-        (took : Took task.frames.items task after old new (On exc) froms numbers (wake_at task old w stopped froms numbers ps)) →
+    (took : Took task.frames.items task after old new (On exc) froms numbers (wake_at task old w stopped froms numbers ps)) →
     Stands after.frames.items after new (froms_after froms (wake_at task old w stopped froms numbers ps).made) took.numbers_after None
-        (wake_at task old w stopped froms numbers ps).places
+    (wake_at task old w stopped froms numbers ps).places
 unfolding turn_from
 wake_stands task after old new exc froms numbers ps count stopped w can stands took =
     let o = wake_at task old w stopped froms numbers ps in
@@ -115,7 +116,7 @@ wake_stands task after old new exc froms numbers ps count stopped w can stands t
     let kept = (turned_from zero old.tick old.tick (here_of task) froms w r ps count can stands.placed).placed in
     let none : o.stopped ≡ None = took.moves.1 in
     let names = names_on o _ old.tick (here_of task) _ none (turn_stays_new zero old.tick (here_of task) froms w r ps count can stands.new
-        stands.own) in
+    stands.own) in
     record {
       places = took.places;
       numbered = λ id has. took.numbered id (inl has);
@@ -131,13 +132,16 @@ wake_stands task after old new exc froms numbers ps count stopped w can stands t
 pub turns_at_once : (task after : Task) (old new : World) (wake : Wake) (stop : Stop) (froms : Table) (numbers : Numbers) (ps : List Place)
     (count : ℕ) (stopped : Stopped) →
     Took task.frames.items task after old new (Stops stop) froms numbers
-        (wake_at task old (wake_in old.book task.halt wake) stopped froms numbers ps) →
-        TookTurn task after old new wake stop froms numbers stopped ps count
+    (wake_at task old (wake_in old.book task.halt wake) stopped froms numbers ps) →
+    TookTurn task after old new wake stop froms numbers stopped ps count
 unfolding turn_from
 turns_at_once task after old new wake stop froms numbers ps count stopped took =
     let o = wake_at task old (wake_in old.book task.halt wake) stopped froms numbers ps in
-    record { steps = zero; took = subst (λ (p : Move). Took task.frames.items task after old new (Stops stop) froms numbers p)
-        (sym (then_none o.stopped o _ took.moves.1)) took }
+    record {
+      steps = zero;
+      took = subst (λ (p : Move). Took task.frames.items task after old new (Stops stop) froms numbers p)
+          (sym (then_none o.stopped o _ took.moves.1)) took;
+    }
   where
     then_none : (s : Option Stopped) (o q : Move) → StopsAs took.numbers_after new.book task.part stop after.halt s → then_move s o q ≡ o
     then_none None o q h = absurd h
@@ -147,32 +151,32 @@ turns_at_once task after old new wake stop froms numbers ps count stopped took =
 pub turns_later : (task mid after : Task) (old w new : World) (wake : Wake) (exc : Option held.Exc) (stop : Stop) (froms : Table)
     (numbers : Numbers) (ps : List Place) (count : ℕ) (stopped : Stopped) →
     mid.part ≡ task.part → mid.label ≡ task.label → w.tick ≡ old.tick → CanWake (wake_in old.book task.halt wake) stopped →
-        Stands task.frames.items task old froms numbers (Some stopped) ps →
+    Stands task.frames.items task old froms numbers (Some stopped) ps →
     Took task.frames.items task mid old w (On exc) froms numbers
-        (wake_at task old (wake_in old.book task.halt wake) stopped froms numbers ps) →
-        StopsAfter mid after w new (option_map exc_of exc) stop →
+    (wake_at task old (wake_in old.book task.halt wake) stopped froms numbers ps) →
+    StopsAfter mid after w new (option_map exc_of exc) stop →
     TookTurn task after old new wake stop froms numbers stopped ps count
 unfolding turn_from
 turns_later task mid after old w new wake exc stop froms numbers ps count stopped part label tick can stands took steps =
     let o = wake_at task old (wake_in old.book task.halt wake) stopped froms numbers ps in
     let s = steps (froms_after froms o.made) took.numbers_after o.places (count + length o.begun)
-        (wake_stands task mid old w exc froms numbers ps count stopped (wake_in old.book task.halt wake) can stands took) in
+    (wake_stands task mid old w exc froms numbers ps count stopped (wake_in old.book task.halt wake) can stands took) in
     record {
       steps = s.steps;
       took =
           took_then task.frames.items task mid after old w new exc (Stops stop) froms numbers o
           (turn_of s.steps (froms_after froms o.made) old.tick (here_of task)
-              (record { frames = o.frames; places = o.places; exc = o.exc; count = count + length o.begun })) took
+          (record { frames = o.frames; places = o.places; exc = o.exc; count = count + length o.begun })) took
           (subst (λ (t : ℕ). Took mid.frames.items mid after w new (Stops stop) (froms_after froms o.made) took.numbers_after
-              (turn_of s.steps (froms_after froms o.made) t (here_of task)
-              (record { frames = o.frames; places = o.places; exc = o.exc; count = count + length o.begun }))) tick
+          (turn_of s.steps (froms_after froms o.made) t (here_of task)
+          (record { frames = o.frames; places = o.places; exc = o.exc; count = count + length o.begun }))) tick
           (subst (λ (h : Here). Took mid.frames.items mid after w new (Stops stop) (froms_after froms o.made) took.numbers_after
-              (turn_of s.steps (froms_after froms o.made) w.tick h (record
-              { frames = o.frames; places = o.places; exc = o.exc; count = count + length o.begun }))) here
+          (turn_of s.steps (froms_after froms o.made) w.tick h (record
+          { frames = o.frames; places = o.places; exc = o.exc; count = count + length o.begun }))) here
           (subst (λ (m : Midway). Took mid.frames.items mid after w new (Stops stop) (froms_after froms o.made) took.numbers_after
-              (turn_of s.steps (froms_after froms o.made) w.tick (here_of mid) m))
-              (same (frames_of took.numbers_after mid.frames.items) o.frames (option_map exc_of exc) o.exc took.frames_after took.moves.0)
-              s.took)))
+          (turn_of s.steps (froms_after froms o.made) w.tick (here_of mid) m))
+          (same (frames_of took.numbers_after mid.frames.items) o.frames (option_map exc_of exc) o.exc took.frames_after took.moves.0)
+          s.took)))
           part tick;
     }
   where
@@ -181,5 +185,5 @@ turns_later task mid after old w new wake exc stop froms numbers ps count stoppe
 
     same : {ps : List Place} {n : ℕ} (fs gs : List rest.Frame) (d e : Option Exc) → fs ≡ gs → d ≡ e →
         (let m : Midway = record { frames = fs; places = ps; exc = d; count = n } in m)
-            ≡ record { frames = gs; places = ps; exc = e; count = n }
+        ≡ record { frames = gs; places = ps; exc = e; count = n }
     same fs gs d e f g = cc

@@ -28,7 +28,7 @@ pub record Cancels (key tick : ℕ) (old new : Tree) : Type 0 where
   pub stacks : (other : ℕ) → stack_of new other ≡ option_map (after_cancel key tick) (stack_of old other)
   pub marks :
       (other : ℕ) → ForSome (stack_of old other) (λ st. is_changed new other
-          ≡ (is_changed old other || before (sight (after_cancel key tick st)) (sight st)))
+      ≡ (is_changed old other || before (sight (after_cancel key tick st)) (sight st)))
 
 -- a scope of this label is cancelled in a tick
 pub record Signs (tick : ℕ) (label : Label) (old new : Scoping) : Type 0 where

@@ -26,7 +26,7 @@ use Rattle.task_machine.specs.Worlds.{label_at}
 -- places round it, with the same froms.
 pub record ExitsFrom
     (before after : Task) (old new : World) (kind : meaning.Kind) (left : meaning.Left) (goes_on : Option Exc) (froms : Table) (p : Place)
-        (ps : List Place) : Type 0
+    (ps : List Place) : Type 0
   where
     pub exc : goes_on ≡ exc_after kind p.label old.tick left
     pub entry : Entry
@@ -38,7 +38,7 @@ abbrev pub ExitsAt : Task → Task → World → World → Kind → Option Exc �
 ExitsAt before after old new kind exc goes_on =
     (froms : Table) (p : Place) (ps : List Place) → AreAt (label_at old) froms (outer_of old.scopes (scope_of before)) (p ∷ ps) →
     ExitsFrom before after old new (kind_of kind) (left_with (catches (froms p.label) p.shield (stack_at froms ps) old.tick) exc) goes_on
-        froms p ps
+    froms p ps
 
 -- Who ends with an exception signs for the innermost scope, if there is one, and so lowers the from of the innermost place.
 pub record FailsAt (old new : World) (scope : Option ℕ) (exc : Option Exc) : Type 0 where

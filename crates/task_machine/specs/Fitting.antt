@@ -140,7 +140,7 @@ waits_of Over = None
 abbrev pub OthersRun : Tree → NurseryBook → List Block → List Own → Option ℕ → Type 0
 OthersRun tree book bs own waits =
     (key : ℕ) (st : Stack) → stack_of tree key ≡ Some st → AreOthers key own → (i : ℕ) (o : Own) → slice_get own i ≡ Some o →
-        IsKey o.id st →
+    IsKey o.id st →
     RunsIn book bs i waits
 
 -- each scope stays open, or closed, inside the same ones
@@ -151,7 +151,7 @@ SameKeys old new = (key : ℕ) → option_map keys_of (stack_of new key) ≡ opt
 -- so many, in a world with these scopes, labels and nurseries. It waits for a nursery, or not.
 pub record FitsIn
     (frames : List Frame) (part : Part) (within : Option ℕ) (own : List Own) (entered : ℕ) (tree : Tree) (labels : Labels)
-        (book : NurseryBook) (waits : Option ℕ) : Type 0
+    (book : NurseryBook) (waits : Option ℕ) : Type 0
   where
     pub modest : AreModestFrames (frames_of (λ id. []) frames)
     pub starts : StartsFit (frames_of (λ id. []) frames)

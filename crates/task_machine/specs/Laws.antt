@@ -19,7 +19,7 @@ SeenAlike = (labels : Labels) (froms : Table) (st : scopes.Stack) (ps : List Pla
 abbrev pub CatchAlike : Type 0
 CatchAlike =
     (labels : Labels) (froms : Table) (l : Level ℕ) (ls : scopes.Stack) (p : Place) (ps : List Place) (t : ℕ) →
-        AreAt labels froms (l ∷ ls) (p ∷ ps) →
+    AreAt labels froms (l ∷ ls) (p ∷ ps) →
     scopes.catches (l ∷ ls) t ≡ catches (froms p.label) p.shield (stack_at froms ps) t
 
 -- a name finds the scope of the label that it finds among the places, and one of the stack
@@ -33,14 +33,14 @@ FoundAlike =
 abbrev pub SignedAlike : Type 0
 SignedAlike =
     (labels : Labels) (froms : Table) (st : scopes.Stack) (ps : List Place) (key t : ℕ) (label : Label) → labels key ≡ Some label →
-        IsKey key st →
+    IsKey key st →
     OwnNames (names_at ps) → AreAt labels froms st ps → AreAt labels (lowered froms label t) (scopes.after_cancel key t st) ps
 
 -- a scope that is entered opens its label, where its name is none of those round it
 abbrev pub EnteredAlike : Type 0
 EnteredAlike =
     (labels more : Labels) (froms : Table) (st : scopes.Stack) (ps : List Place) (key : ℕ) (label : Label) (shield : Bool) (d : Tick) →
-        more key ≡ Some label →
+    more key ≡ Some label →
     SameOn labels more st → (IsName label.name (names_at ps) → ⊥) → AreAt labels froms st ps →
     AreAt more (opened froms label d) (record { label = key; shield = shield; from = d } ∷ st)
-        (record { label = label; shield = shield } ∷ ps)
+    (record { label = label; shield = shield } ∷ ps)

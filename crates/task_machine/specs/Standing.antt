@@ -80,7 +80,7 @@ AllNumbered numbers book fs waits = (id : ℕ) → HasNurseryOf id (blocks_of fs
 -- numbered its children so. Each scope and nursery has its place, and no name stands twice among those round one another.
 pub record Stands
     (frames : List Frame) (task : Task) (world : World) (froms : Table) (numbers : Numbers) (stopped : Option Stopped)
-        (ps : List Place) : Type 0
+    (ps : List Place) : Type 0
   where
     pub places : AreAt (label_at world) froms (outer_of world.scopes (scope_of task)) ps
     pub numbered : AreNumbered numbers world.book frames
@@ -210,7 +210,7 @@ StepsAs before after old new exc moved = Takes before.frames.items before after 
 abbrev pub BlockStepsAs : Bor (List held.Step) → Task → Task → World → World → Option Exc → Moved → Type 0
 BlockStepsAs steps before after old new exc moved =
     (frames : List Frame) (task : Task) → frames ≡ before.frames.items ++ code.Steps steps ∷ [] →
-        before ≡ record task { frames = before.frames } →
+    before ≡ record task { frames = before.frames } →
     Takes frames task after old new moved (step_at task old frames exc)
 
 -- The innermost frame of a task was taken off, which held this step first, and the steps that come after it were put back.
@@ -226,18 +226,23 @@ pub record AtStep (frames : List Frame) (task before : Task) (first : held.Step)
 abbrev pub RunsAs : Task → Task → World → World → held.Step → Moved → Type 0
 RunsAs before after old new first moved =
     (frames : List Frame) (task : Task) → AtStep frames task before first →
-        Takes frames task after old new moved (step_at task old frames None)
+    Takes frames task after old new moved (step_at task old frames None)
 
 -- steps of the code until it stops are so many of the definitions
 pub record TookSteps
     (before after : Task) (old new : World) (exc : Option Exc) (stop : Stop) (froms : Table) (numbers : Numbers) (ps : List Place)
-        (count : ℕ) : Type 0
+    (count : ℕ) : Type 0
   where
     pub steps : ℕ
     pub took :
         Took before.frames.items before after old new (Stops stop) froms numbers
-        (turn_of steps froms old.tick (here_of before) (record { frames = frames_of numbers before.frames.items; places = ps; exc =
-            exc; count = count }))
+        (turn_of steps froms old.tick (here_of before) (record {
+          frames = frames_of numbers before.frames.items;
+          places = ps;
+          exc =
+              exc;
+          count = count;
+        }))
 
 abbrev pub StopsAfter : Task → Task → World → World → Option Exc → Stop → Type 0
 StopsAfter before after old new exc stop =
@@ -252,9 +257,9 @@ wake_at task world w stopped froms numbers ps = wake_of froms world.tick (here_o
 abbrev pub Wakens : Task → Task → World → World → Moved → wakes.Wake → Type 0
 Wakens task after old new goes w =
     (froms : Table) (numbers : Numbers) (stopped : Stopped) (ps : List Place) →
-        Stands task.frames.items task old froms numbers (Some stopped) ps →
+    Stands task.frames.items task old froms numbers (Some stopped) ps →
     IsHalt numbers old.book task.halt stopped → Took task.frames.items task after old new goes froms numbers
-        (wake_at task old w stopped froms numbers ps)
+    (wake_at task old w stopped froms numbers ps)
 
 -- a move that stops
 abbrev pub TookTo : Task → Task → World → World → Stop → Table → Numbers → Move → Type 0
@@ -263,16 +268,16 @@ TookTo before after old new stop = Took before.frames.items before after old new
 -- A turn of the code is one of the definitions, with so many steps at most.
 pub record TookTurn
     (before after : Task) (old new : World) (wake : Wake) (stop : Stop) (froms : Table) (numbers : Numbers) (stopped : Stopped)
-        (ps : List Place) (count : ℕ) : Type 0
+    (ps : List Place) (count : ℕ) : Type 0
   where
     pub steps : ℕ
     pub took :
         TookTo before after old new stop froms numbers
         (turn_from steps froms old.tick (here_of before) (wake_in old.book before.halt wake) stopped (frames_of numbers before.frames.items)
-            ps count)
+        ps count)
 
 abbrev pub TurnsAs : Task → Task → World → World → Wake → Stop → Type 0
 TurnsAs before after old new wake stop =
     (froms : Table) (numbers : Numbers) (ps : List Place) (count : ℕ) (stopped : Stopped) → IsHalt numbers old.book before.halt stopped →
     Stands before.frames.items before old froms numbers (Some stopped) ps →
-        TookTurn before after old new wake stop froms numbers stopped ps count
+    TookTurn before after old new wake stop froms numbers stopped ps count

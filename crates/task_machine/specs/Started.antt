@@ -53,7 +53,7 @@ AreChildren self id n name k body tasks zero = tasks ≡ []
 AreChildren self id n name k body tasks (suc i) =
     (before : List Task) × (last : Task) × (tasks ≡ before ++ last ∷ []) × AreChildren self id n name k body before i
     × IsChild last (record { name = name; indices = self.label.indices ++ i ∷ [] }) (buffer_of self.part)
-        (cut_of (buffer_of self.part) (range_of self.part) k i) body
+    (cut_of (buffer_of self.part) (range_of self.part) k i) body
     (home_at id n i)
 
 -- so many of them were started

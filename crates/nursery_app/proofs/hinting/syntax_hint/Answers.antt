@@ -5,4 +5,4 @@ pub returns : goal.returns
 returns c =
     helps c.args.text.now _ _ c.as_slice-tokens.result.now c.in_ok-lexed.lexed.fault c.args.at _ _
     (cut_back c.args.text.now _ 11 c.min.result c.split_at.ensures.back c.min.ensures) c.in_ok-lexed.ensures c.as_slice-tokens.ensures.value
-        c.shape_at.ensures c.in_ok-hint.ensures
+    c.shape_at.ensures c.in_ok-hint.ensures

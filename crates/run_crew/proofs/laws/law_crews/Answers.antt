@@ -21,13 +21,13 @@ pub returns-clause-turn : goal.returns-clause-turn
 returns-clause-turn c =
     λ k job input t m s old new before after wake stop settled names starting is x.
     stepped k job input t m s old new before after wake stop settled names starting is x
-        (may_wake k job input t m old settled names starting is s before x.task wake x.goes)
+    (may_wake k job input t m old settled names starting is s before x.task wake x.goes)
 
 pub returns-clause-stop : goal.returns-clause-stop
 returns-clause-stop c =
     λ k job input t m s old new before after wake stop settled names starting is x.
     stop_says k job input t m s old new before after wake stop settled names starting is x
-        (may_wake k job input t m old settled names starting is s before x.task wake x.goes)
+    (may_wake k job input t m old settled names starting is s before x.task wake x.goes)
 
 pub returns-clause-leave : goal.returns-clause-leave
 returns-clause-leave c = crew_left

@@ -24,34 +24,34 @@ exit-requires-clause-some c =
     let self = c.args.self.now in
     let laws = c.stacks_are_chains.ensures in
     (ready_scope c.pop.new.self.items c.in-Scope.fail self.part (home_scope self) self.own.items _ c.args.world.now.scopes
-        (label_at c.args.world.now) c.args.world.now.book laws.chain laws.own laws.apart
+    (label_at c.args.world.now) c.args.world.now.book laws.chain laws.own laws.apart
     (popped_fits self c.pop.new.self.items c.in-Some.frame (Scope c.in-Scope.fail) c.args.world.now c.in-Some.ensures.items c.in-Scope.is
-        c.requires.fits)).some
+    c.requires.fits)).some
 
 pub exit-requires-clause-innermost : goal.exit-requires-clause-innermost
 exit-requires-clause-innermost c =
     let self = c.args.self.now in
     let laws = c.stacks_are_chains.ensures in
     (ready_scope c.pop.new.self.items c.in-Scope.fail self.part (home_scope self) self.own.items _ c.args.world.now.scopes
-        (label_at c.args.world.now) c.args.world.now.book laws.chain laws.own laws.apart
+    (label_at c.args.world.now) c.args.world.now.book laws.chain laws.own laws.apart
     (popped_fits self c.pop.new.self.items c.in-Some.frame (Scope c.in-Scope.fail) c.args.world.now c.in-Some.ensures.items c.in-Scope.is
-        c.requires.fits)).innermost
+    c.requires.fits)).innermost
 
 pub exit-requires-clause-labelled : goal.exit-requires-clause-labelled
 exit-requires-clause-labelled c =
     let self = c.args.self.now in
     let laws = c.stacks_are_chains.ensures in
     (ready_scope c.pop.new.self.items c.in-Scope.fail self.part (home_scope self) self.own.items _ c.args.world.now.scopes
-        (label_at c.args.world.now) c.args.world.now.book laws.chain laws.own laws.apart
+    (label_at c.args.world.now) c.args.world.now.book laws.chain laws.own laws.apart
     (popped_fits self c.pop.new.self.items c.in-Some.frame (Scope c.in-Scope.fail) c.args.world.now c.in-Some.ensures.items c.in-Scope.is
-        c.requires.fits)).labelled
+    c.requires.fits)).labelled
 
 pub end_body-requires-clause-nursery : goal.end_body-requires-clause-nursery
 end_body-requires-clause-nursery c =
     let self = c.args.self.now in
     popped_body (label_at c.args.world.now) c.args.world.now.book c.pop.new.self.items c.in-Nursery.id self.own.items
     (popped_fits self c.pop.new.self.items c.in-Some.frame (Nursery c.in-Nursery.id) c.args.world.now c.in-Some.ensures.items
-        c.in-Nursery.is c.requires.fits).opened
+    c.in-Nursery.is c.requires.fits).opened
 
 pub returns-in_ok-exc-in-Scope-clause-fits : goal.returns-in_ok-exc-in-Scope-clause-fits
 returns-in_ok-exc-in-Scope-clause-fits c =
@@ -59,15 +59,15 @@ returns-in_ok-exc-in-Scope-clause-fits c =
     let laws = c.stacks_are_chains.ensures in
     let e = c.in_ok-exc-in-Scope.ensures in
     exited_fits c.in-Scope.fail (record self { frames = c.pop.new.self }) c.exit.new.self c.args.world.now c.exit.new.world
-        (record { chain = laws.chain; own = laws.own; apart = laws.apart })
+    (record { chain = laws.chain; own = laws.own; apart = laws.apart })
     (popped_fits self c.pop.new.self.items c.in-Some.frame (Scope c.in-Scope.fail) c.args.world.now c.in-Some.ensures.items c.in-Scope.is
-        c.requires.fits) e.left e.own e.stays e.world
+    c.requires.fits) e.left e.own e.stays e.world
 
 pub returns-in_ok-exc-in-Scope-clause-shorter : goal.returns-in_ok-exc-in-Scope-clause-shorter
 returns-in_ok-exc-in-Scope-clause-shorter c =
     λ u.
     let before = popped_length c.args.self.now.frames.items c.pop.new.self.items c.in-Some.frame (Scope c.in-Scope.fail)
-        c.in-Some.ensures.items c.in-Scope.is in
+    c.in-Some.ensures.items c.in-Scope.is in
     let after = ap (λ (t : Task). frames_length (frames_of (λ id. []) t.frames.items)) c.in_ok-exc-in-Scope.ensures.stays in
     omega (arith, before, after)
 
@@ -76,13 +76,13 @@ returns-in-Nursery-clause-fits c =
     let self = c.args.self.now in
     let e = c.end_body.ensures in
     subst (λ (m : Moved). Fits c.end_body.new.self.frames.items c.end_body.new.self c.end_body.new.world
-        (waits_by m c.end_body.new.self.halt)) (sym e.moved)
+    (waits_by m c.end_body.new.self.halt)) (sym e.moved)
     (subst (λ (h : Halt). Fits c.end_body.new.self.frames.items c.end_body.new.self c.end_body.new.world (waits_of h))
-        (sym (ap (λ (t : Task). t.halt) e.stays))
+    (sym (ap (λ (t : Task). t.halt) e.stays))
     (waits_fits c.in-Nursery.id (option_map exc_of c.args.exc) (record self { frames = c.pop.new.self }) c.end_body.new.self
-        c.args.world.now c.end_body.new.world
+    c.args.world.now c.end_body.new.world
     (popped_fits self c.pop.new.self.items c.in-Some.frame (Nursery c.in-Nursery.id) c.args.world.now c.in-Some.ensures.items
-        c.in-Nursery.is c.requires.fits) e.keys e.ended
+    c.in-Nursery.is c.requires.fits) e.keys e.ended
     (e.stays ∙ ap (λ (t : Task). record self { frames = c.pop.new.self; halt = t.halt }) (sym e.stays)) e.rest))
 
 pub returns-in_ok-exc-in-Try-clause-fits : goal.returns-in_ok-exc-in-Try-clause-fits
@@ -91,10 +91,10 @@ returns-in_ok-exc-in-Try-clause-fits c =
     let e = c.in_ok-exc-in-Try.ensures in
     let f = Try c.in-Try.handler c.in-Try.cleanup in
     tried_fits (handled_of (option_copied c.in-Try.handler)) (cleaned_of c.in-Try.cleanup.now) c.pop.new.self.items f
-        (option_map exc_of c.args.exc) (option_map exc_of c.in_ok-exc-in-Try.exc)
+    (option_map exc_of c.args.exc) (option_map exc_of c.in_ok-exc-in-Try.exc)
     (record self { frames = c.pop.new.self }) c.end_try.new.self c.args.world.now refl refl
     (popped_fits self c.pop.new.self.items c.in-Some.frame f c.args.world.now c.in-Some.ensures.items c.in-Try.is c.requires.fits)
-        (e.step (λ id. []) []) e.blocks e.stays
+    (e.step (λ id. []) []) e.blocks e.stays
 
 pub returns-in_ok-exc-in-Try-clause-shorter : goal.returns-in_ok-exc-in-Try-clause-shorter
 returns-in_ok-exc-in-Try-clause-shorter c =
@@ -103,7 +103,7 @@ returns-in_ok-exc-in-Try-clause-shorter c =
     let before = popped_length c.args.self.now.frames.items c.pop.new.self.items c.in-Some.frame f c.in-Some.ensures.items c.in-Try.is in
     let after = ap (λ (o : Move). frames_length o.frames) (c.in_ok-exc-in-Try.ensures.step (λ id. []) []) in
     let less = try_shorter (handled_of (option_copied c.in-Try.handler)) (cleaned_of c.in-Try.cleanup.now)
-        (frames_of (λ id. []) c.pop.new.self.items) [] (option_map exc_of c.args.exc) in
+    (frames_of (λ id. []) c.pop.new.self.items) [] (option_map exc_of c.args.exc) in
     omega (arith, before, after, less)
 
 pub returns-in_ok-exc-in-Handler-clause-fits : goal.returns-in_ok-exc-in-Handler-clause-fits
@@ -112,16 +112,16 @@ returns-in_ok-exc-in-Handler-clause-fits c =
     let e = c.in_ok-exc-in-Handler.ensures in
     let f = Handler c.in-Handler.rest c.in-Handler.cleanup in
     handled_fits (cleaned_of c.in-Handler.cleanup.now) (option_map exc_of c.in-Handler.rest) c.pop.new.self.items f
-        (record self { frames = c.pop.new.self }) c.end_handler.new.self c.args.world.now refl refl
+    (record self { frames = c.pop.new.self }) c.end_handler.new.self c.args.world.now refl refl
     (popped_fits self c.pop.new.self.items c.in-Some.frame f c.args.world.now c.in-Some.ensures.items c.in-Handler.is c.requires.fits)
-        (e.frames (λ id. [])) e.blocks e.stays
+    (e.frames (λ id. [])) e.blocks e.stays
 
 pub returns-in_ok-exc-in-Handler-clause-shorter : goal.returns-in_ok-exc-in-Handler-clause-shorter
 returns-in_ok-exc-in-Handler-clause-shorter c =
     λ u.
     let f = Handler c.in-Handler.rest c.in-Handler.cleanup in
     let before = popped_length c.args.self.now.frames.items c.pop.new.self.items c.in-Some.frame f c.in-Some.ensures.items
-        c.in-Handler.is in
+    c.in-Handler.is in
     let after = ap frames_length (c.in_ok-exc-in-Handler.ensures.frames (λ id. [])) in
     omega (arith, before, after)
 
@@ -132,13 +132,13 @@ returns-in-Cleanup-clause-fits c =
     let f = Cleanup c.in-Cleanup.outcome in
     let fits = popped_fits self fs c.in-Some.frame f c.args.world.now c.in-Some.ensures.items c.in-Cleanup.is c.requires.fits in
     frame_off fs f self c.args.world.now refl fits (modest_with fs f self c.args.world.now fits)
-        (starts_with fs f self c.args.world.now fits)
+    (starts_with fs f self c.args.world.now fits)
 
 pub returns-in-Cleanup-clause-shorter : goal.returns-in-Cleanup-clause-shorter
 returns-in-Cleanup-clause-shorter c =
     λ u.
     let before = popped_length c.args.self.now.frames.items c.pop.new.self.items c.in-Some.frame (Cleanup c.in-Cleanup.outcome)
-        c.in-Some.ensures.items c.in-Cleanup.is in
+    c.in-Some.ensures.items c.in-Cleanup.is in
     omega (arith, before)
 
 pub returns-in_default-clause-step : goal.returns-in_default-clause-step
@@ -146,7 +146,7 @@ returns-in_default-clause-step c =
     let self = c.args.self.now in
     let e = c.end.ensures in
     takes_end self.frames.items self (record self { frames = c.pop.new.self }) c.end.new.self c.args.world.now c.end.new.world c.args.exc
-        c.end.result c.in_default.ensures.items c.in_default.ensures.variant.1 refl
+    c.end.result c.in_default.ensures.items c.in_default.ensures.variant.1 refl
     e.moved e.stays e.rest e.at
 
 pub returns-in_ok-exc-in-Scope-clause-step : goal.returns-in_ok-exc-in-Scope-clause-step
@@ -154,8 +154,8 @@ returns-in_ok-exc-in-Scope-clause-step c =
     let self = c.args.self.now in
     let e = c.in_ok-exc-in-Scope.ensures in
     takes_exit self.frames.items c.in-Scope.fail self (record self { frames = c.pop.new.self }) c.exit.new.self c.args.world.now
-        c.exit.new.world c.args.exc c.in_ok-exc-in-Scope.exc (c.in-Some.ensures.items
-        ∙ ap (λ (f : Frame). c.pop.new.self.items ++ f ∷ []) c.in-Scope.is)
+    c.exit.new.world c.args.exc c.in_ok-exc-in-Scope.exc (c.in-Some.ensures.items
+    ∙ ap (λ (f : Frame). c.pop.new.self.items ++ f ∷ []) c.in-Scope.is)
     refl e.stays e.world e.at e.left
 
 pub returns-in-Nursery-clause-step : goal.returns-in-Nursery-clause-step
@@ -163,8 +163,8 @@ returns-in-Nursery-clause-step c =
     let self = c.args.self.now in
     let e = c.end_body.ensures in
     takes_body self.frames.items c.in-Nursery.id self (record self { frames = c.pop.new.self }) c.end_body.new.self c.args.world.now
-        c.end_body.new.world c.args.exc c.end_body.result (c.in-Some.ensures.items
-        ∙ ap (λ (f : Frame). c.pop.new.self.items ++ f ∷ []) c.in-Nursery.is)
+    c.end_body.new.world c.args.exc c.end_body.result (c.in-Some.ensures.items
+    ∙ ap (λ (f : Frame). c.pop.new.self.items ++ f ∷ []) c.in-Nursery.is)
     refl e.moved e.stays e.rest e.ended e.at
 
 pub returns-in_ok-exc-in-Try-clause-step : goal.returns-in_ok-exc-in-Try-clause-step
@@ -172,8 +172,8 @@ returns-in_ok-exc-in-Try-clause-step c =
     let self = c.args.self.now in
     let e = c.in_ok-exc-in-Try.ensures in
     takes_try self.frames.items c.in-Try.handler c.in-Try.cleanup self (record self { frames = c.pop.new.self }) c.end_try.new.self
-        c.args.world.now c.args.exc c.in_ok-exc-in-Try.exc (c.in-Some.ensures.items
-        ∙ ap (λ (f : Frame). c.pop.new.self.items ++ f ∷ []) c.in-Try.is)
+    c.args.world.now c.args.exc c.in_ok-exc-in-Try.exc (c.in-Some.ensures.items
+    ∙ ap (λ (f : Frame). c.pop.new.self.items ++ f ∷ []) c.in-Try.is)
     refl e.stays e.step
 
 pub returns-in_ok-exc-in-Handler-clause-step : goal.returns-in_ok-exc-in-Handler-clause-step
@@ -181,15 +181,15 @@ returns-in_ok-exc-in-Handler-clause-step c =
     let self = c.args.self.now in
     let e = c.in_ok-exc-in-Handler.ensures in
     takes_handler self.frames.items c.in-Handler.rest c.in-Handler.cleanup self (record self { frames = c.pop.new.self })
-        c.end_handler.new.self c.args.world.now c.args.exc c.in_ok-exc-in-Handler.exc
+    c.end_handler.new.self c.args.world.now c.args.exc c.in_ok-exc-in-Handler.exc
     (c.in-Some.ensures.items ∙ ap (λ (f : Frame). c.pop.new.self.items ++ f ∷ []) c.in-Handler.is) refl e.stays e.frames e.exc
 
 pub returns-in-Cleanup-clause-step : goal.returns-in-Cleanup-clause-step
 returns-in-Cleanup-clause-step c =
     let self = c.args.self.now in
     takes_cleanup self.frames.items c.in-Cleanup.outcome self (record self { frames = c.pop.new.self }) c.args.world.now c.args.exc
-        c.outcome_after.result (c.in-Some.ensures.items ∙ ap (λ (f : Frame). c.pop.new.self.items ++ f ∷ []) c.in-Cleanup.is) refl
-        c.outcome_after.ensures
+    c.outcome_after.result (c.in-Some.ensures.items ∙ ap (λ (f : Frame). c.pop.new.self.items ++ f ∷ []) c.in-Cleanup.is) refl
+    c.outcome_after.ensures
 
 pub returns-in_ok-moved-in-Steps-clause-step : goal.returns-in_ok-moved-in-Steps-clause-step
 returns-in_ok-moved-in-Steps-clause-step c = c.in_ok-moved-in-Steps.ensures.step c.args.self.now.frames.items c.args.self.now

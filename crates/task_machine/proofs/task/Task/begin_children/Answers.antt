@@ -13,19 +13,19 @@ start-requires c = body_runs (label_at c.args.world.now) c.args.world.now.book c
 pub start_over-requires-clause-nursery : goal.start_over-requires-clause-nursery
 start_over-requires-clause-nursery c =
     body_runs (label_at c.args.world.now) c.args.world.now.book c.args.self.now.frames.items c.nursery-nursery.result
-        c.args.self.now.own.items c.nursery-nursery.ensures c.requires.fits.opened
+    c.args.self.now.own.items c.nursery-nursery.ensures c.requires.fits.opened
 
 pub returns-in_ok-start-in-None-clause-fits : goal.returns-in_ok-start-in-None-clause-fits
 returns-in_ok-start-in-None-clause-fits c =
     let s = c.in_ok-start-in-None.ensures.started in
     started_fits c.nursery-nursery.result s.nursery (None ∷ []) c.args.self.now c.args.world.now c.start.new.world c.requires.fits s.was
-        s.book c.in_ok-start-in-None.ensures.rest
+    s.book c.in_ok-start-in-None.ensures.rest
 
 pub returns-in_ok-start_over-in-Some-clause-fits : goal.returns-in_ok-start_over-in-Some-clause-fits
 returns-in_ok-start_over-in-Some-clause-fits c =
     let s = c.in_ok-start_over-in-Some.ensures.started in
     started_fits c.nursery-nursery.result s.nursery (running c.in-Some.copies) c.args.self.now c.args.world.now c.start_over.new.world
-        c.requires.fits s.was s.book c.in_ok-start_over-in-Some.ensures.rest
+    c.requires.fits s.was s.book c.in_ok-start_over-in-Some.ensures.rest
 
 pub returns-in_ok-start-in-None-clause-children : goal.returns-in_ok-start-in-None-clause-children
 returns-in_ok-start-in-None-clause-children c =
@@ -34,9 +34,9 @@ returns-in_ok-start-in-None-clause-children c =
       at = c.nursery-nursery.ensures;
       started =
           subst (λ (o : Option ℕ). StartsAll c.args.self.now c.args.world.now c.start.new.world c.nursery-nursery.result c.args.name o
-              c.args.body.now) (sym c.in-None.is)
+          c.args.body.now) (sym c.in-None.is)
           (subst (λ (l : Label). StartsOne c.args.world.now c.start.new.world c.nursery-nursery.result l c.args.self.now.part
-              c.args.body.now) c.in_ok-label-in-None.ensures
+          c.args.body.now) c.in_ok-label-in-None.ensures
           c.in_ok-start-in-None.ensures.started);
     }
 
@@ -47,6 +47,6 @@ returns-in_ok-start_over-in-Some-clause-children c =
       at = c.nursery-nursery.ensures;
       started =
           subst (λ (o : Option ℕ). StartsAll c.args.self.now c.args.world.now c.start_over.new.world c.nursery-nursery.result c.args.name o
-              c.args.body.now) (sym c.in-Some.is)
+          c.args.body.now) (sym c.in-Some.is)
           c.in_ok-start_over-in-Some.ensures.started;
     }

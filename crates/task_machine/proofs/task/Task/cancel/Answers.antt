@@ -11,19 +11,19 @@ pub sign-requires-clause-id : goal.sign-requires-clause-id
 sign-requires-clause-id c =
     let world = c.args.world.now in
     found_open (label_at world) world.scopes c.args.name c.scope.result c.in-Some.id c.stacks_are_chains.ensures.chain
-        (sym c.find.ensures ∙ c.in-Some.is)
+    (sym c.find.ensures ∙ c.in-Some.is)
 
 pub returns-in-Some-clause-at : goal.returns-in-Some-clause-at
 returns-in-Some-clause-at c =
     let world = c.args.world.now in
     let found = ap (λ (s : Option ℕ). scope_named (label_at world) c.args.name (outer_of world.scopes s)) (sym c.scope.ensures)
-        ∙ sym c.find.ensures ∙ c.in-Some.is in
+    ∙ sym c.find.ensures ∙ c.in-Some.is in
     record {
       signed = subst (λ (o : Option ℕ). Signed world c.sign.new.self o) (sym found)
           (record { stacks = c.sign.ensures.stacks; marks = c.sign.ensures.marks });
       lowered =
           cancels_at (label_at world) (label_at c.sign.new.self) world.scopes c.sign.new.self.scopes _ c.args.name c.in-Some.id world.tick
-              (ap label_at c.sign.ensures.rest)
+          (ap label_at c.sign.ensures.rest)
           c.sign.ensures.stacks found;
     }
 
@@ -31,7 +31,7 @@ pub returns-in_default-clause-at : goal.returns-in_default-clause-at
 returns-in_default-clause-at c =
     let world = c.args.world.now in
     let none = ap (λ (s : Option ℕ). scope_named (label_at world) c.args.name (outer_of world.scopes s)) (sym c.scope.ensures)
-        ∙ sym c.find.ensures ∙ c.in_default.is in
+    ∙ sym c.find.ensures ∙ c.in_default.is in
     record {
       signed = subst (λ (o : Option ℕ). Signed world world o) (sym none) refl;
       lowered = λ froms ps own a. cancels_none (label_at world) _ c.args.name world.tick none froms ps a;

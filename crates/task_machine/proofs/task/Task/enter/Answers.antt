@@ -13,10 +13,10 @@ returns-clause-at c =
     let entered = c.in_ok-id.ensures in
     λ froms ps named a.
     enters_at (label_at world) (label_at c.enter.new.self) world.scopes c.enter.new.self.scopes _ _ c.in_ok-id.id _ c.args.shield
-        c.args.deadline
+    c.args.deadline
     c.stacks_are_chains.ensures.chain entered.fresh
     (entered.opened ∙ ap (λ (s : Option ℕ). Some (record { label = c.in_ok-id.id; shield = c.args.shield; from = c.args.deadline }
-        ∷ outer_of world.scopes s)) c.scope.ensures)
+    ∷ outer_of world.scopes s)) c.scope.ensures)
     (subst (λ (l : Label). Updates (label_at world) (label_at c.enter.new.self) c.in_ok-id.id (Some l)) c.in_ok-label.ensures entered.label)
     (last_pushed _ _ _ _ c.in_ok-push-2.ensures.items) froms ps named a
 

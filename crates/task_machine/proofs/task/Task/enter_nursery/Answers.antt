@@ -22,17 +22,17 @@ returns-clause-nursery c =
       stands =
           subst (λ (b : NurseryBook). Updates b c.open.new.self c.in_ok-id.id (Some (opened c.in_ok-scope.scope c.args.me label))) book
           (subst (λ (l : Label). Updates c.enter.new.world.book c.open.new.self c.in_ok-id.id
-              (Some (opened c.in_ok-scope.scope c.args.me l)))
+          (Some (opened c.in_ok-scope.scope c.args.me l)))
           (c.in_ok-label.ensures ∙ ap (λ (t : Task). record { name = c.args.name; indices = t.label.indices }) c.in_ok-scope.ensures.stays)
-              c.in_ok-id.ensures.opened);
+          c.in_ok-id.ensures.opened);
       frames =
           record {
             top = Steps c.as_slice.result;
             block = c.as_slice.ensures;
             frames =
                 c.in_ok-push-2.ensures.items ∙ ap (λ (fs : List Frame). fs ++ Steps c.as_slice.result ∷ [])
-                    (c.in_ok-push.ensures.items ∙ ap (λ (t : Task). t.frames.items ++ Nursery c.in_ok-id.id ∷ [])
-                    c.in_ok-scope.ensures.stays)
+                (c.in_ok-push.ensures.items ∙ ap (λ (t : Task). t.frames.items ++ Nursery c.in_ok-id.id ∷ [])
+                c.in_ok-scope.ensures.stays)
                 ∙ append_assoc c.args.self.now.frames.items (Nursery c.in_ok-id.id ∷ []) (Steps c.as_slice.result ∷ []);
           };
     }

@@ -18,15 +18,15 @@ returns-clause-at c =
     record {
       exc =
           exc_goes_on (kind_of c.args.kind) left.result.label p.label c.now.result world.tick left.result.catches _
-              (left_of c.in_ok-left.left) (option_map exc_of c.args.exc) _
+          (left_of c.in_ok-left.left) (option_map exc_of c.args.exc) _
           c.in_ok-exc.ensures c.in_ok-left.ensures at.label at.caught (c.now.ensures ∙ tick);
       entry = c.in_ok-entry.entry;
       entries = c.in_ok-push.ensures.items ∙ ap (λ (t : Task). t.entries.items ++ c.in_ok-entry.entry ∷ []) left.ensures.stays;
       shown =
           leaving_noted (buffer_of c.args.self.now.part) c.in_ok-entry.entry (kind_of c.args.kind) left.result.label p.label c.now-2.result
-              world.tick left.result.catches _
+          world.tick left.result.catches _
           (left_of c.in_ok-left.left) (option_map exc_of c.args.exc) ((c.in_ok-entry.ensures (buffer_of c.args.self.now.part)).1)
-              (c.in_ok-entry.ensures (buffer_of c.args.self.now.part)).0
+          (c.in_ok-entry.ensures (buffer_of c.args.self.now.part)).0
           c.in_ok-left.ensures at.label at.caught (c.now-2.ensures ∙ tick);
       round = at.round;
     }

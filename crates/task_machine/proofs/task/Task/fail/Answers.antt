@@ -13,12 +13,12 @@ returns-in-Some-clause-at c =
       signed =
           subst (λ (o : Option ℕ). Signed world c.sign.new.self o)
           (sym (failed_at world.scopes _ c.in-Some.id c.args.exc.now c.is_none.result c.is_none.ensures c.if-is_none.false
-              c.stacks_are_chains.ensures.own within (c.requires.scope c.in-Some.id within)))
+          c.stacks_are_chains.ensures.own within (c.requires.scope c.in-Some.id within)))
           (record { stacks = c.sign.ensures.stacks; marks = c.sign.ensures.marks });
       lowered =
           fails_if (label_at world) (label_at c.sign.new.self) world.scopes c.sign.new.self.scopes _ c.in-Some.id world.tick c.args.exc.now
           c.is_none.result c.is_none.ensures c.if-is_none.false (ap label_at c.sign.ensures.rest) c.stacks_are_chains.ensures.own within
-              (c.requires.scope c.in-Some.id within)
+          (c.requires.scope c.in-Some.id within)
           c.sign.ensures.stacks;
     }
 

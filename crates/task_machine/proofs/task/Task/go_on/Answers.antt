@@ -22,7 +22,7 @@ returns-in-Some-clause-fits c =
     let f = Steps c.args.steps in
     frame_off fs f c.args.self.now c.args.world.now refl c.requires.fits
     (modest_with fs f c.args.self.now c.args.world.now c.requires.fits).1
-        (starts_with fs f c.args.self.now c.args.world.now c.requires.fits).1
+    (starts_with fs f c.args.self.now c.args.world.now c.requires.fits).1
 
 pub returns-in-Some-clause-shorter : goal.returns-in-Some-clause-shorter
 returns-in-Some-clause-shorter c = λ u. steps_longer c.args.self.now.frames.items (Steps c.args.steps) (steps_of c.args.steps.now) refl
@@ -33,7 +33,7 @@ returns-in_default-split_first-clause-fits c =
     let f = Steps c.args.steps in
     frame_off fs f c.args.self.now c.args.world.now refl c.requires.fits
     (modest_with fs f c.args.self.now c.args.world.now c.requires.fits).1
-        (starts_with fs f c.args.self.now c.args.world.now c.requires.fits).1
+    (starts_with fs f c.args.self.now c.args.world.now c.requires.fits).1
 
 pub returns-in_default-split_first-clause-shorter : goal.returns-in_default-split_first-clause-shorter
 returns-in_default-split_first-clause-shorter c =
@@ -43,16 +43,16 @@ pub run-requires-clause-modest : goal.run-requires-clause-modest
 run-requires-clause-modest c =
     let fs = c.args.self.now.frames.items in
     let all : AreModest (steps_of c.args.steps.now) =
-        (modest_with fs (Steps c.args.steps) c.args.self.now c.args.world.now c.requires.fits).0 in
+    (modest_with fs (Steps c.args.steps) c.args.self.now c.args.world.now c.requires.fits).0 in
     (subst (λ (ss : List Step). AreModest (steps_of ss)) c.in-Some-split_first.ensures.cases.0 all).0
 
 pub run-requires-clause-starts : goal.run-requires-clause-starts
 run-requires-clause-starts c =
     let fs = c.args.self.now.frames.items in
     let all : StartsIn (in_body (frames_of (λ id. []) fs)) (steps_of c.args.steps.now) =
-        (starts_with fs (Steps c.args.steps) c.args.self.now c.args.world.now c.requires.fits).0 in
+    (starts_with fs (Steps c.args.steps) c.args.self.now c.args.world.now c.requires.fits).0 in
     subst (λ (xs : List rest.Frame). StartsAt (in_body (frames_behind xs)) (step_of c.in-Some-split_first.step.now))
-        (sym (c.in_ok-push.ensures.frames (λ id. [])))
+    (sym (c.in_ok-push.ensures.frames (λ id. [])))
     (subst (λ (ss : List Step). StartsIn (in_body (frames_of (λ id. []) fs)) (steps_of ss)) c.in-Some-split_first.ensures.cases.0 all).0
 
 pub run-requires-clause-fits : goal.run-requires-clause-fits
@@ -64,10 +64,10 @@ run-requires-clause-fits c =
     let modest = modest_with fs (Steps c.args.steps) self world c.requires.fits in
     let starts = starts_with fs (Steps c.args.steps) self world c.requires.fits in
     pushed_fits fs (Steps c.args.steps) (Steps c.in-Some-split_first.rest) self c.push.new.self world refl refl c.requires.fits
-        c.in_ok-push.ensures.blocks (c.in_ok-push.ensures.frames (λ id. []))
+    c.in_ok-push.ensures.blocks (c.in_ok-push.ensures.frames (λ id. []))
     ((subst (λ (ss : List Step). AreModest (steps_of ss)) split modest.0).1, modest.1)
     ((subst (λ (ss : List Step). StartsIn (in_body (frames_of (λ id. []) fs)) (steps_of ss)) split starts.0).1, starts.1)
-        c.in_ok-push.ensures.stays
+    c.in_ok-push.ensures.stays
 
 pub returns-clause-shorter : goal.returns-clause-shorter
 returns-clause-shorter c =
@@ -88,7 +88,7 @@ pub returns-in_default-split_first-clause-step : goal.returns-in_default-split_f
 returns-in_default-split_first-clause-step c =
     λ frames task popped same.
     takes_last frames c.args.steps task c.args.self.now c.args.world.now c.args.exc popped
-        (nil_from_length c.args.steps.now c.in_default-split_first.ensures.cases) same c.in_default.is
+    (nil_from_length c.args.steps.now c.in_default-split_first.ensures.cases) same c.in_default.is
 
 pub returns-clause-step : goal.returns-clause-step
 returns-clause-step c =

@@ -10,9 +10,14 @@ use Rattle.task_machine.proofs.TurnGoes.{MoreGone, goes_further, goes_on, goes_n
 use Rattle.task_machine.proofs.task.Task.go_to_stop.Goals as goal
 
 pub steps-init : goal.steps-init
-steps-init c =
-    (c.requires.fits, c.requires.halt, refl, refl, λ froms numbers ps count stands.
-        goes_nothing c.args.self.now c.args.world.now c.args.exc froms numbers ps count stands)
+steps-init c = (
+  c.requires.fits,
+  c.requires.halt,
+  refl,
+  refl,
+  λ froms numbers ps count stands.
+      goes_nothing c.args.self.now c.args.world.now c.args.exc froms numbers ps count stands,
+)
 
 pub steps-preserved : goal.steps-preserved
 steps-preserved c =
@@ -45,11 +50,11 @@ steps-preserved c =
       λ froms numbers ps count stands.
           let g = i.4 froms numbers ps count stands in
           goes_on self c.advance.new.self world c.advance.new.world (option_map exc_of c.args.exc) c.in-On.next froms numbers ps count
-              (suc g.steps)
+          (suc g.steps)
           (subst (λ (m : Moved). MoreGone self c.advance.new.self world c.advance.new.world (option_map exc_of c.args.exc) m froms numbers
-              ps count (suc g.steps)) c.in-On.is
+          ps count (suc g.steps)) c.in-On.is
           (goes_further self c.steps.self c.advance.new.self world c.steps.world c.advance.new.world (option_map exc_of c.args.exc)
-              c.steps.exc c.in_ok-next.field-0 froms numbers ps count
+          c.steps.exc c.in_ok-next.field-0 froms numbers ps count
           (ap (λ (t : Task). t.part) i.2) (ap (λ (t : Task). t.label) i.2) (ap (λ (w : World). w.tick) i.3) g e.step)),
     )
 
@@ -62,8 +67,8 @@ returns-in-Stops-clause-steps c =
     let g = i.4 froms numbers ps count stands in
     let m =
     subst (λ (m : Moved). MoreGone self c.advance.new.self world c.advance.new.world (option_map exc_of c.args.exc) m froms numbers ps count
-        (suc g.steps)) c.in-Stops.is
+    (suc g.steps)) c.in-Stops.is
     (goes_further self c.steps.self c.advance.new.self world c.steps.world c.advance.new.world (option_map exc_of c.args.exc) c.steps.exc
-        c.in_ok-next.field-0 froms numbers ps count
+    c.in_ok-next.field-0 froms numbers ps count
     (ap (λ (t : Task). t.part) i.2) (ap (λ (t : Task). t.label) i.2) (ap (λ (w : World). w.tick) i.3) g c.in_ok-next.ensures.step) in
     record { steps = suc g.steps; took = m.took }

@@ -16,12 +16,23 @@ use Rattle.task_machine.proofs.task.Task.go_to_stop.Given as goal
 abbrev pub invariant-steps : goal.invariant-steps
 invariant-steps l =
     Fits l.self.frames.items l.self l.world None × IsModestHalt l.self.halt
-    × (l.self ≡ record l.initial.self { frames = l.self.frames; own = l.self.own; halt = l.self.halt; entries = l.self.entries; froms =
-        l.self.froms })
-    × (l.world ≡ record l.initial.world { scopes = l.world.scopes; labels = l.world.labels; book = l.world.book; started =
-        l.world.started })
+    × (l.self ≡ record l.initial.self {
+      frames = l.self.frames;
+      own = l.self.own;
+      halt = l.self.halt;
+      entries = l.self.entries;
+      froms =
+          l.self.froms;
+    })
+    × (l.world ≡ record l.initial.world {
+      scopes = l.world.scopes;
+      labels = l.world.labels;
+      book = l.world.book;
+      started =
+          l.world.started;
+    })
     × ((froms : Table) (numbers : Numbers) (ps : List Place) (count : ℕ) →
-        Stands l.initial.self.frames.items l.initial.self l.initial.world froms numbers None ps →
+    Stands l.initial.self.frames.items l.initial.self l.initial.world froms numbers None ps →
     GoneOn l.initial.self l.self l.initial.world l.world (option_map exc_of l.initial.exc) l.exc froms numbers ps count)
 
 abbrev pub decreases-steps : goal.decreases-steps

@@ -28,7 +28,7 @@ returns-clause-left c =
     let froms = c.args.self.now.froms.items in
     let at = c.in-Some.own.at in
     let below = last_below (length froms) c.pop.new.self.items c.in-Some.own
-        (subst (λ (own : List Own). All (λ (o : Own). o.at < length froms) own) c.in-Some.ensures.items c.requires.froms) in
+    (subst (λ (own : List Own). All (λ (o : Own). o.at < length froms) own) c.in-Some.ensures.items c.requires.froms) in
     record {
       last = c.in-Some.own;
       taken = c.in-Some.ensures.items;
@@ -49,9 +49,9 @@ returns-clause-own c =
     let self = c.args.self.now in
     let last = last_pushed (home_scope self) _ _ _ c.in-Some.ensures.items in
     first_after c.args.world.now.scopes c.leave-label.new.self.scopes (home_scope self) c.pop.new.self.items c.in-Some.own
-        c.leave-label.ensures.others
+    c.leave-label.ensures.others
     (top_of c.args.world.now.scopes c.stacks_are_chains.ensures.chain c.stacks_are_chains.ensures.own (home_scope self) self.own.items
-        c.pop.new.self.items c.in-Some.own
+    c.pop.new.self.items c.in-Some.own
     c.in-Some.ensures.items (c.requires.«open» c.in-Some.own.id last) c.requires.own last)
 
 pub returns-clause-at : goal.returns-clause-at
@@ -61,19 +61,19 @@ returns-clause-at c =
     let last = last_pushed (home_scope self) _ _ _ c.in-Some.ensures.items in
     let top : Top world.scopes (home_scope self) c.pop.new.self.items c.in-Some.own =
     top_of world.scopes c.stacks_are_chains.ensures.chain c.stacks_are_chains.ensures.own (home_scope self) self.own.items
-        c.pop.new.self.items c.in-Some.own
+    c.pop.new.self.items c.in-Some.own
     c.in-Some.ensures.items (c.requires.«open» c.in-Some.own.id last) c.requires.own last in
     λ froms p ps a.
     let at : AreAt (label_at world) froms (top.level ∷ top.behind) (p ∷ ps) =
     left_from (label_at world) froms world.scopes (home_scope self) _ c.pop.new.self.items c.in-Some.own p ps top last a in
     let named : top.level.label ≡ c.in-Some.own.id =
-        one_of _ _ (c.stacks_are_chains.ensures.own c.in-Some.own.id (top.level ∷ top.behind) top.at) in
+    one_of _ _ (c.stacks_are_chains.ensures.own c.in-Some.own.id (top.level ∷ top.behind) top.at) in
     record {
       label = one_of _ _ (sym c.leave-label.ensures.label ∙ ap (label_at world) (sym named) ∙ at.0);
       caught = c.catches-catches.ensures (top.level ∷ top.behind) top.at
           ∙ catches_at (label_at world) froms top.level top.behind p ps world.tick at;
       round =
           places_after (label_at world) (label_at c.leave-label.new.self) world.scopes c.leave-label.new.self.scopes (home_scope self)
-              c.pop.new.self.items c.in-Some.own None
+          c.pop.new.self.items c.in-Some.own None
           c.stacks_are_chains.ensures.chain c.leave-label.ensures.others c.leave-label.ensures.taken top froms ps at.3;
     }

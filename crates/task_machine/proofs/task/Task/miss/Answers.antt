@@ -12,7 +12,7 @@ returns-in_ok-moved-in-Needs-clause-wakes c =
     let self = c.args.self.now in
     λ kernel asked.
     wakes_missing self self self c.args.world.now c.in_ok-moved-in-Needs.moved kernel c.args.purpose c.in-Needs.name refl asked
-        (ap purpose_in c.in-Needs.is) refl c.in_ok-moved-in-Needs.ensures.raises
+    (ap purpose_in c.in-Needs.is) refl c.in_ok-moved-in-Needs.ensures.raises
 
 pub returns-in-Shows-clause-wakes : goal.returns-in-Shows-clause-wakes
 returns-in-Shows-clause-wakes c =
@@ -20,7 +20,7 @@ returns-in-Shows-clause-wakes c =
     λ kernel asked.
     wakes_answered self self c.args.world.now kernel c.args.purpose ask.missing refl asked
     (λ froms fs ps. ap (λ (p : Purpose). goes_on_with froms c.args.world.now.tick (here_of self) ask.missing (purpose_in p) fs ps)
-        c.in-Shows.is)
+    c.in-Shows.is)
 
 pub returns-in-Paces-clause-wakes : goal.returns-in-Paces-clause-wakes
 returns-in-Paces-clause-wakes c =
@@ -28,4 +28,4 @@ returns-in-Paces-clause-wakes c =
     λ kernel asked.
     wakes_answered self self c.args.world.now kernel c.args.purpose ask.missing refl asked
     (λ froms fs ps. ap (λ (p : Purpose). goes_on_with froms c.args.world.now.tick (here_of self) ask.missing (purpose_in p) fs ps)
-        c.in-Paces.is)
+    c.in-Paces.is)

@@ -14,11 +14,11 @@ unreachable-requires-in_default-frame c =
     let fs = c.args.self.now.frames.items in
     let b : IsBody fs = is_body fs c.requires in
     c.in_default-frame.not-Nursery b.id (body_frame fs c.as_slice-frames.result.now b c.in-Some.frame.now c.as_slice-frames.ensures
-        c.in-Some.ensures.lookup.1)
+    c.in-Some.ensures.lookup.1)
 
 pub returns : goal.returns
 returns c =
     let fs = c.args.self.now.frames.items in
     let b : IsBody fs = is_body fs c.requires in
     body_id fs b c.in-Some.frame.now c.in-Nursery.id (body_frame fs c.as_slice-frames.result.now b c.in-Some.frame.now
-        c.as_slice-frames.ensures c.in-Some.ensures.lookup.1) c.in-Nursery.is
+    c.as_slice-frames.ensures c.in-Some.ensures.lookup.1) c.in-Nursery.is

@@ -15,7 +15,7 @@ returns-in-Paces-clause-wakes c =
     let k = c.in-Paces.per_tick in
     λ kernel asked.
     wakes_counted self self c.sleep.new.self c.args.world.now c.sleep.result kernel c.args.purpose k c.args.count _ refl asked
-        (ap purpose_in c.in-Paces.is)
+    (ap purpose_in c.in-Paces.is)
     (paced_is c.args.count k (subst IsModestPurpose c.in-Paces.is c.requires.purpose).0) c.sleep.ensures.stays c.sleep.ensures.sleeps
 
 pub returns-in-Shows-clause-wakes : goal.returns-in-Shows-clause-wakes
@@ -24,7 +24,7 @@ returns-in-Shows-clause-wakes c =
     λ kernel asked.
     wakes_answered self self c.args.world.now kernel c.args.purpose (ask.counted c.args.count) refl asked
     (λ froms fs ps. ap (λ (p : Purpose). goes_on_with froms c.args.world.now.tick (here_of self) (ask.counted c.args.count) (purpose_in p)
-        fs ps) c.in-Shows.is)
+    fs ps) c.in-Shows.is)
 
 pub returns-in-Needs-clause-wakes : goal.returns-in-Needs-clause-wakes
 returns-in-Needs-clause-wakes c =
@@ -32,4 +32,4 @@ returns-in-Needs-clause-wakes c =
     λ kernel asked.
     wakes_answered self self c.args.world.now kernel c.args.purpose (ask.counted c.args.count) refl asked
     (λ froms fs ps. ap (λ (p : Purpose). goes_on_with froms c.args.world.now.tick (here_of self) (ask.counted c.args.count) (purpose_in p)
-        fs ps) c.in-Needs.is)
+    fs ps) c.in-Needs.is)

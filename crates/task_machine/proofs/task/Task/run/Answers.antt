@@ -24,15 +24,15 @@ returns-in_ok-enter_scope-in-Scope-clause-fits c =
     let e = c.in_ok-enter_scope-in-Scope.ensures in
     let modest = subst (λ (s : Step). IsModestStep (step_of s)) c.in-Scope.is c.requires.modest in
     let starts = subst (λ (s : Step). StartsAt (in_body (frames_behind (frames_of (λ id. []) c.args.self.now.frames.items))) (step_of s))
-        c.in-Scope.is c.requires.starts in
+    c.in-Scope.is c.requires.starts in
     scope_fits c.in-Scope.fail c.in-Scope.body (label_in c.args.self.now c.in-Scope.name) c.args.self.now c.enter_scope.new.self
-        c.args.world.now c.enter_scope.new.world
+    c.args.world.now c.enter_scope.new.world
     (record { chain = laws.chain; own = laws.own; apart = laws.apart }) c.requires.fits e.own e.frames modest.1 starts e.stays e.world
 
 pub returns-in_ok-enter_scope-in-Scope-clause-length : goal.returns-in_ok-enter_scope-in-Scope-clause-length
 returns-in_ok-enter_scope-in-Scope-clause-length c =
     let e = scope_length c.in-Scope.fail c.in-Scope.body c.args.self.now c.enter_scope.new.self
-        c.in_ok-enter_scope-in-Scope.ensures.frames in
+    c.in_ok-enter_scope-in-Scope.ensures.frames in
     let f = ap (λ (s : Step). step_length (step_of s)) c.in-Scope.is in
     omega (arith, e, f)
 
@@ -42,9 +42,9 @@ returns-in_ok-enter_nursery-in-Nursery-clause-fits c =
     let e = c.in_ok-enter_nursery-in-Nursery.ensures in
     let modest = subst (λ (s : Step). IsModestStep (step_of s)) c.in-Nursery.is c.requires.modest in
     let starts = subst (λ (s : Step). StartsAt (in_body (frames_behind (frames_of (λ id. []) c.args.self.now.frames.items))) (step_of s))
-        c.in-Nursery.is c.requires.starts in
+    c.in-Nursery.is c.requires.starts in
     nursery_fits c.args.me c.in-Nursery.body (label_in c.args.self.now c.in-Nursery.name) c.args.self.now c.enter_nursery.new.self
-        c.args.world.now c.enter_nursery.new.world
+    c.args.world.now c.enter_nursery.new.world
     (record { chain = laws.chain; own = laws.own; apart = laws.apart }) c.requires.fits e.own e.nursery modest.1 starts e.stays
 
 pub returns-in_ok-enter_nursery-in-Nursery-clause-length : goal.returns-in_ok-enter_nursery-in-Nursery-clause-length
@@ -93,19 +93,19 @@ returns-in-Need-clause-step c = λ frames task a. takes_need frames c.args.step.
 pub returns-in_ok-moved-in-Raise-clause-step : goal.returns-in_ok-moved-in-Raise-clause-step
 returns-in_ok-moved-in-Raise-clause-step c =
     λ frames task a. takes_raise frames c.args.step.now task c.args.self.now c.args.world.now c.in_ok-moved-in-Raise.moved c.in-Raise.name a
-        c.in-Raise.is c.in_ok-moved-in-Raise.ensures.raises
+    c.in-Raise.is c.in_ok-moved-in-Raise.ensures.raises
 
 pub returns-in-Cancel-clause-step : goal.returns-in-Cancel-clause-step
 returns-in-Cancel-clause-step c =
     λ frames task a. takes_cancel frames c.args.step.now task c.args.self.now c.args.world.now c.cancel.new.world c.in-Cancel.name a
-        c.in-Cancel.is c.cancel.ensures.rest c.cancel.ensures.at
+    c.in-Cancel.is c.cancel.ensures.rest c.cancel.ensures.at
 
 pub returns-in_ok-enter_scope-in-Scope-clause-step : goal.returns-in_ok-enter_scope-in-Scope-clause-step
 returns-in_ok-enter_scope-in-Scope-clause-step c =
     let e = c.in_ok-enter_scope-in-Scope.ensures in
     λ frames task a.
     takes_scope frames c.args.step.now task c.args.self.now c.enter_scope.new.self c.args.world.now c.enter_scope.new.world c.in-Scope.name
-        c.in-Scope.deadline c.in-Scope.shield c.in-Scope.fail c.in-Scope.body a
+    c.in-Scope.deadline c.in-Scope.shield c.in-Scope.fail c.in-Scope.body a
     c.in-Scope.is e.stays e.frames e.world e.at e.own
 
 pub returns-in_ok-enter_nursery-in-Nursery-clause-step : goal.returns-in_ok-enter_nursery-in-Nursery-clause-step
@@ -113,7 +113,7 @@ returns-in_ok-enter_nursery-in-Nursery-clause-step c =
     let e = c.in_ok-enter_nursery-in-Nursery.ensures in
     λ frames task a.
     takes_nursery c.args.me frames c.args.step.now task c.args.self.now c.enter_nursery.new.self c.args.world.now c.enter_nursery.new.world
-        c.in-Nursery.name c.in-Nursery.body a c.in-Nursery.is e.stays e.nursery
+    c.in-Nursery.name c.in-Nursery.body a c.in-Nursery.is e.stays e.nursery
     e.world e.at e.own
 
 pub returns-in_ok-begin_try-in-Try-clause-step : goal.returns-in_ok-begin_try-in-Try-clause-step
@@ -121,12 +121,12 @@ returns-in_ok-begin_try-in-Try-clause-step c =
     let e = c.in_ok-begin_try-in-Try.ensures in
     λ frames task a.
     takes_attempt frames c.args.step.now task c.args.self.now c.begin_try.new.self c.args.world.now c.in-Try.body c.in-Try.handler
-        c.in-Try.cleanup a c.in-Try.is e.stays e.frames
+    c.in-Try.cleanup a c.in-Try.is e.stays e.frames
 
 pub returns-in_ok-begin_children-in-Start-clause-step : goal.returns-in_ok-begin_children-in-Start-clause-step
 returns-in_ok-begin_children-in-Start-clause-step c =
     let e = c.in_ok-begin_children-in-Start.ensures in
     λ frames task a.
     takes_children frames c.args.step.now task c.args.self.now c.args.world.now c.begin_children.new.world c.in-Start.name c.in-Start.over
-        c.in-Start.body c.requires.fits a c.in-Start.is e.rest e.children
+    c.in-Start.body c.requires.fits a c.in-Start.is e.rest e.children
     (subst (λ (s : Step). IsModestStep (step_of s)) c.in-Start.is c.requires.modest).1

@@ -32,5 +32,5 @@ returns-clause-sleeps c =
     sleeps_by _ froms _ ps c.args.ticks world.tick fs false a
     (sym c.if-sees.false ∙ c.sees.ensures ∙ ap (λ (s : Option ℕ). seen (outer_of world.scopes s) world.tick) c.scope.ensures)
     (λ (o : Move). (o.exc ≡ None) × StopsAs numbers book c.args.self.now.part (Sleep (c.now-since.result + c.args.ticks))
-        (Asleep c.args.ticks c.now-since.result) o.stopped)
+    (Asleep c.args.ticks c.now-since.result) o.stopped)
     (sleeps_off c.args.ticks world.tick c.now-since.result fs ps numbers book c.args.self.now.part c.if-ticks-eq0.false c.now-since.ensures)

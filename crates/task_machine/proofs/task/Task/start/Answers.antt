@@ -7,7 +7,7 @@ pub returns-clause-started : goal.returns-clause-started
 returns-clause-started c =
     let child = c.in_ok-child.ensures in
     starts_one c.args.world.now _ c.args.nursery c.args.label c.args.part c.args.body.now c.in_ok-child.child c.scope-scope.result
-        c.in_ok-place.place
+    c.in_ok-place.place
     c.scope-scope.ensures c.in_ok-place.ensures.place c.in_ok-place.ensures.started c.in_ok-push_back.ensures.items
     (record {
       label_is = child.label;

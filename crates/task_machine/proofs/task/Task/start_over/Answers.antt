@@ -21,7 +21,7 @@ copies-preserved c =
       subst (λ (j : ℕ). StartsOver c.args.self.now c.args.world.now c.start.new.world c.args.nursery c.args.name c.args.copies
           c.args.body.now j) next
           (starts_more c.args.self.now c.args.world.now c.copies.world c.start.new.world c.args.nursery c.args.copies i c.args.name
-              c.in_ok-label.label c.next_cut-part.result c.args.body.now
+          c.in_ok-label.label c.next_cut-part.result c.args.body.now
           c.copies.invariant.1 started.started name (gives.buffer ∙ ap buffer_of whole) (rw (whole, count, given) at gives.range)),
       runs_on c.copies.world c.start.new.world c.args.nursery c.in_ok-label.label c.next_cut-part.result c.args.body.now started.started
           c.copies.invariant.2,
@@ -35,5 +35,5 @@ copies-preserved c =
 pub copies-init : goal.copies-init
 copies-init c =
     let none = starts_none c.args.self.now c.args.world.now c.args.nursery c.args.copies c.args.name c.args.body.now (λ n. n.body ≡ None)
-        c.requires.nursery in
+    c.requires.nursery in
     (omega arith, none, c.requires.nursery, refl, c.cuts-cuts.ensures.part, c.cuts-cuts.ensures.count, c.cuts-cuts.ensures.given)

@@ -26,9 +26,9 @@ returns-in_ok-push_lines-in-Lines-clause-wakes c =
     let self = c.args.self.now in
     let lines = c.in-Lines.lines in
     subst (λ (a : held.Answer). Wakens self (record self { entries = c.push_lines.new.entries }) c.args.world.now c.args.world.now (On None)
-        (has_answer (answer_in a))) (sym c.in-Lines.is)
+    (has_answer (answer_in a))) (sym c.in-Lines.is)
     (wakes_lines self self (record self { entries = c.push_lines.new.entries }) c.args.world.now c.in-Asked.kernel c.in-Asked.purpose
-        (map span_of lines) lines refl c.in-Asked.is refl
+    (map span_of lines) lines refl c.in-Asked.is refl
     (c.in_ok-push_lines-in-Lines.ensures ∙ ap (λ (ls : List Line). self.entries.items ++ map entries.Line ls) c.as_slice.ensures)
     (lines_at c.in-Asked.kernel self.part lines
     (subst (λ (a : held.Answer). IsAnswer c.in-Asked.kernel self.part a) c.in-Lines.is
@@ -38,12 +38,12 @@ pub returns-in_ok-moved-in-Missing-clause-wakes : goal.returns-in_ok-moved-in-Mi
 returns-in_ok-moved-in-Missing-clause-wakes c =
     let self = c.args.self.now in
     subst (λ (a : held.Answer). Wakens self self c.args.world.now c.args.world.now c.in_ok-moved-in-Missing.moved
-        (has_answer (answer_in a))) (sym c.in-Missing.is)
+    (has_answer (answer_in a))) (sym c.in-Missing.is)
     (c.in_ok-moved-in-Missing.ensures.wakes c.in-Asked.kernel c.in-Asked.is)
 
 pub returns-in-Count-clause-wakes : goal.returns-in-Count-clause-wakes
 returns-in-Count-clause-wakes c =
     let self = c.args.self.now in
     subst (λ (a : held.Answer). Wakens self c.pace.new.self c.args.world.now c.args.world.now c.pace.result (has_answer (answer_in a)))
-        (sym c.in-Count.is)
+    (sym c.in-Count.is)
     (c.pace.ensures.wakes c.in-Asked.kernel c.in-Asked.is)
