@@ -2,7 +2,6 @@
 use Rattle.std.proofs.Common.{false, ◌≡◌, ℕ, ◌<◌, ◌≤◌, List, [], length, Option, Some, None, inr, refl, sym, ap, subst, ◌∙◌, arith}
 use Rattle.std.specs.Prelude.{Result, Ok, Err, IfErr}
 use Rattle.job_tree.specs.declared.format.Format.{Format}
-use Rattle.job_tree.specs.declared.format.Format.TheVariants.{One, Two}
 use Rattle.job_tree.specs.Tree.{Tree}
 use Rattle.job_tree.specs.Modest.{most_steps}
 use Rattle.job_tokens.specs.declared.token.Token.{Token}
@@ -219,11 +218,6 @@ pub reserved_passed : (text : List ℕ) (d : Draft) → IsDraftTo 9 text d → r
     IsDraftTo 10 text d
 reserved_passed text d h e = next_draft 9 10 text d h (passes_reserved text d.tokens.items (tree_of d) h.passes h.is_of
     (by_roles d reserved_in None h.roles_are e))
-
--- a job of either format has few steps
-pub few_steps : (format : Format) → most_steps format ≤ 1000000
-few_steps One = omega arith
-few_steps Two = omega arith
 
 -- more step instances than the greatest number of them are a refusal of the text of such a draft, at place 0
 pub size_refused : (text : List ℕ) (d : Draft) → IsDraftTo 10 text d → most_steps d.format < size_of d.steps → IsRefused text kind.TooLarge 0

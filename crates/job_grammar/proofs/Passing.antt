@@ -1,8 +1,10 @@
 -- One pass after the other, and that each finds one place.
-use Rattle.std.proofs.Common.{◌≡◌, ℕ, ◌+◌, ◌<◌, ◌≤◌, List, [], length, take, drop, Option, Some, None, inl, inr, refl, sym, ap, subst, ◌∙◌, arith}
+use Rattle.std.proofs.Common.{Bool, true, false, ◌≡◌, ℕ, ◌+◌, ◌<◌, ◌≤◌, List, [], length, take, drop, Option, Some, None, inl, inr, refl, sym, ap, subst, ◌∙◌, arith}
 use Rattle.std.specs.Prelude.{Result, Ok, Err, MatchResult, ◌==◌, if◌then◌else◌}
 use Rattle.std.specs.List.{prefix_len}
 use Rattle.std.proofs.lemmas.Bool.{cases_lt}
+use Rattle.std.proofs.lemmas.Slice.Eq.{bytes_eq-Decides}
+use Rattle.std.specs.Str.{bytes_eq}
 use Rattle.job_tree.specs.declared.format.Format.{Format}
 use Rattle.job_tree.specs.declared.format.Format.TheVariants.{One, Two}
 use Rattle.job_tree.specs.Tree.{Tree}
@@ -27,7 +29,7 @@ use Rattle.job_grammar.specs.declared.fault.JobKind.{JobKind}
 use Rattle.job_grammar.specs.declared.fault.JobKind.TheVariants as kind
 use Rattle.job_grammar.specs.declared.fault.JobFault.{JobFault}
 use Rattle.job_grammar.specs.Kinds.{number_of}
-use Rattle.job_grammar.specs.Refusals.{most_bytes, first_line, format_of, IsHeadless, is_ascii, HasTokens, IsOf, roles_of, stray_of, Finds, Passes, IsRefused, IsFair, AnswersUnlessMemory, Spells}
+use Rattle.job_grammar.specs.Refusals.{most_bytes, first_line, format_if, format_of, IsHeadless, is_ascii, HasTokens, IsOf, roles_of, stray_of, Finds, Passes, IsRefused, IsFair, AnswersUnlessMemory, Spells}
 
 next_pass : (text : List ℕ) (n : ℕ) → Passes text n → ((k : JobKind) (at : ℕ) → number_of k ≡ n + 1 → Finds k text at → ⊥) →
     Passes text (n + 1)
@@ -57,6 +59,14 @@ here_ascii text all _ at e finds = absurd (omega arith)
 pub format_is : (text : List ℕ) (format : Format) → take 11 text ≡ first_line format → format ≡ format_of text
 format_is text One e = rw e refl
 format_is text Two e = rw e refl
+
+-- a text that begins with neither first line counts as one of format 1
+pub format_headless : (text : List ℕ) → IsHeadless text → One ≡ format_of text
+format_headless text none = by_test (bytes_eq (take 11 text) (first_line Two)) refl
+  where
+    by_test : (b : Bool) → bytes_eq (take 11 text) (first_line Two) ≡ b → One ≡ format_if b
+    by_test true e = absurd (none.1 ((bytes_eq-Decides (take 11 text) (first_line Two)).0 e))
+    by_test false e = refl
 
 not_headless : (text : List ℕ) (format : Format) → take 11 text ≡ first_line format → IsHeadless text → ⊥
 not_headless text One is none = none.0 is
