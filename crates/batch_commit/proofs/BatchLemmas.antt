@@ -59,7 +59,7 @@ pub ready_turn : (current next : List (Option Entry)) (places places' : PlacesLe
 ready_turn current next places places' is left =
     let full : places_from 0 next ≡ numbers 0 (length next) =
     ap (places_from 0) is.fresh ∙ places_from-full unplaced 0 (added_in next)
-        ∙ ap (numbers 0) (sym (ap length is.fresh ∙ length-map (added_in next) (λ a. Some (unplaced a)))) in
+    ∙ ap (numbers 0) (sym (ap length is.fresh ∙ length-map (added_in next) (λ a. Some (unplaced a)))) in
     record { left = left ∙ sym full; fresh = refl; room = omega arith }
 
 -- what the next batch holds is what was added to it, with no answer placed

@@ -43,7 +43,7 @@ all_placed [] answers n = All-nil (λ (e : Entry). HasAnswer (request_in e.call)
 all_placed (e ∷ es) answers n =
     let first = in_front (request_in e.call) answers e.answer (requests_of es) n in
     All-cons (λ (e : Entry). HasAnswer (request_in e.call) e.answer) (with_placed answers e)
-        (placed es (answers_after (request_in e.call) answers)) first.0 (all_placed es (answers_after (request_in e.call) answers) first.1)
+    (placed es (answers_after (request_in e.call) answers)) first.0 (all_placed es (answers_after (request_in e.call) answers) first.1)
 
 -- no entry has an answer when it is added
 pub none_placed : (added : List Added) → NonePlaced (map unplaced added)

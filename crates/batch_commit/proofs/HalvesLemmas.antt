@@ -63,7 +63,7 @@ drawn_first depth d base c k ls l m r l' place e is n n' t lt drawn =
     let lt' : k < length (left_in d base l m) = rw count lt in
     let new : left_in depth base (l' ++ (m - 1) ∷ r) (c - 1) ≡ left_in d base l' (m - 1) ++ rest =
     rw e (left_cut d base (c - 1) (l' ++ (m - 1) ∷ r) l' (m - 1) r cut'
-        ∙ ap (λ n. left_in d base l' (m - 1) ++ left_in d (base + inner d + 1) r n) same)
+    ∙ ap (λ n. left_in d base l' (m - 1) ++ left_in d (base + inner d + 1) r n) same)
     in
     record {
       tree = rw e (tree_join d (c - 1) (l' ++ (m - 1) ∷ r) l' (m - 1) r cut' (omega (arith, lt, parts.0)) drawn.tree right);
@@ -170,7 +170,7 @@ filled_all depth d c m l r e n some first last base =
     ] in
     let cut = left_cut d base c (l ++ m ∷ r) l m r (cut_at d l m r n) in
     rw e (cut ∙ ap (λ xs. xs ++ left_in d off r (c - m)) (first base) ∙ ap (λ xs. numbers base m ++ xs) (last off) ∙ seam
-        ∙ sym (numbers_append base m (c - m)) ∙ ap (numbers base) (sym whole))
+    ∙ sym (numbers_append base m (c - m)) ∙ ap (numbers base) (sym whole))
 
 -- a number that is all of the first half or all of what is left, whichever is less, is what the first half has left
 pub in_first : (d c m half : ℕ) → half ≡ inner d → m ≤ c → m ≤ half + 1 → (m ≡ half + 1) ⊎ (c ≡ m) → InFirst d c m

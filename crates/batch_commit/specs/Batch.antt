@@ -30,12 +30,12 @@ pub record IsReady (current next : List (Option Entry)) (places : PlacesLeft) : 
 -- One task had its turn: the picker picked a place among those left, and the task of the entry there goes on as its call
 -- and its answer tell. The others stay, in their order, and so does what was added.
 pub record HandsOut {P : Type 0} (picks : P → ℕ → ℕ → P → Type 0) (old new : Batches) (picker picker' : P) (task : ℕ) (wake : Wake) : Type 0
-    where
-  pub place : ℕ
-  pub picked : picks picker (length old.current) place picker'
-  pub entry : Entry
-  pub at_place : slice_get old.current place ≡ Some entry
-  pub its_task : task ≡ entry.task
-  pub its_wake : wake_of entry.call entry.answer ≡ Some wake
-  pub rest : new.current ≡ remove old.current place
-  pub added : new.next ≡ old.next
+  where
+    pub place : ℕ
+    pub picked : picks picker (length old.current) place picker'
+    pub entry : Entry
+    pub at_place : slice_get old.current place ≡ Some entry
+    pub its_task : task ≡ entry.task
+    pub its_wake : wake_of entry.call entry.answer ≡ Some wake
+    pub rest : new.current ≡ remove old.current place
+    pub added : new.next ≡ old.next

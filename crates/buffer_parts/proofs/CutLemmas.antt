@@ -57,7 +57,7 @@ next_start-finds buffer place (suc left) =
     (λ (starts : starts_line buffer place ≡ true).
     let same = next_start-stopped buffer place (suc left) starts in
     let here : IsNextStart buffer place (place + suc left) place =
-        record { low = omega arith; high = omega arith; before = λ p from to. absurd (omega arith); stops = inr starts } in
+    record { low = omega arith; high = omega arith; before = λ p from to. absurd (omega arith); stops = inr starts } in
     subst (IsNextStart buffer place (place + suc left)) (sym same) here)
     (λ (none : starts_line buffer place ≡ false).
     let same = next_start-passed buffer place left none in
@@ -67,7 +67,7 @@ next_start-finds buffer place (suc left) =
     let found = next_start buffer (place + 1) left in
     let sum : place + 1 + left ≡ place + suc left = omega arith in
     let before : NoStart buffer place found = λ p from to. ⊎_elim (λ (is : p ≡ place). ap (starts_line buffer) is ∙ none)
-        (λ (other : p ≢ place). rest.before p (omega arith) to) (cases_eq p place) in
+    (λ (other : p ≢ place). rest.before p (omega arith) to) (cases_eq p place) in
     let here : IsNextStart buffer place (place + suc left) found = record {
       low = omega arith;
       high = omega arith;
@@ -188,7 +188,7 @@ cut_point-ordered buffer r k i ordered less =
     let first = target_of r k i in
     let second = target_of r k (i + 1) in
     let steps : i * (r.to - r.from) / k ≤ (i + 1) * (r.to - r.from) / k =
-        step-ordered (r.to - r.from) k i (i + 1) (omega arith) (omega arith) in
+    step-ordered (r.to - r.from) k i (i + 1) (omega arith) (omega arith) in
     let within = target-le r k i ordered (omega arith) (omega arith) in
     let within_next = target-le r k (i + 1) ordered (omega arith) (omega arith) in
     let le = next_start-ordered buffer first second (r.to - first) (r.to - second) (omega arith) (omega arith) in
@@ -216,7 +216,7 @@ cut-aligned buffer r k i ordered less aligned =
     let step = cut_point-ordered buffer r k i ordered less in
     let high = next.high in
     let at_end = λ (ends : cut_point buffer r k i ≡ r.to). or_right (starts_line buffer (cut_point buffer r k i)) _
-        (eq-eqb (cut_point buffer r k i) (cut_point buffer r k (i + 1)) (omega arith)) in
+    (eq-eqb (cut_point buffer r k i) (cut_point buffer r k (i + 1)) (omega arith)) in
     ⊎_elim
     (λ (zero_is : i ≡ 0).
     let at : cut_point buffer r k i ≡ r.from = ap (cut_point buffer r k) zero_is in

@@ -39,15 +39,15 @@ lines_from-append at (b ∷ c ∷ bs) ys ends =
     let low : length (c ∷ bs) - 1 ≡ length bs = omega arith in
     let high : length (b ∷ c ∷ bs) - 1 ≡ suc (length bs) = omega arith in
     let last : get_or (c ∷ bs) (length (c ∷ bs) - 1) 0 ≡ 10 = ap (λ n. get_or (c ∷ bs) n 0) low
-        ∙ sym (ap (λ n. get_or (b ∷ c ∷ bs) n 0) high) ∙ ends (omega arith) in
+    ∙ sym (ap (λ n. get_or (b ∷ c ∷ bs) n 0) high) ∙ ends (omega arith) in
     let rest = lines_from-append (at + 1) (c ∷ bs) ys (λ some. last) in
     let place : at + 1 + length (c ∷ bs) ≡ at + length (b ∷ c ∷ bs) = omega arith in
     let rest_at : lines_from (at + 1) (c ∷ (bs ++ ys)) ≡ lines_from (at + 1) (c ∷ bs) ++ lines_from (at + length (b ∷ c ∷ bs)) ys =
-        rest ∙ ap (λ n. lines_from (at + 1) (c ∷ bs) ++ lines_from n ys) place in
+    rest ∙ ap (λ n. lines_from (at + 1) (c ∷ bs) ++ lines_from n ys) place in
     ⊎_elim
     (λ (yes_is : eqb b 10 ≡ true). rw yes_is (ap (λ ls. span at 0 ∷ ls) rest_at))
     (λ (no_is : eqb b 10 ≡ false). rw no_is (ap (begun_at at) rest_at
-        ∙ begun_at-append at (lines_from (at + 1) (c ∷ bs)) _ (lines_from-some (at + 1) c bs)))
+    ∙ begun_at-append at (lines_from (at + 1) (c ∷ bs)) _ (lines_from-some (at + 1) c bs)))
     (cases_Bool (eqb b 10))
 
 -- a range cut where a line starts, or at its end, has the lines of both
@@ -64,7 +64,7 @@ lines_of-split buffer a b c ab bc within stops =
     let place : a + (length (slice_range buffer a b) - 1) ≡ b - 1 = omega arith in
     get_or-slice_range buffer a b (length (slice_range buffer a b) - 1) (omega arith) ∙ ap (λ n. get_or buffer n 0) place
     ∙ ⊎_elim (λ is. is) (λ other. absurd (both_ways _ (starts_line-other buffer b (omega arith) other) starts))
-        (cases_eq (get_or buffer (b - 1) 0) 10) in
+    (cases_eq (get_or buffer (b - 1) 0) 10) in
     let place : a + length (slice_range buffer a b) ≡ b = omega arith in
     ap (lines_from a) (slice_range-split buffer a b c ab bc) ∙ lines_from-append a (slice_range buffer a b) (slice_range buffer b c) ends
     ∙ ap (λ n. lines_from a (slice_range buffer a b) ++ lines_from n (slice_range buffer b c)) place)
@@ -83,7 +83,7 @@ lines_of_cuts-front buffer r k (suc n) ordered within some le =
     let high = next.high in
     let same : n + 1 ≡ suc n = omega arith in
     let meets : lines_of buffer (range r.from (cut_point buffer r k (n + 1))) ≡ lines_of buffer (range r.from (cut_point buffer r k n))
-        ++ lines_of buffer (range (cut_point buffer r k n) (cut_point buffer r k (n + 1))) =
+    ++ lines_of buffer (range (cut_point buffer r k n) (cut_point buffer r k (n + 1))) =
     ⊎_elim
     (λ (first : n ≡ 0).
     let at : cut_point buffer r k n ≡ r.from = ap (cut_point buffer r k) first in
@@ -94,14 +94,14 @@ lines_of_cuts-front buffer r k (suc n) ordered within some le =
     (⊎_elim (λ (ends : cut_point buffer r k n ≡ r.to). inl (omega arith)) (λ starts. inr starts) (here.stops (omega arith))))
     (cases_eq n 0) in
     ap (λ ls. ls ++ lines_of buffer (cut_of buffer r k n)) before ∙ sym meets
-        ∙ ap (λ m. lines_of buffer (range r.from (cut_point buffer r k m))) same
+    ∙ ap (λ m. lines_of buffer (range r.from (cut_point buffer r k m))) same
 
 -- the lines of all k cuts of a range, in order, are the lines of the range
 pub lines_of_cuts-all : (buffer : List ℕ) (r : Range) (k : ℕ) → r.from ≤ r.to → r.to ≤ length buffer → 0 < k →
     lines_of_cuts buffer r k k ≡ lines_of buffer r
 lines_of_cuts-all buffer r k ordered within some =
     lines_of_cuts-front buffer r k k ordered within some (omega arith)
-        ∙ ap (λ n. lines_of buffer (range r.from n)) (cut_point-last buffer r k some)
+    ∙ ap (λ n. lines_of buffer (range r.from n)) (cut_point-last buffer r k some)
 
 bytes_of_cuts-front : (buffer : List ℕ) (r : Range) (k n : ℕ) → r.from ≤ r.to → 0 < k → n ≤ k →
     bytes_of_cuts buffer r k n ≡ bytes_of buffer (range r.from (cut_point buffer r k n))
@@ -122,7 +122,7 @@ bytes_of_cuts-front buffer r k (suc n) ordered some le =
 pub bytes_of_cuts-all : (buffer : List ℕ) (r : Range) (k : ℕ) → r.from ≤ r.to → 0 < k → bytes_of_cuts buffer r k k ≡ bytes_of buffer r
 bytes_of_cuts-all buffer r k ordered some =
     bytes_of_cuts-front buffer r k k ordered some (omega arith) ∙ ap (λ n. bytes_of buffer (range r.from n))
-        (cut_point-last buffer r k some)
+    (cut_point-last buffer r k some)
 
 -- there are at most as many lines as bytes
 pub length-lines_from : (at : ℕ) (xs : List ℕ) → length (lines_from at xs) ≤ length xs

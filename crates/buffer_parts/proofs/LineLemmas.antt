@@ -47,9 +47,11 @@ lines_of-newline buffer next end k within found =
     let before : (j : ℕ) → j < k → get_or bytes j 0 ≢ 10 = λ j less is. found.0.before j (omega arith) less (eq-eqb _ _ is) in
     let place : next + suc k ≡ next + k + 1 = omega arith in
     let rest : drop (suc k) bytes ≡ slice_range buffer (next + k + 1) end =
-        drop-slice_range buffer next end (suc k) (omega arith) ∙ ap (λ n. slice_range buffer n end) place in
-    (omega arith, lines_from-newline next bytes k (next + k + 1) (omega arith) high here before
-        ∙ ap (λ ys. span next k ∷ lines_from (next + k + 1) ys) rest)
+    drop-slice_range buffer next end (suc k) (omega arith) ∙ ap (λ n. slice_range buffer n end) place in (
+      omega arith,
+      lines_from-newline next bytes k (next + k + 1) (omega arith) high here before
+          ∙ ap (λ ys. span next k ∷ lines_from (next + k + 1) ys) rest,
+    )
 
 one_line : (at : ℕ) (xs : List ℕ) → 0 < length xs → ((j : ℕ) → j < length xs → get_or xs j 0 ≢ 10) →
     lines_from at xs ≡ span at (length xs) ∷ []
@@ -71,4 +73,4 @@ lines_of-last buffer next end within some missed =
     let long : length bytes ≡ end - next = length-slice_range buffer next end within in
     let none : (j : ℕ) → j < length bytes → get_or bytes j 0 ≢ 10 = λ j less is. missed j (omega arith) less (eq-eqb _ _ is) in
     one_line next bytes (omega arith) none ∙ ap (λ n. span next n ∷ []) long
-        ∙ ap (λ ls. span next (end - next) ∷ ls) (sym (lines_of-none buffer end))
+    ∙ ap (λ ls. span next (end - next) ∷ ls) (sym (lines_of-none buffer end))

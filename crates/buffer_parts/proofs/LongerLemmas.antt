@@ -45,8 +45,11 @@ lines_from-all at [] = tt
 lines_from-all at (b ∷ bs) =
     let rest = lines_from-all (at + 1) bs in
     ⊎_elim
-    (λ (yes_is : eqb b 10 ≡ true). rw yes_is (omega arith, NoLonger-more (length bs) (suc (length bs)) (lines_from (at + 1) bs)
-        (omega arith) rest))
+    (λ (yes_is : eqb b 10 ≡ true). rw yes_is (
+      omega arith,
+      NoLonger-more (length bs) (suc (length bs)) (lines_from (at + 1) bs)
+          (omega arith) rest,
+    ))
     (λ (no_is : eqb b 10 ≡ false). rw no_is (begun-all (length bs) at (lines_from (at + 1) bs) rest))
     (cases_Bool (eqb b 10))
 
@@ -72,7 +75,7 @@ lines_from-ended at (suc n) (b ∷ c ∷ bs) long ends =
 pub passed-newline : (buffer : List ℕ) (next end n k : ℕ) → n < end - next → end ≤ length buffer →
     IsLastByte (is_byte 10) (slice_range buffer next (next + n + 1)) (Some k)
     → (next + (k + 1) ≤ end) × (from_longer n (lines_of buffer (range next end))
-        ≡ from_longer n (lines_of buffer (range (next + (k + 1)) end)))
+    ≡ from_longer n (lines_of buffer (range (next + (k + 1)) end)))
 passed-newline buffer next end n k more within found =
     let bytes = slice_range buffer next (next + n + 1) in
     let start = next + (k + 1) in
@@ -82,13 +85,15 @@ passed-newline buffer next end n k more within found =
     let newline : get_or buffer (next + k) 0 ≡ 10 = sym (get_or-slice_range buffer next (next + n + 1) k (omega arith)) ∙ here in
     let back : next + k ≡ start - 1 = omega arith in
     let split = lines_of-split buffer next start end (omega arith) (omega arith) within
-        (inr (starts_line-newline buffer start (sym (ap (λ p. get_or buffer p 0) back) ∙ newline))) in
+    (inr (starts_line-newline buffer start (sym (ap (λ p. get_or buffer p 0) back) ∙ newline))) in
     let size : length (slice_range buffer next start) ≡ start - next = length-slice_range buffer next start (omega arith) in
     let last : get_or (slice_range buffer next start) k 0 ≡ 10 = get_or-slice_range buffer next start k (omega arith) ∙ newline in
     let short = NoLonger-more k n (lines_of buffer (range next start)) (omega arith)
-        (lines_from-ended next k (slice_range buffer next start) (omega arith) last) in
-    (omega arith, ap (from_longer n) split ∙ from_longer-short n (lines_of buffer (range next start)) (lines_of buffer (range start end))
-        short)
+    (lines_from-ended next k (slice_range buffer next start) (omega arith) last) in (
+      omega arith,
+      ap (from_longer n) split ∙ from_longer-short n (lines_of buffer (range next start)) (lines_of buffer (range start end))
+          short,
+    )
 
 -- bytes that are not more than the length hold no longer line
 pub passed-rest : (buffer : List ℕ) (next end n : ℕ) → end - next ≤ n → end ≤ length buffer →
@@ -96,7 +101,7 @@ pub passed-rest : (buffer : List ℕ) (next end n : ℕ) → end - next ≤ n �
 passed-rest buffer next end n few within =
     let long : length (slice_range buffer next end) ≡ end - next = length-slice_range buffer next end within in
     from_longer-none n (lines_of buffer (range next end)) (NoLonger-more (length (slice_range buffer next end)) n
-        (lines_of buffer (range next end)) (omega arith) (lines_from-all next (slice_range buffer next end)))
+    (lines_of buffer (range next end)) (omega arith) (lines_from-all next (slice_range buffer next end)))
 
 -- where no newline stands among them the next line is longer
 pub longer-line : (s t : Lines) (n : ℕ) (line : Line) → n < s.end - s.next →
@@ -116,7 +121,7 @@ longer-line s t n line more missed gives =
     ⊎_elim
     (λ (less : l.len < n + 1).
     let same : get_or few l.len 0 ≡ get_or bytes l.len 0 = get_or-slice_range b s.next (s.next + n + 1) l.len (omega arith)
-        ∙ sym (get_or-slice_range b s.next s.end l.len (omega arith)) in
+    ∙ sym (get_or-slice_range b s.next s.end l.len (omega arith)) in
     absurd (missed l.len (omega arith) (omega arith) (eq-eqb _ _ (same ∙ here))))
     (λ le. omega arith)
     (cases_lt l.len (n + 1)))

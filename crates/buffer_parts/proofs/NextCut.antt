@@ -31,7 +31,7 @@ same_end buffer r k i ordered aligned less reached =
     let between = cut_point-between buffer r k i some (λ is. omega arith) in
     let found = next_start-finds buffer first (r.to - first) in
     let steps : i * (r.to - r.from) / k ≤ (i + 1) * (r.to - r.from) / k =
-        step-ordered (r.to - r.from) k i (i + 1) (omega arith) (omega arith) in
+    step-ordered (r.to - r.from) k i (i + 1) (omega arith) (omega arith) in
     record {
       low = reached;
       high = high;

@@ -28,13 +28,15 @@ next_start-newline buffer target end k some ordered within found =
     let place : target - 1 + k ≡ target + k - 1 = omega arith in
     let starts : starts_line buffer (target + k) ≡ true =
     starts_line-newline buffer (target + k) (ap (λ n. get_or buffer n 0) (sym place)
-        ∙ sym (get_or-slice_range buffer (target - 1) end k (omega arith)) ∙ here) in
+    ∙ sym (get_or-slice_range buffer (target - 1) end k (omega arith)) ∙ here) in
     let before : NoStart buffer target (target + k) = λ p from to.
     let at : target - 1 + (p - target) ≡ p - 1 = omega arith in
     starts_line-other buffer p (omega arith) (λ is. found.0.before (p - target) (omega arith) (omega arith)
-    (eq-eqb _ _ (get_or-slice_range buffer (target - 1) end (p - target) (omega arith) ∙ ap (λ n. get_or buffer n 0) at ∙ is))) in
-    (omega arith, next_start-is buffer target (end - target) (target + k)
-        (record { low = omega arith; high = omega arith; before = before; stops = inr starts }))
+    (eq-eqb _ _ (get_or-slice_range buffer (target - 1) end (p - target) (omega arith) ∙ ap (λ n. get_or buffer n 0) at ∙ is))) in (
+      omega arith,
+      next_start-is buffer target (end - target) (target + k)
+          (record { low = omega arith; high = omega arith; before = before; stops = inr starts }),
+    )
 
 -- where there is no newline from the place before on, no line starts
 pub next_start-missed : (buffer : List ℕ) (target end : ℕ) → 0 < target → target ≤ end → end ≤ length buffer →
@@ -46,5 +48,10 @@ next_start-missed buffer target end some ordered within missed =
     let at : target - 1 + (p - target) ≡ p - 1 = omega arith in
     starts_line-other buffer p (omega arith) (λ is. missed (p - target) (omega arith) (omega arith)
     (eq-eqb _ _ (get_or-slice_range buffer (target - 1) end (p - target) (omega arith) ∙ ap (λ n. get_or buffer n 0) at ∙ is))) in
-    next_start-is buffer target (end - target) end (record { low = omega arith; high = omega arith; before = before; stops =
-        inl (omega arith) })
+    next_start-is buffer target (end - target) end (record {
+      low = omega arith;
+      high = omega arith;
+      before = before;
+      stops =
+          inl (omega arith);
+    })

@@ -61,7 +61,7 @@ GivesLine-some before after (Some line) some gives = refl
 pub skipped-newline : (buffer : List ℕ) (next end place k start : ℕ) → start ≡ next + (k + 1) → next + place < end → end ≤ length buffer →
     IsLastByte (is_byte 10) (slice_range buffer next (next + place)) (Some k)
     → (start ≤ next + place) × (lines_of buffer (range next end) ≡ lines_of buffer (range next start) ++ lines_of buffer (range start end))
-        × ((p : ℕ) → start ≤ p → p < next + place → get_or buffer p 0 ≢ 10)
+    × ((p : ℕ) → start ≤ p → p < next + place → get_or buffer p 0 ≢ 10)
 skipped-newline buffer next end place k start is below within found =
     let bytes = slice_range buffer next (next + place) in
     let high : k < length bytes = found.0.high in
@@ -69,28 +69,28 @@ skipped-newline buffer next end place k start is below within found =
     let here : get_or bytes k 0 ≡ 10 = eqb-true _ _ found.1 in
     let at : next + k ≡ start - 1 = omega arith in
     let newline : get_or buffer (start - 1) 0 ≡ 10 = sym (ap (λ n. get_or buffer n 0) at)
-        ∙ sym (get_or-slice_range buffer next (next + place) k (omega arith)) ∙ here in (
+    ∙ sym (get_or-slice_range buffer next (next + place) k (omega arith)) ∙ here in (
       omega arith,
       lines_of-split buffer next start end (omega arith) (omega arith) within (inr (starts_line-newline buffer start newline)),
       λ p from to other.
           let back : next + (p - next) ≡ p = omega arith in
           found.0.after (p - next) (omega arith) (omega arith) (eq-eqb _ _
-              (get_or-slice_range buffer next (next + place) (p - next) (omega arith) ∙ ap (λ n. get_or buffer n 0) back ∙ other)),
+          (get_or-slice_range buffer next (next + place) (p - next) (omega arith) ∙ ap (λ n. get_or buffer n 0) back ∙ other)),
     )
 
 -- with no newline before the place nothing is passed over
 pub skipped-none : (buffer : List ℕ) (next end place : ℕ) → next + place < end → end ≤ length buffer →
     IsLastByte (is_byte 10) (slice_range buffer next (next + place)) None
     → (lines_of buffer (range next end) ≡ lines_of buffer (range next next) ++ lines_of buffer (range next end))
-        × ((p : ℕ) → next ≤ p → p < next + place → get_or buffer p 0 ≢ 10)
+    × ((p : ℕ) → next ≤ p → p < next + place → get_or buffer p 0 ≢ 10)
 skipped-none buffer next end place below within missed =
     let long : length (slice_range buffer next (next + place)) ≡ next + place - next =
-        length-slice_range buffer next (next + place) (omega arith) in (
+    length-slice_range buffer next (next + place) (omega arith) in (
       sym (ap (λ ls. ls ++ lines_of buffer (range next end)) (lines_of-none buffer next)),
       λ p from to other.
           let back : next + (p - next) ≡ p = omega arith in
           missed (p - next) (omega arith) (omega arith) (eq-eqb _ _ (get_or-slice_range buffer next (next + place) (p - next) (omega arith)
-              ∙ ap (λ n. get_or buffer n 0) back ∙ other)),
+          ∙ ap (λ n. get_or buffer n 0) back ∙ other)),
     )
 
 -- the line that a call gives behind what was passed over
@@ -116,7 +116,7 @@ goes_to_line s t u place line below skips gives =
     (λ (less : l.len < length bytes).
     let sum : from + l.len ≡ l.at + l.len = omega arith in
     inr (sym (get_or-slice_range (source_of t) from to l.len (omega arith) ∙ ap (λ n. get_or (source_of t) n 0) sum
-        ∙ ap (λ bs. get_or bs (l.at + l.len) 0) skips.same_source) ∙ here))
+    ∙ ap (λ bs. get_or bs (l.at + l.len) 0) skips.same_source) ∙ here))
     (λ (over : length bytes ≤ l.len). inl (omega arith))
     (cases_lt l.len (length bytes)))
     first.ends in

@@ -45,7 +45,7 @@ upward-cancelled old new id tick h zero o = refl
 upward-cancelled old new id tick h (suc n) None = refl
 upward-cancelled old new id tick h (suc n) (Some key) =
     rw (h key) (onto-cancelled id tick key (old key) (λ s. upward old n s.parent) (λ s. upward new n s.parent)
-        (λ s. upward-cancelled old new id tick h n s.parent))
+    (λ s. upward-cancelled old new id tick h n s.parent))
 
 -- each stack changes at that level alone
 pub stack_at-cancelled : (old new : Find) (id tick : ℕ) → Cancels old new id tick → (key : ℕ) →
@@ -104,4 +104,4 @@ pub tree_cancelled : (tree : Tree) (slots new : Slots) (key id tick : ℕ) → t
 tree_cancelled tree slots new key id tick is same h at =
     rw (← is, ← same)
     (stack_of-tree_of new at ∙ stack_at-cancelled (find_in slots) (find_in new) key tick h at
-        ∙ sym (ap (option_map (after_cancel key tick)) (stack_of-tree_of slots at)))
+    ∙ sym (ap (option_map (after_cancel key tick)) (stack_of-tree_of slots at)))

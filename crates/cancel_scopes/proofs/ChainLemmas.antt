@@ -34,7 +34,7 @@ chains-upward find tree (suc n) (Some key) under =
     let deep : above.depth ≡ n = omega (arith, under.2) in
     let at : IsUnder find n above.parent = subst (λ (d : ℕ). IsUnder find d above.parent) deep (tree.placed key above under.1) in
     let outer : Chains find (round find above) =
-        subst (λ (d : ℕ). Chains find (upward find d above.parent)) (sym deep) (chains-upward find tree n above.parent at) in
+    subst (λ (d : ℕ). Chains find (upward find d above.parent)) (sym deep) (chains-upward find tree n above.parent at) in
     subst (Chains find) (sym (upward-under find (suc n) key above under under.1)) (chains-full find key above under.1 outer)
 
 chains-at : (find : Find) → IsTree find → (key : ℕ) (stack : Stack) (o : Option Outline) → find key ≡ o → stack_at find key ≡ Some stack →
@@ -42,13 +42,13 @@ chains-at : (find : Find) → IsTree find → (key : ℕ) (stack : Stack) (o : O
 chains-at find tree key stack None is seen = absurd (let e : stack_at find key ≡ None = rw is refl in cc)
 chains-at find tree key stack (Some s) is seen =
     subst (Chains find) (sym (kept_stack find key s stack is seen))
-        (chains-full find key s is (chains-upward find tree s.depth s.parent (tree.placed key s is)))
+    (chains-full find key s is (chains-upward find tree s.depth s.parent (tree.placed key s is)))
 
 -- the rest of a stack is the stack of the scope that it begins with
 pub is_chain : (slots : Slots) → IsTree (find_in slots) → IsChain (tree_of slots)
 is_chain slots tree key stack seen before l behind is =
     stack_of-tree_of slots l.label ∙ chains-at (find_in slots) tree key stack (find_in slots key) refl
-        (sym (stack_of-tree_of slots key) ∙ seen) before l behind is
+    (sym (stack_of-tree_of slots key) ∙ seen) before l behind is
 
 own_at : (find : Find) (key : ℕ) (o : Option Outline) → find key ≡ o → (stack : Stack) → stack_at find key ≡ Some stack →
     own_label stack ≡ Some key
@@ -65,7 +65,7 @@ lacks : (id : ℕ) (ls : Stack) → ((before : Stack) (m : Level ℕ) (behind : 
 lacks id [] h = All-nil (λ m. m.label ≢ id)
 lacks id (m ∷ ms) h =
     All-cons (λ m. m.label ≢ id) m ms (h [] m ms refl) (lacks id ms
-        (λ before n behind is. h (m ∷ before) n behind (ap (λ (rest : Stack). m ∷ rest) is)))
+    (λ before n behind is. h (m ∷ before) n behind (ap (λ (rest : Stack). m ∷ rest) is)))
 
 -- a scope that stood in its stack a second time would have a shorter one
 pub is_apart : (tree : Tree) → IsChain tree → IsApart tree
@@ -73,7 +73,7 @@ is_apart tree chain key stack seen before l behind is =
     lacks l.label behind (λ between m rest inside same.
     let first : stack_of tree l.label ≡ Some (l ∷ behind) = chain key stack seen before l behind is in
     let second : stack_of tree m.label ≡ Some (m ∷ rest) =
-        chain l.label (l ∷ behind) first (l ∷ between) m rest (ap (λ (outer : Stack). l ∷ outer) inside) in
+    chain l.label (l ∷ behind) first (l ∷ between) m rest (ap (λ (outer : Stack). l ∷ outer) inside) in
     let both : Some (l ∷ behind) ≡ Some (m ∷ rest) = sym first ∙ ap (stack_of tree) (sym same) ∙ second in
     let shorter : behind ≡ rest = cc in
     let long : length behind ≡ length between + length (m ∷ rest) = ap length inside ∙ length-append between (m ∷ rest) in

@@ -20,7 +20,7 @@ pub but_other : (slots : Slots) (key : ℕ) (place : Option ℕ) (p k : ℕ) →
     places_but slots key place p k ≡ place_under p (scope_in slots k)
 but_other slots key place p k differs =
     let test : (k == key) ≡ false =
-        elim (cases_Bool (k == key)) [ inl equal ↦ absurd (differs (eqb-true k key equal)) | inr no_it_is ↦ no_it_is ] in
+    elim (cases_Bool (k == key)) [ inl equal ↦ absurd (differs (eqb-true k key equal)) | inr no_it_is ↦ no_it_is ] in
     ap (λ (b : Bool). if b then place else place_under p (scope_in slots k)) test
 
 -- the same places and the same list
@@ -39,8 +39,13 @@ outlines-none slots = record { long = refl; finds = λ k. refl; sights = λ k. r
 
 -- two changes that keep outlines
 pub outlines-then : (a b c : Slots) → SameOutlines a b → SameOutlines b c → SameOutlines a c
-outlines-then a b c h g = record { long = g.long ∙ h.long; finds = λ k. g.finds k ∙ h.finds k; sights = λ k. g.sights k
-    ∙ h.sights k; marks = λ k. g.marks k ∙ h.marks k }
+outlines-then a b c h g = record {
+  long = g.long ∙ h.long;
+  finds = λ k. g.finds k ∙ h.finds k;
+  sights = λ k. g.sights k
+      ∙ h.sights k;
+  marks = λ k. g.marks k ∙ h.marks k;
+}
 
 -- an outermost scope is nobody's child
 pub added-none : (slots : Slots) (key : ℕ) → Orphaned slots key None → Family slots
@@ -88,7 +93,7 @@ module _ (slots : Slots) (key parent : ℕ) (s t : Scope) where
       at_parent : IsPlaced (λ k. place_under parent (scope_in adopted k)) (children_at (scope_in slots parent) ++ key ∷ [])
       at_parent =
           placed-push (places_but slots key None parent) (λ k. place_under parent (scope_in adopted k))
-              (children_at (scope_in slots parent)) key
+          (children_at (scope_in slots parent)) key
           (h.others parent) (but_here slots key None parent) (places parent key ∙ under_here)
           (λ k differs. places parent k ∙ sym (but_other slots key None parent k differs))
 
@@ -99,9 +104,9 @@ module _ (slots : Slots) (key parent : ℕ) (s t : Scope) where
       at_key : (p k : ℕ) → p ≢ parent → (k ≡ key) ⊎ (k ≢ key) → place_under p (scope_in adopted k) ≡ places_but slots key None p k
       at_key p k away (inl same) =
           let none : place_under p (scope_in slots key) ≡ None = h.under p
-              ∙ ap (λ (b : Bool). if b then Some (length (children_at (scope_in slots p))) else None) (other_parent p parent away) in
+          ∙ ap (λ (b : Bool). if b then Some (length (children_at (scope_in slots p))) else None) (other_parent p parent away) in
           places p k ∙ ap (λ (n : ℕ). place_under p (scope_in slots n)) same ∙ none ∙ sym (but_here slots key None p)
-              ∙ ap (places_but slots key None p) (sym same)
+          ∙ ap (places_but slots key None p) (sym same)
       at_key p k away (inr differs) = places p k ∙ sym (but_other slots key None p k differs)
 
       by_parent : (p : ℕ) → (p ≡ parent) ⊎ (p ≢ parent) → IsPlaced (λ k. place_under p (scope_in adopted k))
@@ -111,7 +116,7 @@ module _ (slots : Slots) (key parent : ℕ) (s t : Scope) where
           (subst (λ (l : List ℕ). IsPlaced (λ k. place_under parent (scope_in adopted k)) l) (sym list_is) at_parent)
       by_parent p (inr away) =
           placed-same (places_but slots key None p) (λ k. place_under p (scope_in adopted k)) (children_at (scope_in slots p))
-              (children_at (scope_in adopted p))
+          (children_at (scope_in adopted p))
           (λ k. at_key p k away (cases_eq k key)) (ap children_at (unwritten slots parent p (Some t) away)) (h.others p)
 
 -- the parent that is found has room
@@ -153,13 +158,13 @@ module _ (slots new : Slots) (key : ℕ) (s : Scope) (parent : Option ℕ) where
       by_key : (p k : ℕ) → (k ≡ key) ⊎ (k ≢ key) → places_but new key None p k ≡ place_under p (scope_in slots k)
       by_key p k (inl same) =
           ap (places_but new key None p) same ∙ but_here new key None p
-              ∙ sym (ap (λ (n : ℕ). place_under p (scope_in slots n)) same ∙ ap (place_under p) free)
+          ∙ sym (ap (λ (n : ℕ). place_under p (scope_in slots n)) same ∙ ap (place_under p) free)
       by_key p k (inr differs) = but_other new key None p k differs ∙ ap (place_under p) (others k differs)
 
       list_at : (p : ℕ) → (p ≡ key) ⊎ (p ≢ key) → children_at (scope_in new p) ≡ children_at (scope_in slots p)
       list_at p (inl same) =
           ap (λ (n : ℕ). children_at (scope_in new n)) same ∙ ap children_at kept ∙ childless
-              ∙ sym (ap (λ (n : ℕ). children_at (scope_in slots n)) same ∙ ap children_at free)
+          ∙ sym (ap (λ (n : ℕ). children_at (scope_in slots n)) same ∙ ap children_at free)
       list_at p (inr differs) = ap children_at (others p differs)
 
       lists : (p : ℕ) → children_at (scope_in new p) ≡ children_at (scope_in slots p)

@@ -42,7 +42,7 @@ upward-closes old new id s h (suc n) (Some key) lacks = by_kept (old key) refl l
     by_kept (Some above) is lacks before =
         let same : new key ≡ Some above = h.others key (first_lacks id (level_of key above) (upward old n above.parent) lacks) ∙ is in
         rw (same, is) (ap (λ (outer : Stack). level_of key above ∷ outer)
-            (before above.parent (rest_lacks id (level_of key above) (upward old n above.parent) lacks)))
+        (before above.parent (rest_lacks id (level_of key above) (upward old n above.parent) lacks)))
 
 -- every other scope keeps its stack
 pub stack_at-closes : (old new : Find) (id : ℕ) (s : Outline) → Closes old new id s → (key : ℕ) → key ≢ id →
@@ -54,7 +54,7 @@ stack_at-closes old new id s h key differs = ap (option_map (full new key)) (h.o
     by_kept (Some before) is =
         let lacks = h.innermost key (full old key before) differs (stack_at-kept old key before is) in
         ap (λ (outer : Stack). Some (level_of key before ∷ outer)) (upward-closes old new id s h before.depth before.parent
-            (rest_lacks id (level_of key before) (round old before) lacks))
+        (rest_lacks id (level_of key before) (round old before) lacks))
 
 -- parents and depths of the others stay
 pub IsTree-closes : {old new : Find} {id : ℕ} {s : Outline} → Closes old new id s → IsTree old → IsTree new
@@ -81,7 +81,7 @@ pub innermost_kept : (tree : Tree) (slots unmarked : Slots) (key id : ℕ) → t
 innermost_kept tree slots unmarked key id is same finds innermost other stack differs seen =
     rw same
     (innermost other stack (λ e. differs (e ∙ sym same)) (stack_seen tree slots other other is refl
-        ∙ ap (λ (find : Find). stack_at find other) (sym finds) ∙ seen))
+    ∙ ap (λ (find : Find). stack_at find other) (sym finds) ∙ seen))
 
 -- what the store says of a scope that is taken out
 pub closes : (tree : Tree) (slots new : Slots) (key id : ℕ) (s : Outline) → tree_of slots ≡ tree → key ≡ id → find_in slots key ≡ Some s →
@@ -105,7 +105,7 @@ no_child find key tree innermost k s kept up =
     let d : above.depth ≡ s.depth = ap depth_of e in
     absurd (omega (arith, d, under.2)) in
     let outer : Lacks key (round find s) =
-        rest_lacks key (level_of k s) (round find s) (innermost k (full find k s) differs (stack_at-kept find k s kept)) in
+    rest_lacks key (level_of k s) (round find s) (innermost k (full find k s) differs (stack_at-kept find k s kept)) in
     let is : round find s ≡ full find key above = ap (upward find s.depth) up ∙ upward-under find s.depth key above under under.1 in
     first_lacks key (level_of key above) (round find above) (subst (Lacks key) is outer) refl
   where
@@ -125,9 +125,9 @@ childless slots key s tree family innermost kept = by_list s.children.items refl
         let list : children_at (scope_in slots key) ≡ k ∷ ks = ap children_at kept ∙ is in
         let within : 0 < length (children_at (scope_in slots key)) = subst (λ (l : List ℕ). 0 < length l) (sym list) (omega arith) in
         let child = under_at key 0 (scope_in slots (get_or (children_at (scope_in slots key)) 0 0))
-            ((family.children key).placed 0 within) in
+        ((family.children key).placed 0 within) in
         absurd (no_child (find_in slots) key tree innermost (get_or (children_at (scope_in slots key)) 0 0) (outline_of child.0)
-            (found_at slots (get_or (children_at (scope_in slots key)) 0 0) child.0 child.1) child.2)
+        (found_at slots (get_or (children_at (scope_in slots key)) 0 0) child.0 child.1) child.2)
 
 -- contracts see no stack there any more
 pub tree_closed : (new : Slots) (key id : ℕ) → key ≡ id → find_in new key ≡ None → stack_of (tree_of new) id ≡ None

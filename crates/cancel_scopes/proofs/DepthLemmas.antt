@@ -53,15 +53,19 @@ rises : (slots : Slots) (key : ℕ) (s : Scope) (d : ℕ) → scope_in slots key
     count_by (is_above d) slots + 1 ≤ count_by (is_above (suc d)) slots
 rises slots key s d kept deep =
     count_more (is_above d) (is_above (suc d)) slots key s (above_more d) kept (le-ltb s.depth d (omega arith))
-        (lt-ltb s.depth (suc d) (omega arith))
+    (lt-ltb s.depth (suc d) (omega arith))
 
 counted : (slots : Slots) → IsTree (find_in slots) → (d key : ℕ) (s : Scope) → scope_in slots key ≡ Some s → s.depth ≡ d →
     suc d ≤ count_by (is_above (suc d)) slots
 counted slots tree zero key s kept deep = omega (arith, rises slots key s zero kept deep)
 counted slots tree (suc d) key s kept deep =
     let under = tree.placed key (outline_of s) (found_at slots key s kept) in
-    omega (arith, rises slots key s (suc d) kept deep, by_parent s.parent (subst (λ (n : ℕ). IsUnder (find_in slots) n s.parent) deep under)
-        (counted slots tree d))
+    omega (
+      arith,
+      rises slots key s (suc d) kept deep,
+      by_parent s.parent (subst (λ (n : ℕ). IsUnder (find_in slots) n s.parent) deep under)
+          (counted slots tree d),
+    )
   where
     by_parent : (o : Option ℕ) → IsUnder (find_in slots) (suc d) o →
         ((key : ℕ) (s : Scope) → scope_in slots key ≡ Some s → s.depth ≡ d → suc d ≤ count_by (is_above (suc d)) slots) →
@@ -70,7 +74,7 @@ counted slots tree (suc d) key s kept deep =
     by_parent (Some parent) under before =
         let above = scope_at slots parent under.0 under.1 in
         before parent above.0 above.1 (let e : above.0.depth ≡ under.0.depth = ap (λ (o : Outline). o.depth) above.2 in
-            omega (arith, under.2))
+        omega (arith, under.2))
 
 -- a scope has fewer round it than are kept
 pub depth_fits : (slots : Slots) (key : ℕ) (s : Scope) → IsTree (find_in slots) → scope_in slots key ≡ Some s →

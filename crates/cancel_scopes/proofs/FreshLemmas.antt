@@ -32,8 +32,11 @@ pub fresh-along : (tick : ℕ) (old new : Slots) → Along tick old new → IsTr
 fresh-along tick old new h tree all = record {
   long = h.long;
   finds = h.finds;
-  fresh = λ k. (sights_of new (same-tree old new h.finds tree) all k
-      ∙ ap (λ (find : Find). seen_at find k) (same_find old new h.finds), by_move k (h.moves k));
+  fresh = λ k. (
+    sights_of new (same-tree old new h.finds tree) all k
+        ∙ ap (λ (find : Find). seen_at find k) (same_find old new h.finds),
+    by_move k (h.moves k),
+  );
 }
   where
     by_move : (k : ℕ) → Moves tick (scope_in old k) (scope_in new k) →
@@ -41,5 +44,5 @@ fresh-along tick old new h tree all = record {
     by_move k (inl m) = stays_marked _ _ _ _ m.1 m.0
     by_move k (inr m) =
         let test : before (own_sight (scope_in new k)) (own_sight (scope_in old k)) ≡ true =
-            ap (λ (t : Tick). before t (own_sight (scope_in old k))) m.0 ∙ m.1 in
+        ap (λ (t : Tick). before t (own_sight (scope_in old k))) m.0 ∙ m.1 in
         m.2 ∙ sym (or_true (is_listed (scope_in old k))) ∙ ap (λ (b : Bool). is_listed (scope_in old k) || b) (sym test)

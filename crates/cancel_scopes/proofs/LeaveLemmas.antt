@@ -15,7 +15,7 @@ no_place : (slots : Slots) (key : ℕ) → scope_in slots key ≡ None → (p k 
     place_under p (scope_in slots k) ≡ places_but slots key None p k
 no_place slots key free p k (inl same) =
     ap (λ (n : ℕ). place_under p (scope_in slots n)) same ∙ ap (place_under p) free ∙ sym (but_here slots key None p)
-        ∙ ap (places_but slots key None p) (sym same)
+    ∙ ap (places_but slots key None p) (sym same)
 no_place slots key free p k (inr differs) = sym (but_other slots key None p k differs)
 
 -- an outermost scope was nobody's child
@@ -32,7 +32,7 @@ module _ (slots : Slots) (parent place : ℕ) (s : Scope) (rest : List ℕ) wher
       IsPlaced (places_but slots h.key (Some place) parent) s.children.items
   among h kept =
       let P : Bool → Type 0 = λ b. IsPlaced (places_but slots h.key (if b then Some place else None) parent)
-          (children_at (scope_in slots parent)) in
+      (children_at (scope_in slots parent)) in
       subst (λ (l : List ℕ). IsPlaced (places_but slots h.key (Some place) parent) l) (ap children_at kept)
       (subst P (eq-eqb parent parent refl) (h.others parent))
 
@@ -51,7 +51,7 @@ module _ (slots : Slots) (parent place : ℕ) (s : Scope) (rest : List ℕ) wher
   last_differs h kept r inside same =
       let last : place ≡ length s.children.items - 1 =
       some_same place (length s.children.items - 1) (sym (but_here slots h.key (Some place) parent)
-          ∙ ap (places_but slots h.key (Some place) parent) (sym same) ∙ last_place h kept r inside) in
+      ∙ ap (places_but slots h.key (Some place) parent) (sym same) ∙ last_place h kept r inside) in
       absurd (omega (arith, last, inside, r.long))
 
   last_under : Lost slots (Some parent) place → scope_in slots parent ≡ Some s → Removed s.children.items rest place → place < length rest →
@@ -70,7 +70,7 @@ module _ (slots : Slots) (parent place : ℕ) (s : Scope) (rest : List ℕ) wher
       mine : IsPlaced (λ k. place_under parent (scope_in new k)) rest
       mine =
           placed-removed (places_but slots h.key (Some place) parent) (λ k. place_under parent (scope_in new k)) s.children.items rest h.key
-              place
+          place
           (among h kept) (but_here slots h.key (Some place) parent) r.long r.seam r.keeps
           (mine_same h.key (λ inside e. last_differs h kept r inside (sym e)) ∙ ap (place_under parent) h.free)
           moved
@@ -79,7 +79,7 @@ module _ (slots : Slots) (parent place : ℕ) (s : Scope) (rest : List ℕ) wher
       theirs : (p : ℕ) → p ≢ parent → IsPlaced (places_but slots h.key None p) (children_at (scope_in slots p))
       theirs p away =
           let P : Bool → Type 0 = λ b. IsPlaced (places_but slots h.key (if b then Some place else None) p)
-              (children_at (scope_in slots p)) in
+          (children_at (scope_in slots p)) in
           subst P (other_parent p parent away) (h.others p)
 
       by_parent : (p : ℕ) → (p ≡ parent) ⊎ (p ≢ parent) → IsPlaced (λ k. place_under p (scope_in new k)) (children_at (scope_in new p))
@@ -88,7 +88,7 @@ module _ (slots : Slots) (parent place : ℕ) (s : Scope) (rest : List ℕ) wher
           (subst (λ (l : List ℕ). IsPlaced (λ k. place_under parent (scope_in new k)) l) (sym list_is) mine)
       by_parent p (inr away) =
           placed-same (places_but slots h.key None p) (λ k. place_under p (scope_in new k)) (children_at (scope_in slots p))
-              (children_at (scope_in new p))
+          (children_at (scope_in new p))
           (λ k. others_same p k away ∙ no_place slots h.key h.free p k (cases_eq k h.key)) (lists_same p away) (theirs p away)
 
   module _ (t : Scope) where
@@ -101,7 +101,7 @@ module _ (slots : Slots) (parent place : ℕ) (s : Scope) (rest : List ℕ) wher
     under_parted kept up at p =
         same_by (place_under p) slots parent s (Some t) kept
         (ap (λ (o : Option ℕ). if parent_is p o then Some t.place else None) up
-            ∙ ap (λ (n : ℕ). if parent_is p s.parent then Some n else None) at)
+        ∙ ap (λ (n : ℕ). if parent_is p s.parent then Some n else None) at)
 
     -- the one that is gone stood last
     pub left-last : Lost slots (Some parent) place → scope_in slots parent ≡ Some s → Removed s.children.items rest place →
@@ -149,7 +149,7 @@ module _ (slots : Slots) (parent place : ℕ) (s : Scope) (rest : List ℕ) wher
           (λ p k away. same_by (place_under p) parted moved m n stays (elsewhere p away) k ∙ under_parted kept up at p k)
           (λ k apart. ap (place_under parent) (unwritten parted moved k n (λ e. apart inside (e ∙ is))) ∙ under_parted kept up at parent k)
           (λ _. ap (λ (k : ℕ). place_under parent (scope_in settled_in k)) (sym is)
-              ∙ ap (place_under parent) (written parted moved m n stays) ∙ here)
+          ∙ ap (place_under parent) (written parted moved m n stays) ∙ here)
         where
           n : Option Scope
           n = Some (record m { place = place })
@@ -188,13 +188,13 @@ lost slots gone key s tree family kept free others childless = record {
     by_key : (p k : ℕ) → (k ≡ key) ⊎ (k ≢ key) → places_but gone key (place_under p (Some s)) p k ≡ place_under p (scope_in slots k)
     by_key p k (inl same) =
         ap (places_but gone key (place_under p (Some s)) p) same ∙ but_here gone key (place_under p (Some s)) p
-            ∙ sym (ap (λ (n : ℕ). place_under p (scope_in slots n)) same ∙ ap (place_under p) kept)
+        ∙ sym (ap (λ (n : ℕ). place_under p (scope_in slots n)) same ∙ ap (place_under p) kept)
     by_key p k (inr differs) = but_other gone key (place_under p (Some s)) p k differs ∙ ap (place_under p) (others k differs)
 
     list_at : (p : ℕ) → (p ≡ key) ⊎ (p ≢ key) → children_at (scope_in gone p) ≡ children_at (scope_in slots p)
     list_at p (inl same) =
         ap (λ (n : ℕ). children_at (scope_in gone n)) same ∙ ap children_at free
-            ∙ sym (ap (λ (n : ℕ). children_at (scope_in slots n)) same ∙ ap children_at kept ∙ childless)
+        ∙ sym (ap (λ (n : ℕ). children_at (scope_in slots n)) same ∙ ap children_at kept ∙ childless)
     list_at p (inr differs) = ap children_at (others p differs)
 
     parent_kept : (p : ℕ) → s.parent ≡ Some p → (above : Scope) × (scope_in slots p ≡ Some above) × (s.depth ≡ suc above.depth) →

@@ -22,9 +22,9 @@ upward-sight slots tree all (suc n) (Some parent) under =
     let s : Scope = at.0 in
     let deep : above.depth ≡ n = omega (arith, under.2) in
     let higher : IsUnder (find_in slots) n above.parent =
-        subst (λ (d : ℕ). IsUnder (find_in slots) d above.parent) deep (tree.placed parent above under.1) in
+    subst (λ (d : ℕ). IsUnder (find_in slots) d above.parent) deep (tree.placed parent above under.1) in
     let rest : sight (upward (find_in slots) n above.parent) ≡ outer_sight slots above.parent =
-        upward-sight slots tree all n above.parent higher in
+    upward-sight slots tree all n above.parent higher in
     let rule : s.sight ≡ sight_by above.shield above.from (outer_sight slots above.parent) =
     all.right parent s at.1 ∙ ap (λ (o : Outline). sight_by o.shield o.from (outer_sight slots o.parent)) at.2 in
     rw under.1 (ap (sight_by above.shield above.from) rest ∙ sym rule ∙ sym (ap own_sight at.1))
@@ -40,9 +40,9 @@ sights_of slots tree all key = by_kept (scope_in slots key) refl
     by_kept (Some s) is =
         let found : find_in slots key ≡ Some (outline_of s) = found_at slots key s is in
         let at : stack_at (find_in slots) key ≡ Some (full (find_in slots) key (outline_of s)) =
-            stack_at-kept (find_in slots) key (outline_of s) found in
+        stack_at-kept (find_in slots) key (outline_of s) found in
         let up : sight (round (find_in slots) (outline_of s)) ≡ outer_sight slots s.parent =
-            upward-sight slots tree all s.depth s.parent (tree.placed key (outline_of s) found) in
+        upward-sight slots tree all s.depth s.parent (tree.placed key (outline_of s) found) in
         ap own_sight is ∙ all.right key s is ∙ sym (ap (sight_by s.shield s.from) up) ∙ sym (ap sight_of at)
 
 -- and the other way round
@@ -110,11 +110,16 @@ module _ (slots : Slots) (tick key : ℕ) (s : Scope) (listed : Option ℕ) (wai
       still k t (Some p) up right =
           elim (cases_eq p key) [
             | inl same ↦
-                inr (below k t (up ∙ ap Some same), s.sight, late, right ∙ ap (sight_by t.shield t.from)
-                    (ap (λ (q : ℕ). own_sight (scope_in slots q)) same ∙ ap own_sight kept))
+                inr (
+                  below k t (up ∙ ap Some same),
+                  s.sight,
+                  late,
+                  right ∙ ap (sight_by t.shield t.from)
+                      (ap (λ (q : ℕ). own_sight (scope_in slots q)) same ∙ ap own_sight kept),
+                )
             | inr differs ↦
                 inl (right ∙ ap (sight_by t.shield t.from) (same_outer p differs)
-                    ∙ sym (ap (λ (q : Option ℕ). sight_by t.shield t.from (outer_sight lowered q)) up))
+                ∙ sym (ap (λ (q : Option ℕ). sight_by t.shield t.from (outer_sight lowered q)) up))
           ]
 
       by_near : (k : ℕ) (t : Scope) → k ≢ key → scope_in slots k ≡ Some t → IsNear slots tick waits k t → IsNear lowered tick after k t
@@ -125,12 +130,12 @@ module _ (slots : Slots) (tick key : ℕ) (s : Scope) (listed : Option ℕ) (wai
       by_key k t found (inl same) =
           let e : Some (record s { sight = Some tick; listed = listed }) ≡ Some t =
           sym (written slots key s (Some (record s { sight = Some tick; listed = listed })) kept) ∙ ap (scope_in lowered) (sym same)
-              ∙ found in
+          ∙ found in
           let is : record s { sight = Some tick; listed = listed } ≡ t = cc in
           inl (subst (λ (u : Scope). IsRight lowered u) is here)
       by_key k t found (inr differs) =
           let was : scope_in slots k ≡ Some t = sym (unwritten slots key k (Some (record s { sight = Some tick; listed = listed })) differs)
-              ∙ found in
+          ∙ found in
           by_near k t differs was (near k t differs was)
 
 -- a scope that waits inside one of the tick is right, if it is shielded or sees no later

@@ -93,7 +93,7 @@ lists-listed slots changed now key place s t kept h is listed = by_place (places
     by_place : (o : Option ℕ) → places_in slots key ≡ o → lists_at o key changed now place → IsListed (slice_set slots key (Some t)) now
     by_place None none h =
         subst (λ (l : List ℕ). IsListed (slice_set slots key (Some t)) l) (sym h.1)
-            (marked slots changed key place s t kept none h.0 is listed)
+        (marked slots changed key place s t kept none h.0 is listed)
     by_place (Some at) was h =
         let same : place_of (Some t) ≡ place_of (Some s) = is ∙ ap Some h.0 ∙ sym was ∙ ap place_of kept in
         subst (λ (l : List ℕ). IsListed (slice_set slots key (Some t)) l) (sym h.1)
@@ -129,14 +129,14 @@ module _ (slots : Slots) (changed rest : List ℕ) (key place : ℕ) (s : Scope)
       places_in slots (get_or rest place 0) ≡ Some (length changed - 1)
   moved_from h listed inside =
       ap (places_in slots) (h.seam (omega (arith, inside, h.long)))
-          ∙ listed.places.placed (length changed - 1) (omega (arith, inside, h.long))
+      ∙ listed.places.placed (length changed - 1) (omega (arith, inside, h.long))
 
   -- the last one is another
   pub moved_differs : places_in slots key ≡ Some place → Removed changed rest place → IsListed slots changed → place < length rest →
       get_or rest place 0 ≢ key
   moved_differs at h listed inside same =
       let last : place ≡ length changed - 1 =
-          some_same place (length changed - 1) (sym at ∙ ap (places_in slots) (sym same) ∙ moved_from h listed inside) in
+      some_same place (length changed - 1) (sym at ∙ ap (places_in slots) (sym same) ∙ moved_from h listed inside) in
       absurd (omega (arith, last, inside, h.long))
 
   module _ (moved : ℕ) (m : Scope) where
@@ -153,16 +153,16 @@ module _ (slots : Slots) (changed rest : List ℕ) (key place : ℕ) (s : Scope)
         let t : Option Scope = Some (record m { listed = Some place }) in
         let differs : moved ≢ key = λ same. moved_differs at h listed inside (sym is ∙ same) in
         let had : m.listed ≡ Some (length changed - 1) = sym (ap place_of (kept_before differs stays)) ∙ ap (places_in slots) is
-            ∙ moved_from h listed inside in
+        ∙ moved_from h listed inside in
         let one : weight m.listed ≡ weight (Some (length changed - 1)) = ap weight had in
         let count = count_set is_listed after_one moved m t stays in
         record {
           places = placed-removed (places_in slots) (places_in after_two) changed rest key place listed.places at h.long h.seam h.keeps
               (ap place_of (unwritten after_one moved key t (λ e. differs (sym e))
-                  ∙ written slots key s (Some (record s { listed = None })) kept))
+              ∙ written slots key s (Some (record s { listed = None })) kept))
               (λ _. ap (places_in after_two) (sym is) ∙ ap place_of (written after_one moved m t stays))
               (λ other away apart. ap place_of (unwritten after_one moved other t (λ e. apart inside (e ∙ is))
-                  ∙ unwritten slots key other (Some (record s { listed = None })) away));
+              ∙ unwritten slots key other (Some (record s { listed = None })) away));
           counted = omega (arith, count, one, counted_one kept at h listed);
         }
 
@@ -173,7 +173,7 @@ module _ (slots : Slots) (changed rest : List ℕ) (key place : ℕ) (s : Scope)
         let t : Option Scope = Some (record m { listed = Some place }) in
         let differs : moved ≢ key = λ same. moved_differs at h listed inside (sym is ∙ same) in
         let had : m.listed ≡ Some (length changed - 1) = sym (ap place_of (kept_before differs stays)) ∙ ap (places_in slots) is
-            ∙ moved_from h listed inside in
+        ∙ moved_from h listed inside in
         let one = same-placed slots key s None kept in
         let two = same-placed after_one moved m (Some place) stays in
         record {

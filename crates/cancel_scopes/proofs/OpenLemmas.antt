@@ -84,7 +84,7 @@ opened tree slots new key s parent l is h root same level =
     (stack_of-tree_of new key
     ∙ stack_at-kept (find_in new) key s h.kept
     ∙ ap (λ (outer : Stack). Some (level_of key s ∷ outer)) (upward-keeps (find_in slots) (find_in new) (opens-keeps h) root s.depth
-        s.parent h.under ∙ outer_of-kept slots s.depth s.parent h.under))
+    s.parent h.under ∙ outer_of-kept slots s.depth s.parent h.under))
 
 -- every other stack stays
 pub opened-others : (tree : Tree) (slots new : Slots) (key : ℕ) (s : Outline) → tree_of slots ≡ tree →
@@ -121,14 +121,14 @@ module _ (slots inserted : Slots) (key : ℕ) (s : Scope) where
       length new ≤ room → lowered ≡ 0 → length new ≤ lowered_room → IsReady new changed room lowered lowered_room
   opened-ready new was changed had lowered_was lowered_had room lowered lowered_room parent shield from h ins parent_is shield_is from_is
       sees unmarked same family list_is fits none lowered_fits = record {
-    tree = same-tree inserted new same.finds (IsTree-opens (find_in slots) (find_in inserted) key (outline_of s) at_key h.tree);
-    family = family;
-    sights = same-sights inserted new same.finds same.sights (λ k. sight_at k (cases_eq k key));
-    listed = subst (IsListed new) (sym list_is) (listed-same slots new was (λ k. same.marks k ∙ place_at k (cases_eq k key)) h.listed);
-    changed_fits = fits;
-    none_lowered = none;
-    lowered_fits = lowered_fits;
-  }
+        tree = same-tree inserted new same.finds (IsTree-opens (find_in slots) (find_in inserted) key (outline_of s) at_key h.tree);
+        family = family;
+        sights = same-sights inserted new same.finds same.sights (λ k. sight_at k (cases_eq k key));
+        listed = subst (IsListed new) (sym list_is) (listed-same slots new was (λ k. same.marks k ∙ place_at k (cases_eq k key)) h.listed);
+        changed_fits = fits;
+        none_lowered = none;
+        lowered_fits = lowered_fits;
+      }
     where
       at_key : Opens (find_in slots) (find_in inserted) key (outline_of s)
       at_key = opens slots inserted key s ins
@@ -138,10 +138,10 @@ module _ (slots inserted : Slots) (key : ℕ) (s : Scope) where
           let up : upward (find_in inserted) s.depth s.parent ≡ upward (find_in slots) s.depth s.parent =
           upward-keeps (find_in slots) (find_in inserted) (opens-keeps at_key) h.tree s.depth s.parent at_key.under in
           let at : stack_at (find_in inserted) key ≡ Some (full (find_in inserted) key (outline_of s)) =
-              stack_at-kept (find_in inserted) key (outline_of s) at_key.kept in
+          stack_at-kept (find_in inserted) key (outline_of s) at_key.kept in
           let own : own_sight (scope_in inserted key) ≡ s.sight = ap own_sight ins.kept in
           let e : sight (full (find_in inserted) key (outline_of s)) ≡ sight
-              (record { label = 0; shield = shield; from = from } ∷ upward (find_in slots) s.depth parent) =
+          (record { label = 0; shield = shield; from = from } ∷ upward (find_in slots) s.depth parent) =
           rw (up, parent_is, shield_is, from_is) refl in
           let here : own_sight (scope_in inserted key) ≡ seen_at (find_in inserted) key = own ∙ sees ∙ sym e ∙ sym (ap sight_of at) in
           subst (λ (n : ℕ). own_sight (scope_in inserted n) ≡ seen_at (find_in inserted) n) (sym same) here
@@ -162,5 +162,5 @@ module _ (slots inserted : Slots) (key : ℕ) (s : Scope) where
       by_key : (k ≡ key) ⊎ (k ≢ key) → is_listed (scope_in inserted k) ≡ is_listed (scope_in slots k)
       by_key (inl same) =
           ap (λ (n : ℕ). is_listed (scope_in inserted n)) same ∙ ap is_listed ins.kept ∙ ap is_some unmarked ∙ sym (ap is_listed ins.free)
-              ∙ ap (λ (n : ℕ). is_listed (scope_in slots n)) (sym same)
+          ∙ ap (λ (n : ℕ). is_listed (scope_in slots n)) (sym same)
       by_key (inr differs) = ap is_listed (ins.others k differs)

@@ -118,9 +118,9 @@ placed-removed old new list rest key place h at long seam keeps gone moved other
               let differs : get_or rest p 0 ≢ key = λ same. elsewhere (some_same p place (sym was ∙ ap old (sym e ∙ same) ∙ at)) in
               let apart : place < length rest → get_or rest p 0 ≢ get_or rest place 0 = λ inside same.
               let last : old (get_or list (length list - 1) 0) ≡ Some (length list - 1) =
-                  h.placed (length list - 1) (omega (arith, inside, long)) in
+              h.placed (length list - 1) (omega (arith, inside, long)) in
               let q : p ≡ length list - 1 = some_same p (length list - 1) (sym was
-                  ∙ ap old (sym e ∙ same ∙ seam (omega (arith, inside, long))) ∙ last) in
+              ∙ ap old (sym e ∙ same ∙ seam (omega (arith, inside, long))) ∙ last) in
               absurd (omega (arith, q, within, long)) in
               others (get_or rest p 0) differs apart ∙ ap old e ∙ was
         ]

@@ -30,7 +30,7 @@ module _ (slots : Slots) (key tick : ℕ) (s : Scope) (from : Tick) where
       cancels (find_in slots) (find_in set_from) key tick (outline_of s) (found_at slots key s kept)
       (ap (option_map outline_of) (written slots key s (Some (record s { from = from })) kept)
       ∙ ap (λ (f : Tick). let o : Option Outline = Some (record { parent = s.parent; shield = s.shield; from = f; depth = s.depth }) in o)
-          is)
+      is)
       (λ other differs. ap (option_map outline_of) (unwritten slots key other (Some (record s { from = from })) differs))
 
   -- the tree stays one
@@ -60,7 +60,7 @@ module _ (slots : Slots) (key tick : ℕ) (s : Scope) (from : Tick) where
             let e : after ≡ Some t = sym (written slots key s after kept) ∙ found in
             let same : record s { from = from } ≡ t = cc in
             subst (λ (u : Scope). (f : Tick) × (u.from ≡ earlier f (Some (tick + 1)))
-                × (u.sight ≡ sight_by u.shield f (outer_sight set_from u.parent))) same
+            × (u.sight ≡ sight_by u.shield f (outer_sight set_from u.parent))) same
             (s.from, is, all.right key s kept ∙ ap (sight_by s.shield s.from) (outer_same kept s.parent));
       }
     where
@@ -100,7 +100,7 @@ module _ (slots : Slots) (key tick : ℕ) (s : Scope) (from : Tick) where
       let old : stack_at (find_in slots) at ≡ Some stack = sym (stack_seen tree slots at at seen refl) ∙ has in
       let later : stack_at (find_in set_from) at ≡ Some (after_cancel key tick stack) =
       stack_at-cancelled (find_in slots) (find_in set_from) key tick (cancels-slots kept is) at
-          ∙ ap (option_map (after_cancel key tick)) old in
+      ∙ ap (option_map (after_cancel key tick)) old in
       let mark : is_listed (scope_in set_from at) ≡ is_changed tree at =
       same_by is_listed slots key s (Some (record s { from = from })) kept refl at ∙ sym (mark_seen tree slots at seen) in
       let was : own_sight (scope_in set_from at) ≡ sight stack =
@@ -132,14 +132,14 @@ pub roomier-ready : (old new : Slots) (was changed : List ℕ) (had lowered_was 
     had ≤ room → lowered ≡ lowered_was → lowered_had ≤ lowered_room → IsReady new changed room lowered lowered_room
 roomier-ready old new was changed had lowered_was lowered_had room lowered lowered_room h same marks list_is fits as_was lowered_fits =
     record {
-  tree = same-tree old new same.finds h.tree;
-  family = family-same old new same.places same.children h.family;
-  sights = same-sights old new same.finds same.sights h.sights;
-  listed = subst (IsListed new) (sym list_is) (listed-same old new was marks h.listed);
-  changed_fits = (let e = same.long in let f = h.changed_fits in omega (arith, e, f, fits));
-  none_lowered = as_was ∙ h.none_lowered;
-  lowered_fits = (let e = same.long in let f = h.lowered_fits in omega (arith, e, f, lowered_fits));
-}
+      tree = same-tree old new same.finds h.tree;
+      family = family-same old new same.places same.children h.family;
+      sights = same-sights old new same.finds same.sights h.sights;
+      listed = subst (IsListed new) (sym list_is) (listed-same old new was marks h.listed);
+      changed_fits = (let e = same.long in let f = h.changed_fits in omega (arith, e, f, fits));
+      none_lowered = as_was ∙ h.none_lowered;
+      lowered_fits = (let e = same.long in let f = h.lowered_fits in omega (arith, e, f, lowered_fits));
+    }
 
 -- contracts see the same stacks
 pub marked-stacks : (tree : Tree) (old new : Slots) → tree_of old ≡ tree → SameScopes old new →

@@ -20,7 +20,7 @@ stack_of-tree_of slots key =
           let none : scope_in slots key ≡ None = get_or_past slots key None past in
           let long : length ((tree_of slots).stacks) ≡ length slots = length-map-range_with_len seen 0 (length slots) in
           get_or_past ((tree_of slots).stacks) key None (omega arith) ∙ sym
-              (ap (λ (o : Option Scope). option_map (full (find_in slots) key) (option_map outline_of o)) none)
+          (ap (λ (o : Option Scope). option_map (full (find_in slots) key) (option_map outline_of o)) none)
     ]
 
 -- a key is marked where its scope stands among the changed ones
@@ -44,7 +44,7 @@ pub stacks_of-same : (old new : Slots) → length new ≡ length old → ((key :
     (tree_of new).stacks ≡ (tree_of old).stacks
 stacks_of-same old new long finds =
     ap (λ (n : ℕ). map (stack_at (find_in new)) (range_with_len 0 n)) long
-        ∙ ap (λ (find : Find). map (stack_at find) (range_with_len 0 (length old))) (fun_ext finds)
+    ∙ ap (λ (find : Find). map (stack_at find) (range_with_len 0 (length old))) (fun_ext finds)
 
 -- and the same in all where marks stay too
 pub tree_of-same : (old new : Slots) → length new ≡ length old → ((key : ℕ) → find_in new key ≡ find_in old key) →
@@ -53,9 +53,9 @@ tree_of-same old new long finds marks =
     let marked : Slots → ℕ → Bool = λ slots key. is_listed (scope_in slots key) in
     let changed : (tree_of new).changed ≡ (tree_of old).changed =
     ap (λ (n : ℕ). map (marked new) (range_with_len 0 n)) long ∙ ap (λ (f : ℕ → Bool). map f (range_with_len 0 (length old)))
-        (fun_ext (λ key. ap is_some (marks key))) in
+    (fun_ext (λ key. ap is_some (marks key))) in
     ap (λ (stacks : List (Option Stack)). let t : Tree = record { stacks = stacks; changed = (tree_of new).changed } in t)
-        (stacks_of-same old new long finds)
+    (stacks_of-same old new long finds)
     ∙ ap (λ (marks : List Bool). let t : Tree = record { stacks = (tree_of old).stacks; changed = marks } in t) changed
 
 -- what is found is the outline of a scope that is kept
@@ -77,7 +77,7 @@ pub parent_at : (slots : Slots) (key parent : ℕ) (s : Scope) → IsTree (find_
     s.parent ≡ Some parent → (above : Scope) × (scope_in slots parent ≡ Some above) × (s.depth ≡ suc above.depth)
 parent_at slots key parent s tree kept up =
     let under : IsUnder (find_in slots) s.depth (Some parent) =
-        subst (IsUnder (find_in slots) s.depth) up (tree.placed key (outline_of s) (found_at slots key s kept)) in
+    subst (IsUnder (find_in slots) s.depth) up (tree.placed key (outline_of s) (found_at slots key s kept)) in
     let above = scope_at slots parent under.0 under.1 in
     (above.0, above.1, under.2 ∙ sym (ap (λ (o : Outline). suc o.depth) above.2))
 
@@ -107,7 +107,7 @@ pub kept_where_open : (tree : Tree) (slots : Slots) (key id : ℕ) → tree_of s
     IsSome (scope_in slots key)
 kept_where_open tree slots key id is same whole =
     sym (is_some-find_in slots key) ∙ sym (is_some-stack_at (find_in slots) key) ∙ sym (ap is_some (stack_seen tree slots key id is same))
-        ∙ whole
+    ∙ whole
 
 -- the stack of what is kept
 pub stack_at-kept : (find : Find) (key : ℕ) (s : Outline) → find key ≡ Some s → stack_at find key ≡ Some (full find key s)

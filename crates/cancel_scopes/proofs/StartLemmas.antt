@@ -117,11 +117,11 @@ module _ (tick key : ℕ) (slots : Slots) (changed : List ℕ) where
                 | inl same ↦
                     let low : own_sight (scope_in lower p) ≡ Some tick =
                     ap (λ (n : ℕ). own_sight (scope_in lower n)) same ∙ ap own_sight
-                        (written slots key s (Some (record s { sight = Some tick; listed = Some h.place })) h.kept) in
+                    (written slots key s (Some (record s { sight = Some tick; listed = Some h.place })) h.kept) in
                     ap (earlier (Some tick)) low ∙ ap Some (tick_same_ticks tick)
                 | inr differs ↦
                     let same : own_sight (scope_in lower p) ≡ own_sight (scope_in slots p) =
-                        ap own_sight (unwritten slots key p (Some (record s { sight = Some tick; listed = Some h.place })) differs) in
+                    ap own_sight (unwritten slots key p (Some (record s { sight = Some tick; listed = Some h.place })) differs) in
                     ap (earlier (Some tick)) same ∙ tick_first tick (own_sight (scope_in slots p)) later
               ]
 
@@ -130,7 +130,7 @@ module _ (tick key : ℕ) (slots : Slots) (changed : List ℕ) where
           by_shield false is =
               sym (ap (λ (b : Bool). sight_by b (Some tick) (outer_sight lower s.parent)) is
               ∙ outer_case s.parent (outer_late tick own.0 (outer_sight slots s.parent)
-                  (ap (λ (b : Bool). before (Some tick) (sight_by b own.0 (outer_sight slots s.parent))) (sym is) ∙ late_by)))
+              (ap (λ (b : Bool). before (Some tick) (sight_by b own.0 (outer_sight slots s.parent))) (sym is) ∙ late_by)))
 
   -- the scope saw no later, and nothing waits
   pub starts-stays : (s : Scope) → Starts tick key slots changed → scope_in slots key ≡ Some s → before (Some tick) s.sight ≡ false →

@@ -162,7 +162,7 @@ module _ (tick parent place : ℕ) (slots : Slots) (changed lowered : List ℕ) 
   own_near s waits up sees bare late (inl right) =
       let own : s.sight ≡ earlier s.from (Some tick) =
       right ∙ ap (λ (b : Bool). sight_by b s.from (outer_sight slots s.parent)) bare
-          ∙ ap (earlier s.from) (ap (outer_sight slots) up ∙ sees) in
+      ∙ ap (earlier s.from) (ap (outer_sight slots) up ∙ sees) in
       clash (before (Some tick) s.sight) late (ap (before (Some tick)) own ∙ not_later tick s.from)
   own_near s waits up sees bare late (inr w) =
       let own : s.sight ≡ earlier s.from w.1 = w.3 ∙ ap (λ (b : Bool). sight_by b s.from w.1) bare in
@@ -184,7 +184,7 @@ module _ (tick parent place : ℕ) (slots : Slots) (changed lowered : List ℕ) 
       let parent_low : own_sight (scope_in new parent) ≡ Some tick = low_stays tick slots new parent along sees in
       let lower : Slots = slice_set slots key (Some (record s { sight = Some tick; listed = Some h.place })) in
       let parent_lower : outer_sight lower s.parent ≡ Some tick = ap (outer_sight lower) up
-          ∙ ap (λ (l : Slots). own_sight (scope_in l parent)) (sym h.written) ∙ parent_low in
+      ∙ ap (λ (l : Slots). own_sight (scope_in l parent)) (sym h.written) ∙ parent_low in
       let own = own_near s (or_child parent place lowered) up sees bare late (state.near.near key s h.kept) in
       let N : Slots → Type 0 = λ l. AllNear l tick (or_child parent (place + 1) (lowered ++ key ∷ [])) in
       record {
@@ -193,7 +193,7 @@ module _ (tick parent place : ℕ) (slots : Slots) (changed lowered : List ℕ) 
         listed = listed;
         near = subst N (sym h.written)
             (near-lowered slots tick key s (Some h.place) (or_child parent place lowered)
-                (or_child parent (place + 1) (lowered ++ key ∷ [])) h.kept late
+            (or_child parent (place + 1) (lowered ++ key ∷ [])) h.kept late
             (λ k t differs kept. state.near.near k t kept)
             (λ k t differs kept w. on k t differs kept w)
             (λ k t inside. inl (key, inside, Contains-push lowered key))
@@ -254,7 +254,7 @@ module _ (tick parent place : ℕ) (slots : Slots) (changed lowered : List ℕ) 
                     let e : Some s ≡ Some t = sym kept ∙ ap (scope_in slots) (sym same) ∙ found in
                     let is : s ≡ t = cc in
                     inl (subst (IsRight slots) is (settled slots tick parent (or_child parent place lowered) key s up sees
-                        (state.near.near key s kept) stays))
+                    (state.near.near key s kept) stays))
                 | inr away ↦ inr (inr (b.0, omega (arith, away, b.1)), outer, late, sight)
               ]
 
@@ -300,7 +300,7 @@ pub all_children : (tick parent count : ℕ) (slots : Slots) (changed lowered : 
     Lowering tick (below lowered) slots changed lowered
 all_children tick parent count slots changed lowered long state =
     waits-as tick slots changed lowered lowered (or_child parent count lowered) (below lowered) state (λ k t found w. by_wait k t found w)
-        (λ k in_list. in_list) (omega arith)
+    (λ k in_list. in_list) (omega arith)
   where
     by_wait : (k : ℕ) (t : Scope) → scope_in slots k ≡ Some t → or_child parent count lowered k t → below lowered k t
     by_wait k t found (inl w) = w
@@ -324,7 +324,7 @@ child_key slots parent place key s kept family within is =
     let same : children_at (scope_in slots parent) ≡ s.children.items = ap children_at kept in
     let inside : place < length s.children.items = subst (λ (l : List ℕ). place < length l) same within in
     let at : key ≡ get_or (children_at (scope_in slots parent)) place 0 =
-        get_or_read s.children.items place key inside is 0 ∙ ap (λ (l : List ℕ). get_or l place 0) (sym same) in
+    get_or_read s.children.items place key inside is 0 ∙ ap (λ (l : List ℕ). get_or l place 0) (sym same) in
     ap (λ (k : ℕ). place_under parent (scope_in slots k)) at ∙ (family.children parent).placed place within
 
 -- a scope that is lowered leaves no more to do

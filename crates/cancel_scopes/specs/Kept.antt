@@ -74,8 +74,11 @@ is_listed o = is_some (place_of o)
 
 -- what contracts see of the open scopes
 abbrev pub tree_of : Slots → Tree
-tree_of slots = record { stacks = map (stack_at (find_in slots)) (range_with_len 0 (length slots)); changed =
-    map (λ key. is_listed (scope_in slots key)) (range_with_len 0 (length slots)) }
+tree_of slots = record {
+  stacks = map (stack_at (find_in slots)) (range_with_len 0 (length slots));
+  changed =
+      map (λ key. is_listed (scope_in slots key)) (range_with_len 0 (length slots));
+}
 
 abbrev pub own_sight : Option Scope → Tick
 own_sight None = None
@@ -142,7 +145,7 @@ abbrev pub IsFresh : Slots → Slots → ℕ → Type 0
 IsFresh old new key =
     (own_sight (scope_in new key) ≡ seen_at (find_in old) key)
     × (is_listed (scope_in new key) ≡ (is_listed (scope_in old key) || before (own_sight (scope_in new key))
-        (own_sight (scope_in old key))))
+    (own_sight (scope_in old key))))
 
 -- each scope has the sight of its stack now, and each whose sight came earlier is marked
 pub record AllFresh (old new : Slots) : Type 0 where

@@ -93,10 +93,10 @@ IsOwn tree = (key : ℕ) → ForSome (stack_of tree key) (λ stack. own_label st
 abbrev pub IsChain : Tree → Type 0
 IsChain tree =
     (key : ℕ) (stack : Stack) → stack_of tree key ≡ Some stack → (before : Stack) (l : Level ℕ) (behind : Stack) →
-        stack ≡ before ++ l ∷ behind → stack_of tree l.label ≡ Some (l ∷ behind)
+    stack ≡ before ++ l ∷ behind → stack_of tree l.label ≡ Some (l ∷ behind)
 
 -- no scope stands twice in a stack
 abbrev pub IsApart : Tree → Type 0
 IsApart tree =
     (key : ℕ) (stack : Stack) → stack_of tree key ≡ Some stack → (before : Stack) (l : Level ℕ) (behind : Stack) →
-        stack ≡ before ++ l ∷ behind → All (λ m. m.label ≢ l.label) behind
+    stack ≡ before ++ l ∷ behind → All (λ m. m.label ≢ l.label) behind

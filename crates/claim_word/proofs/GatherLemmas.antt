@@ -121,4 +121,4 @@ settled counts id v words slots word left all final at none gathered long told =
     let parts = gathered.parts in
     let knows = closed_knows counts id v words slots final (omega arith) in
     all_drawn counts.requests word v all (none_left v left all none gathered) (told_once all told)
-        (subst (λ n. Knows counts.requests n v) (first_word words word at) knows)
+    (subst (λ n. Knows counts.requests n v) (first_word words word at) knows)

@@ -71,8 +71,12 @@ splits requests passes word hands i v rule at more untold =
           omega arith);
       fair =
           fair_push requests (set hands i left) right
-          (fair_set requests hands i left rule.fair (record { nones = omega arith; most = λ some. fair.most (omega arith); empty =
-              λ none. absurd (omega arith) }))
+          (fair_set requests hands i left rule.fair (record {
+            nones = omega arith;
+            most = λ some. fair.most (omega arith);
+            empty =
+                λ none. absurd (omega arith);
+          }))
           (record { nones = omega arith; most = λ some. fair.most (omega arith); empty = λ none. refl });
     }
 
@@ -203,7 +207,7 @@ pub knows_all : (requests passes word : ℕ) (hands : List Hand) (i : ℕ) (v : 
 knows_all requests passes word hands i v rule at all =
     let alone = rule.parts ∙ sym all in
     let drawn = λ (x : ℕ). total-alone (λ u. times x u.drawn) hands i v at alone
-        (λ j u there none. ap (times x) ((rule.fair j u there).empty none)) in
+    (λ j u there none. ap (times x) ((rule.fair j u there).empty none)) in
     let nones = total-alone (λ u. u.nones) hands i v at alone (λ j u there none. let few = (rule.fair j u there).nones in omega arith) in
     record {
       once = λ x below. sym (drawn x) ∙ rule.once x below;

@@ -12,13 +12,15 @@ use Rattle.claim_word.proofs.RuleLemmas.{nones_few, splits, draws_number, draws_
 -- the table after the word became n and one hand changed
 placed : (counts : Counts) (s : State (Unit {0}) Hand) (n id : ℕ) (me : Me (Unit {0}) Hand) (w : Hand) → length s.words ≡ 1 →
     Claimed counts.requests counts.passes n (set s.views id w) → Kept counts (stepped s 0 n id me.1 w keeps)
-placed counts s n id me w wide rule =
-    (length-set s.words 0 n ∙ wide, subst (λ k. Claimed counts.requests counts.passes k (set s.views id w))
-        (sym (get_or-set_same s.words 0 n 0 (omega arith))) rule)
+placed counts s n id me w wide rule = (
+  length-set s.words 0 n ∙ wide,
+  subst (λ k. Claimed counts.requests counts.passes k (set s.views id w))
+      (sym (get_or-set_same s.words 0 n 0 (omega arith))) rule,
+)
 
 -- a claim may be made with a pass that was not told that none is left
 pub claims_allowed : (counts : Counts) (slots id : ℕ) (me : Me (Unit {0}) Hand) → me.0.parts ≡ 1 → me.0.nones ≡ 0 →
-    counts.requests ≤ 2000000 → counts.passes ≤ 64
+    counts.requests ≤ 4000000 → counts.passes ≤ 64
     → Allows (Kept counts) slots id me 0 (λ n. (n + 1) % 18446744073709551616) (Draws (step slots 0 1 0 none) me)
 claims_allowed counts slots id me one untold few_requests few_passes s rule homes at small =
     let word = slice_index s.words 0 in
@@ -36,8 +38,14 @@ claims_allowed counts slots id me one untold few_requests few_passes s rule home
             keeps,
             tt,
             kept w (draws_number counts.requests counts.passes word s.views id v rule.1 at some_part left),
-            (refl, record { number = λ below. (drawn_before counts.requests counts.passes word s.views id v rule.1 at, refl); none =
-                λ over. absurd (omega arith) }),
+            (
+              refl,
+              record {
+                number = λ below. (drawn_before counts.requests counts.passes word s.views id v rule.1 at, refl);
+                none =
+                    λ over. absurd (omega arith);
+              },
+            ),
           )
       | inr over ↦
           let w = hand v.most v.parts v.drawn (v.nones + 1) in (
@@ -57,9 +65,11 @@ cuts_allowed counts id v more untold s rule at =
 -- a hand that stands for a pass may take in another
 pub joins_allowed : (counts : Counts) (id : ℕ) (v : Hand) (other : ℕ) (w : Hand) → 0 < v.parts →
     Joins (Kept counts) id v other w (both_hands v w) spent_hand
-joins_allowed counts id v other w some_part s rule at apart there =
-    (rule.0, joins counts.requests counts.passes (slice_index s.words 0) s.views id other v w rule.1 at some_part there
-        (sym (set_else s.views id other (both_hands v w) apart) ∙ there))
+joins_allowed counts id v other w some_part s rule at apart there = (
+  rule.0,
+  joins counts.requests counts.passes (slice_index s.words 0) s.views id other v w rule.1 at some_part there
+      (sym (set_else s.views id other (both_hands v w) apart) ∙ there),
+)
 
 -- what the closed table shows of the hand that stands for all passes
 pub closed_knows : (counts : Counts) (id : ℕ) (v : Hand) (words : List ℕ) (slots : List (Unit {0})) →
@@ -67,4 +77,4 @@ pub closed_knows : (counts : Counts) (id : ℕ) (v : Hand) (words : List ℕ) (s
 closed_knows counts id v words slots final all =
     let s = final.0 in
     subst (λ (ws : List ℕ). Knows counts.requests (slice_index ws 0) v) final.2
-        (knows_all counts.requests counts.passes (slice_index s.words 0) s.views id v final.1.0.1 final.1.1 all)
+    (knows_all counts.requests counts.passes (slice_index s.words 0) s.views id v final.1.0.1 final.1.1 all)

@@ -41,7 +41,7 @@ pub pruned_parts-append : (test : Tree → Bool) (es fs : Excs) →
 pruned_parts-append test no_parts fs = refl
 pruned_parts-append test (part e es) fs =
     ap (with_part (pruned test e)) (pruned_parts-append test es fs)
-        ∙ sym (pruned_parts-with test (pruned test e) (pruned_parts test es) (pruned_parts test fs))
+    ∙ sym (pruned_parts-with test (pruned test e) (pruned_parts test es) (pruned_parts test fs))
 
 weight_of-some : (es : Excs) → 1 ≤ weight_of es
 weight_of-some no_parts = omega arith
@@ -72,7 +72,7 @@ pruned_next test parts i x o h is at =
     ap (pruned_parts test) (excs_of-take parts i x h)
     ∙ pruned_parts-append test (excs_of (take i parts)) (part (exc_of (slice_index_or parts i x)) no_parts)
     ∙ ap (λ y. appended (pruned_parts test (excs_of (take i parts))) (with_part y no_parts))
-        (ap (λ z. pruned test (exc_of z)) (sym at) ∙ sym is)
+    (ap (λ z. pruned test (exc_of z)) (sym at) ∙ sym is)
 
 appended-none : (es : Excs) → appended es no_parts ≡ es
 appended-none no_parts = refl

@@ -89,4 +89,4 @@ first_parts (es ∷ others) = es
 abbrev pub excs_code : Coded Excs
 excs_code =
     code_by (List Mark) (coded_list mark_code) (λ es. marks_of es []) (λ ms. first_parts (read_marks ms))
-        (λ es. ap first_parts (read_parts es []))
+    (λ es. ap first_parts (read_parts es []))

@@ -2,7 +2,6 @@
 use Rattle.std.proofs.Common.{false, ◌≡◌, ℕ, ◌<◌, ◌≤◌, List, [], length, Option, Some, None, inr, refl, sym, ap, subst, ◌∙◌, arith}
 use Rattle.std.specs.Prelude.{Result, Ok, Err, IfErr}
 use Rattle.job_tree.specs.declared.format.Format.{Format}
-use Rattle.job_tree.specs.declared.format.Format.TheVariants.{One, Two}
 use Rattle.job_tree.specs.Tree.{Tree}
 use Rattle.job_tree.specs.Modest.{most_steps}
 use Rattle.job_tokens.specs.declared.token.Token.{Token}
@@ -43,21 +42,26 @@ pub fair_answer : (text : List ℕ) (k : JobKind) (found : Option ℕ) (r : Resu
 fair_answer text k found (Ok u) refuses is = tt
 fair_answer text k found (Err fault) refuses is = fair_refusal text k found fault refuses is
 
+-- behind three passes that found nothing, a place from which no token can be read is a refusal of the text
 pub token_refused : (text : List ℕ) (tokens : List Token) (at : ℕ) → Passes text 3 → HasTokens text tokens (Some at) →
     IsRefused text kind.Token at
 token_refused text tokens at before lexed = refused_after text 3 kind.Token at before refl (tokens, lexed)
 
+-- where none is such a place, the text is read to the pass for tokens, with all its tokens
 pub tokens_read : (text : List ℕ) (tokens : List Token) → Passes text 3 → HasTokens text tokens None → IsReadTo 4 text tokens
 tokens_read text tokens before lexed = record { tokens_are = lexed; passes = passes_tokens text tokens before lexed }
 
+-- the first number out of its range is a refusal of a text read to the pass for tokens
 pub number_refused : (text : List ℕ) (tokens : List Token) (at : ℕ) → IsReadTo 4 text tokens → number_fault (format_of text) None tokens ≡ Some at →
     IsRefused text kind.Number at
 number_refused text tokens at read found = refused_after text 4 kind.Number at read.passes refl (tokens, read.tokens_are, found)
 
+-- where no number is out of its range, the text is read to the pass for numbers
 pub numbers_read : (text : List ℕ) (tokens : List Token) → IsReadTo 4 text tokens → number_fault (format_of text) None tokens ≡ None → IsReadTo 5 text tokens
 numbers_read text tokens read none =
     record { tokens_are = read.tokens_are; passes = passes_numbers text tokens read.passes read.tokens_are none }
 
+-- the place at which tokens leave the grammar is a refusal of a text read to the pass for numbers
 pub syntax_refused : (text : List ℕ) (tokens : List Token) (at : ℕ) → IsReadTo 5 text tokens →
     fault_at (format_of text) (length text) whole_job tokens ≡ Some at → IsRefused text kind.Syntax at
 syntax_refused text tokens at read found =
@@ -88,10 +92,12 @@ course_read text tokens roles read none are = (
   some_job text tokens roles none are,
 )
 
+-- the first block too deep is a refusal of a text read to the pass for syntax
 pub depth_refused : (text : List ℕ) (tokens : List Token) (at : ℕ) → IsReadTo 6 text tokens → depth_fault 0 tokens ≡ Some at →
     IsRefused text kind.Depth at
 depth_refused text tokens at read found = refused_after text 6 kind.Depth at read.passes refl (tokens, read.tokens_are, found)
 
+-- where no block is too deep, the text is read to the pass for depth
 pub depth_read : (text : List ℕ) (tokens : List Token) → IsReadTo 6 text tokens → depth_fault 0 tokens ≡ None → IsReadTo 7 text tokens
 depth_read text tokens read none =
     record { tokens_are = read.tokens_are; passes = passes_depth text tokens read.passes read.tokens_are none }
@@ -178,43 +184,46 @@ found_by pass ts us rs qs found answer same same' is e = (λ i. pass (sym same i
 next_draft : (n m : ℕ) (text : List ℕ) (d : Draft) → IsDraftTo n text d → Passes text m → IsDraftTo m text d
 next_draft n m text d h passes = record { text_is = h.text_is; is_of = h.is_of; roles_are = h.roles_are; passes = passes }
 
+-- the first name given twice is a refusal of the text of a draft to the pass for depth
 pub given_refused : (text : List ℕ) (d : Draft) (at : ℕ) → IsDraftTo 7 text d → twice_in [] d.tokens.items d.roles.items ≡ Some at →
     IsRefused text kind.Twice at
 given_refused text d at h e = refused_after text 7 kind.Twice at h.passes refl
     (d.tokens.items, tree_of d, h.is_of, by_roles d (twice_in []) (Some at) h.roles_are e)
 
+-- where no name is given twice, the draft is one to the pass for names given
 pub given_passed : (text : List ℕ) (d : Draft) → IsDraftTo 7 text d → twice_in [] d.tokens.items d.roles.items ≡ None → IsDraftTo 8 text d
 given_passed text d h e = next_draft 7 8 text d h (passes_given text d.tokens.items (tree_of d) h.passes h.is_of
     (by_roles d (twice_in []) None h.roles_are e))
 
+-- the first `cancel` that names nothing round it is a refusal of the text of such a draft
 pub stray_refused : (text : List ℕ) (d : Draft) (at : ℕ) → IsDraftTo 8 text d →
     stray_of (tree_of d) d.tokens.items d.roles.items ≡ Some at → IsRefused text kind.NotEnclosing at
 stray_refused text d at h e = refused_after text 8 kind.NotEnclosing at h.passes refl
     (d.tokens.items, tree_of d, h.is_of, by_roles d (stray_of (tree_of d)) (Some at) h.roles_are e)
 
+-- where no `cancel` is stray, the draft is one to the pass for cancels
 pub stray_passed : (text : List ℕ) (d : Draft) → IsDraftTo 8 text d → stray_of (tree_of d) d.tokens.items d.roles.items ≡ None →
     IsDraftTo 9 text d
 stray_passed text d h e = next_draft 8 9 text d h (passes_cancels text d.tokens.items (tree_of d) h.passes h.is_of
     (by_roles d (stray_of (tree_of d)) None h.roles_are e))
 
+-- the first reserved name is a refusal of the text of such a draft
 pub reserved_refused : (text : List ℕ) (d : Draft) (at : ℕ) → IsDraftTo 9 text d → reserved_in d.tokens.items d.roles.items ≡ Some at →
     IsRefused text kind.Reserved at
 reserved_refused text d at h e =
     refused_after text 9 kind.Reserved at h.passes refl (d.tokens.items, tree_of d, h.is_of, by_roles d reserved_in (Some at) h.roles_are e)
 
+-- where no name is reserved, the draft is one to the pass for reserved names
 pub reserved_passed : (text : List ℕ) (d : Draft) → IsDraftTo 9 text d → reserved_in d.tokens.items d.roles.items ≡ None →
     IsDraftTo 10 text d
 reserved_passed text d h e = next_draft 9 10 text d h (passes_reserved text d.tokens.items (tree_of d) h.passes h.is_of
     (by_roles d reserved_in None h.roles_are e))
 
--- a job of either format has few steps
-pub few_steps : (format : Format) → most_steps format ≤ 1000000
-few_steps One = omega arith
-few_steps Two = omega arith
-
+-- more step instances than the greatest number of them are a refusal of the text of such a draft, at place 0
 pub size_refused : (text : List ℕ) (d : Draft) → IsDraftTo 10 text d → most_steps d.format < size_of d.steps → IsRefused text kind.TooLarge 0
 size_refused text d h lt = refused_after text 10 kind.TooLarge 0 h.passes refl (d.tokens.items, tree_of d, h.is_of, lt, refl)
 
+-- where there are no more than that, the draft is one to the last pass
 pub size_passed : (text : List ℕ) (d : Draft) → IsDraftTo 10 text d → size_of d.steps ≤ most_steps d.format → IsDraftTo 11 text d
 size_passed text d h le = next_draft 10 11 text d h (passes_size text d.tokens.items (tree_of d) h.passes h.is_of le)
 

@@ -15,6 +15,9 @@ use std::alloc::Global;
 /// The most bytes of a job text.
 pub const MOST_BYTES: usize = 65_536;
 
+/// How many bytes the line has with which a job text begins.
+pub const FIRST_LINE_LENGTH: usize = 11;
+
 /// The line with which each job text of a format begins.
 pub fn first_line(format: Format) -> &'static [u8]
     ensures { result.now ≡ first_line format }
@@ -82,6 +85,16 @@ fn check_bytes(text: &[u8]) -> Result<(Format, &[u8]), JobFault>
         });
     };
     Ok(found)
+}
+
+/// The format whose first line a text begins with, and format 1 where it begins with neither.
+pub fn format_of(text: &[u8]) -> Format
+    ensures { result ≡ format_of text.now }
+{
+    match behind_first_line(text) {
+        Some((format, _)) => format,
+        None => Format::One,
+    }
 }
 
 // The format whose first line the text begins with, and the bytes behind it.

@@ -60,6 +60,7 @@ late_joined t r q h k =
       timed = timed_followed t r.log q.log h.timed (timed_earlier t r.end q.log h.ends k.timed);
     }
 
+-- a late walk that goes on in late ones is late as a whole
 pub late_and_then : (t : ℕ) (r : Result) (go : ℕ → Result) → Late t r → ((u : ℕ) → Late u (go u)) → Late t (and_then r go)
 unfolding and_then
 late_and_then t r go h k = by_exc r.exc
@@ -68,9 +69,11 @@ late_and_then t r go h k = by_exc r.exc
     by_exc None = late_joined t r (go r.end) h (k r.end)
     by_exc (Some e) = h
 
+-- where nothing happens until tick t or later, that is late
 pub late_done : (t u : ℕ) → t ≤ u → Late t (done_at u)
 late_done t u le = record { ends = le; timed = tt }
 
+-- an exception in tick t or later is late
 pub late_raised : (e : Exc) (t u : ℕ) → t ≤ u → Late t (raised_at e u)
 late_raised e t u le = record { ends = le; timed = tt }
 
@@ -85,28 +88,34 @@ late_slept (Some from) n t = by_now (nat_le from t) (nat_le from (t + n)) refl
     by_now false true e = late_raised cancelled t from (grind (arith, nat_tests))
     by_now false false e = late_done t (t + n) (omega arith)
 
+-- a sleep on a stack is late
 pub late_sleeping : (st : Stack) (n t : ℕ) → Late t (sleeping st n t)
 unfolding sleeping
 late_sleeping st n t = late_slept (sight st) n t
 
+-- what is noted of lines in a tick has no earlier tick
 pub timed_lines : (ls : List Span) (t : ℕ) → Timed t (log_of_lines t ls)
 timed_lines [] t = tt
 timed_lines (l ∷ ls) t = (omega arith, timed_lines ls t)
 
+-- lines that are shown are late
 pub late_showing : (ls : List Span) (t : ℕ) → Late t (showing ls t)
 unfolding showing
 late_showing ls t = record { ends = omega arith; timed = timed_lines ls t }
 
+-- a `need` is late, whether its line is found or not
 pub late_needing : (found : Option Span) (name : List ℕ) (label : Label) (t : ℕ) → Late t (needing found name label t)
 unfolding needing
 late_needing (Some l) name label t = late_showing (l ∷ []) t
 late_needing None name label t = record { ends = omega arith; timed = tt }
 
+-- a `cancel` is late, whether its name is found or not
 pub late_cancelling : (label : Option Label) (t : ℕ) → Late t (cancelling label t)
 unfolding cancelling
 late_cancelling None t = record { ends = omega arith; timed = tt }
 late_cancelling (Some l) t = record { ends = omega arith; timed = (omega arith, tt) }
 
+-- a scope or nursery is late where its inside is, whatever its from
 pub late_block : (m : Mode) (kind : Kind) (label : Label) (t : ℕ) (d : Tick) (shield : Bool) (st : Stack) (inside : Tick → Result) →
     ((from : Tick) → Late t (inside from)) → Late t (block m kind label t d shield st inside)
 unfolding block
@@ -121,6 +130,7 @@ late_block m kind label t d shield st inside h =
       );
     }
 
+-- a late member is late with its sign too
 pub late_signed : (t : ℕ) (st : Stack) (r : Result) → Late t r → Late t (signed st r)
 unfolding signed
 late_signed t st r h =
@@ -141,6 +151,7 @@ latest_ends t (m ∷ ms) =
     let rest : max t m.end ≤ latest (max t m.end) ms = latest_ends (max t m.end) ms in
     omega arith
 
+-- a nursery with a late body is late, once its members have ended
 pub late_gathered : (t : ℕ) (label : Label) (r : Result) → Late t r → Late t (gathered label r)
 unfolding gathered
 late_gathered t label r h =
@@ -148,6 +159,7 @@ late_gathered t label r h =
     let last : r.end ≤ latest r.end r.members = latest_ends r.end r.members in
     record { ends = omega arith; timed = h.timed }
 
+-- what a late started task leaves in its starter's walk is late
 pub late_child : (label : Label) (t : ℕ) (r : Result) → Late t r → Late t (child label t r)
 unfolding child
 late_child label t r h = record { ends = omega arith; timed = (omega arith, h.ends, h.timed, tt) }
@@ -157,10 +169,12 @@ pub child_ends : (label : Label) (t : ℕ) (r : Result) → (child label t r).en
 unfolding child
 child_ends label t r = refl
 
+-- the starter of a `start .. over` goes on in the same tick
 pub each_ends : (k : ℕ) (go : ℕ → Result) (t : ℕ) → ((i : ℕ) → (go i).end ≡ t) → (each k go t).end ≡ t
 each_ends zero go t h = refl
 each_ends (suc k) go t h = h k
 
+-- the children of a `start .. over`, all started in one tick, are late where each of them is
 pub late_each : (k : ℕ) (go : ℕ → Result) (t : ℕ) → ((i : ℕ) → (go i).end ≡ t) → ((i : ℕ) → Late t (go i)) → Late t (each k go t)
 late_each zero go t ends h = late_done t t (omega arith)
 late_each (suc k) go t ends h =
@@ -172,6 +186,7 @@ pub late_passes : (k first : ℕ) (go : ℕ → ℕ → Result) (t : ℕ) → ((
 late_passes zero first go t h = late_done t t (omega arith)
 late_passes (suc k) first go t h = late_and_then t (go first t) _ (h first t) (λ u. late_passes k (suc first) go u h)
 
+-- a late body and its handler are late
 pub late_handled : (t : ℕ) (wanted : Wanted) (r : Result) (go : ℕ → Result) → Late t r → ((u : ℕ) → Late u (go u)) →
     Late t (handled wanted r go)
 unfolding handled
@@ -187,6 +202,7 @@ late_handled t wanted r go h k = by_exc r.exc
     by_exc None = h
     by_exc (Some e) = by_match (keep wanted e) (drop wanted e)
 
+-- what is late and its cleanup are late
 pub late_cleaned : (t : ℕ) (r : Result) (go : ℕ → Result) → Late t r → ((u : ℕ) → Late u (go u)) → Late t (cleaned r go)
 unfolding cleaned
 late_cleaned t r go h k =

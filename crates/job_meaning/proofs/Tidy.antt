@@ -19,6 +19,7 @@ pub record Tidy (st : Stack) (Own : Label → Type 0) (r : Result) : Type 0 wher
   pub gives : (l : Label) → Gives l r.log → Own l
   pub signs : (l : Label) → Signs l r.log → OnStack l st ⊎ Gives l r.log
 
+-- a walk that is tidy with some labels is tidy with any more of them
 pub tidy_in : (st : Stack) (P Q : Label → Type 0) (r : Result) → ((l : Label) → P l → Q l) → Tidy st P r → Tidy st Q r
 tidy_in st P Q r f h = record { gives = λ l e. f l (h.gives l e); signs = h.signs }
 
@@ -33,6 +34,7 @@ plain_nil = record { none = λ l h. h; unsigned = λ l h. h }
 tidy_plain : (st : Stack) (P : Label → Type 0) (r : Result) → Plain r.log → Tidy st P r
 tidy_plain st P r h = record { gives = λ l e. absurd (h.none l e); signs = λ l e. absurd (h.unsigned l e) }
 
+-- one tidy result after another is tidy
 pub tidy_joined : (st : Stack) (P : Label → Type 0) (r q : Result) → Tidy st P r → Tidy st P q → Tidy st P (joined r q)
 tidy_joined st P r q h k =
     record {
@@ -56,6 +58,7 @@ tidy_joined st P r q h k =
     seen_to l (inl e) = first l (h.signs l e)
     seen_to l (inr e) = second l (k.signs l e)
 
+-- a tidy walk that goes on in tidy ones is tidy as a whole
 pub tidy_and_then : (st : Stack) (P : Label → Type 0) (r : Result) (go : ℕ → Result) → Tidy st P r → ((u : ℕ) → Tidy st P (go u)) →
     Tidy st P (and_then r go)
 unfolding and_then
@@ -65,12 +68,15 @@ tidy_and_then st P r go h k = by_exc r.exc
     by_exc None = tidy_joined st P r (go r.end) h (k r.end)
     by_exc (Some e) = h
 
+-- where nothing happens, that is tidy
 pub tidy_done : (st : Stack) (P : Label → Type 0) (t : ℕ) → Tidy st P (done_at t)
 tidy_done st P t = tidy_plain st P (done_at t) plain_nil
 
+-- an exception is tidy
 pub tidy_raised : (st : Stack) (P : Label → Type 0) (e : Exc) (t : ℕ) → Tidy st P (raised_at e t)
 tidy_raised st P e t = tidy_plain st P (raised_at e t) plain_nil
 
+-- a sleep is tidy
 pub tidy_sleeping : (st : Stack) (P : Label → Type 0) (n t : ℕ) → Tidy st P (sleeping st n t)
 unfolding sleeping
 tidy_sleeping st P n t = by_sight (sight st)
@@ -93,11 +99,13 @@ no_signs_lines : (l : Label) (t : ℕ) (ls : List Span) → Signs l (log_of_line
 no_signs_lines l t [] h = h
 no_signs_lines l t (s ∷ ss) h = no_signs_lines l t ss h
 
+-- lines that are shown are tidy
 pub tidy_showing : (st : Stack) (P : Label → Type 0) (ls : List Span) (t : ℕ) → Tidy st P (showing ls t)
 unfolding showing
 tidy_showing st P ls t = tidy_plain st P (showing ls t) (record
     { none = λ l h. no_enters_lines l t ls h; unsigned = λ l h. no_signs_lines l t ls h })
 
+-- a `need` is tidy, whether its line is found or not
 pub tidy_needing : (st : Stack) (P : Label → Type 0) (found : Option Span) (name : List ℕ) (label : Label) (t : ℕ) →
     Tidy st P (needing found name label t)
 unfolding needing
@@ -118,6 +126,7 @@ found_on name (k ∷ ks) = by_test (bytes_eq name k.label.name) (label_on name k
     by_test false None h = tt
     by_test false (Some l) h = inr h
 
+-- the innermost label of a stack stands on it, if there is one
 pub home_on : (st : Stack) → OnStackIf (home_of st) st
 home_on [] = tt
 home_on (k ∷ ks) = inl refl
@@ -132,6 +141,7 @@ no_enters_sign : (o : Option Label) (t : ℕ) (l : Label) → Gives l (sign_of o
 no_enters_sign None t l h = h
 no_enters_sign (Some m) t l h = h
 
+-- a `cancel` of a name is tidy
 pub tidy_cancelling : (st : Stack) (P : Label → Type 0) (name : List ℕ) (t : ℕ) → Tidy st P (cancelling (label_on name st) t)
 unfolding cancelling
 tidy_cancelling st P name t =
@@ -140,6 +150,7 @@ tidy_cancelling st P name t =
       signs = λ l e. inl (sign_on st (label_on name st) t (found_on name st) l e);
     }
 
+-- a scope or nursery with a label of its own is tidy, where its inside is tidy on the stack within it
 pub tidy_block : (m : Mode) (kind : Kind) (label : Label) (t : ℕ) (d : Tick) (shield : Bool) (st : Stack) (P : Label → Type 0)
     (inside : Tick → Result) →
     P label → ((f : Tick) → Tidy (within label shield f st) P (inside f)) → Tidy st P (block m kind label t d shield st inside)
@@ -175,10 +186,12 @@ pub signs_home : (st : Stack) (o : Option Exc) (t : ℕ) (l : Label) → Signs l
 signs_home st None t l s = absurd s
 signs_home st (Some e) t l s = sign_on st (home_of st) t (home_on st) l s
 
+-- and gives no label with that sign
 pub gives_home : (st : Stack) (o : Option Exc) (t : ℕ) (l : Label) → Gives l (sign_if o (home_of st) t) → ⊥
 gives_home st None t l s = s
 gives_home st (Some e) t l s = no_enters_sign (home_of st) t l s
 
+-- a tidy member is tidy with its sign too
 pub tidy_signed : (st : Stack) (P : Label → Type 0) (r : Result) → Tidy st P r → Tidy st P (signed st r)
 unfolding signed
 tidy_signed st P r h =
@@ -200,10 +213,12 @@ tidy_signed st P r h =
     seen_to l (inl e) = first l (h.signs l e)
     seen_to l (inr e) = inl (signs_home st r.exc r.end l e)
 
+-- a nursery with a tidy body is tidy, once its members have ended
 pub tidy_gathered : (st : Stack) (P : Label → Type 0) (label : Label) (r : Result) → Tidy st P r → Tidy st P (gathered label r)
 unfolding gathered
 tidy_gathered st P label r h = record { gives = h.gives; signs = h.signs }
 
+-- what a tidy started task with a label of its own leaves in its starter's walk is tidy
 pub tidy_child : (st : Stack) (P : Label → Type 0) (label : Label) (t : ℕ) (r : Result) → P label → Tidy st P r →
     Tidy st P (child label t r)
 unfolding child
@@ -222,6 +237,7 @@ tidy_child st P label t r p h = record { gives = own; signs = seen_to }
     seen_to l (inl e) = first l (h.signs l e)
     seen_to l (inr e) = absurd e
 
+-- the children of a `start .. over` are tidy where each of them is
 pub tidy_each : (st : Stack) (P : Label → Type 0) (k : ℕ) (go : ℕ → Result) (t : ℕ) → ((i : ℕ) → i < k → Tidy st P (go i)) →
     Tidy st P (each k go t)
 tidy_each st P zero go t h = tidy_done st P t
@@ -240,6 +256,7 @@ tidy_passes st P (suc k) first go t h =
     later : (i : ℕ) → suc first ≤ i → first ≤ i
     later i le = omega arith
 
+-- a tidy body and its tidy handler are tidy
 pub tidy_handled : (st : Stack) (P : Label → Type 0) (wanted : Wanted) (r : Result) (go : ℕ → Result) → Tidy st P r →
     ((u : ℕ) → Tidy st P (go u)) → Tidy st P (handled wanted r go)
 unfolding handled
@@ -256,6 +273,7 @@ tidy_handled st P wanted r go h k = by_exc r.exc
     by_exc None = h
     by_exc (Some e) = by_match (keep wanted e) (drop wanted e)
 
+-- a tidy result and its tidy cleanup are tidy
 pub tidy_cleaned : (st : Stack) (P : Label → Type 0) (r : Result) (go : ℕ → Result) → Tidy st P r → ((u : ℕ) → Tidy st P (go u)) →
     Tidy st P (cleaned r go)
 unfolding cleaned
@@ -276,9 +294,11 @@ belongs_over name names here i = record { named = inl refl; beyond = []; extends
 pub in_left : (a b : List (List ℕ)) (path : List ℕ) (l : Label) → Belongs a path l → Belongs (a ++ b) path l
 in_left a b path l h = belongs_in a (a ++ b) path (λ n i. among_left n a b i) l h
 
+-- and so does what belongs to the part behind it
 pub in_right : (a b : List (List ℕ)) (path : List ℕ) (l : Label) → Belongs b path l → Belongs (a ++ b) path l
 in_right a b path l h = belongs_in b (a ++ b) path (λ n i. among_right n a b i) l h
 
+-- what belongs to the body of a block belongs to the block
 pub in_body : (name : List ℕ) (names : List (List ℕ)) (path : List ℕ) (l : Label) → Belongs names path l → Belongs (name ∷ names) path l
 in_body name names path l h = belongs_in names (name ∷ names) path (λ n i. inr i) l h
 

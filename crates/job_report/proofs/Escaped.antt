@@ -33,4 +33,4 @@ pub escaped_some : (xs front back others : List ℕ) (x n : ℕ) → n ≤ lengt
 escaped_some xs front back others x n h plain f b some =
     let rest : drop n xs ≡ x ∷ others = sym b ∙ some in
     escaped_front xs n h plain ∙ ap (λ ys. take n xs ++ flat_map escaped ys) rest
-        ∙ ap (λ ys. ys ++ (escaped x ++ flat_map escaped others)) (sym f)
+    ∙ ap (λ ys. ys ++ (escaped x ++ flat_map escaped others)) (sym f)

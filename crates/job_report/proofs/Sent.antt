@@ -12,5 +12,5 @@ sent_more (Some held) None new bytes rest i n before put behind = absurd before
 sent_more (Some held) (Some xs) None bytes rest i n before put behind = put
 sent_more (Some held) (Some xs) (Some ys) bytes rest i n before put behind =
     put ∙ ap (λ zs. xs ++ take n zs) behind ∙ ap (λ zs. zs ++ take n (drop i bytes)) before
-        ∙ append_assoc held (take i bytes) (take n (drop i bytes))
+    ∙ append_assoc held (take i bytes) (take n (drop i bytes))
     ∙ ap (λ zs. held ++ zs) (sym (take-add i n bytes))

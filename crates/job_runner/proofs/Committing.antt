@@ -35,7 +35,7 @@ HasRight e = IsRight e.call e.answer
 first_right : (task : ℕ) (call : Call) (old : Option Answer) (es : List Entry) (answers : List Answer) →
     AreAnswers (requests_of (record { task = task; call = call; answer = old } ∷ es)) answers →
     HasRight (with_placed answers (record { task = task; call = call; answer = old }))
-        × AreAnswers (requests_of es) (answers_after (request_in call) answers)
+    × AreAnswers (requests_of es) (answers_after (request_in call) answers)
 first_right task Begin old es answers h = (tt, h)
 first_right task Due old es answers h = (tt, h)
 first_right task Seen old es answers h = (tt, h)
@@ -44,9 +44,14 @@ first_right task (Ask request) old es [] h =
     let count : zero ≡ suc (length (requests_of es)) = h.count in
     absurd (omega (arith, count))
 first_right task (Ask request) old es (answer ∷ answers) h =
-    let count : suc (length answers) ≡ suc (length (requests_of es)) = h.count in
-    (h.each zero request answer (omega arith), record { count = omega (arith, count); each =
-        λ i q a lt. h.each (suc i) q a (omega (arith, lt)) })
+    let count : suc (length answers) ≡ suc (length (requests_of es)) = h.count in (
+      h.each zero request answer (omega arith),
+      record {
+        count = omega (arith, count);
+        each =
+            λ i q a lt. h.each (suc i) q a (omega (arith, lt));
+      },
+    )
 
 -- the answers to the requests of entries are right for the calls at which they are placed
 pub answers_right : (es : List Entry) (answers : List Answer) → AreAnswers (requests_of es) answers → All HasRight (placed es answers)
@@ -54,7 +59,7 @@ answers_right [] answers h = All-nil HasRight
 answers_right (e ∷ es) answers h =
     let first = first_right e.task e.call e.answer es answers h in
     All-cons HasRight (with_placed answers e) (placed es (answers_after (request_in e.call) answers)) first.0
-        (answers_right es (answers_after (request_in e.call) answers) first.1)
+    (answers_right es (answers_after (request_in e.call) answers) first.1)
 
 -- who is called by what stays
 placed_same : (P : ℕ → Call → Type 0) (es : List Entry) (answers : List Answer) → All (λ (e : Entry). P e.task e.call) es →
@@ -62,7 +67,7 @@ placed_same : (P : ℕ → Call → Type 0) (es : List Entry) (answers : List An
 placed_same P [] answers all = all
 placed_same P (e ∷ es) answers all =
     All-cons (λ (x : Entry). P x.task x.call) (with_placed answers e) (placed es (answers_after (request_in e.call) answers))
-        (All-head (λ (x : Entry). P x.task x.call) e es all)
+    (All-head (λ (x : Entry). P x.task x.call) e es all)
     (placed_same P es (answers_after (request_in e.call) answers) (All-tail (λ (x : Entry). P x.task x.call) e es all))
 
 placed_tasks : (es : List Entry) (answers : List Answer) → map (λ (e : Entry). e.task) (placed es answers) ≡ map (λ (e : Entry). e.task) es
@@ -92,7 +97,7 @@ shelved_placed r b answers s current next =
       once = λ id other.
           let all : times_shelved r.batch r.clock id ≡ running_times r.world.book (running_at r.roster id) = s.once id other in
           let a : times_now id b.current ≡ times_now id r.batch.current =
-              ap (times_now id) current ∙ ap (times id) (placed_tasks r.batch.current answers) in
+          ap (times_now id) current ∙ ap (times id) (placed_tasks r.batch.current answers) in
           let c : times_next id b.next ≡ times_next id r.batch.next = ap (times_next id) next in
           omega (arith, all, a, c);
       away = none_away (λ (x : ℕ). times_shelved b r.clock x ≡ 0);
@@ -116,7 +121,7 @@ times_out id (x ∷ es) (suc i) e is =
     let a : times_now id (x ∷ es) ≡ one_if (x.task == id) + times_now id es = times_cons id x.task (map (λ (y : Entry). y.task) es) in
     let b : times_now id es ≡ one_if (e.task == id) + times_now id (remove es i) = times_out id es i e is in
     let c : times_now id (x ∷ remove es i) ≡ one_if (x.task == id) + times_now id (remove es i) =
-        times_cons id x.task (map (λ (y : Entry). y.task) (remove es i)) in
+    times_cons id x.task (map (λ (y : Entry). y.task) (remove es i)) in
     omega (arith, a, b, c)
 
 one_fewer : {X : Type 0} (xs : List X) (i : ℕ) (x : X) → slice_get xs i ≡ Some x → length xs ≡ length (remove xs i) + 1
@@ -142,7 +147,7 @@ shelved_out r b place e s is current next =
       known = s.known;
       current =
           subst (All (λ (x : Entry). IsCalled r.roster r.world x.task x.call)) (sym current)
-              (all_without (λ (x : Entry). IsCalled r.roster r.world x.task x.call) r.batch.current place s.current);
+          (all_without (λ (x : Entry). IsCalled r.roster r.world x.task x.call) r.batch.current place s.current);
       next = subst (All (λ (a : Added). IsCalled r.roster r.world a.0 a.1)) (sym next) s.next;
       once = λ id other.
           let all : times_shelved r.batch r.clock id ≡ running_times r.world.book (running_at r.roster id) = s.once id tt in
@@ -161,7 +166,7 @@ shelved_out r b place e s is current next =
     fewer : (id : ℕ) → times_shelved r.batch r.clock id ≡ one_if (e.task == id) + times_shelved b r.clock id
     fewer id =
         let a : times_now id r.batch.current ≡ one_if (e.task == id) + times_now id (remove r.batch.current place) =
-            times_out id r.batch.current place e is in
+        times_out id r.batch.current place e is in
         let c : times_now id b.current ≡ times_now id (remove r.batch.current place) = ap (times_now id) current in
         let d : times_next id b.next ≡ times_next id r.batch.next = ap (times_next id) next in
         omega (arith, a, c, d)
@@ -204,13 +209,13 @@ module _ {P : Type 0} (picks : P → ℕ → ℕ → P → Type 0) (was r : Runn
   turn_goes =
       subst (λ (key : ℕ). IsSomeAnd (running_at r.roster key) (λ (x : Running). MayGo r.world x.task wake)) (sym out.its_task)
       (some_has (running_at r.roster out.entry.task) (λ (x : Running). MayGo r.world x.task wake) x.0 x.1
-          (x.2 out.entry.answer wake right out.its_wake))
+      (x.2 out.entry.answer wake right out.its_wake))
     where
       x : (x : Running) × (running_at r.roster out.entry.task ≡ Some x) × GoesBy r.world x.task out.entry.call
       x =
           some_is (running_at r.roster out.entry.task) (λ (y : Running). GoesBy r.world y.task out.entry.call)
           (at_place (λ (e : Entry). IsCalled r.roster r.world e.task e.call) r.batch.current out.place out.entry out.at_place
-              h.going.shelved.current)
+          h.going.shelved.current)
 
       right : HasRight out.entry
       right = at_place HasRight r.batch.current out.place out.entry out.at_place h.right
@@ -241,7 +246,7 @@ module _ {P : Type 0} (picks : P → ℕ → ℕ → P → Type 0) (was r : Runn
 module _ (was r told : Runner) (left b : Batches) (h : IsCommitting was r) (same : left ≡ r.batch) (over : r.batch.current ≡ [])
     (only : SeesOnly (record r { batch = left }) told) (going : IsGoing None told)
     (unchanged : NoneChanged told.world) (current : b.current ≡ map unplaced told.batch.next) (next : b.next ≡ [])
-        (fresh : NonePlaced b.current) where
+    (fresh : NonePlaced b.current) where
   told_batch : told.batch ≡ r.batch
   told_batch = ap (λ (x : Runner). x.batch) only ∙ same
 

@@ -30,7 +30,7 @@ fewer_below (suc n) f g key lt was is others = by_key (cases_eq n key) (λ less.
         let a : one_where (g n) ≡ 0 = ap one_where (ap g e ∙ is) in
         let b : one_where (f n) ≡ 1 = ap one_where (ap f e ∙ was) in
         let c : count_below n g ≡ count_below n f =
-            same_below n f g (λ k less. others k (λ h. let same : n ≡ key = e in omega (arith, h, less, same))) in
+        same_below n f g (λ k less. others k (λ h. let same : n ≡ key = e in omega (arith, h, less, same))) in
         omega (arith, a, b, c)
     by_key (inr differs) more =
         let a : one_where (g n) ≡ one_where (f n) = ap one_where (others n differs) in

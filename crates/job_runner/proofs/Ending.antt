@@ -60,9 +60,9 @@ each_other : {T : Type 0} (key : T → ℕ) (id : ℕ) (xs : List T) → times i
 each_other key id [] none P Q all more = All-nil Q
 each_other key id (x ∷ xs) none P Q all more =
     let step : times id (map key (x ∷ xs)) ≡ one_if (key x == id) + times id (map key xs) =
-        sum_by-cons (λ (n : ℕ). one_if (n == id)) (key x) (map key xs) in
+    sum_by-cons (λ (n : ℕ). one_if (n == id)) (key x) (map key xs) in
     All-cons Q x xs (more x (λ e. let one : one_if (key x == id) ≡ 1 = one_same (key x) id e in absurd (omega (arith, step, one, none)))
-        (All-head P x xs all))
+    (All-head P x xs all))
     (each_other key id xs (omega (arith, step, none)) P Q (All-tail P x xs all) more)
 
 -- ---- the task that ended
@@ -89,7 +89,7 @@ module _ (r : Runner) (roster : Roster) (id row : ℕ) (exc : Option held.Exc) (
   pub its_row : e.row ≡ row
   its_row =
       let same : lived.0 ≡ record { task = e.task; row = e.row } =
-          one_of lived.0 (record { task = e.task; row = e.row }) (sym lived.1 ∙ e.lived) in
+      one_of lived.0 (record { task = e.task; row = e.row }) (sym lived.1 ∙ e.lived) in
       sym (ap (λ (x : Running). x.row) same) ∙ lived.2.0
 
   pub was_there : task_of r.roster row ≡ Some e.task
@@ -113,7 +113,7 @@ module _ (r : Runner) (roster : Roster) (id row : ℕ) (exc : Option held.Exc) (
         earlier = subst (λ (p : ℕ). p < row) same its.earlier;
         runs =
             let n = finds r.world.book home.nursery (λ n. (n.scope ≡ home.scope) × (slice_get n.children home.place ≡ Some None))
-                its.runs in
+            its.runs in
             puts r.world.book home.nursery n.0 (λ n. slice_get n.children home.place ≡ Some None) n.1 n.2.1;
       }
     where
@@ -126,7 +126,7 @@ module _ (r : Runner) (roster : Roster) (id row : ℕ) (exc : Option held.Exc) (
       same : its.parent ≡ parent_of r.roster row
       same =
           same_owner (meaning_table r.job.now r.input.now) r.job.now r.input.now r.world.tick (many r.roster) (Some row) (crew_in r)
-              crew_before its.parent (parent_of r.roster row) its.starter
+          crew_before its.parent (parent_of r.roster row) its.starter
           keeps.task home.nursery its.lives keeps.lives its.owned keeps.owned
 
   -- what `tell` asks for
@@ -145,7 +145,7 @@ module _ (r : Runner) (roster : Roster) (id row : ℕ) (exc : Option held.Exc) (
   tell_parent nursery place f =
       let y = home_is e.task.home nursery place f in
       subst (λ (m : ℕ). parent_of roster row < m) (sym e.same.many)
-          (subst (λ (p : ℕ). p < many r.roster) (sym (e.same.parent row)) (waiter_of y.0 y.1).lives.below)
+      (subst (λ (p : ℕ). p < many r.roster) (sym (e.same.parent row)) (waiter_of y.0 y.1).lives.below)
 
 -- ---- all others
 
@@ -157,7 +157,7 @@ module _ (r : Runner) (roster : Roster) (book : NurseryBook) (b : Batches) (id r
     (e : Ends r.roster roster id r.world.tick exc) (told : EndIsTold r.world.book book e.task.home (option_map exc_of exc)) where
   left_by : (k : Table) → (settled : IsSettled k r.job.now r.input.now) →
       Leaving r.world.tick row (crew_in r) (crew_in (ended_runner r roster book b)) ((h.course k settled).is.course.at row) e.task
-          (option_map exc_of exc)
+      (option_map exc_of exc)
   left_by k settled =
       record {
         was = was_there r roster id row exc h e;
@@ -179,44 +179,44 @@ module _ (r : Runner) (roster : Roster) (book : NurseryBook) (b : Batches) (id r
   course_after k settled =
       subst (λ (m : ℕ). IsCrew k r.job.now r.input.now r.world.tick m None (crew_in (ended_runner r roster book b))) (sym e.same.many)
       (crew_left k r.job.now r.input.now r.world.tick (many r.roster) row (crew_in r) (crew_in (ended_runner r roster book b)) e.task
-          (option_map exc_of exc) (h.course k settled).is
+      (option_map exc_of exc) (h.course k settled).is
       (left_by k settled))
 
   homes_after : AreHomesOf (crew_in (ended_runner r roster book b)) (parent_of roster)
   homes_after p x home lives at =
       subst (λ (n : ℕ). Keeps (crew_in (ended_runner r roster book b)) n home.nursery) (sym (e.same.parent p))
       (homes_left (meaning_table r.job.now r.input.now) r.job.now r.input.now r.world.tick (many r.roster) row (crew_in r)
-          (crew_in (ended_runner r roster book b)) e.task (option_map exc_of exc)
+      (crew_in (ended_runner r roster book b)) e.task (option_map exc_of exc)
       (h.course (meaning_table r.job.now r.input.now) (table_settled r roster id row exc h e)).is
-          (left_by (meaning_table r.job.now r.input.now) (table_settled r roster id row exc h e)) (parent_of r.roster) h.shelved.homes p x
-          home lives at)
+      (left_by (meaning_table r.job.now r.input.now) (table_settled r roster id row exc h e)) (parent_of r.roster) h.shelved.homes p x
+      home lives at)
 
   goes_after : (x : Task) (call : Call) → GoesBy r.world x call → GoesBy (record r.world { book = book }) x call
   goes_after x call goes answer wake right is =
       goes_left (meaning_table r.job.now r.input.now) r.job.now r.input.now r.world.tick (many r.roster) row (crew_in r)
-          (crew_in (ended_runner r roster book b)) e.task (option_map exc_of exc)
+      (crew_in (ended_runner r roster book b)) e.task (option_map exc_of exc)
       (h.course (meaning_table r.job.now r.input.now) (table_settled r roster id row exc h e)).is
-          (left_by (meaning_table r.job.now r.input.now) (table_settled r roster id row exc h e)) x wake (goes answer wake right is)
+      (left_by (meaning_table r.job.now r.input.now) (table_settled r roster id row exc h e)) x wake (goes answer wake right is)
 
   called_after : (key : ℕ) (call : Call) → key ≢ id → IsCalled r.roster r.world key call →
       IsCalled roster (record r.world { book = book }) key call
   called_after key call differs c =
       let x = some_is (running_at r.roster key) (λ (y : Running). GoesBy r.world y.task call) c in
       some_has (running_at roster key) (λ (y : Running). GoesBy (record r.world { book = book }) y.task call) x.0
-          (e.others key differs ∙ x.1) (goes_after x.0.task call x.2)
+      (e.others key differs ∙ x.1) (goes_after x.0.task call x.2)
 
   -- who has a timer is another task
   timer_else : (key due : ℕ) → due_of r.clock key ≡ Some due → key ≢ id
   timer_else key due f same =
       none-some due (sym (no_timer (due_of r.clock id) (let a : times_shelved r.batch r.clock id ≡ 0 = h.shelved.away id refl in
-          omega (arith, a))) ∙ (ap (due_of r.clock) (sym same) ∙ f))
+      omega (arith, a))) ∙ (ap (due_of r.clock) (sym same) ∙ f))
 
   dozes_after : (key due : ℕ) → due_of r.clock key ≡ Some due →
       IsSomeAnd (running_at roster key) (λ (y : Running). Dozes (record r.world { book = book }) due y.task)
   dozes_after key due f =
       let x = some_is (running_at r.roster key) (λ (y : Running). Dozes r.world due y.task) (h.shelved.doze key due f) in
       some_has (running_at roster key) (λ (y : Running). Dozes (record r.world { book = book }) due y.task) x.0
-          (e.others key (timer_else key due f) ∙ x.1)
+      (e.others key (timer_else key due f) ∙ x.1)
       (record {
         asleep =
             record {
@@ -246,13 +246,13 @@ module _ (r : Runner) (roster : Roster) (book : NurseryBook) (b : Batches) (id r
   added_after =
       each_other (λ (a : Added). a.0) id r.batch.next (let n : times_shelved r.batch r.clock id ≡ 0 = none in omega (arith, n))
       (λ (a : Added). IsCalled r.roster r.world a.0 a.1) (λ (a : Added). IsCalled roster (record r.world { book = book }) a.0 a.1)
-          h.shelved.next (λ a differs c. called_after a.0 a.1 differs c)
+      h.shelved.next (λ a differs c. called_after a.0 a.1 differs c)
 
   -- where those that were added go on, and each stands as often as it has to
   pub ended_going : IsRoster roster → b.current ≡ r.batch.current →
       All (λ (a : Added). IsCalled roster (record r.world { book = book }) a.0 a.1) b.next →
       ((other : ℕ) → times_shelved b r.clock other ≡ running_times book (running_at roster other)) →
-          IsGoing None (ended_runner r roster book b)
+      IsGoing None (ended_runner r roster book b)
   ended_going agree current next once =
       record {
         sound = h.sound;
@@ -270,9 +270,9 @@ module _ (r : Runner) (roster : Roster) (book : NurseryBook) (b : Batches) (id r
               current =
                   subst (All (λ (x : Entry). IsCalled roster (record r.world { book = book }) x.task x.call)) (sym current)
                   (each_other (λ (x : Entry). x.task) id r.batch.current (let n : times_shelved r.batch r.clock id ≡ 0 = none in
-                      omega (arith, n))
+                  omega (arith, n))
                   (λ (x : Entry). IsCalled r.roster r.world x.task x.call) (λ (x : Entry).
-                      IsCalled roster (record r.world { book = book }) x.task x.call) h.shelved.current
+                  IsCalled roster (record r.world { book = book }) x.task x.call) h.shelved.current
                   (λ x differs c. called_after x.task x.call differs c));
               next = next;
               once = λ other any. once other;

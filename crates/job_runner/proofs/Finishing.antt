@@ -61,7 +61,7 @@ none_lives (Some end) x y e none = refl
 end_shown : (input : List ℕ) (row : course.Row) (end : Option Ended) (gone : Gone) → option_map gone_from end ≡ Some gone →
     gone.label ≡ row.label → gone.end ≡ row.end → gone.exc ≡ row.exc →
     map entry_of gone.entries ≡ map (shown input) row.entries → All (IsSlice input) gone.entries → map from_of gone.froms ≡ row.froms →
-        EndIsShown input row end
+    EndIsShown input row end
 end_shown input row None gone e label tick exc entries slices froms = tt
 end_shown input row (Some end) gone e label tick exc entries slices froms =
     let is : gone_from end ≡ gone = same_Some (gone_from end) gone e in
@@ -118,7 +118,7 @@ module _ (r : Runner) (w : IsUnderway r) (over : phase_of r ≡ phases.Over) whe
   are_shown : AreShown r.input.now is_over.rows r.roster.rows.items
   are_shown s held e =
       row_shown r.input.now r.roster r.world r.turns s (is_over.rows s) held e
-          (is_over.shows s (slice_get_within r.roster.rows.items s held e))
+      (is_over.shows s (slice_get_within r.roster.rows.items s held e))
 
   -- the records and froms that rows come to
   module _ (rows : List Row) (same : rows ≡ r.roster.rows.items) (records : List Record) (froms : List ScopeFrom)

@@ -87,11 +87,11 @@ module _ (r : Runner) (w : IsUnderway r) (none : r.batch.current ≡ []) where
   timed_times : (task : Task) (at : LivesAt r.roster task) → timer_times (due_of r.clock at.id) ≡ halt_times r.world.book task.halt
   timed_times task at =
       let all : times_shelved r.batch r.clock at.id ≡ running_times r.world.book (running_at r.roster at.id) =
-          w.going.shelved.once at.id tt in
+      w.going.shelved.once at.id tt in
       let current : times at.id (map (λ (e : Entry). e.task) r.batch.current) ≡ 0 =
-          ap (λ (es : List Entry). times at.id (map (λ (e : Entry). e.task) es)) none in
+      ap (λ (es : List Entry). times at.id (map (λ (e : Entry). e.task) es)) none in
       let next : times at.id (map (λ (a : Added). a.0) r.batch.next) ≡ 0 =
-          ap (λ (es : List Added). times at.id (map (λ (a : Added). a.0) es)) w.nothing_added in
+      ap (λ (es : List Added). times at.id (map (λ (a : Added). a.0) es)) w.nothing_added in
       let its : running_times r.world.book (running_at r.roster at.id) ≡ halt_times r.world.book task.halt =
       ap (running_times r.world.book) at.is ∙ ap (λ (t : Task). halt_times r.world.book t.halt) at.task_is in
       omega (arith, all, current, next, its)
@@ -121,7 +121,7 @@ module _ (r : Runner) (w : IsUnderway r) (none : r.batch.current ≡ []) where
             dozes =
                 subst (Dozes r.world due) at.task_is
                 (subst (λ (o : Option Running). IsSomeAnd o (λ (x : Running). Dozes r.world due x.task)) at.is
-                    (w.going.shelved.doze at.id due e));
+                (w.going.shelved.doze at.id due e));
           }
 
   -- no sleeper is due before a tick, or sees a cancellation before it
@@ -140,7 +140,7 @@ module _ (r : Runner) (w : IsUnderway r) (none : r.batch.current ≡ []) where
 
       by_nursery : (id since : ℕ) → task.halt ≡ Awaits id since → (o : Option Nursery) → nursery_at r.world.book id ≡ o →
           IsSomeAnd o (λ (n : Nursery). HasMembers (crew_in r) crew.course.at r.world.tick (crew.numbers p) (crew.course.at p) id n) →
-              IsSomeAnd o (λ (n : Nursery). is_settled n ≡ false)
+          IsSomeAnd o (λ (n : Nursery). is_settled n ≡ false)
       by_nursery id since h None f members = members
       by_nursery id since h (Some n) f members = by_settled (is_settled n) refl
         where
@@ -160,16 +160,17 @@ module _ (r : Runner) (w : IsUnderway r) (none : r.batch.current ≡ []) where
       by_halt (Asleep ticks since) h =
           let a = asleep_as (Asleep ticks since) h refl in
           let b = bound a.id a.due a.timer in
-          let same = same_sleep ticks since a.dozes.asleep.ticks a.dozes.asleep.since (sym h ∙ a.dozes.asleep.halt) in
-          ((let le = b.0 in let due = a.dozes.asleep.due_is in let x = same.0 in let y = same.1 in omega (arith, le, due, x, y)),
-              ap (upto u) (sym a.seen_by) ∙ b.1)
+          let same = same_sleep ticks since a.dozes.asleep.ticks a.dozes.asleep.since (sym h ∙ a.dozes.asleep.halt) in (
+            (let le = b.0 in let due = a.dozes.asleep.due_is in let x = same.0 in let y = same.1 in omega (arith, le, due, x, y)),
+            ap (upto u) (sym a.seen_by) ∙ b.1,
+          )
       by_halt (Awaits id since) h =
           by_nursery id since h (nursery_at r.world.book id) refl ((crew.follows p task e).nurseries id (inr (ap waits_of h)))
       by_halt Over h =
           let it = crew.follows p task e in
           absurd (over_has_ended (crew.numbers p) r.world.book (crew.course.at p).rest.stopped
-              (subst (λ (x : Halt). IsHalt (crew.numbers p) r.world.book x (crew.course.at p).rest.stopped) h it.halt)
-              (it.lives (λ f. none-some p f)))
+          (subst (λ (x : Halt). IsHalt (crew.numbers p) r.world.book x (crew.course.at p).rest.stopped) h it.halt)
+          (it.lives (λ f. none-some p f)))
 
   -- ---- what the clock asks
 
@@ -195,7 +196,7 @@ module _ (r : Runner) (w : IsUnderway r) (none : r.batch.current ≡ []) where
   pub has_timer : (s : ℕ) (task : Task) → task_of r.roster s ≡ Some task → HasTimer r.clock
   has_timer s task e =
       let h = crew_sleeps (meaning_table r.job.now r.input.now) r.job.now r.input.now r.world.tick (many r.roster) (crew_in r)
-          (table_is_settled r.job.now r.input.now w.going.sound.names) w.going.sound.names
+      (table_is_settled r.job.now r.input.now w.going.sound.names) w.going.sound.names
       w.going.sound.starts crew 0 (all_stay 0 none_before_zero) s task e in
       let a = sleeps_as h.task (lives_at r.roster w.going.shelved.agree h.serial h.task h.lives) (ap (halt_times r.world.book) h.asleep) in
       (a.id, a.due, a.timer)
@@ -255,7 +256,7 @@ module _ (r : Runner) (w : IsUnderway r) (none : r.batch.current ≡ []) where
           by_sight None g = refl
           by_sight (Some cancel) g =
               let u = some_is first (λ (v : ℕ). v ≤ cancel) (is_first.least id cancel
-                  (sees_from r.roster r.world r.clock r.sleepers w.going.shelved.known w.unchanged id due x cancel e f g)) in
+              (sees_from r.roster r.world r.clock r.sleepers w.going.shelved.known w.unchanged id due x cancel e f g)) in
               let le : t ≤ u.0 = next.by_cancel u.0 u.1 in
               let more : u.0 ≤ cancel = u.2 in
               omega (arith, le, more)
@@ -274,7 +275,7 @@ module _ (r : Runner) (w : IsUnderway r) (none : r.batch.current ≡ []) where
       course_jumps k settled =
           let c = w.going.course k settled in
           crew_jumps k r.job.now r.input.now r.world.tick t (many r.roster) (crew_in r) (crew_of r.roster later_world r.turns)
-              (let lt = next_later in omega (arith, lt))
+          (let lt = next_later in omega (arith, lt))
           (record { turns = refl; task = λ p. refl; gone = λ p. refl; start = λ p. refl; children = λ p. refl }) refl c
           (crew_blocked k r.job.now r.input.now r.world.tick (many r.roster) (crew_in r) c t (all_stay t none_before_next))
 
@@ -282,7 +283,7 @@ module _ (r : Runner) (w : IsUnderway r) (none : r.batch.current ≡ []) where
       pub ends_later : (s : ℕ) (task : Task) → task_of r.roster s ≡ Some task → t ≤ meaning_end r.job.now r.input.now
       ends_later s task e =
           crew_in_time r.job.now r.input.now t (many r.roster) (crew_of r.roster later_world r.turns) w.going.sound.names
-              w.going.sound.starts
+          w.going.sound.starts
           (course_jumps (meaning_table r.job.now r.input.now) (table_is_settled r.job.now r.input.now w.going.sound.names)) s task e
 
       -- one is due in that tick, or sees a cancellation
@@ -342,7 +343,7 @@ module _ (r : Runner) (w : IsUnderway r) (none : r.batch.current ≡ []) where
                 (All-nil (λ (a : Added). IsCalled r.roster later_world a.0 a.1));
             once = λ id.
                 let all : times_shelved r.batch r.clock id ≡ running_times r.world.book (running_at r.roster id) =
-                    w.going.shelved.once id tt in
+                w.going.shelved.once id tt in
                 let same : timer_times (due_of clock id) ≡ timer_times (due_of r.clock id) = ap timer_times (timers id) in
                 omega (arith, all, same);
             someone = inr (any_now clock timers);

@@ -38,8 +38,14 @@ sleeps_in roster world clock sleepers k id key e = by_timer (due_of clock id) re
     by_timer (Some due) f None g h =
         absurd (none-some key (sym (ap (λ (d : Option ℕ). berth_of d (running_at roster id)) f ∙ ap (berth_of (Some due)) g) ∙ h))
     by_timer (Some due) f (Some x) g h =
-        record { due = due; running = x; timer = f; lives = g; in_scope =
-            sym (ap (λ (d : Option ℕ). berth_of d (running_at roster id)) f ∙ ap (berth_of (Some due)) g) ∙ h }
+        record {
+          due = due;
+          running = x;
+          timer = f;
+          lives = g;
+          in_scope =
+              sym (ap (λ (d : Option ℕ). berth_of d (running_at roster id)) f ∙ ap (berth_of (Some due)) g) ∙ h;
+        }
 
 -- and the other way round
 pub berth_is : (roster : Roster) (world : World) (clock : Clock) (sleepers : Sleeping) → AreKnown roster world clock sleepers →
@@ -68,20 +74,20 @@ shown_sight tree key kept unchanged h = by_known h.known
 pub known_sight : (roster : Roster) (world : World) (clock : Clock) (sleepers : Sleeping) → AreKnown roster world clock sleepers →
     NoneChanged world → (id due : ℕ) (x : Running) →
     due_of clock id ≡ Some due → running_at roster id ≡ Some x →
-        sight (outer_of world.scopes (scope_of x.task)) ≡ kept_sight sleepers (scope_of x.task)
+    sight (outer_of world.scopes (scope_of x.task)) ≡ kept_sight sleepers (scope_of x.task)
 known_sight roster world clock sleepers k unchanged id due x e f = by_scope (scope_of x.task) refl
   where
     by_scope : (o : Option ℕ) → scope_of x.task ≡ o → sight (outer_of world.scopes o) ≡ kept_sight sleepers o
     by_scope None h = refl
     by_scope (Some key) h =
         shown_sight world.scopes key (sight_of sleepers key) (unchanged key)
-            (k.sights id key (berth_is roster world clock sleepers k id due x e f ∙ h))
+        (k.sights id key (berth_is roster world clock sleepers k id due x e f ∙ h))
 
 -- a sleeper that sees a cancellation from a tick on, by its scope
 pub sees_from : (roster : Roster) (world : World) (clock : Clock) (sleepers : Sleeping) → AreKnown roster world clock sleepers →
     NoneChanged world → (id due : ℕ) (x : Running) (t : ℕ) →
     due_of clock id ≡ Some due → running_at roster id ≡ Some x → sight (outer_of world.scopes (scope_of x.task)) ≡ Some t →
-        SeesFrom sleepers id t
+    SeesFrom sleepers id t
 sees_from roster world clock sleepers k unchanged id due x t e f sees = by_scope (scope_of x.task) refl
   where
     by_scope : (o : Option ℕ) → scope_of x.task ≡ o → SeesFrom sleepers id t
@@ -98,9 +104,11 @@ pub seen_by : (roster : Roster) (world : World) (clock : Clock) (sleepers : Slee
     NoneChanged world → (id t : ℕ) → (s : SeesFrom sleepers id t) →
     (z : SleepsIn roster clock id s.scope) × (sight (outer_of world.scopes (scope_of z.running.task)) ≡ Some t)
 seen_by roster world clock sleepers k unchanged id t s =
-    let z = sleeps_in roster world clock sleepers k id s.scope s.sleeps in
-    (z, known_sight roster world clock sleepers k unchanged id z.due z.running z.timer z.lives
-        ∙ (ap (kept_sight sleepers) z.in_scope ∙ s.sight))
+    let z = sleeps_in roster world clock sleepers k id s.scope s.sleeps in (
+      z,
+      known_sight roster world clock sleepers k unchanged id z.due z.running z.timer z.lives
+          ∙ (ap (kept_sight sleepers) z.in_scope ∙ s.sight),
+    )
 
 -- ---- one that is woken
 
@@ -117,7 +125,7 @@ known_without roster world old new was are id k u m keeps =
         (m.changed ∙ sym (ap (λ (d : Option ℕ). berth_of d (running_at roster id)) u.changed))
     berth other (inr differs) =
         m.others other differs ∙ (k.berths other ∙ ap (λ (d : Option ℕ). berth_of d (running_at roster other))
-            (sym (u.others other differs)))
+        (sym (u.others other differs)))
 
     sight_at : (other key : ℕ) → scope_in are other ≡ Some key → (other ≡ id) ⊎ (other ≢ id) → Shows world.scopes key (sight_of are key)
     sight_at other key e (inl same) = absurd (none-some key (sym (ap (scope_in are) same ∙ m.changed) ∙ e))

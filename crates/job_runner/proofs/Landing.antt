@@ -61,11 +61,11 @@ turned_over r batch h none current next =
       once = λ id other.
           let all : times_shelved r.batch r.clock id ≡ running_times r.world.book (running_at r.roster id) = h.once id other in
           let was : times id (map (λ (e : Entry). e.task) r.batch.current) ≡ 0 =
-              ap (λ (es : List Entry). times id (map (λ (e : Entry). e.task) es)) none in
+          ap (λ (es : List Entry). times id (map (λ (e : Entry). e.task) es)) none in
           let a : times id (map (λ (e : Entry). e.task) batch.current) ≡ times id (map (λ (x : Added). x.0) r.batch.next) =
           ap (λ (es : List Entry). times id (map (λ (e : Entry). e.task) es)) current ∙ ap (times id) (same_tasks r.batch.next) in
           let b : times id (map (λ (x : Added). x.0) batch.next) ≡ 0 =
-              ap (λ (es : List Added). times id (map (λ (x : Added). x.0) es)) next in
+          ap (λ (es : List Added). times id (map (λ (x : Added). x.0) es)) next in
           omega (arith, all, was, a, b);
       away = λ x f. absurd (none-some x f);
     }
@@ -73,65 +73,70 @@ turned_over r batch h none current next =
 -- ---- a run that is blocked
 
 module _ (r : Runner) (w : IsUnderway r) (blocked : phase_of r ≡ phases.Blocked) (cancel : Tick) (is_first : IsFirst r.sleepers cancel)
-    where
-  none : r.batch.current ≡ []
-  none = (blocked_none r.batch.current (gone_of r.roster 0) blocked).0
+  where
+    none : r.batch.current ≡ []
+    none = (blocked_none r.batch.current (gone_of r.roster 0) blocked).0
 
-  root : (task : Task) × (task_of r.roster 0 ≡ Some task)
-  root = root_lives r w none (blocked_none r.batch.current (gone_of r.roster 0) blocked).1
+    root : (task : Task) × (task_of r.roster 0 ≡ Some task)
+    root = root_lives r w none (blocked_none r.batch.current (gone_of r.roster 0) blocked).1
 
-  -- what the clock asks
-  pub none_due : AllLater r.clock (now_of r.clock)
-  none_due = timers_later r w none
+    -- what the clock asks
+    pub none_due : AllLater r.clock (now_of r.clock)
+    none_due = timers_later r w none
 
-  pub some_timer : HasTimer r.clock
-  some_timer = has_timer r w none 0 root.0 root.1
+    pub some_timer : HasTimer r.clock
+    some_timer = has_timer r w none 0 root.0 root.1
 
-  pub next_cancel_later : (c : ℕ) → cancel ≡ Some c → now_of r.clock < c
-  next_cancel_later c e = cancel_later r w none cancel is_first c e
+    pub next_cancel_later : (c : ℕ) → cancel ≡ Some c → now_of r.clock < c
+    next_cancel_later c e = cancel_later r w none cancel is_first c e
 
-  -- past the limit
-  pub past_limit : (clock : Clock) → MeetsLimit r.clock cancel clock → (r.limit ≡ r.limit) × (r.limit < meaning_end r.job.now r.input.now)
-  past_limit clock m =
-      let le = ends_later r w none cancel is_first m.next m.is_next 0 root.0 root.1 in
-      let late : limit_of r.clock < m.next = m.late in
-      let limit : limit_of r.clock ≡ r.limit = w.going.shelved.limit in
-      (refl, omega (arith, le, late, limit))
+    -- past the limit
+    pub past_limit : (clock : Clock) → MeetsLimit r.clock cancel clock → (r.limit ≡ r.limit) × (r.limit < meaning_end r.job.now r.input.now)
+    past_limit clock m =
+        let le = ends_later r w none cancel is_first m.next m.is_next 0 root.0 root.1 in
+        let late : limit_of r.clock < m.next = m.late in
+        let limit : limit_of r.clock ≡ r.limit = w.going.shelved.limit in
+        (refl, omega (arith, le, late, limit))
 
-  module _ (clock : Clock) (t : ℕ) (jumps : JumpsTo r.clock cancel t clock) where
-    pub no_earlier : r.world.tick ≤ t
-    no_earlier = let lt = next_later r w none cancel is_first t jumps.next in omega (arith, lt)
+    module _ (clock : Clock) (t : ℕ) (jumps : JumpsTo r.clock cancel t clock) where
+      pub no_earlier : r.world.tick ≤ t
+      no_earlier = let lt = next_later r w none cancel is_first t jumps.next in omega (arith, lt)
 
-    module _ (world : World) (is_world : world ≡ record r.world { tick = t }) where
-      pub jumped : IsWaking (record r { clock = clock; world = world })
-      jumped =
-          subst (λ (v : World). IsWaking (record r { clock = clock; world = v })) (sym is_world)
-          (has_jumped r w none cancel is_first t jumps.next clock jumps.within jumps.now jumps.limit jumps.timers)
+      module _ (world : World) (is_world : world ≡ record r.world { tick = t }) where
+        pub jumped : IsWaking (record r { clock = clock; world = world })
+        jumped =
+            subst (λ (v : World). IsWaking (record r { clock = clock; world = v })) (sym is_world)
+            (has_jumped r w none cancel is_first t jumps.next clock jumps.within jumps.now jumps.limit jumps.timers)
 
-      on_course : AreOnCourse (record r { clock = clock; world = world })
-      on_course = subst (λ (v : World). AreOnCourse (record r { clock = clock; world = v })) (sym is_world)
-          (course_jumps r w none cancel is_first t jumps.next)
+        on_course : AreOnCourse (record r { clock = clock; world = world })
+        on_course = subst (λ (v : World). AreOnCourse (record r { clock = clock; world = v })) (sym is_world)
+            (course_jumps r w none cancel is_first t jumps.next)
 
-      -- with those who are timely in the current batch
-      pub landed : (woken : Runner) → woken ≡ record r { world = world; clock = woken.clock; sleepers = woken.sleepers; batch =
-          woken.batch } → AreShelved None woken → woken.batch.current ≡ [] →
-          (batch : Batches) → batch.current ≡ map unplaced woken.batch.next → batch.next ≡ [] → NonePlaced batch.current →
-              IsUnderway (record woken { batch = batch })
-      landed woken rest shelved over batch current next fresh =
-          record {
-            going = record {
-              sound = subst (λ (x : Runner). IsSound x.job.now) (sym rest) w.going.sound;
-              shelved = turned_over woken batch shelved over current next;
-              course = subst AreOnCourse (sym rest) on_course;
-            };
-            unchanged = subst (λ (x : Runner). NoneChanged x.world) (sym rest)
-                (subst (λ (v : World). NoneChanged v) (sym is_world) w.unchanged);
-            unplaced = fresh;
-            nothing_added = next;
-          }
+        -- with those who are timely in the current batch
+        pub landed : (woken : Runner) → woken ≡ record r {
+          world = world;
+          clock = woken.clock;
+          sleepers = woken.sleepers;
+          batch =
+              woken.batch;
+        } → AreShelved None woken → woken.batch.current ≡ [] →
+            (batch : Batches) → batch.current ≡ map unplaced woken.batch.next → batch.next ≡ [] → NonePlaced batch.current →
+            IsUnderway (record woken { batch = batch })
+        landed woken rest shelved over batch current next fresh =
+            record {
+              going = record {
+                sound = subst (λ (x : Runner). IsSound x.job.now) (sym rest) w.going.sound;
+                shelved = turned_over woken batch shelved over current next;
+                course = subst AreOnCourse (sym rest) on_course;
+              };
+              unchanged = subst (λ (x : Runner). NoneChanged x.world) (sym rest)
+                  (subst (λ (v : World). NoneChanged v) (sym is_world) w.unchanged);
+              unplaced = fresh;
+              nothing_added = next;
+            }
 
-      -- first those that see a cancellation are woken, and then those that are due
-      pub both_woken : (seen woken : Runner) → WakesOnly (record r { clock = clock; world = world }) seen → WakesOnly seen woken →
-          woken ≡ record r { world = world; clock = woken.clock; sleepers = woken.sleepers; batch = woken.batch }
-      both_woken seen woken a b = b ∙ ap (λ (x : Runner). record x { clock = woken.clock; sleepers = woken.sleepers; batch = woken.batch })
-          a
+        -- first those that see a cancellation are woken, and then those that are due
+        pub both_woken : (seen woken : Runner) → WakesOnly (record r { clock = clock; world = world }) seen → WakesOnly seen woken →
+            woken ≡ record r { world = world; clock = woken.clock; sleepers = woken.sleepers; batch = woken.batch }
+        both_woken seen woken a b = b ∙ ap (λ (x : Runner). record x { clock = woken.clock; sleepers = woken.sleepers; batch = woken.batch })
+            a

@@ -49,7 +49,7 @@ module _ (r : Runner) (root : Task) (id : ℕ) (sound : IsSound r.job.now) (smal
   begun k =
       crew_begun k r.job.now r.input.now (crew_in r) root sound.modest sound.starts sound.names small world is_root has.task
       (λ p. let more : p + 1 ≡ suc p = omega arith in subst (λ (n : ℕ). task_of r.roster n ≡ None) more (has.none p)) has.gone has.start
-          has.children turns
+      has.children turns
 
   on_course : AreOnCourse r
   on_course k settled =
@@ -70,7 +70,7 @@ module _ (r : Runner) (root : Task) (id : ℕ) (sound : IsSound r.job.now) (smal
   module _ (agree : IsRoster r.roster) (now : now_of r.clock ≡ 0) (limit : limit_of r.clock ≡ r.limit) (bounded : r.limit ≤ GREATEST_LIMIT)
       (timers : (task : ℕ) → due_of r.clock task ≡ None)
       (asleep : (task : ℕ) → scope_in r.sleepers task ≡ None) (unchanged : NoneChanged r.world) (before added : List Added)
-          (none_before : before ≡ []) (was_added : added ≡ before ++ (id, Begin) ∷ []) (current : r.batch.current ≡ map unplaced added)
+      (none_before : before ≡ []) (was_added : added ≡ before ++ (id, Begin) ∷ []) (current : r.batch.current ≡ map unplaced added)
       (next : r.batch.next ≡ []) (fresh : NonePlaced r.batch.current) where
     abbrev its_entry : Entry
     its_entry = unplaced (id, Begin)
@@ -92,7 +92,7 @@ module _ (r : Runner) (root : Task) (id : ℕ) (sound : IsSound r.job.now) (smal
         by_test (inl g) =
             ap one_if g.0
             ∙ sym (ap (λ (key : ℕ). running_times r.world.book (running_at r.roster key)) (sym g.1)
-                ∙ ap (running_times r.world.book) has.lives ∙ ap (halt_times r.world.book) is_root.halt)
+            ∙ ap (running_times r.world.book) has.lives ∙ ap (halt_times r.world.book) is_root.halt)
         by_test (inr g) = ap one_if g.0 ∙ sym (ap (running_times r.world.book) (has.others other (λ e. g.1 (sym e))))
 
     pub opened : IsUnderway r
@@ -120,7 +120,7 @@ module _ (r : Runner) (root : Task) (id : ℕ) (sound : IsSound r.job.now) (smal
                           subst (All (λ (e : Entry). IsCalled r.roster r.world e.task e.call)) (sym one_entry)
                           (All-cons (λ (e : Entry). IsCalled r.roster r.world e.task e.call) its_entry []
                           (some_has (running_at r.roster id) (λ (x : Running). GoesBy r.world x.task Begin)
-                              (record { task = root; row = 0 }) has.lives (root_goes r.world root is_root.halt))
+                          (record { task = root; row = 0 }) has.lives (root_goes r.world root is_root.halt))
                           (All-nil (λ (e : Entry). IsCalled r.roster r.world e.task e.call)));
                       next = subst (All (λ (a : Added). IsCalled r.roster r.world a.0 a.1)) (sym next)
                           (All-nil (λ (a : Added). IsCalled r.roster r.world a.0 a.1));

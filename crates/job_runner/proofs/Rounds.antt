@@ -77,7 +77,7 @@ pub said_for : (job : Tree) (input : List ℕ) (limit : ℕ) (r : Runner) → Ru
     P r.job.now r.input.now r.limit → P job input limit
 said_for job input limit r h P p =
     subst (λ (n : ℕ). P job input n) h.limit_is (subst (λ (xs : List ℕ). P job xs r.limit) h.input_is
-        (subst (λ (j : Tree). P j r.input.now r.limit) h.job_is p))
+    (subst (λ (j : Tree). P j r.input.now r.limit) h.job_is p))
 
 -- a run of a job had at most twice the job's size and one turns
 pub turns_for : (job : Tree) (input : List ℕ) (limit n : ℕ) (r : Runner) → RunsFor job input limit r → n ≡ r.turns →

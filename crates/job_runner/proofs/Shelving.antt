@@ -109,7 +109,7 @@ shelved_next r b id call s current next called one =
           (All-push (λ (a : Added). IsCalled r.roster r.world a.0 a.1) r.batch.next (id, call) s.next called);
       once =
           once_again id (times_shelved r.batch r.clock) (times_shelved b r.clock)
-              (λ (x : ℕ). running_times r.world.book (running_at r.roster x)) s.once (s.away id refl) more one;
+          (λ (x : ℕ). running_times r.world.book (running_at r.roster x)) s.once (s.away id refl) more one;
       away = none_away (λ (x : ℕ). times_shelved b r.clock x ≡ 0);
     }
   where
@@ -117,7 +117,7 @@ shelved_next r b id call s current next called one =
     more other =
         let a : times_now other b.current ≡ times_now other r.batch.current = ap (times_now other) current in
         let c : times_next other b.next ≡ times_next other r.batch.next + one_if (id == other) =
-            ap (times_next other) next ∙ next_more other r.batch.next id call in
+        ap (times_next other) next ∙ next_more other r.batch.next id call in
         omega (arith, a, c)
 
 -- it waits

@@ -77,7 +77,7 @@ serials_more m (suc n) =
     let e : suc m + n ≡ m + suc n = omega arith in
     let f : suc n + 1 ≡ suc (n + 1) = omega arith in
     ap (λ (xs : List ℕ). m ∷ xs) (ap (λ (x : ℕ). serials_from (suc m) n ++ x ∷ []) (sym e) ∙ serials_more (suc m) n)
-        ∙ ap (serials_from m) (sym f)
+    ∙ ap (serials_from m) (sym f)
 
 -- ---- tasks of a roster
 
@@ -185,7 +185,7 @@ module _ (old mid new : Roster) (parent : ℕ) (tasks : List Task) (tick : ℕ) 
   others_more other h =
       let c = counted other in
       s.others other (λ (e : other ≡ id). (let one = one_same id other (sym e) in omega (arith, c, one, h)))
-          ∙ a.others other (omega (arith, c, h))
+      ∙ a.others other (omega (arith, c, h))
 
   task_more : (i : ℕ) → task_of new (many old + i) ≡ slice_get (tasks ++ task ∷ []) i
   task_more i = at (cases_lt i (length tasks + 1))
@@ -200,13 +200,13 @@ module _ (old mid new : Roster) (parent : ℕ) (tasks : List Task) (tick : ℕ) 
       by (inl lt) = s.same_task (many old + i) (omega (arith, lt, more)) ∙ a.task i ∙ sym (got_more tasks task i lt)
       by (inr is) =
           ap (λ (n : ℕ). task_of new (many old + n)) is ∙ ap (task_of new) (sym more) ∙ s.task ∙ sym (got_end tasks task)
-              ∙ ap (slice_get (tasks ++ task ∷ [])) (sym is)
+          ∙ ap (slice_get (tasks ++ task ∷ [])) (sym is)
 
       at : (i < length tasks + 1) ⊎ (length tasks + 1 ≤ i) → task_of new (many old + i) ≡ slice_get (tasks ++ task ∷ []) i
       at (inl lt) = by (by_place (length tasks) i lt)
       at (inr le) =
           none_past new (many old + i) (omega (arith, le, more, there_now))
-              ∙ sym (slice_get_past (tasks ++ task ∷ []) i (omega (arith, le, longer)))
+          ∙ sym (slice_get_past (tasks ++ task ∷ []) i (omega (arith, le, longer)))
 
   at_more : {A : Type 0} (get : Roster → ℕ → A) (x : A) → ((p : ℕ) → p < many mid → p ≢ parent → get new p ≡ get mid p) →
       get new (many mid) ≡ x →
@@ -236,10 +236,10 @@ module _ (old mid new : Roster) (parent : ℕ) (tasks : List Task) (tick : ℕ) 
     parent_is = at_more parent_of parent (λ p lt differs. s.same_parent p lt) s.parent_is a.parent_is;
     child =
         s.child ∙ ap (λ (xs : List ℕ). xs ++ many mid ∷ []) a.child ∙ append_assoc (children_of old parent)
-            (serials_from (many old) (length tasks)) (many mid ∷ [])
+        (serials_from (many old) (length tasks)) (many mid ∷ [])
         ∙ ap (λ (n : ℕ). children_of old parent ++ (serials_from (many old) (length tasks) ++ n ∷ [])) a.more
         ∙ ap (λ (xs : List ℕ). children_of old parent ++ xs) (serials_more (many old) (length tasks)
-            ∙ ap (serials_from (many old)) (sym longer));
+        ∙ ap (serials_from (many old)) (sym longer));
     same_task = λ p lt. s.same_task p (less p lt) ∙ a.same_task p lt;
     same_gone = λ p. s.same_gone p ∙ a.same_gone p;
     same_start = λ p lt. s.same_start p (less p lt) ∙ a.same_start p lt;
@@ -284,9 +284,9 @@ row_there old now parent t lt = let more = t.starts.more in omega (arith, lt, mo
 pub taking_more : (old now : Runner) (w : World) (roster : Roster) (b : Batches) (parent tick : ℕ) (task : Task) (id : ℕ) →
     Taking old now parent → parent < many old.roster →
     now.world.started.items ≡ task ∷ w.started.items → w ≡ record now.world { started = w.started } → tick ≡ w.tick →
-        Starts now.roster roster parent task tick id → IsRoster roster →
+    Starts now.roster roster parent task tick id → IsRoster roster →
     b.current ≡ now.batch.current → b.next ≡ now.batch.next ++ (id, Begin) ∷ [] →
-        Taking old (record now { world = w; roster = roster; batch = b }) parent
+    Taking old (record now { world = w; roster = roster; batch = b }) parent
 taking_more old now w roster b parent tick task id t there first world tick_is starts agree current next = record {
   taken = t.taken ++ task ∷ [];
   ids = t.ids ++ id ∷ [];
@@ -294,7 +294,7 @@ taking_more old now w roster b parent tick task id t there first world tick_is s
   starts =
       starts_more old.roster now.roster roster parent t.taken old.world.tick t.ids task id t.starts
       (subst (λ (v : ℕ). Starts now.roster roster parent task v id)
-          (tick_is ∙ (ap (λ (x : World). x.tick) world ∙ ap (λ (x : World). x.tick) t.world)) starts) there;
+      (tick_is ∙ (ap (λ (x : World). x.tick) world ∙ ap (λ (x : World). x.tick) t.world)) starts) there;
   agree = agree;
   world = world ∙ ap (λ (x : World). record x { started = w.started }) t.world;
   current = current ∙ t.current;

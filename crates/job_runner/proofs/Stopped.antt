@@ -82,7 +82,7 @@ asks_going r b id row request h current next =
       shelved =
           shelved_next r b id (calls.Ask request) h.shelved current next
           (some_has (running_at r.roster id) (λ (y : Running). GoesBy r.world y.task (calls.Ask request)) x.0 x.1
-              (answered_goes r.world x.0.task request x.2.1))
+          (answered_goes r.world x.0.task request x.2.1))
           (ap (running_times r.world.book) x.1 ∙ ap (halt_times r.world.book) x.2.1.halt);
       course = λ k settled. (h.course k settled).is;
     }
@@ -155,7 +155,7 @@ stopping_scope id row due r h scope held key e =
     let x = some_is (running_at r.roster id) (λ (y : Running). (y.row ≡ row) × StopSays r.world y.task (stops.Sleep due)) h.lives in
     let k = meaning_table r.job.now r.input.now in
     let c : IsCrew k r.job.now r.input.now r.world.tick (many r.roster) None (crew_in r) =
-        (h.course k (table_is_settled r.job.now r.input.now h.sound.names)).is in
+    (h.course k (table_is_settled r.job.now r.input.now h.sound.names)).is in
     (c.follows x.0.row x.0.task (task_at r.roster h.shelved.agree id x.0 x.1)).goes.scope key (sym (held x.0 x.1) ∙ e)
 
 module _ (id row due : ℕ) (r : Runner) (clock : Clock) (u : Updates r.clock clock id (Some due)) (time : SameTime r.clock clock)
@@ -198,7 +198,7 @@ module _ (id row due : ℕ) (r : Runner) (clock : Clock) (u : Updates r.clock cl
               next = h.shelved.next;
               once =
                   once_again id (times_shelved r.batch r.clock) (times_shelved r.batch clock)
-                      (λ (key : ℕ). running_times r.world.book (running_at r.roster key)) h.shelved.once
+                  (λ (key : ℕ). running_times r.world.book (running_at r.roster key)) h.shelved.once
                   (h.shelved.away id refl) counted (ap (running_times r.world.book) x.1 ∙ ap (halt_times r.world.book) x.2.1.halt);
               away = none_away (λ (key : ℕ). times_shelved r.batch clock key ≡ 0);
             };
@@ -219,8 +219,11 @@ module _ (id row due : ℕ) (r : Runner) (clock : Clock) (u : Updates r.clock cl
   -- outside any scope
   pub sleeps_alone : (scope : Option ℕ) → ForSome (running_at r.roster id) (λ (y : Running). scope ≡ scope_of y.task) → scope ≡ None →
       IsGoing None (record r { clock = clock })
-  sleeps_alone scope held e = going_with r.sleepers (record { berths = λ other. berth other (same_or other id); sights =
-      h.shelved.known.sights })
+  sleeps_alone scope held e = going_with r.sleepers (record {
+    berths = λ other. berth other (same_or other id);
+    sights =
+        h.shelved.known.sights;
+  })
     where
       berth : (other : ℕ) → (other ≡ id) ⊎ (other ≢ id) → scope_in r.sleepers other
           ≡ berth_of (due_of clock other) (running_at r.roster other)
@@ -233,11 +236,14 @@ module _ (id row due : ℕ) (r : Runner) (clock : Clock) (u : Updates r.clock cl
   pub sleeps_within : (scope : Option ℕ) → ForSome (running_at r.roster id) (λ (y : Running). scope ≡ scope_of y.task) → (key : ℕ) →
       scope ≡ Some key → (seen : Tick) →
       ForSome (stack_of r.world.scopes key) (λ stack. seen ≡ sight stack) → (sleepers : Sleeping) →
-          Moves r.sleepers sleepers id (Some key) → Sees r.sleepers sleepers key seen →
+      Moves r.sleepers sleepers id (Some key) → Sees r.sleepers sleepers key seen →
       IsGoing None (record r { clock = clock; sleepers = sleepers })
   sleeps_within scope held key e seen sees sleepers moves tells =
-      going_with sleepers (record { berths = λ other. berth other (same_or other id); sights =
-          λ other k f. sight_at other k f (same_or k key) })
+      going_with sleepers (record {
+        berths = λ other. berth other (same_or other id);
+        sights =
+            λ other k f. sight_at other k f (same_or k key);
+      })
     where
       here : scope_of x.0.task ≡ Some key
       here = sym (held x.0 x.1) ∙ e
@@ -312,7 +318,7 @@ settles_going r b id row nursery over h tells is current next =
           (some_has (running_at r.roster id) (λ (y : Running). GoesBy r.world y.task calls.Settled) x.0 x.1
           (settled_goes r.world x.0.task nursery x.2.1 (is_over (nursery_at r.world.book nursery) over tells is)))
           (ap (running_times r.world.book) x.1 ∙ (ap (halt_times r.world.book) x.2.1.halt
-              ∙ settled_one (nursery_at r.world.book nursery) over tells is));
+          ∙ settled_one (nursery_at r.world.book nursery) over tells is));
       course = λ k settled. (h.course k settled).is;
     }
 
@@ -327,7 +333,7 @@ waits_going r id row nursery over h tells is =
       shelved =
           shelved_waiting r id h.shelved
           (ap (running_times r.world.book) x.1 ∙ (ap (halt_times r.world.book) x.2.1.halt
-              ∙ settled_none (nursery_at r.world.book nursery) over tells is));
+          ∙ settled_none (nursery_at r.world.book nursery) over tells is));
       course = λ k settled. (h.course k settled).is;
     }
 

@@ -86,7 +86,7 @@ module _ (r : Runner) (going : IsGoing None r) (changed : List Bool) (sleepers :
   course_told k settled =
       (crew_takes k r.job.now r.input.now r.world.tick (many r.roster) None (crew_in r) (crew_in told)
       (record { turns = refl; task = λ p. refl; gone = λ p. refl; start = λ p. refl; children = λ p. refl }) refl
-          (going.course k settled)).0
+      (going.course k settled)).0
 
   dozes_told : (key due : ℕ) → due_of r.clock key ≡ Some due →
       IsSomeAnd (running_at r.roster key) (λ (x : Running). Dozes (marked r.world changed) due x.task)
@@ -124,11 +124,11 @@ module _ (r : Runner) (going : IsGoing None r) (changed : List Bool) (sleepers :
               known = known;
               current =
                   All-weaker (λ (e : Entry). IsCalled r.roster r.world e.task e.call)
-                      (λ (e : Entry). IsCalled r.roster (marked r.world changed) e.task e.call)
+                  (λ (e : Entry). IsCalled r.roster (marked r.world changed) e.task e.call)
                   (λ e. called_marked r.roster r.world changed e.task e.call) r.batch.current going.shelved.current;
               next =
                   All-weaker (λ (a : Added). IsCalled r.roster r.world a.0 a.1)
-                      (λ (a : Added). IsCalled r.roster (marked r.world changed) a.0 a.1)
+                  (λ (a : Added). IsCalled r.roster (marked r.world changed) a.0 a.1)
                   (λ a. called_marked r.roster r.world changed a.0 a.1) r.batch.next going.shelved.next;
               once = going.shelved.once;
               away = going.shelved.away;
@@ -139,9 +139,9 @@ module _ (r : Runner) (going : IsGoing None r) (changed : List Bool) (sleepers :
 -- one scope is known anew
 module _ (r : Runner) (going : IsGoing None r) (id : ℕ) (changed : List Bool) (seen : Tick) (sleepers : Sleeping)
     (taken : is_changed (marked r.world changed).scopes id ≡ false)
-        (others : OtherMarksKeep r.world.scopes (marked r.world changed).scopes id)
+    (others : OtherMarksKeep r.world.scopes (marked r.world changed).scopes id)
     (sees : ForSome (stack_of r.world.scopes id) (λ stack. seen ≡ sight stack)) (same : SameScopes r.sleepers sleepers)
-        (tells : Sees r.sleepers sleepers id seen) where
+    (tells : Sees r.sleepers sleepers id seen) where
   sight_told : (key scope : ℕ) → scope_in sleepers key ≡ Some scope → (scope ≡ id) ⊎ (scope ≢ id) →
       Shows (marked r.world changed).scopes scope (sight_of sleepers scope)
   sight_told key scope e (inl is) =
@@ -151,18 +151,21 @@ module _ (r : Runner) (going : IsGoing None r) (id : ℕ) (changed : List Bool) 
         opened = was.opened;
         known =
             inl (sym (sees was.stack (ap (stack_of r.world.scopes) (sym is) ∙ was.opened))
-                ∙ sym (ap (sight_of sleepers) is ∙ tells.here key (e ∙ ap (λ (n : ℕ). Some n) is)));
+            ∙ sym (ap (sight_of sleepers) is ∙ tells.here key (e ∙ ap (λ (n : ℕ). Some n) is)));
       }
   sight_told key scope e (inr differs) =
       shows_marked r.world changed scope (sight_of r.sleepers scope) (sight_of sleepers scope) (tells.others key scope differs e)
-          (others scope differs)
+      (others scope differs)
       (going.shelved.known.sights key scope (sym (same key) ∙ e))
 
   pub told_going : IsGoing None (record r { world = marked r.world changed; sleepers = sleepers })
   told_going =
       going_marked r going changed sleepers
-      (record { berths = λ key. same key ∙ going.shelved.known.berths key; sights =
-          λ key scope e. sight_told key scope e (same_or scope id) })
+      (record {
+        berths = λ key. same key ∙ going.shelved.known.berths key;
+        sights =
+            λ key scope e. sight_told key scope e (same_or scope id);
+      })
 
 -- where no mark changes, nothing does
 still_going : (r : Runner) → IsGoing None r → (changed : List Bool) →
@@ -186,9 +189,9 @@ taken_open lent tree read id stacks takes reads =
 module _ (was r new : Runner) (id : ℕ) (lent tree read : Tree) (seen : Tick) (s : IsTelling was r) (lends : lent ≡ r.world.scopes)
     (stacks_lent : tree ≡ record lent { changed = tree.changed })
     (takes_lent : TakesChanged lent tree id) (reads : read ≡ tree) (sees_read : ForSome (stack_of read id) (λ stack. seen ≡ sight stack))
-        (same : SameScopes r.sleepers new.sleepers)
+    (same : SameScopes r.sleepers new.sleepers)
     (tells : Sees r.sleepers new.sleepers id seen) (is : new ≡ record r
-        { world = record r.world { scopes = tree }; sleepers = new.sleepers }) where
+    { world = record r.world { scopes = tree }; sleepers = new.sleepers }) where
   stacks : tree ≡ record (r.world.scopes) { changed = tree.changed }
   stacks = stacks_lent ∙ ap (λ (t : Tree). record t { changed = tree.changed }) lends
 
@@ -217,7 +220,7 @@ module _ (was r new : Runner) (id : ℕ) (lent tree read : Tree) (seen : Tick) (
         only =
             is_told ∙ ap (λ (x : Runner). record x { world = marked x.world tree.changed; sleepers = new.sleepers }) s.only
             ∙ ap (λ (c : List Bool). record was { world = marked was.world c; sleepers = new.sleepers })
-                (ap (λ (t : Tree). t.changed) (sym tree_is));
+            (ap (λ (t : Tree). t.changed) (sym tree_is));
         fewer = λ key e. by_key key (same_or key id) (ap (λ (t : Tree). is_changed t key) (sym tree_is) ∙ e);
       }
     where
@@ -229,16 +232,16 @@ module _ (was r new : Runner) (id : ℕ) (lent tree read : Tree) (seen : Tick) (
       (length was.world.scopes.changed) (is_changed r.world.scopes)
   telling_fewer =
       subst (λ (t : Tree). count_below (length was.world.scopes.changed) (is_changed t) < count_below (length was.world.scopes.changed)
-          (is_changed r.world.scopes)) (sym tree_is)
+      (is_changed r.world.scopes)) (sym tree_is)
       (fewer_below (length was.world.scopes.changed) (is_changed r.world.scopes) (is_changed tree) id
       (found_within was.world.scopes.changed id false true (s.fewer id takes.was) (λ e. let f : true ≡ false = e in cc)) takes.was takes.is
-          takes.others)
+      takes.others)
 
 -- none is left
 module _ (was r new : Runner) (lent tree : Tree) (s : IsTelling was r) (lends : lent ≡ r.world.scopes)
     (stacks_lent : tree ≡ record lent { changed = tree.changed })
     (marks_lent : (key : ℕ) → is_changed lent key ≡ false) (same_lent : SameMarks lent tree)
-        (is : new ≡ record r { world = record r.world { scopes = tree } }) where
+    (is : new ≡ record r { world = record r.world { scopes = tree } }) where
   last_stacks : tree ≡ record (r.world.scopes) { changed = tree.changed }
   last_stacks = stacks_lent ∙ ap (λ (t : Tree). record t { changed = tree.changed }) lends
 
@@ -261,7 +264,7 @@ module _ (was r new : Runner) (lent tree : Tree) (s : IsTelling was r) (lends : 
     λ key. ap (λ (t : Tree). is_changed t key) last_tree ∙ (same key ∙ marks key),
     is_last ∙ ap (λ (x : Runner). record x { world = marked x.world tree.changed }) s.only
         ∙ ap (λ (c : List Bool). record was { world = marked was.world c; sleepers = r.sleepers })
-            (ap (λ (t : Tree). t.changed) (sym last_tree))
+        (ap (λ (t : Tree). t.changed) (sym last_tree))
         ∙ ap (λ (z : Sleeping). record was { world = marked was.world new.world.scopes.changed; sleepers = z })
-            (sym (ap (λ (x : Runner). x.sleepers) is)),
+        (sym (ap (λ (x : Runner). x.sleepers) is)),
   )

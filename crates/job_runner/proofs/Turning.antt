@@ -65,6 +65,8 @@ use Rattle.job_runner.proofs.Starting.{got_once}
 use Rattle.job_runner.proofs.Known.{sleeps_in}
 use Rattle.job_runner.proofs.Stopped.{some_is, some_has, no_timer}
 use Rattle.job_runner.proofs.Lived.{task_at, row_below, rows_apart}
+use Rattle.job_tree.proofs.Sizes.{few_steps}
+use Rattle.job_tree.specs.Modest.{most_steps}
 
 -- ---- a world from which the started tasks were taken
 
@@ -92,9 +94,9 @@ pub each_not : {A : Type 0} (key : A → ℕ) (id : ℕ) (xs : List A) → times
 each_not key id [] none P Q all more = All-nil Q
 each_not key id (x ∷ xs) none P Q all more =
     let step : times id (map key (x ∷ xs)) ≡ one_if (key x == id) + times id (map key xs) =
-        sum_by-cons (λ (n : ℕ). one_if (n == id)) (key x) (map key xs) in
+    sum_by-cons (λ (n : ℕ). one_if (n == id)) (key x) (map key xs) in
     All-cons Q x xs (more x (λ e. let one : one_if (key x == id) ≡ 1 = one_same (key x) id e in absurd (omega (arith, step, one, none)))
-        (All-head P x xs all))
+    (All-head P x xs all))
     (each_not key id xs (omega (arith, step, none)) P Q (All-tail P x xs all) more)
 
 -- what holds of each number holds of each that has to begin
@@ -108,7 +110,7 @@ pub times_begin : (id : ℕ) (ids : List ℕ) → times_next id (to_begin ids) �
 times_begin id [] = refl
 times_begin id (x ∷ ids) =
     sum_by-cons (λ (n : ℕ). one_if (n == id)) x (map (λ (a : Added). a.0) (to_begin ids))
-        ∙ ap (λ (n : ℕ). one_if (x == id) + n) (times_begin id ids)
+    ∙ ap (λ (n : ℕ). one_if (x == id) + n) (times_begin id ids)
     ∙ sym (sum_by-cons (λ (n : ℕ). one_if (n == id)) x ids)
 
 -- how often an id stands among what was added with tasks behind that are ready to begin
@@ -130,7 +132,7 @@ may_turn id r wake going goes sound x lives =
     let may : MayGo r.world x.task wake = subst (λ (y : Running). MayGo r.world y.task wake) is g.2 in
     let k = meaning_table r.job.now r.input.now in
     let c : IsCrew k r.job.now r.input.now r.world.tick (many r.roster) None (crew_in r) =
-        going.course k (table_is_settled r.job.now r.input.now going.sound.names) in
+    going.course k (table_is_settled r.job.now r.input.now going.sound.names) in
     let at : task_of r.roster x.row ≡ Some x.task = task_at r.roster going.shelved.agree id x lives in
     record {
       fits = crew_fits k r.job.now r.input.now r.world.tick (many r.roster) None (crew_in r) c sound x.row x.task at;
@@ -138,419 +140,420 @@ may_turn id r wake going goes sound x lives =
       wake = may.fits;
     }
 
--- a run had at most 200,001 turns
-pub turns_few : (away : Option ℕ) (r : Runner) → IsGoing away r → r.turns ≤ 200001
+-- a run had at most 2,000,001 turns
+pub turns_few : (away : Option ℕ) (r : Runner) → IsGoing away r → r.turns ≤ 2000001
 turns_few away r going =
     let k = meaning_table r.job.now r.input.now in
     let c : IsCrew k r.job.now r.input.now r.world.tick (many r.roster) None (crew_in r) =
-        going.course k (table_is_settled r.job.now r.input.now going.sound.names) in
+    going.course k (table_is_settled r.job.now r.input.now going.sound.names) in
     let few : r.turns ≤ 2 * size_of r.job.now.steps + 1 =
-        crew_turns k r.job.now r.input.now r.world.tick (many r.roster) None (crew_in r) c in
-    let size : size_of r.job.now.steps ≤ 100000 = going.sound.modest.size in
-    omega (arith, few, size)
+    crew_turns k r.job.now r.input.now r.world.tick (many r.roster) None (crew_in r) c in
+    let size : size_of r.job.now.steps ≤ most_steps r.job.now.format = going.sound.modest.size in
+    let most : most_steps r.job.now.format ≤ 1000000 = few_steps r.job.now.format in
+    omega (arith, few, size, most)
 
 -- ---- the turn
 
 module _ (id : ℕ) (wake : Wake) (stop : Stop) (r new : Runner) (ro : Roster) (w : World) (going : IsGoing (Some id) r)
     (goes : IsSomeAnd (running_at r.roster id) (λ (x : Running). MayGo r.world x.task wake))
-        (turn : HasTurn r.roster ro r.world w id wake stop) (sound : turns.IsSound r.world.scopes)
+    (turn : HasTurn r.roster ro r.world w id wake stop) (sound : turns.IsSound r.world.scopes)
     (sound_after : turns.IsSound w.scopes) (takes : TakesStarted (record r { world = w; roster = ro; turns = r.turns + 1 }) new turn.row)
-        where
-  job : Job
-  job = r.job.now
+  where
+    job : Job
+    job = r.job.now
 
-  abbrev t : ℕ
-  t = r.world.tick
+    abbrev t : ℕ
+    t = r.world.tick
 
-  abbrev m : ℕ
-  m = many r.roster
+    abbrev m : ℕ
+    m = many r.roster
 
-  abbrev s : ℕ
-  s = turn.row
+    abbrev s : ℕ
+    s = turn.row
 
-  -- the crew right after the turn, and that of the runner once the started tasks were taken
-  abbrev that : Crew
-  that = crew_of new.roster w (r.turns + 1)
+    -- the crew right after the turn, and that of the runner once the started tasks were taken
+    abbrev that : Crew
+    that = crew_of new.roster w (r.turns + 1)
 
-  abbrev left : Runner
-  left = record r { world = record w { started = new.world.started }; roster = new.roster; batch = new.batch; turns = r.turns + 1 }
+    abbrev left : Runner
+    left = record r { world = record w { started = new.world.started }; roster = new.roster; batch = new.batch; turns = r.turns + 1 }
 
-  new_is : new ≡ left
-  new_is = takes.rest ∙ ap (λ (x : World). record r { world = x; roster = new.roster; batch = new.batch; turns = r.turns + 1 }) takes.world
+    new_is : new ≡ left
+    new_is = takes.rest ∙ ap (λ (x : World). record r { world = x; roster = new.roster; batch = new.batch; turns = r.turns + 1 }) takes.world
 
-  tick : w.tick ≡ t
-  tick = ap (λ (x : World). x.tick) turn.world
+    tick : w.tick ≡ t
+    tick = ap (λ (x : World). x.tick) turn.world
 
-  same_many : many ro ≡ m
-  same_many = turn.same.many
+    same_many : many ro ≡ m
+    same_many = turn.same.many
 
-  started_at : StartsAll ro new.roster s w.started.items w.tick takes.ids
-  started_at = takes.starts
+    started_at : StartsAll ro new.roster s w.started.items w.tick takes.ids
+    started_at = takes.starts
 
-  row_at_all : HasRow r.roster s id
-  row_at_all = going.shelved.agree.rows id (record { task = turn.before; row = s }) turn.lived
+    row_at_all : HasRow r.roster s id
+    row_at_all = going.shelved.agree.rows id (record { task = turn.before; row = s }) turn.lived
 
-  row_there : s < many ro
-  row_there = let lt : s < m = row_below r.roster going.shelved.agree id (record { task = turn.before; row = s }) turn.lived in
-      omega (arith, lt, same_many)
+    row_there : s < many ro
+    row_there = let lt : s < m = row_below r.roster going.shelved.agree id (record { task = turn.before; row = s }) turn.lived in
+        omega (arith, lt, same_many)
 
-  below : (p : ℕ) → p < m → p < many ro
-  below p lt = omega (arith, lt, same_many)
+    below : (p : ℕ) → p < m → p < many ro
+    below p lt = omega (arith, lt, same_many)
 
-  may : MayGo r.world turn.before wake
-  may =
-      let g = some_is (running_at r.roster id) (λ (y : Running). MayGo r.world y.task wake) goes in
-      subst (λ (y : Running). MayGo r.world y.task wake) (one_of g.0 (record { task = turn.before; row = s }) (sym g.1 ∙ turn.lived)) g.2
+    may : MayGo r.world turn.before wake
+    may =
+        let g = some_is (running_at r.roster id) (λ (y : Running). MayGo r.world y.task wake) goes in
+        subst (λ (y : Running). MayGo r.world y.task wake) (one_of g.0 (record { task = turn.before; row = s }) (sym g.1 ∙ turn.lived)) g.2
 
-  gone_same : (p : ℕ) → gone_of new.roster p ≡ gone_of r.roster p
-  gone_same p = started_at.same_gone p ∙ by_test (eqb_tells p s)
-    where
-      by_test : (((p == s) ≡ true) × (p ≡ s)) ⊎ (((p == s) ≡ false) × (p ≢ s)) → gone_of ro p ≡ gone_of r.roster p
-      by_test (inl h) = subst (λ (n : ℕ). gone_of ro n ≡ gone_of r.roster n) (sym h.1) turn.gone
-      by_test (inr h) = turn.same.gone p h.1
+    gone_same : (p : ℕ) → gone_of new.roster p ≡ gone_of r.roster p
+    gone_same p = started_at.same_gone p ∙ by_test (eqb_tells p s)
+      where
+        by_test : (((p == s) ≡ true) × (p ≡ s)) ⊎ (((p == s) ≡ false) × (p ≢ s)) → gone_of ro p ≡ gone_of r.roster p
+        by_test (inl h) = subst (λ (n : ℕ). gone_of ro n ≡ gone_of r.roster n) (sym h.1) turn.gone
+        by_test (inr h) = turn.same.gone p h.1
 
-  turn_taken : TakesTurn t m s (crew_in r) that turn.before turn.after wake stop
-  turn_taken = record {
-    task = task_at r.roster going.shelved.agree id (record { task = turn.before; row = s }) turn.lived;
-    goes = may;
-    stays = turn.stays;
-    world = turn.world;
-    sound = sound;
-    sound_after = sound_after;
-    none_left = going.shelved.none_started;
-    fits_after = turn.fits;
-    modest = turn.modest;
-    turn = turn.turn;
-    turns = refl;
-    task_after = started_at.same_task s row_there ∙ turn.task;
-    child_after = λ i. ap (λ (n : ℕ). task_of new.roster (n + i)) (sym same_many) ∙ started_at.task i;
-    other_after = λ p lt differs. started_at.same_task p (below p lt) ∙ turn.same.task p differs;
-    gone_after = gone_same;
-    start_after = λ p lt. started_at.same_start p (below p lt) ∙ turn.same.start p;
-    start_child = λ i lt. ap (λ (n : ℕ). start_of new.roster (n + i)) (sym same_many) ∙ started_at.start i lt ∙ tick;
-    more_children =
-        started_at.child ∙ ap (λ (xs : List ℕ). xs ++ serials_from (many ro) (length w.started.items)) (turn.same.children s)
-        ∙ ap (λ (n : ℕ). children_of r.roster s ++ serials_from n (length w.started.items)) same_many;
-    children_after = λ p lt differs. started_at.same_children p (below p lt) differs ∙ turn.same.children p;
-    no_children = λ i lt. ap (λ (n : ℕ). children_of new.roster (n + i)) (sym same_many) ∙ started_at.childless i lt;
-  }
+    turn_taken : TakesTurn t m s (crew_in r) that turn.before turn.after wake stop
+    turn_taken = record {
+      task = task_at r.roster going.shelved.agree id (record { task = turn.before; row = s }) turn.lived;
+      goes = may;
+      stays = turn.stays;
+      world = turn.world;
+      sound = sound;
+      sound_after = sound_after;
+      none_left = going.shelved.none_started;
+      fits_after = turn.fits;
+      modest = turn.modest;
+      turn = turn.turn;
+      turns = refl;
+      task_after = started_at.same_task s row_there ∙ turn.task;
+      child_after = λ i. ap (λ (n : ℕ). task_of new.roster (n + i)) (sym same_many) ∙ started_at.task i;
+      other_after = λ p lt differs. started_at.same_task p (below p lt) ∙ turn.same.task p differs;
+      gone_after = gone_same;
+      start_after = λ p lt. started_at.same_start p (below p lt) ∙ turn.same.start p;
+      start_child = λ i lt. ap (λ (n : ℕ). start_of new.roster (n + i)) (sym same_many) ∙ started_at.start i lt ∙ tick;
+      more_children =
+          started_at.child ∙ ap (λ (xs : List ℕ). xs ++ serials_from (many ro) (length w.started.items)) (turn.same.children s)
+          ∙ ap (λ (n : ℕ). children_of r.roster s ++ serials_from n (length w.started.items)) same_many;
+      children_after = λ p lt differs. started_at.same_children p (below p lt) differs ∙ turn.same.children p;
+      no_children = λ i lt. ap (λ (n : ℕ). children_of new.roster (n + i)) (sym same_many) ∙ started_at.childless i lt;
+    }
 
-  same_tasks : SameTasks that (crew_in left)
-  same_tasks = record { turns = refl; task = λ p. refl; gone = λ p. refl; start = λ p. refl; children = λ p. refl }
+    same_tasks : SameTasks that (crew_in left)
+    same_tasks = record { turns = refl; task = λ p. refl; gone = λ p. refl; start = λ p. refl; children = λ p. refl }
 
-  count : m + length w.started.items ≡ many new.roster
-  count = let more : many new.roster ≡ many ro + length w.started.items = started_at.more in omega (arith, more, same_many)
+    count : m + length w.started.items ≡ many new.roster
+    count = let more : many new.roster ≡ many ro + length w.started.items = started_at.more in omega (arith, more, same_many)
 
-  -- for each settled table
-  module _ (k : Table) (settled : IsSettled k r.job.now r.input.now) where
-    c : IsCrew k r.job.now r.input.now t m None (crew_in r)
-    c = going.course k settled
+    -- for each settled table
+    module _ (k : Table) (settled : IsSettled k r.job.now r.input.now) where
+      c : IsCrew k r.job.now r.input.now t m None (crew_in r)
+      c = going.course k settled
 
-    stopped_there : StoppedIn k r.job.now r.input.now t (m + length w.started.items) s stop that
-    stopped_there =
-        stepped k r.job.now r.input.now t m s (crew_in r) that turn.before turn.after wake stop settled going.sound.names going.sound.starts
-            c turn_taken
-        (may_wake k r.job.now r.input.now t m (crew_in r) settled going.sound.names going.sound.starts c s turn.before turn_taken.task wake
-            may)
+      stopped_there : StoppedIn k r.job.now r.input.now t (m + length w.started.items) s stop that
+      stopped_there =
+          stepped k r.job.now r.input.now t m s (crew_in r) that turn.before turn.after wake stop settled going.sound.names going.sound.starts
+          c turn_taken
+          (may_wake k r.job.now r.input.now t m (crew_in r) settled going.sound.names going.sound.starts c s turn.before turn_taken.task wake
+          may)
 
-    stopped_left : StoppedIn k r.job.now r.input.now t (m + length w.started.items) s stop (crew_in left)
-    stopped_left =
-        let x =
-        crew_takes k r.job.now r.input.now t (m + length w.started.items) (leaving_by stop s) that (crew_in left) same_tasks
-        (ap (λ (v : ℕ). record w { tick = v; started = new.world.started }) tick) stopped_there.is in
-        record { is = x.0; ended = subst (λ (at : ℕ → Started). EndsAs stop t (at s)) (sym x.1) stopped_there.ended }
+      stopped_left : StoppedIn k r.job.now r.input.now t (m + length w.started.items) s stop (crew_in left)
+      stopped_left =
+          let x =
+          crew_takes k r.job.now r.input.now t (m + length w.started.items) (leaving_by stop s) that (crew_in left) same_tasks
+          (ap (λ (v : ℕ). record w { tick = v; started = new.world.started }) tick) stopped_there.is in
+          record { is = x.0; ended = subst (λ (at : ℕ → Started). EndsAs stop t (at s)) (sym x.1) stopped_there.ended }
 
-    pub stopped_course : StoppedIn k r.job.now r.input.now w.tick (many new.roster) s stop (crew_in left)
-    stopped_course =
-        subst (λ (v : ℕ). StoppedIn k r.job.now r.input.now v (many new.roster) s stop (crew_in left)) (sym tick)
-        (subst (λ (n : ℕ). StoppedIn k r.job.now r.input.now t n s stop (crew_in left)) count stopped_left)
+      pub stopped_course : StoppedIn k r.job.now r.input.now w.tick (many new.roster) s stop (crew_in left)
+      stopped_course =
+          subst (λ (v : ℕ). StoppedIn k r.job.now r.input.now v (many new.roster) s stop (crew_in left)) (sym tick)
+          (subst (λ (n : ℕ). StoppedIn k r.job.now r.input.now t n s stop (crew_in left)) count stopped_left)
 
-  -- ---- the other tasks
+    -- ---- the other tasks
 
-  abbrev table : Table
-  table = meaning_table r.job.now r.input.now
+    abbrev table : Table
+    table = meaning_table r.job.now r.input.now
 
-  settled : IsSettled table r.job.now r.input.now
-  settled = table_is_settled r.job.now r.input.now going.sound.names
+    settled : IsSettled table r.job.now r.input.now
+    settled = table_is_settled r.job.now r.input.now going.sound.names
 
-  crew : IsCrew table r.job.now r.input.now t m None (crew_in r)
-  crew = going.course table settled
+    crew : IsCrew table r.job.now r.input.now t m None (crew_in r)
+    crew = going.course table settled
 
-  wakes_so : MayWake crew.course.froms crew.course.tasks t (crew.course.at s) (wake_in r.world.book turn.before.halt wake)
-      (crew.course.at s).rest.stopped
-  wakes_so = may_wake table r.job.now r.input.now t m (crew_in r) settled going.sound.names going.sound.starts crew s turn.before
-      turn_taken.task wake may
+    wakes_so : MayWake crew.course.froms crew.course.tasks t (crew.course.at s) (wake_in r.world.book turn.before.halt wake)
+        (crew.course.at s).rest.stopped
+    wakes_so = may_wake table r.job.now r.input.now t m (crew_in r) settled going.sound.names going.sound.starts crew s turn.before
+        turn_taken.task wake may
 
-  turned_so : (T : Turning table r.job.now r.input.now t m s (crew_in r) that crew.numbers turn.before turn.after stop crew.course)
-      × (length T.move.begun ≡ length w.started.items)
-  turned_so = turning_of table r.job.now r.input.now t m s (crew_in r) that turn.before turn.after wake stop settled going.sound.names
-      going.sound.starts crew turn_taken wakes_so
+    turned_so : (T : Turning table r.job.now r.input.now t m s (crew_in r) that crew.numbers turn.before turn.after stop crew.course)
+        × (length T.move.begun ≡ length w.started.items)
+    turned_so = turning_of table r.job.now r.input.now t m s (crew_in r) that turn.before turn.after wake stop settled going.sound.names
+        going.sound.starts crew turn_taken wakes_so
 
-  abbrev T : Turning table r.job.now r.input.now t m s (crew_in r) that crew.numbers turn.before turn.after stop crew.course
-  T = turned_so.0
+    abbrev T : Turning table r.job.now r.input.now t m s (crew_in r) that crew.numbers turn.before turn.after stop crew.course
+    T = turned_so.0
 
-  -- under an id that something lived under right after the turn, nothing was started
-  not_new : (other : ℕ) (y : Running) → running_at ro other ≡ Some y → times other takes.ids ≡ 0
-  not_new other y lives = by_order (cases_lt 0 (times other takes.ids))
-    where
-      by_order : (0 < times other takes.ids) ⊎ (times other takes.ids ≤ 0) → times other takes.ids ≡ 0
-      by_order (inl h) =
-          let g = got_once other takes.ids (omega (arith, h)) in
-          let lt : g.0 < length w.started.items =
-              (let a = below_length takes.ids g.0 other g.1 in let b = started_at.as_many in omega (arith, a, b)) in
-          let task = nth w.started.items g.0 lt in
-          let fresh = started_at.lives g.0 other task.0 g.1 task.1 in
-          absurd (let f : None ≡ Some y = sym fresh.0 ∙ lives in cc)
-      by_order (inr h) = omega (arith, h)
+    -- under an id that something lived under right after the turn, nothing was started
+    not_new : (other : ℕ) (y : Running) → running_at ro other ≡ Some y → times other takes.ids ≡ 0
+    not_new other y lives = by_order (cases_lt 0 (times other takes.ids))
+      where
+        by_order : (0 < times other takes.ids) ⊎ (times other takes.ids ≤ 0) → times other takes.ids ≡ 0
+        by_order (inl h) =
+            let g = got_once other takes.ids (omega (arith, h)) in
+            let lt : g.0 < length w.started.items =
+            (let a = below_length takes.ids g.0 other g.1 in let b = started_at.as_many in omega (arith, a, b)) in
+            let task = nth w.started.items g.0 lt in
+            let fresh = started_at.lives g.0 other task.0 g.1 task.1 in
+            absurd (let f : None ≡ Some y = sym fresh.0 ∙ lives in cc)
+        by_order (inr h) = omega (arith, h)
 
-  -- who lived under another id does so still
-  lived_still : (other : ℕ) (y : Running) → other ≢ id → running_at r.roster other ≡ Some y → running_at new.roster other ≡ Some y
-  lived_still other y differs lives =
-      let at : running_at ro other ≡ Some y = turn.others other differs ∙ lives in
-      started_at.others other (not_new other y at) ∙ at
+    -- who lived under another id does so still
+    lived_still : (other : ℕ) (y : Running) → other ≢ id → running_at r.roster other ≡ Some y → running_at new.roster other ≡ Some y
+    lived_still other y differs lives =
+        let at : running_at ro other ≡ Some y = turn.others other differs ∙ lives in
+        started_at.others other (not_new other y at) ∙ at
 
-  none_new : (other : ℕ) (y : Running) → other ≢ id → running_at r.roster other ≡ Some y → times other takes.ids ≡ 0
-  none_new other y differs lives = not_new other y (turn.others other differs ∙ lives)
+    none_new : (other : ℕ) (y : Running) → other ≢ id → running_at r.roster other ≡ Some y → times other takes.ids ≡ 0
+    none_new other y differs lives = not_new other y (turn.others other differs ∙ lives)
 
-  module _ (other : ℕ) (y : Running) (differs : other ≢ id) (lives : running_at r.roster other ≡ Some y) where
-    y_below : y.row < m
-    y_below = row_below r.roster going.shelved.agree other y lives
+    module _ (other : ℕ) (y : Running) (differs : other ≢ id) (lives : running_at r.roster other ≡ Some y) where
+      y_below : y.row < m
+      y_below = row_below r.roster going.shelved.agree other y lives
 
-    y_else : y.row ≢ s
-    y_else = rows_apart r.roster going.shelved.agree id other (record { task = turn.before; row = s }) y turn.lived lives differs
+      y_else : y.row ≢ s
+      y_else = rows_apart r.roster going.shelved.agree id other (record { task = turn.before; row = s }) y turn.lived lives differs
 
-    y_task : task_of r.roster y.row ≡ Some y.task
-    y_task = task_at r.roster going.shelved.agree other y lives
+      y_task : task_of r.roster y.row ≡ Some y.task
+      y_task = task_at r.roster going.shelved.agree other y lives
 
-    y_follows : Follows that T.is.froms r.input.now t T.is.at (numbers_then crew.numbers s m T.took.numbers_after) (leaving_by stop s) y.row
-        y.task
-    y_follows =
-        other_follows table r.job.now r.input.now t m s (crew_in r) that turn.before turn.after stop settled going.sound.names
-            going.sound.starts crew T y.row y_below y_else y.task y_task
+      y_follows : Follows that T.is.froms r.input.now t T.is.at (numbers_then crew.numbers s m T.took.numbers_after) (leaving_by stop s) y.row
+          y.task
+      y_follows =
+          other_follows table r.job.now r.input.now t m s (crew_in r) that turn.before turn.after stop settled going.sound.names
+          going.sound.starts crew T y.row y_below y_else y.task y_task
 
-    goes_still : (v : Wake) → MayGo r.world y.task v → MayGo left.world y.task v
-    goes_still v h =
-        goes_on w new.world y.task v (still_goes settled going.sound.names going.sound.starts crew T y.row y_below y_else y.task y_task
-            y_follows v h)
+      goes_still : (v : Wake) → MayGo r.world y.task v → MayGo left.world y.task v
+      goes_still v h =
+          goes_on w new.world y.task v (still_goes settled going.sound.names going.sound.starts crew T y.row y_below y_else y.task y_task
+          y_follows v h)
 
-    dozes_still : (due : ℕ) → Dozes r.world due y.task → Dozes left.world due y.task
-    dozes_still due h =
+      dozes_still : (due : ℕ) → Dozes r.world due y.task → Dozes left.world due y.task
+      dozes_still due h =
+          record {
+            asleep =
+                record {
+                  ticks = h.asleep.ticks;
+                  since = h.asleep.since;
+                  halt = h.asleep.halt;
+                  due_is = h.asleep.due_is;
+                  began = (let a = h.asleep.began in let b = tick in omega (arith, a, b));
+                  later = (let a = h.asleep.later in let b = tick in omega (arith, a, b));
+                };
+            unseen =
+                ap (λ (v : ℕ). seen (outer_of w.scopes (scope_of y.task)) v) tick
+                ∙ seen_still settled going.sound.names going.sound.starts crew T y.row y_below y_else y.task y_task y_follows ∙ h.unseen;
+          }
+
+      -- a nursery that it waits for is the same
+      by_halt : (h : Halt) → y.task.halt ≡ h → halt_times w.book h ≡ halt_times r.world.book h
+      by_halt ToBegin e = refl
+      by_halt (Asked kernel purpose) e = refl
+      by_halt (Asleep ticks since) e = refl
+      by_halt (Awaits nursery since) e =
+          ap settled_times
+          (nursery_same crew T y.row y.task y_else y_task nursery
+          (inr (ap waits_of e)))
+      by_halt Over e = refl
+
+      same_times : running_times left.world.book (running_at new.roster other) ≡ running_times r.world.book (running_at r.roster other)
+      same_times =
+          ap (running_times w.book) (lived_still other y differs lives) ∙ by_halt y.task.halt refl
+          ∙ sym (ap (running_times r.world.book) lives)
+
+    -- ---- the shelves
+
+    none_here : times_shelved r.batch r.clock id ≡ 0
+    none_here = going.shelved.away id refl
+
+    called_still : (key : ℕ) (call : Call) → key ≢ id → IsCalled r.roster r.world key call → IsCalled new.roster left.world key call
+    called_still key call differs h =
+        let y = some_is (running_at r.roster key) (λ (x : Running). GoesBy r.world x.task call) h in
+        some_has (running_at new.roster key) (λ (x : Running). GoesBy left.world x.task call) y.0 (lived_still key y.0 differs y.1)
+        (λ answer v right e. goes_still key y.0 differs y.1 v (y.2 answer v right e))
+
+    -- who has a timer is another task
+    timer_else : (key due : ℕ) → due_of r.clock key ≡ Some due → key ≢ id
+    timer_else key due f same =
+        none-some due (sym (no_timer (due_of r.clock id) (let a = none_here in omega (arith, a))) ∙ (ap (due_of r.clock) (sym same) ∙ f))
+
+    sleeper_still : (key due : ℕ) → due_of r.clock key ≡ Some due → (y : Running) × (running_at r.roster key ≡ Some y)
+        × Dozes r.world due y.task
+    sleeper_still key due f = some_is (running_at r.roster key) (λ (z : Running). Dozes r.world due z.task) (going.shelved.doze key due f)
+
+    sleeps_still : (key due : ℕ) → due_of r.clock key ≡ Some due →
+        IsSomeAnd (running_at new.roster key) (λ (z : Running). Dozes left.world due z.task)
+    sleeps_still key due f =
+        let y = sleeper_still key due f in
+        some_has (running_at new.roster key) (λ (z : Running). Dozes left.world due z.task) y.0
+        (lived_still key y.0 (timer_else key due f) y.1)
+        (dozes_still key y.0 (timer_else key due f) y.1 due y.2)
+
+    -- each sleeper is known by its scope still, and the scope by its sight
+    known_still : AreKnown new.roster left.world r.clock r.sleepers
+    known_still = record { berths = λ key. going.shelved.known.berths key ∙ berth key (due_of r.clock key) refl; sights = sight_still }
+      where
+        berth : (key : ℕ) (d : Option ℕ) → due_of r.clock key ≡ d → berth_of (due_of r.clock key) (running_at r.roster key)
+            ≡ berth_of (due_of r.clock key) (running_at new.roster key)
+        berth key None f = ap (λ (o : Option ℕ). berth_of o (running_at r.roster key)) f
+            ∙ sym (ap (λ (o : Option ℕ). berth_of o (running_at new.roster key)) f)
+        berth key (Some due) f =
+            let y = sleeper_still key due f in
+            ap (berth_of (due_of r.clock key)) (y.1 ∙ sym (lived_still key y.0 (timer_else key due f) y.1))
+
+        sight_still : (key scope : ℕ) → scope_in r.sleepers key ≡ Some scope → Shows left.world.scopes scope (sight_of r.sleepers scope)
+        sight_still key scope f =
+            let z = sleeps_in r.roster r.world r.clock r.sleepers going.shelved.known key scope f in
+            let differs = timer_else key z.due z.timer in
+            let h = shows_still settled going.sound.names going.sound.starts crew T z.running.row (y_below key z.running differs z.lives)
+            (y_else key z.running differs z.lives) z.running.task
+            (y_task key z.running differs z.lives) (y_follows key z.running differs z.lives) scope z.in_scope (sight_of r.sleepers scope)
+            (going.shelved.known.sights key scope f) in
+            record { stack = h.stack; opened = h.opened; known = h.known }
+
+    -- a task that was started has to begin
+    begins : (i : ℕ) (task : Task) → slice_get w.started.items i ≡ Some task → task.halt ≡ ToBegin
+    begins i task e =
+        let started : w.started.items ≡ T.took.tasks = T.took.started
+        ∙ ap (λ (ts : List Task). ts ++ T.took.tasks) going.shelved.none_started in
+        let b = begun_at T.took.numbers_after w.book (blocks_of turn.after.frames.items) (waits_of turn.after.halt) T.took.tasks T.move.begun
+        T.took.begun i task (sym (ap (λ (ts : List Task). slice_get ts i) started) ∙ e) in
+        b.2.halt
+
+    new_task : (i key : ℕ) → slice_get takes.ids i ≡ Some key → (task : Task)
+        × (running_at new.roster key ≡ Some (record { task = task; row = many ro + i })) × (task.halt ≡ ToBegin)
+    new_task i key e =
+        let lt : i < length w.started.items = (let a = below_length takes.ids i key e in let b = started_at.as_many in omega (arith, a, b)) in
+        let task = nth w.started.items i lt in
+        (task.0, (started_at.lives i key task.0 e task.1).1, begins i task.0 task.1)
+
+    begin_goes : (task : Task) → task.halt ≡ ToBegin → GoesBy left.world task calls.Begin
+    begin_goes task e answer v right is =
+        let f : Some wakes.Begin ≡ Some v = is in
+        let g : wakes.Begin ≡ v = cc in
+        subst (MayGo left.world task) g
+        (record {
+          fits = subst (λ (h : Halt). WakesFrom h task.part left.world.book wakes.Begin) (sym e) tt;
+          timely = subst (λ (h : Halt). IsTimely left.world (scope_of task) h wakes.Begin) (sym e) tt;
+        })
+
+    called_new : (i key : ℕ) → slice_get takes.ids i ≡ Some key → IsCalled new.roster left.world key calls.Begin
+    called_new i key e =
+        let x = new_task i key e in
+        some_has (running_at new.roster key) (λ (z : Running). GoesBy left.world z.task calls.Begin)
+        (record { task = x.0; row = many ro + i }) x.1 (begin_goes x.0 x.2)
+
+    -- how often each stands on the shelves
+    more_times : (other : ℕ) → times_shelved left.batch r.clock other ≡ times_shelved r.batch r.clock other + times other takes.ids
+    more_times other =
+        let a : times_now other new.batch.current ≡ times_now other r.batch.current = ap (times_now other) takes.current in
+        let b : times_next other new.batch.next ≡ times_next other r.batch.next + times other takes.ids =
+        ap (times_next other) takes.next ∙ times_both other r.batch.next takes.ids in
+        omega (arith, a, b)
+
+    once_of : (other : ℕ) → other ≢ id → (o : Option Running) → running_at r.roster other ≡ o →
+        times_shelved left.batch r.clock other ≡ running_times left.world.book (running_at new.roster other)
+    once_of other differs (Some y) e =
+        let a = more_times other in
+        let b : times other takes.ids ≡ 0 = none_new other y differs e in
+        let c : times_shelved r.batch r.clock other ≡ running_times r.world.book (running_at r.roster other) =
+        going.shelved.once other differs in
+        let d = same_times other y differs e in
+        omega (arith, a, b, c, d)
+    once_of other differs None e = by_order (cases_lt 0 (times other takes.ids))
+      where
+        before : times_shelved r.batch r.clock other ≡ 0
+        before = going.shelved.once other differs ∙ ap (running_times r.world.book) e
+
+        nothing : running_at ro other ≡ None
+        nothing = turn.others other differs ∙ e
+
+        by_order : (0 < times other takes.ids) ⊎ (times other takes.ids ≤ 0) →
+            times_shelved left.batch r.clock other ≡ running_times left.world.book (running_at new.roster other)
+        by_order (inl h) =
+            let g = got_once other takes.ids (omega (arith, h)) in
+            let x = new_task g.0 other g.1 in
+            let a = more_times other in
+            let b = before in
+            let c : times other takes.ids ≤ 1 = started_at.once other in
+            let d : running_times left.world.book (running_at new.roster other) ≡ 1 =
+            ap (running_times w.book) x.1 ∙ ap (halt_times w.book) x.2 in
+            omega (arith, a, b, c, d, h)
+        by_order (inr h) =
+            let a = more_times other in
+            let b = before in
+            let none : times other takes.ids ≡ 0 = omega (arith, h) in
+            let d : running_times left.world.book (running_at new.roster other) ≡ 0 =
+            ap (running_times w.book) (started_at.others other none ∙ nothing) in
+            omega (arith, a, b, none, d)
+
+    homes_there : AreHomesOf that (parent_of new.roster)
+    homes_there =
+        homes_kept crew T (parent_of r.roster) (parent_of new.roster) (λ p lt. started_at.same_parent p (below p lt) ∙ turn.same.parent p)
+        (λ i lt. ap (λ (n : ℕ). parent_of new.roster (n + i)) (sym same_many)
+        ∙ started_at.parent_is i (let e = turned_so.1 in omega (arith, lt, e))) going.shelved.homes
+
+    shelved_left : AreShelved (Some id) left
+    shelved_left =
         record {
-          asleep =
-              record {
-                ticks = h.asleep.ticks;
-                since = h.asleep.since;
-                halt = h.asleep.halt;
-                due_is = h.asleep.due_is;
-                began = (let a = h.asleep.began in let b = tick in omega (arith, a, b));
-                later = (let a = h.asleep.later in let b = tick in omega (arith, a, b));
-              };
-          unseen =
-              ap (λ (v : ℕ). seen (outer_of w.scopes (scope_of y.task)) v) tick
-              ∙ seen_still settled going.sound.names going.sound.starts crew T y.row y_below y_else y.task y_task y_follows ∙ h.unseen;
+          agree = takes.agree;
+          homes = λ p task home lives at. (let h = homes_there p task home lives at in
+              record { task = h.task; lives = h.lives; owned = h.owned });
+          now = going.shelved.now ∙ sym tick;
+          limit = going.shelved.limit;
+          within = (let a = going.shelved.within in let b = tick in omega (arith, a, b));
+          bounded = going.shelved.bounded;
+          none_started = takes.none_left;
+          doze = sleeps_still;
+          known = known_still;
+          current =
+              subst (All (λ (e : Entry). IsCalled new.roster left.world e.task e.call)) (sym takes.current)
+              (each_not (λ (e : Entry). e.task) id r.batch.current (let a = none_here in omega (arith, a))
+              (λ (e : Entry). IsCalled r.roster r.world e.task e.call)
+              (λ (e : Entry). IsCalled new.roster left.world e.task e.call) going.shelved.current (λ e. called_still e.task e.call));
+          next =
+              subst (All (λ (a : Added). IsCalled new.roster left.world a.0 a.1)) (sym takes.next)
+              (All-append (λ (a : Added). IsCalled new.roster left.world a.0 a.1) r.batch.next (to_begin takes.ids)
+              (each_not (λ (a : Added). a.0) id r.batch.next (let a = none_here in omega (arith, a))
+              (λ (a : Added). IsCalled r.roster r.world a.0 a.1)
+              (λ (a : Added). IsCalled new.roster left.world a.0 a.1) going.shelved.next (λ a. called_still a.0 a.1))
+              (each_begins takes.ids (λ (a : Added). IsCalled new.roster left.world a.0 a.1) called_new));
+          once = λ other differs. once_of other differs (running_at r.roster other) refl;
+          away = λ key e.
+              let f : Some id ≡ Some key = e in
+              let same : id ≡ key = cc in
+              subst (λ (n : ℕ). times_shelved left.batch r.clock n ≡ 0) same
+              (let a = more_times id in let b = none_here in let c = not_new id (record { task = turn.after; row = s }) turn.lives in
+              omega (arith, a, b, c));
         }
 
-    -- a nursery that it waits for is the same
-    by_halt : (h : Halt) → y.task.halt ≡ h → halt_times w.book h ≡ halt_times r.world.book h
-    by_halt ToBegin e = refl
-    by_halt (Asked kernel purpose) e = refl
-    by_halt (Asleep ticks since) e = refl
-    by_halt (Awaits nursery since) e =
-        ap settled_times
-        (nursery_same crew T y.row y.task y_else y_task nursery
-        (inr (ap waits_of e)))
-    by_halt Over e = refl
+    lives_left : IsSomeAnd (running_at new.roster id) (λ (x : Running). (x.row ≡ s) × StopSays left.world x.task stop)
+    lives_left =
+        some_has (running_at new.roster id) (λ (x : Running). (x.row ≡ s) × StopSays left.world x.task stop)
+        (record { task = turn.after; row = s })
+        (started_at.others id (not_new id (record { task = turn.after; row = s }) turn.lives) ∙ turn.lives) (
+          refl,
+          says_on w new.world turn.after stop
+              (stop_says table r.job.now r.input.now t m s (crew_in r) that turn.before turn.after wake stop settled going.sound.names
+              going.sound.starts crew turn_taken wakes_so),
+        )
 
-    same_times : running_times left.world.book (running_at new.roster other) ≡ running_times r.world.book (running_at r.roster other)
-    same_times =
-        ap (running_times w.book) (lived_still other y differs lives) ∙ by_halt y.task.halt refl
-            ∙ sym (ap (running_times r.world.book) lives)
+    -- the task has stopped, and those that it started are ready to begin
+    pub is_stopping : IsStopping id s stop new
+    is_stopping =
+        subst (IsStopping id s stop) (sym new_is)
+        (record { sound = going.sound; shelved = shelved_left; lives = lives_left; course = stopped_course })
 
-  -- ---- the shelves
-
-  none_here : times_shelved r.batch r.clock id ≡ 0
-  none_here = going.shelved.away id refl
-
-  called_still : (key : ℕ) (call : Call) → key ≢ id → IsCalled r.roster r.world key call → IsCalled new.roster left.world key call
-  called_still key call differs h =
-      let y = some_is (running_at r.roster key) (λ (x : Running). GoesBy r.world x.task call) h in
-      some_has (running_at new.roster key) (λ (x : Running). GoesBy left.world x.task call) y.0 (lived_still key y.0 differs y.1)
-      (λ answer v right e. goes_still key y.0 differs y.1 v (y.2 answer v right e))
-
-  -- who has a timer is another task
-  timer_else : (key due : ℕ) → due_of r.clock key ≡ Some due → key ≢ id
-  timer_else key due f same =
-      none-some due (sym (no_timer (due_of r.clock id) (let a = none_here in omega (arith, a))) ∙ (ap (due_of r.clock) (sym same) ∙ f))
-
-  sleeper_still : (key due : ℕ) → due_of r.clock key ≡ Some due → (y : Running) × (running_at r.roster key ≡ Some y)
-      × Dozes r.world due y.task
-  sleeper_still key due f = some_is (running_at r.roster key) (λ (z : Running). Dozes r.world due z.task) (going.shelved.doze key due f)
-
-  sleeps_still : (key due : ℕ) → due_of r.clock key ≡ Some due →
-      IsSomeAnd (running_at new.roster key) (λ (z : Running). Dozes left.world due z.task)
-  sleeps_still key due f =
-      let y = sleeper_still key due f in
-      some_has (running_at new.roster key) (λ (z : Running). Dozes left.world due z.task) y.0
-          (lived_still key y.0 (timer_else key due f) y.1)
-      (dozes_still key y.0 (timer_else key due f) y.1 due y.2)
-
-  -- each sleeper is known by its scope still, and the scope by its sight
-  known_still : AreKnown new.roster left.world r.clock r.sleepers
-  known_still = record { berths = λ key. going.shelved.known.berths key ∙ berth key (due_of r.clock key) refl; sights = sight_still }
-    where
-      berth : (key : ℕ) (d : Option ℕ) → due_of r.clock key ≡ d → berth_of (due_of r.clock key) (running_at r.roster key)
-          ≡ berth_of (due_of r.clock key) (running_at new.roster key)
-      berth key None f = ap (λ (o : Option ℕ). berth_of o (running_at r.roster key)) f
-          ∙ sym (ap (λ (o : Option ℕ). berth_of o (running_at new.roster key)) f)
-      berth key (Some due) f =
-          let y = sleeper_still key due f in
-          ap (berth_of (due_of r.clock key)) (y.1 ∙ sym (lived_still key y.0 (timer_else key due f) y.1))
-
-      sight_still : (key scope : ℕ) → scope_in r.sleepers key ≡ Some scope → Shows left.world.scopes scope (sight_of r.sleepers scope)
-      sight_still key scope f =
-          let z = sleeps_in r.roster r.world r.clock r.sleepers going.shelved.known key scope f in
-          let differs = timer_else key z.due z.timer in
-          let h = shows_still settled going.sound.names going.sound.starts crew T z.running.row (y_below key z.running differs z.lives)
-              (y_else key z.running differs z.lives) z.running.task
-          (y_task key z.running differs z.lives) (y_follows key z.running differs z.lives) scope z.in_scope (sight_of r.sleepers scope)
-              (going.shelved.known.sights key scope f) in
-          record { stack = h.stack; opened = h.opened; known = h.known }
-
-  -- a task that was started has to begin
-  begins : (i : ℕ) (task : Task) → slice_get w.started.items i ≡ Some task → task.halt ≡ ToBegin
-  begins i task e =
-      let started : w.started.items ≡ T.took.tasks = T.took.started
-          ∙ ap (λ (ts : List Task). ts ++ T.took.tasks) going.shelved.none_started in
-      let b = begun_at T.took.numbers_after w.book (blocks_of turn.after.frames.items) (waits_of turn.after.halt) T.took.tasks T.move.begun
-          T.took.begun i task (sym (ap (λ (ts : List Task). slice_get ts i) started) ∙ e) in
-      b.2.halt
-
-  new_task : (i key : ℕ) → slice_get takes.ids i ≡ Some key → (task : Task)
-      × (running_at new.roster key ≡ Some (record { task = task; row = many ro + i })) × (task.halt ≡ ToBegin)
-  new_task i key e =
-      let lt : i < length w.started.items = (let a = below_length takes.ids i key e in let b = started_at.as_many in omega (arith, a, b)) in
-      let task = nth w.started.items i lt in
-      (task.0, (started_at.lives i key task.0 e task.1).1, begins i task.0 task.1)
-
-  begin_goes : (task : Task) → task.halt ≡ ToBegin → GoesBy left.world task calls.Begin
-  begin_goes task e answer v right is =
-      let f : Some wakes.Begin ≡ Some v = is in
-      let g : wakes.Begin ≡ v = cc in
-      subst (MayGo left.world task) g
-      (record {
-        fits = subst (λ (h : Halt). WakesFrom h task.part left.world.book wakes.Begin) (sym e) tt;
-        timely = subst (λ (h : Halt). IsTimely left.world (scope_of task) h wakes.Begin) (sym e) tt;
-      })
-
-  called_new : (i key : ℕ) → slice_get takes.ids i ≡ Some key → IsCalled new.roster left.world key calls.Begin
-  called_new i key e =
-      let x = new_task i key e in
-      some_has (running_at new.roster key) (λ (z : Running). GoesBy left.world z.task calls.Begin)
-          (record { task = x.0; row = many ro + i }) x.1 (begin_goes x.0 x.2)
-
-  -- how often each stands on the shelves
-  more_times : (other : ℕ) → times_shelved left.batch r.clock other ≡ times_shelved r.batch r.clock other + times other takes.ids
-  more_times other =
-      let a : times_now other new.batch.current ≡ times_now other r.batch.current = ap (times_now other) takes.current in
-      let b : times_next other new.batch.next ≡ times_next other r.batch.next + times other takes.ids =
-          ap (times_next other) takes.next ∙ times_both other r.batch.next takes.ids in
-      omega (arith, a, b)
-
-  once_of : (other : ℕ) → other ≢ id → (o : Option Running) → running_at r.roster other ≡ o →
-      times_shelved left.batch r.clock other ≡ running_times left.world.book (running_at new.roster other)
-  once_of other differs (Some y) e =
-      let a = more_times other in
-      let b : times other takes.ids ≡ 0 = none_new other y differs e in
-      let c : times_shelved r.batch r.clock other ≡ running_times r.world.book (running_at r.roster other) =
-          going.shelved.once other differs in
-      let d = same_times other y differs e in
-      omega (arith, a, b, c, d)
-  once_of other differs None e = by_order (cases_lt 0 (times other takes.ids))
-    where
-      before : times_shelved r.batch r.clock other ≡ 0
-      before = going.shelved.once other differs ∙ ap (running_times r.world.book) e
-
-      nothing : running_at ro other ≡ None
-      nothing = turn.others other differs ∙ e
-
-      by_order : (0 < times other takes.ids) ⊎ (times other takes.ids ≤ 0) →
-          times_shelved left.batch r.clock other ≡ running_times left.world.book (running_at new.roster other)
-      by_order (inl h) =
-          let g = got_once other takes.ids (omega (arith, h)) in
-          let x = new_task g.0 other g.1 in
-          let a = more_times other in
-          let b = before in
-          let c : times other takes.ids ≤ 1 = started_at.once other in
-          let d : running_times left.world.book (running_at new.roster other) ≡ 1 =
-              ap (running_times w.book) x.1 ∙ ap (halt_times w.book) x.2 in
-          omega (arith, a, b, c, d, h)
-      by_order (inr h) =
-          let a = more_times other in
-          let b = before in
-          let none : times other takes.ids ≡ 0 = omega (arith, h) in
-          let d : running_times left.world.book (running_at new.roster other) ≡ 0 =
-              ap (running_times w.book) (started_at.others other none ∙ nothing) in
-          omega (arith, a, b, none, d)
-
-  homes_there : AreHomesOf that (parent_of new.roster)
-  homes_there =
-      homes_kept crew T (parent_of r.roster) (parent_of new.roster) (λ p lt. started_at.same_parent p (below p lt) ∙ turn.same.parent p)
-      (λ i lt. ap (λ (n : ℕ). parent_of new.roster (n + i)) (sym same_many)
-          ∙ started_at.parent_is i (let e = turned_so.1 in omega (arith, lt, e))) going.shelved.homes
-
-  shelved_left : AreShelved (Some id) left
-  shelved_left =
-      record {
-        agree = takes.agree;
-        homes = λ p task home lives at. (let h = homes_there p task home lives at in
-            record { task = h.task; lives = h.lives; owned = h.owned });
-        now = going.shelved.now ∙ sym tick;
-        limit = going.shelved.limit;
-        within = (let a = going.shelved.within in let b = tick in omega (arith, a, b));
-        bounded = going.shelved.bounded;
-        none_started = takes.none_left;
-        doze = sleeps_still;
-        known = known_still;
-        current =
-            subst (All (λ (e : Entry). IsCalled new.roster left.world e.task e.call)) (sym takes.current)
-            (each_not (λ (e : Entry). e.task) id r.batch.current (let a = none_here in omega (arith, a))
-                (λ (e : Entry). IsCalled r.roster r.world e.task e.call)
-            (λ (e : Entry). IsCalled new.roster left.world e.task e.call) going.shelved.current (λ e. called_still e.task e.call));
-        next =
-            subst (All (λ (a : Added). IsCalled new.roster left.world a.0 a.1)) (sym takes.next)
-            (All-append (λ (a : Added). IsCalled new.roster left.world a.0 a.1) r.batch.next (to_begin takes.ids)
-            (each_not (λ (a : Added). a.0) id r.batch.next (let a = none_here in omega (arith, a))
-                (λ (a : Added). IsCalled r.roster r.world a.0 a.1)
-            (λ (a : Added). IsCalled new.roster left.world a.0 a.1) going.shelved.next (λ a. called_still a.0 a.1))
-            (each_begins takes.ids (λ (a : Added). IsCalled new.roster left.world a.0 a.1) called_new));
-        once = λ other differs. once_of other differs (running_at r.roster other) refl;
-        away = λ key e.
-            let f : Some id ≡ Some key = e in
-            let same : id ≡ key = cc in
-            subst (λ (n : ℕ). times_shelved left.batch r.clock n ≡ 0) same
-            (let a = more_times id in let b = none_here in let c = not_new id (record { task = turn.after; row = s }) turn.lives in
-                omega (arith, a, b, c));
-      }
-
-  lives_left : IsSomeAnd (running_at new.roster id) (λ (x : Running). (x.row ≡ s) × StopSays left.world x.task stop)
-  lives_left =
-      some_has (running_at new.roster id) (λ (x : Running). (x.row ≡ s) × StopSays left.world x.task stop)
-          (record { task = turn.after; row = s })
-      (started_at.others id (not_new id (record { task = turn.after; row = s }) turn.lives) ∙ turn.lives) (
-        refl,
-        says_on w new.world turn.after stop
-            (stop_says table r.job.now r.input.now t m s (crew_in r) that turn.before turn.after wake stop settled going.sound.names
-                going.sound.starts crew turn_taken wakes_so),
-      )
-
-  -- the task has stopped, and those that it started are ready to begin
-  pub is_stopping : IsStopping id s stop new
-  is_stopping =
-      subst (IsStopping id s stop) (sym new_is)
-      (record { sound = going.sound; shelved = shelved_left; lives = lives_left; course = stopped_course })
-
-  pub same_batch : new.batch.current ≡ r.batch.current
-  same_batch = takes.current
+    pub same_batch : new.batch.current ≡ r.batch.current
+    same_batch = takes.current
 
 -- ---- for the code
 
@@ -561,7 +564,7 @@ pub row_is : (id row : ℕ) (r : Runner) (ro : Roster) (w : World) (wake : Wake)
 row_is id row r ro w wake stop at turn =
     let g = some_is (running_at r.roster id) (λ (x : Running). x.row ≡ row) at in
     let same : g.0 ≡ record { task = turn.before; row = turn.row } =
-        one_of g.0 (record { task = turn.before; row = turn.row }) (sym g.1 ∙ turn.lived) in
+    one_of g.0 (record { task = turn.before; row = turn.row }) (sym g.1 ∙ turn.lived) in
     sym (ap (λ (x : Running). x.row) same) ∙ g.2
 
 -- the row of a task that had its turn is one of the roster's
@@ -571,21 +574,21 @@ pub row_within : (id row : ℕ) (r : Runner) (ro : Roster) (w : World) (wake : W
 row_within id row r ro w wake stop going at turn =
     let e = row_is id row r ro w wake stop at turn in
     let lt : turn.row < many r.roster =
-        row_below r.roster going.shelved.agree id (record { task = turn.before; row = turn.row }) turn.lived in
+    row_below r.roster going.shelved.agree id (record { task = turn.before; row = turn.row }) turn.lived in
     let same : many ro ≡ many r.roster = turn.same.many in
     omega (arith, e, lt, same)
 
 -- after a turn whose started tasks were taken, its task is one that stopped so
 pub goes_stopping : (id row : ℕ) (r new : Runner) (ro : Roster) (w : World) (wake : Wake) (stop : Stop) → IsGoing (Some id) r →
     IsSomeAnd (running_at r.roster id) (λ (x : Running). MayGo r.world x.task wake) →
-        IsSomeAnd (running_at r.roster id) (λ (x : Running). x.row ≡ row) →
+    IsSomeAnd (running_at r.roster id) (λ (x : Running). x.row ≡ row) →
     (turn : HasTurn r.roster ro r.world w id wake stop) → turns.IsSound r.world.scopes → turns.IsSound w.scopes →
     TakesStarted (record r { world = w; roster = ro; turns = r.turns + 1 }) new row → IsStopping id row stop new
 goes_stopping id row r new ro w wake stop going goes at turn sound sound_after takes =
     let e = row_is id row r ro w wake stop at turn in
     subst (λ (n : ℕ). IsStopping id n stop new) e
     (is_stopping id wake stop r new ro w going goes turn sound sound_after
-        (subst (λ (n : ℕ). TakesStarted (record r { world = w; roster = ro; turns = r.turns + 1 }) new n) (sym e) takes))
+    (subst (λ (n : ℕ). TakesStarted (record r { world = w; roster = ro; turns = r.turns + 1 }) new n) (sym e) takes))
 
 -- a tree is sound whose stacks are chains that begin with their own scopes, each once
 pub scopes_sound : (tree other : Tree) → tree ≡ other → IsOwn tree → IsChain tree → IsApart tree → turns.IsSound other

@@ -53,7 +53,7 @@ halt_due old new Over same = refl
 
 running_due : (old new : NurseryBook) (o : Option Running) →
     ((x : Running) → o ≡ Some x → (key : ℕ) → waits_of x.task.halt ≡ Some key →
-        settled_times (nursery_at new key) ≡ settled_times (nursery_at old key)) →
+    settled_times (nursery_at new key) ≡ settled_times (nursery_at old key)) →
     running_times new o ≡ running_times old o
 running_due old new None same = refl
 running_due old new (Some x) same = halt_due old new x.task.halt (same x refl)
@@ -113,13 +113,13 @@ root_going r roster id row exc h e agree rootless = ended_going r roster r.world
 module _ (r : Runner) (roster : Roster) (book : NurseryBook) (b : Batches) (id row : ℕ) (exc : Option held.Exc)
     (h : IsStopping id row (stops.Ended exc) r)
     (e : Ends r.roster roster id r.world.tick exc) (home : Home) (at : e.task.home ≡ Some home) (n : Nursery)
-        (was : nursery_at r.world.book home.nursery ≡ Some n)
+    (was : nursery_at r.world.book home.nursery ≡ Some n)
     (u : Updates r.world.book book home.nursery (Some (with_child home.place (option_map exc_of exc) n))) where
   told : EndIsTold r.world.book book e.task.home (option_map exc_of exc)
   told =
       subst (λ (o : Option Home). EndIsTold r.world.book book o (option_map exc_of exc)) (sym at)
       (puts r.world.book home.nursery n (λ x. Updates r.world.book book home.nursery
-          (Some (with_child home.place (option_map exc_of exc) x))) was u)
+      (Some (with_child home.place (option_map exc_of exc) x))) was u)
 
   w : HasWaiter r row home
   w = waiter_of r roster id row exc h e home at
@@ -146,7 +146,7 @@ module _ (r : Runner) (roster : Roster) (book : NurseryBook) (b : Batches) (id r
 
   due_else : (o : Option Running) →
       ((x : Running) → o ≡ Some x → waits_of x.task.halt ≡ Some home.nursery →
-          settled_times (nursery_at book home.nursery) ≡ settled_times (nursery_at r.world.book home.nursery)) →
+      settled_times (nursery_at book home.nursery) ≡ settled_times (nursery_at r.world.book home.nursery)) →
       running_times book o ≡ running_times r.world.book o
   due_else o same = running_due r.world.book book o (λ x is key waits. by_test x is key waits (eqb_tells key home.nursery))
     where
@@ -155,7 +155,7 @@ module _ (r : Runner) (roster : Roster) (book : NurseryBook) (b : Batches) (id r
           settled_times (nursery_at book key) ≡ settled_times (nursery_at r.world.book key)
       by_test x is key waits (inl g) =
           subst (λ (i : ℕ). settled_times (nursery_at book i) ≡ settled_times (nursery_at r.world.book i)) (sym g.1)
-              (same x is (waits ∙ ap (λ (i : ℕ). Some i) g.1))
+          (same x is (waits ∙ ap (λ (i : ℕ). Some i) g.1))
       by_test x is key waits (inr g) = ap settled_times (u.others key g.1)
 
   -- no one else waits for it
@@ -164,7 +164,7 @@ module _ (r : Runner) (roster : Roster) (book : NurseryBook) (b : Batches) (id r
   one_waits other x is waits =
       let same : x.row ≡ parent_of r.roster row =
       same_owner (meaning_table r.job.now r.input.now) r.job.now r.input.now r.world.tick (many r.roster) (Some row) (crew_in r)
-          (crew_before r roster id row exc h e) x.row
+      (crew_before r roster id row exc h e) x.row
       (parent_of r.roster row) x.task w.task home.nursery (task_at r.roster h.shelved.agree other x is) w.is (inr waits) w.owned in
       ap (id_of r.roster) (sym same) ∙ id_at r.roster h.shelved.agree other x is
 
@@ -175,7 +175,7 @@ module _ (r : Runner) (roster : Roster) (book : NurseryBook) (b : Batches) (id r
   still_going agree over current next =
       ended_going r roster book b id row exc h e told agree current
       (subst (All (λ (a : Added). IsCalled roster (record r.world { book = book }) a.0 a.1)) (sym next)
-          (added_after r roster book b id row exc h e told)) once
+      (added_after r roster book b id row exc h e told)) once
     where
       same : settled_times (nursery_at book home.nursery) ≡ settled_times (nursery_at r.world.book home.nursery)
       same = after ∙ (due_none (with_child home.place (option_map exc_of exc) n) over ∙ sym before)
@@ -197,7 +197,7 @@ module _ (r : Runner) (roster : Roster) (book : NurseryBook) (b : Batches) (id r
           by_test (inr g) =
               shelved other
               ∙ (h.shelved.once other g.1 ∙ (sym (due_else (running_at r.roster other) (λ x is waits. same))
-                  ∙ sym (ap (running_times book) (e.others other g.1))))
+              ∙ sym (ap (running_times book) (e.others other g.1))))
 
   -- where it is settled now
   pub ready_going : IsRoster roster → is_settled (with_child home.place (option_map exc_of exc) n) ≡ true → b.current ≡ r.batch.current →
@@ -206,7 +206,7 @@ module _ (r : Runner) (roster : Roster) (book : NurseryBook) (b : Batches) (id r
       ended_going r roster book b id row exc h e told agree current
       (subst (All (λ (a : Added). IsCalled roster (record r.world { book = book }) a.0 a.1)) (sym next)
       (All-push (λ (a : Added). IsCalled roster (record r.world { book = book }) a.0 a.1) r.batch.next
-          (id_of r.roster (parent_of r.roster row), calls.Settled)
+      (id_of r.roster (parent_of r.roster row), calls.Settled)
       (added_after r roster book b id row exc h e told) called)) once
     where
       is_over : HasNursery book home.nursery (λ x. is_settled x ≡ true)
@@ -222,9 +222,9 @@ module _ (r : Runner) (roster : Roster) (book : NurseryBook) (b : Batches) (id r
       waits : waits_of w.task.halt ≡ Some home.nursery
       waits =
           settled_waits (meaning_table r.job.now r.input.now) r.job.now r.input.now r.world.tick (many roster)
-              (crew_in (ended_runner r roster book b))
+          (crew_in (ended_runner r roster book b))
           (course_after r roster book b id row exc h e told (meaning_table r.job.now r.input.now) (table_settled r roster id row exc h e))
-              (parent_of r.roster row) w.task home.nursery
+          (parent_of r.roster row) w.task home.nursery
           (e.same.task (parent_of r.roster row) differs ∙ w.is) w.owned is_over
 
       halt : (since : ℕ) × (w.lives.running.task.halt ≡ Awaits home.nursery since)
@@ -233,7 +233,7 @@ module _ (r : Runner) (roster : Roster) (book : NurseryBook) (b : Batches) (id r
       called : IsCalled roster (record r.world { book = book }) (id_of r.roster (parent_of r.roster row)) calls.Settled
       called =
           some_has (running_at roster (id_of r.roster (parent_of r.roster row)))
-              (λ (x : Running). GoesBy (record r.world { book = book }) x.task calls.Settled) w.lives.running lives_on
+          (λ (x : Running). GoesBy (record r.world { book = book }) x.task calls.Settled) w.lives.running lives_on
           (settled_goes (record r.world { book = book }) w.lives.running.task home.nursery
           (record { since = halt.0; halt = halt.1; there = subst (λ (o : Option Nursery). IsSome o) (sym u.changed) refl }) is_over)
 
@@ -265,7 +265,7 @@ module _ (r : Runner) (roster : Roster) (book : NurseryBook) (b : Batches) (id r
               shelved other ∙ ap (λ (c : Bool). times_shelved r.batch r.clock other + one_if c) k.0 in
               let none : times_shelved r.batch r.clock other ≡ 0 = ap (times_shelved r.batch r.clock) g.1 ∙ h.shelved.away id refl in
               let due : running_times book (running_at roster other) ≡ 0 =
-                  ap (λ (i : ℕ). running_times book (running_at roster i)) g.1 ∙ ap (running_times book) e.gone in
+              ap (λ (i : ℕ). running_times book (running_at roster i)) g.1 ∙ ap (running_times book) e.gone in
               omega (arith, a, none, due)
           by_test (inr g) (inl k) =
               let a : times_shelved b r.clock other ≡ times_shelved r.batch r.clock other + 1 =
@@ -273,7 +273,7 @@ module _ (r : Runner) (roster : Roster) (book : NurseryBook) (b : Batches) (id r
               let none : times_shelved r.batch r.clock other ≡ 0 =
               h.shelved.once other g.1 ∙ (ap (λ (i : ℕ). running_times r.world.book (running_at r.roster i)) (sym k.1) ∙ due_before) in
               let due : running_times book (running_at roster other) ≡ 1 =
-                  ap (λ (i : ℕ). running_times book (running_at roster i)) (sym k.1) ∙ due_after in
+              ap (λ (i : ℕ). running_times book (running_at roster i)) (sym k.1) ∙ due_after in
               omega (arith, a, none, due)
           by_test (inr g) (inr k) =
               let a : times_shelved b r.clock other ≡ times_shelved r.batch r.clock other + 0 =
@@ -281,7 +281,7 @@ module _ (r : Runner) (roster : Roster) (book : NurseryBook) (b : Batches) (id r
               let due : times_shelved r.batch r.clock other ≡ running_times book (running_at roster other) =
               h.shelved.once other g.1
               ∙ (sym (due_else (running_at r.roster other) (λ x is wait. absurd (k.1 (one_waits other x is wait))))
-                  ∙ sym (ap (running_times book) (e.others other g.1))) in
+              ∙ sym (ap (running_times book) (e.others other g.1))) in
               omega (arith, a, due)
 
 -- the home of a task that ended was told
@@ -289,7 +289,7 @@ home_going : (r : Runner) (roster : Roster) (new : Runner) (id row : ℕ) (exc :
     (e : Ends r.roster roster id r.world.tick exc) →
     IsRoster roster → (home : Home) → e.task.home ≡ Some home →
     TellsEnd (record r { roster = roster }) new home.nursery home.place (option_map exc_of exc) (id_of roster (parent_of roster row)) →
-        IsGoing None new
+    IsGoing None new
 home_going r roster new id row exc h e agree home at t =
     subst (IsGoing None) (sym t.rest) (by_over (is_settled (with_child home.place (option_map exc_of exc) n.0)) refl)
   where
@@ -321,16 +321,16 @@ home_going r roster new id row exc h e agree home at t =
 pub child_going : (r : Runner) (roster : Roster) (new : Runner) (id row nursery place : ℕ) (exc : Option held.Exc) (end : Option Exc) →
     IsStopping id row (stops.Ended exc) r →
     (e : Ends r.roster roster id r.world.tick exc) → IsRoster roster →
-        option_map {U = ℕ × ℕ} (λ (x : Home). (x.nursery, x.place)) e.task.home ≡ Some (nursery, place) →
+    option_map {U = ℕ × ℕ} (λ (x : Home). (x.nursery, x.place)) e.task.home ≡ Some (nursery, place) →
     end ≡ option_map exc_of exc → TellsEnd (record r { roster = roster }) new nursery place end (id_of roster (parent_of roster row)) →
-        IsGoing None new
+    IsGoing None new
 child_going r roster new id row nursery place exc end h e agree f same t =
     let y = home_is e.task.home nursery place f in
     home_going r roster new id row exc h e agree y.0 y.1
     (subst (λ (i : ℕ). TellsEnd (record r { roster = roster }) new y.0.nursery i (option_map exc_of exc)
-        (id_of roster (parent_of roster row))) (sym y.3)
+    (id_of roster (parent_of roster row))) (sym y.3)
     (subst (λ (i : ℕ). TellsEnd (record r { roster = roster }) new i place (option_map exc_of exc) (id_of roster (parent_of roster row)))
-        (sym y.2)
+    (sym y.2)
     (subst (λ (x : Option Exc). TellsEnd (record r { roster = roster }) new nursery place x (id_of roster (parent_of roster row))) same t)))
 
 -- there is no nursery

@@ -96,7 +96,7 @@ due_goes world due task h come unseen answer wake right e =
 module _ (old new : Runner) (id : ℕ) (call : Call) (h : IsWaking old) (due : ℕ) (timer : due_of old.clock id ≡ Some due)
     (called : IsCalled old.roster old.world id call)
     (u : Updates old.clock new.clock id None) (time : SameTime old.clock new.clock) (moves : Moves old.sleepers new.sleepers id None)
-        (keeps : KeepsSights old.sleepers new.sleepers)
+    (keeps : KeepsSights old.sleepers new.sleepers)
     (current : new.batch.current ≡ old.batch.current) (next : new.batch.next ≡ old.batch.next ++ (id, call) ∷ []) where
   abbrev woken : Runner
   woken = record old { clock = new.clock; sleepers = new.sleepers; batch = new.batch }
@@ -121,7 +121,7 @@ module _ (old new : Runner) (id : ℕ) (call : Call) (h : IsWaking old) (due : �
           ≡ times other (map (λ (a : Added). a.0) old.batch.next) + one_if (id == other)
       more =
           ap (λ (es : List Added). times other (map (λ (a : Added). a.0) es)) next
-              ∙ ap (times other) (map-append (λ (a : Added). a.0) old.batch.next ((id, call) ∷ []))
+          ∙ ap (times other) (map-append (λ (a : Added). a.0) old.batch.next ((id, call) ∷ []))
           ∙ sum_by_push (λ (n : ℕ). one_if (n == other)) (map (λ (a : Added). a.0) old.batch.next) id
 
       by_test : (((id == other) ≡ true) × (id ≡ other)) ⊎ (((id == other) ≡ false) × (id ≢ other)) →
@@ -134,7 +134,7 @@ module _ (old new : Runner) (id : ℕ) (call : Call) (h : IsWaking old) (due : �
       by_test (inr f) =
           let none : one_if (id == other) ≡ 0 = ap one_if f.0 in
           let same : timer_times (due_of new.clock other) ≡ timer_times (due_of old.clock other) =
-              ap timer_times (u.others other (λ e. f.1 (sym e))) in
+          ap timer_times (u.others other (λ e. f.1 (sym e))) in
           omega (arith, all, now, more, none, same)
 
   waking_more : IsWaking woken
@@ -196,7 +196,7 @@ module _ (was old : Runner) (id : ℕ) (s : IsSeeing was old) (sleepers : Sleepi
   seer_called : IsCalled old.roster old.world id calls.Seen
   seer_called =
       let x = some_is (running_at old.roster id) (λ (y : Running). Slept old.world seer.due y.task)
-          (s.waking.slept id seer.due seer.timer) in
+      (s.waking.slept id seer.due seer.timer) in
       let same : seer.running ≡ x.0 = same_Some seer.running x.0 (sym seer.lives ∙ x.1) in
       let sees : sight (outer_of old.world.scopes (scope_of seer.running.task)) ≡ Some takes.from =
       (seen_by old.roster old.world old.clock old.sleepers s.waking.known s.waking.unchanged id takes.from takes.sees).1 in
@@ -204,7 +204,7 @@ module _ (was old : Runner) (id : ℕ) (s : IsSeeing was old) (sleepers : Sleepi
       ap (λ (y : Running). seen (outer_of old.world.scopes (scope_of y.task)) old.world.tick) (sym same)
       ∙ (ap (λ (t : Tick). reached t old.world.tick) sees ∙ le-leb takes.from old.world.tick takes.come) in
       some_has (running_at old.roster id) (λ (y : Running). GoesBy old.world y.task calls.Seen) x.0 x.1
-          (seen_goes old.world seer.due x.0.task x.2 saw)
+      (seen_goes old.world seer.due x.0.task x.2 saw)
 
   module _ (new : Runner) (is_new : new ≡ record old { clock = new.clock; sleepers = sleepers; batch = new.batch })
       (u : Updates old.clock new.clock id None) (time : SameTime old.clock new.clock)
@@ -221,7 +221,7 @@ module _ (was old : Runner) (id : ℕ) (s : IsSeeing was old) (sleepers : Sleepi
           waking =
               subst IsWaking (sym only_new)
               (waking_more old new id calls.Seen s.waking seer.due seer.timer seer_called u time
-                  (subst (λ (z : Sleeping). Moves old.sleepers z id None) (sym same_sleepers) takes.scopes)
+              (subst (λ (z : Sleeping). Moves old.sleepers z id None) (sym same_sleepers) takes.scopes)
               (subst (KeepsSights old.sleepers) (sym same_sleepers) takes.sights) current next);
           only = only_again was old new s.only only_new;
         }
@@ -230,7 +230,7 @@ module _ (was old : Runner) (id : ℕ) (s : IsSeeing was old) (sleepers : Sleepi
     seeing_fewer =
         fewer_below (length was.roster.live.slots.slots) (λ key. is_some (due_of old.clock key)) (λ key. is_some (due_of new.clock key)) id
         (subst (λ (r : Roster). id < length r.live.slots.slots) (ap (λ (r : Runner). r.roster) s.only)
-            (timed_below old s.waking.slept id seer.due seer.timer)) (ap is_some seer.timer)
+        (timed_below old s.waking.slept id seer.due seer.timer)) (ap is_some seer.timer)
         (ap is_some u.changed) (λ other differs. ap is_some (u.others other differs))
 
 -- none is left
@@ -303,7 +303,7 @@ module _ (was old : Runner) (id : ℕ) (s : IsDue was old) (clock : Clock) (take
   due_called : IsCalled old.roster old.world id calls.Due
   due_called =
       let z = some_is (running_at old.roster id) (λ (y : Running).
-          seen (outer_of old.world.scopes (scope_of y.task)) old.world.tick ≡ false) (s.unseen id takes.due takes.had) in
+      seen (outer_of old.world.scopes (scope_of y.task)) old.world.tick ≡ false) (s.unseen id takes.due takes.had) in
       let same : z.0 ≡ sleeper.0 = same_Some z.0 sleeper.0 (sym z.1 ∙ sleeper.1) in
       let now : now_of old.clock ≡ old.world.tick = s.waking.now in
       let come : takes.due ≤ now_of old.clock = takes.is_due in
@@ -314,7 +314,7 @@ module _ (was old : Runner) (id : ℕ) (s : IsDue was old) (clock : Clock) (take
   module _ (new : Runner) (is_new : new ≡ record old { clock = clock; sleepers = new.sleepers; batch = new.batch })
       (moves : Moves old.sleepers new.sleepers id None)
       (keeps : KeepsSights old.sleepers new.sleepers) (current : new.batch.current ≡ old.batch.current)
-          (next : new.batch.next ≡ old.batch.next ++ (id, calls.Due) ∷ []) where
+      (next : new.batch.next ≡ old.batch.next ++ (id, calls.Due) ∷ []) where
     same_clock : new.clock ≡ clock
     same_clock = ap (λ (r : Runner). r.clock) is_new
 
@@ -336,7 +336,7 @@ module _ (was old : Runner) (id : ℕ) (s : IsDue was old) (clock : Clock) (take
           waking =
               subst IsWaking (sym only_due)
               (waking_more old new id calls.Due s.waking takes.due takes.had due_called timers_after
-                  (subst (SameTime old.clock) (sym same_clock) takes.time) moves keeps current next);
+              (subst (SameTime old.clock) (sym same_clock) takes.time) moves keeps current next);
           unseen = subst NoneSees (sym only_due) unseen_after;
           only = only_again was old new s.only only_due;
         }
@@ -345,7 +345,7 @@ module _ (was old : Runner) (id : ℕ) (s : IsDue was old) (clock : Clock) (take
     due_fewer =
         fewer_below (length was.roster.live.slots.slots) (λ key. is_some (due_of old.clock key)) (λ key. is_some (due_of new.clock key)) id
         (subst (λ (r : Roster). id < length r.live.slots.slots) (ap (λ (r : Runner). r.roster) s.only)
-            (timed_below old s.waking.slept id takes.due takes.had)) (ap is_some takes.had)
+        (timed_below old s.waking.slept id takes.due takes.had)) (ap is_some takes.had)
         (ap is_some timers_after.changed) (λ other differs. ap is_some (timers_after.others other differs))
 
 -- none is left: the others sleep on, and somebody was woken
@@ -390,7 +390,7 @@ due_last was r new clock s none is =
     dozes id due e =
         let x = some_is (running_at r.roster id) (λ (y : Running). Slept r.world due y.task) (s.waking.slept id due e) in
         let z = some_is (running_at r.roster id) (λ (y : Running). seen (outer_of r.world.scopes (scope_of y.task)) r.world.tick ≡ false)
-            (s.unseen id due e) in
+        (s.unseen id due e) in
         let same : z.0 ≡ x.0 = same_Some z.0 x.0 (sym z.1 ∙ x.1) in
         some_has (running_at r.roster id) (λ (y : Running). Dozes r.world due y.task) x.0 x.1
         (record {
@@ -417,6 +417,6 @@ due_last was r new clock s none is =
             by_timely (inl le) = let lt = later a.id a.due a.timer in omega (arith, le, lt)
             by_timely (inr saw) =
                 let z = some_is (running_at r.roster a.id) (λ (y : Running).
-                    seen (outer_of r.world.scopes (scope_of y.task)) r.world.tick ≡ false) (s.unseen a.id a.due a.timer) in
+                seen (outer_of r.world.scopes (scope_of y.task)) r.world.tick ≡ false) (s.unseen a.id a.due a.timer) in
                 let f : true ≡ false = sym saw ∙ (ap (λ (o : Option Running). reached (sight_by r.world o) r.world.tick) z.1 ∙ z.2) in
                 cc

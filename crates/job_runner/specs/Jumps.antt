@@ -61,7 +61,7 @@ pub record IsWaking (r : Runner) : Type 0 where
 abbrev pub NoneSees : Runner → Type 0
 NoneSees r =
     (id due : ℕ) → due_of r.clock id ≡ Some due → IsSomeAnd (running_at r.roster id)
-        (λ (x : Running). seen (outer_of r.world.scopes (scope_of x.task)) r.world.tick ≡ false)
+    (λ (x : Running). seen (outer_of r.world.scopes (scope_of x.task)) r.world.tick ≡ false)
 
 -- nothing but the sleepers and the next batch changed
 abbrev pub WakesOnly : Runner → Runner → Type 0

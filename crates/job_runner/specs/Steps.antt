@@ -93,5 +93,8 @@ pub record TellsEnd (old new : Runner) (nursery place : ℕ) (exc : Option Exc) 
 -- nothing but what is known of sleepers changed, and which scopes are still to be handed out
 abbrev pub SeesOnly : Runner → Runner → Type 0
 SeesOnly old new =
-    new ≡ record old { world = record (old.world) { scopes = record (old.world.scopes) { changed = new.world.scopes.changed } }; sleepers =
-        new.sleepers }
+    new ≡ record old {
+      world = record (old.world) { scopes = record (old.world.scopes) { changed = new.world.scopes.changed } };
+      sleepers =
+          new.sleepers;
+    }

@@ -33,6 +33,7 @@ among-spelling (first ∷ ks) w k e = by_test (λ chosen. among-spelling ks w k 
         subst (λ (x : Keyword). spelling x ≡ w) same ((bytes_eq-Decides (spelling first) w).0 is_so)
     by_test others false is_so chosen = others chosen
 
+-- a word that is a keyword is spelled as that keyword
 pub keyword_of-spelling : (w : List ℕ) (k : Keyword) → keyword_of w ≡ Some k → spelling k ≡ w
 unfolding keyword_of
 keyword_of-spelling w k e = among-spelling keywords w k e
@@ -322,6 +323,7 @@ by_keyword format s rest same each w (Some k) is ss ps left =
     let e : keyword k ≡ taken = λ i. record { shape = shape.Word (keyword_of-spelling w k is i); role = sym same i } in
     subst (λ (p : Piece). Fits format (s ∷ ss) (p ∷ ps)) e (each k ss ps left)
 
+-- a token that can stand for a symbol, in front of what it leaves, fits that symbol and those behind it
 pub forward : (format : Format) (s : Symbol) (shape : Shape) (ss : List Symbol) (ps : List Piece) → Left format (next format s shape) ss ps →
     Fits format (s ∷ ss) (record { shape = shape; role = role_of s } ∷ ps)
 forward format symbol.Job (shape.Word w) ss ps left = by_keyword format symbol.Job text_rest refl (by_text format) w (keyword_of w) refl ss ps left

@@ -24,6 +24,7 @@ abbrev pub AllInRange : (format : Format) → Option Keyword → List Shape → 
 AllInRange format before [] = Unit {0}
 AllInRange format before (s ∷ rest) = (is_in_range format before s ≡ true) × AllInRange format (keyword_in s) rest
 
+-- where no number out of its range is found, all are in their ranges
 pub all_in_range : (format : Format) (before : Option Keyword) (tokens : List Token) → number_fault format before tokens ≡ None →
     AllInRange format before (shapes_of tokens)
 all_in_range format before [] none = tt

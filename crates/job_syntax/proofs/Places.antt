@@ -90,6 +90,7 @@ fault_on : (format : Format) (end : ℕ) (s : Symbol) (ss more : List Symbol) (t
 fault_on format end s ss more t ts None is text = text_forward format s ss more t.shape (shapes_of ts) is text
 fault_on format end s ss more t ts (Some at) is leaves = leaves_on format end s ss more t ts at is leaves
 
+-- where no place is found the tokens are a whole text, and at one that is found they leave the grammar
 pub fault_at-means : (format : Format) (end : ℕ) (ss : List Symbol) (tokens : List Token) → IsFault format end ss tokens (fault_at format end ss tokens)
 fault_at-means format end [] [] = ([], refl, refl)
 fault_at-means format end [] (t ∷ ts) = inl (record {
@@ -119,6 +120,7 @@ fault_at-means format end (s ∷ ss) (t ∷ ts) = by_rest (λ more. fault_at-mea
 
 -- ---- the other way: what leaves there is found there
 
+-- of the tokens of a whole text no place is found
 pub fault_at-text : (format : Format) (end : ℕ) (ss : List Symbol) (tokens : List Token) → IsText format ss (shapes_of tokens) → fault_at format end ss tokens ≡ None
 fault_at-text format end [] [] text = refl
 fault_at-text format end [] (t ∷ ts) text = absurd (nothing_behind format t.shape (shapes_of ts) text)
@@ -163,6 +165,7 @@ found_end format end (s ∷ ss) (t ∷ ts) begins not_whole = by_rest (λ more. 
     by_rest others (Some more) is = others more (begins.0, text_on format s ss more t.shape (shapes_of ts ++ begins.0) is begins.1)
         (λ text. not_whole (text_forward format s ss more t.shape (shapes_of ts) is text))
 
+-- the place at which tokens leave the grammar is the one that is found
 pub fault_at-leaves : (format : Format) (end : ℕ) (ss : List Symbol) (tokens : List Token) (at : ℕ) → LeavesAt format end ss tokens at →
     fault_at format end ss tokens ≡ Some at
 fault_at-leaves format end ss tokens at (inl stops) = ap (fault_at format end ss) stops.whole

@@ -80,7 +80,7 @@ unit_small b lt = by_escape (either_way (eqb b 34 || eqb b 92))
     by_plain e (inr f) =
         let spelled : unit b ≡ 92 ∷ 120 ∷ hex_digit (b / 16) ∷ hex_digit (b % 16) ∷ [] = rw (e, f) refl in
         ap (list_all is_small) spelled ∙ and_whole (is_small (hex_digit (b / 16))) (is_small (hex_digit (b % 16)) && true)
-            (hex_small (b / 16) (omega arith)) (one (hex_digit (b % 16)) (hex_small (b % 16) (omega arith)))
+        (hex_small (b / 16) (omega arith)) (one (hex_digit (b % 16)) (hex_small (b % 16) (omega arith)))
 
     by_escape : ((eqb b 34 || eqb b 92) ≡ true) ⊎ ((eqb b 34 || eqb b 92) ≡ false) → list_all is_small (unit b) ≡ true
     by_escape (inl e) =
@@ -117,5 +117,5 @@ pub canon_small : (before : Bool) (ss : List Shape) → AreWritable ss → list_
 canon_small before [] are = refl
 canon_small before (s ∷ ss) are =
     all_append (gap before (is_wordlike s) ++ token s) (canon_behind (is_wordlike s) ss)
-        (all_append (gap before (is_wordlike s)) (token s) (gap_small before (is_wordlike s)) (token_small s are.0))
-        (canon_small (is_wordlike s) ss are.1)
+    (all_append (gap before (is_wordlike s)) (token s) (gap_small before (is_wordlike s)) (token_small s are.0))
+    (canon_small (is_wordlike s) ss are.1)

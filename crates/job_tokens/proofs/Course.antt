@@ -42,7 +42,7 @@ pub stops : (end : ℕ) (bytes : List ℕ) (front : List Token) (rest : List ℕ
     LexesOn end bytes front rest → Lexes end bytes front (Some (end - length rest))
 stops end bytes front rest none some within before =
     subst (λ (all : List Token). Lexes end bytes all (Some (end - length rest))) (append-nil front)
-        (before.on [] (Some (end - length rest)) (none, some, omega arith))
+    (before.on [] (Some (end - length rest)) (none, some, omega arith))
 
 -- where nothing is left
 pub is_done : (end : ℕ) (bytes : List ℕ) (front : List Token) (rest : List ℕ) → length rest ≡ 0 → LexesOn end bytes front rest →

@@ -92,6 +92,11 @@ pub number_at-again : (n : ℕ) (rest : List ℕ) → n ≤ GREATEST_NUMBER → 
 number_at-again n rest le stops =
     let are = digits_of_number n (omega arith) in
     let len : prefix_len is_digit (decimal n ++ rest) ≡ length (decimal n) =
-        prefix_len-run is_digit (decimal n) rest are.all (stops_sooner is_word_byte is_digit rest digit_in_word stops) in
-    rw (len, take_at (decimal n) rest (length (decimal n)) refl, drop_at (decimal n) rest (length (decimal n)) refl,
-        stops_goes_on rest stops, number_of-decimal n le) refl
+    prefix_len-run is_digit (decimal n) rest are.all (stops_sooner is_word_byte is_digit rest digit_in_word stops) in
+    rw (
+      len,
+      take_at (decimal n) rest (length (decimal n)) refl,
+      drop_at (decimal n) rest (length (decimal n)) refl,
+      stops_goes_on rest stops,
+      number_of-decimal n le,
+    ) refl

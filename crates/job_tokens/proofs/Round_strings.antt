@@ -18,7 +18,7 @@ hex_value-digit d small = elim (cases_lt d 10) [ inl lt ↦ low lt | inr ge ↦ 
     low lt =
         let is : ltb d 10 ≡ true = lt-ltb d 10 lt in
         let digit : is_digit (48 + d) ≡ true =
-            and_whole (leb 48 (48 + d)) (leb (48 + d) 57) (le-leb _ _ (omega arith)) (le-leb _ _ (omega arith)) in
+        and_whole (leb 48 (48 + d)) (leb (48 + d) 57) (le-leb _ _ (omega arith)) (le-leb _ _ (omega arith)) in
         let value : 48 + d - 48 ≡ d = omega arith in
         rw (is, digit, value) refl
 
@@ -28,7 +28,7 @@ hex_value-digit d small = elim (cases_lt d 10) [ inl lt ↦ low lt | inr ge ↦ 
         let none : leb (87 + d) 57 ≡ false = grind arith in
         let digit : is_digit (87 + d) ≡ false = ap (λ (x : Bool). leb 48 (87 + d) && x) none ∙ and_false (leb 48 (87 + d)) in
         let letter : (leb 97 (87 + d) && leb (87 + d) 102) ≡ true =
-            and_whole (leb 97 (87 + d)) (leb (87 + d) 102) (le-leb _ _ (omega arith)) (le-leb _ _ (omega arith)) in
+        and_whole (leb 97 (87 + d)) (leb (87 + d) 102) (le-leb _ _ (omega arith)) (le-leb _ _ (omega arith)) in
         let value : 87 + d - 87 ≡ d = omega arith in
         rw (is, digit, letter, value) refl
       where
@@ -50,8 +50,11 @@ unit_again b rest small = by_escape (either_way (eqb b 34 || eqb b 92))
         let value : 16 * (b / 16) + b % 16 ≡ b = omega arith in
         record {
           unquoted = ap (λ (x : List ℕ). behind_quote (x ++ rest)) spelled;
-          again = ap (λ (x : List ℕ). unit_at (x ++ rest)) spelled ∙ rw (hex_value-digit (b / 16) (omega arith),
-              hex_value-digit (b % 16) (omega arith), value) refl;
+          again = ap (λ (x : List ℕ). unit_at (x ++ rest)) spelled ∙ rw (
+            hex_value-digit (b / 16) (omega arith),
+            hex_value-digit (b % 16) (omega arith),
+            value,
+          ) refl;
         }
 
     plainly : (eqb b 34 || eqb b 92) ≡ false → is_plain b ≡ true → ReadsAgain b rest
@@ -93,13 +96,13 @@ units_again zero (b ∷ text) rest le bytes = absurd (omega arith)
 units_again (suc n) (b ∷ text) rest le bytes =
     let more = flat_map unit text ++ 34 ∷ rest in
     ap (units (suc n)) (append_assoc (unit b) (flat_map unit text) (34 ∷ rest))
-        ∙ units_step n b text rest more (unit_again b more bytes.0) (units_again n text rest (omega arith) bytes.1)
+    ∙ units_step n b text rest more (unit_again b more bytes.0) (units_again n text rest (omega arith) bytes.1)
 
 -- the canonical bytes of a string are read as that string, whatever stands behind them
 pub string_again : (text rest : List ℕ) → is_text text ≡ true → length text ≤ 64 → AreBytes text →
     token_at ((34 ∷ (flat_map unit text ++ 34 ∷ [])) ++ rest) ≡ Some (shape.Text text, rest)
 string_again text rest is le bytes =
     let grouped : (flat_map unit text ++ 34 ∷ []) ++ rest ≡ flat_map unit text ++ 34 ∷ rest =
-        append_assoc (flat_map unit text) (34 ∷ []) rest in
+    append_assoc (flat_map unit text) (34 ∷ []) rest in
     let found = units_again 64 text rest le bytes in
     ap string_at grouped ∙ ap string_of found ∙ (rw is refl)

@@ -128,7 +128,7 @@ not_letter b is =
 number_begins : (b : ℕ) (rest : List ℕ) → is_digit b ≡ true → token_at (b ∷ rest) ≡ number_at (b ∷ rest)
 number_begins b rest is =
     ap (λ (x : Bool). cond x (word_at (b ∷ rest)) (token_unless_word b rest)) (not_letter b is)
-        ∙ cond-true (is_digit b) (number_at (b ∷ rest)) (token_unless_number b rest) is
+    ∙ cond-true (is_digit b) (number_at (b ∷ rest)) (token_unless_number b rest) is
 
 number_again : (n : ℕ) (rest : List ℕ) → n ≤ GREATEST_NUMBER → prefix_len is_word_byte rest ≡ 0 →
     token_at (decimal n ++ rest) ≡ Some (shape.Number (Some n), rest)
@@ -136,8 +136,8 @@ number_again n rest le stops =
     let are = digits_of_number n (omega arith) in
     let first = digits_begin (decimal n) rest (decimal_nonempty n (omega arith)) are.all in
     let begins : token_at (decimal n ++ rest) ≡ number_at (decimal n ++ rest) =
-        subst (λ (ds : List ℕ). token_at (ds ++ rest) ≡ number_at (ds ++ rest)) (sym first.2)
-        (number_begins first.0 (first.1 ++ rest) first.3) in
+    subst (λ (ds : List ℕ). token_at (ds ++ rest) ≡ number_at (ds ++ rest)) (sym first.2)
+    (number_begins first.0 (first.1 ++ rest) first.3) in
     begins ∙ number_at-again n rest le stops
 
 mark_again : (m : Mark) (rest : List ℕ) → token_at (mark_byte m ∷ rest) ≡ Some (shape.Mark m, rest)
@@ -183,15 +183,15 @@ canon_lexes end before (s ∷ ss) are le =
     let rest = canon_behind (is_wordlike s) ss in
     let bytes = token s ++ rest in
     let all : (gap before (is_wordlike s) ++ token s) ++ rest ≡ gap before (is_wordlike s) ++ bytes =
-        append_assoc (gap before (is_wordlike s)) (token s) rest in
+    append_assoc (gap before (is_wordlike s)) (token s) rest in
     let len : length (gap before (is_wordlike s)) + length bytes ≤ end =
-        omega (arith, le, ap (length {A = ℕ}) all, length-append (gap before (is_wordlike s)) bytes) in
+    omega (arith, le, ap (length {A = ℕ}) all, length-append (gap before (is_wordlike s)) bytes) in
     let bound : length rest ≤ end = omega (arith, len, length-append (token s) rest) in
     let others = canon_lexes end (is_wordlike s) ss are.1 bound in
     let behind : behind_blanks ((gap before (is_wordlike s) ++ token s) ++ rest) ≡ bytes =
-        ap behind_blanks all ∙ behind_gap before (is_wordlike s) bytes (token_begins s rest are.0) in
+    ap behind_blanks all ∙ behind_gap before (is_wordlike s) bytes (token_begins s rest are.0) in
     let found : token_at (behind_blanks ((gap before (is_wordlike s) ++ token s) ++ rest)) ≡ Some (s, rest) =
-        ap token_at behind ∙ token_again s rest are.0 (canon_stops (is_wordlike s) ss) in
+    ap token_at behind ∙ token_again s rest are.0 (canon_stops (is_wordlike s) ss) in
     let place : end - length bytes + length (behind_blanks ((gap before (is_wordlike s) ++ token s) ++ rest)) ≡ end =
-        omega (arith, ap (length {A = ℕ}) behind, len) in
+    omega (arith, ap (length {A = ℕ}) behind, len) in
     (record { at = end - length bytes; shape = s } ∷ others.0, (rest, found, place, others.1), ap (λ (x : List Shape). s ∷ x) others.2)

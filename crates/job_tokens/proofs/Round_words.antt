@@ -21,7 +21,7 @@ word_at-again word rest is stops =
 abbrev pub token_unless_number : ℕ → List ℕ → Read
 token_unless_number b rest =
     cond (eqb b 34) (string_at rest) (cond (eqb b 123) (Some (shape.Mark mark.Open, rest))
-        (cond (eqb b 125) (Some (shape.Mark mark.Close, rest)) (cond (eqb b 59) (Some (shape.Mark mark.Semicolon, rest)) None)))
+    (cond (eqb b 125) (Some (shape.Mark mark.Close, rest)) (cond (eqb b 59) (Some (shape.Mark mark.Semicolon, rest)) None)))
 
 -- what a token is that begins with no letter
 abbrev pub token_unless_word : ℕ → List ℕ → Read

@@ -58,7 +58,7 @@ hex_unit h l rest None low b after p q e = absurd (no_some (b, after) e)
 hex_unit h l rest (Some v) None b after p q e = absurd (no_some (b, after) e)
 hex_unit h l rest (Some v) (Some w) b after p q e =
     unit_is (92 ∷ 120 ∷ h ∷ l ∷ rest) (16 * v + w, rest) (b, after) e
-        (record { small = omega (arith, hex_small h v p, hex_small l w q); shorter = omega (arith, length-unit (16 * v + w)) })
+    (record { small = omega (arith, hex_small h v p, hex_small l w q); shorter = omega (arith, length-unit (16 * v + w)) })
 
 escape_unit : (bytes : List ℕ) (b : ℕ) (after : List ℕ) → escape_at bytes ≡ Some (b, after) → IsUnit (92 ∷ bytes) b after
 escape_unit [] b after e = absurd (no_some (b, after) e)
@@ -76,8 +76,11 @@ escape_unit (c ∷ rest) b after e =
     by_hex (inr (f, e)) = absurd (no_some (b, after) e)
 
     itself : (eqb c 34 || eqb c 92) ≡ true → IsUnit (92 ∷ c ∷ rest) c rest
-    itself t = record { small = small_of (either_way (eqb c 34)); shorter = let spelled : length (unit c) ≡ 2 = rw t refl in
-        omega (arith, spelled) }
+    itself t = record {
+      small = small_of (either_way (eqb c 34));
+      shorter = let spelled : length (unit c) ≡ 2 = rw t refl in
+          omega (arith, spelled);
+    }
       where
         small_of : (eqb c 34 ≡ true) ⊎ (eqb c 34 ≡ false) → c < 256
         small_of (inl p) = omega (arith, eqb-true c 34 p)

@@ -69,8 +69,11 @@ read_string (suc n) bytes p e = by_quote (λ rest x. read_string n rest x) (behi
     by_rest others b after is None u e = absurd (no_units p e)
     by_rest others b after is (Some x) u e =
         let rest = others after x u in
-        string_is bytes (b ∷ x.0, x.1) p e (record { small = (is.small, rest.small); shorter =
-            omega (arith, is.shorter, rest.shorter, length-append (unit b) (flat_map unit x.0)) })
+        string_is bytes (b ∷ x.0, x.1) p e (record {
+          small = (is.small, rest.small);
+          shorter =
+              omega (arith, is.shorter, rest.shorter, length-append (unit b) (flat_map unit x.0));
+        })
 
     by_unit : ((rest : List ℕ) (x : List ℕ × List ℕ) → units n rest ≡ found_units x → IsString rest x.0 x.1) → behind_quote bytes ≡ None →
         (u : Unit_read) → unit_at bytes ≡ u → unit_then u (units n) ≡ found_units p → IsString bytes p.0 p.1
@@ -106,8 +109,11 @@ digits_shorter ds n some all e = by_zero (chosen (has_leading_zero ds) None (val
     none_some x e = cc
 
     bounded : value_after 0 ds ≤ GREATEST_NUMBER → value_after 0 ds ≡ n → (n ≤ GREATEST_NUMBER) × (length (decimal n) ≤ length ds)
-    bounded le is = (omega (arith, is), length-decimal-le (length ds) n some (omega (arith, is, value_after-lt 0 ds all))
-        (omega (arith, is)))
+    bounded le is = (
+      omega (arith, is),
+      length-decimal-le (length ds) n some (omega (arith, is, value_after-lt 0 ds all))
+          (omega (arith, is)),
+    )
 
     same_number : (a b : ℕ) → Some a ≡ Some b → a ≡ b
     same_number a b e = cc
@@ -172,8 +178,11 @@ read_word b bytes p letter e = by_word (chosen (is_word front) (found_token (sha
         × (None ≡ found_token p) → IsToken (b ∷ bytes) p.0 p.1
     by_word (inl (t, e)) = token_is (b ∷ bytes) (shape.Word front, rest) p e (record {
       spelled = t;
-      shorter = omega (arith, length-take (prefix_len is_word_byte (b ∷ bytes)) (b ∷ bytes),
-          length-drop (prefix_len is_word_byte (b ∷ bytes)) (b ∷ bytes));
+      shorter = omega (
+        arith,
+        length-take (prefix_len is_word_byte (b ∷ bytes)) (b ∷ bytes),
+        length-drop (prefix_len is_word_byte (b ∷ bytes)) (b ∷ bytes),
+      );
       apart = (left_stops is_word_byte (b ∷ bytes), begins_word_byte b bytes (letter_in_word b letter));
     })
     by_word (inr (f, e)) = absurd (no_token p e)
@@ -207,8 +216,11 @@ read_number b bytes p digit e = by_end (chosen (goes_on rest) None (found_token 
         omega (arith, one, length-take (prefix_len is_digit (b ∷ bytes)) (b ∷ bytes))
 
     len : length front + length rest ≤ length (b ∷ bytes)
-    len = omega (arith, length-take (prefix_len is_digit (b ∷ bytes)) (b ∷ bytes),
-        length-drop (prefix_len is_digit (b ∷ bytes)) (b ∷ bytes))
+    len = omega (
+      arith,
+      length-take (prefix_len is_digit (b ∷ bytes)) (b ∷ bytes),
+      length-drop (prefix_len is_digit (b ∷ bytes)) (b ∷ bytes),
+    )
 
     by_end : (goes_on rest ≡ true) × (None ≡ found_token p) ⊎ (goes_on rest ≡ false)
         × (found_token (shape.Number (number_of front), rest) ≡ found_token p) → IsToken (b ∷ bytes) p.0 p.1

@@ -19,11 +19,11 @@ pub ends : (front : List ℕ) (n : ℕ) (rest after : List ℕ) (total : Units_r
 unfolding units
 ends front zero rest after total quote so_far =
     let one : with_front front (units zero rest) ≡ Some (front, after) =
-        rw quote (ap (λ (bytes : List ℕ). Some (bytes, after)) (append-nil front)) in
+    rw quote (ap (λ (bytes : List ℕ). Some (bytes, after)) (append-nil front)) in
     sym so_far ∙ one
 ends front (suc n) rest after total quote so_far =
     let one : with_front front (units (suc n) rest) ≡ Some (front, after) =
-        rw quote (ap (λ (bytes : List ℕ). Some (bytes, after)) (append-nil front)) in
+    rw quote (ap (λ (bytes : List ℕ). Some (bytes, after)) (append-nil front)) in
     sym so_far ∙ one
 
 -- at what is no unit
@@ -53,5 +53,5 @@ unfolding units
 goes_on front most i rest b after total lt unquoted unit so_far =
     let k : most - i ≡ suc (most - (i + 1)) = omega arith in
     let one : with_front front (units (most - i) rest) ≡ with_front (front ++ b ∷ []) (units (most - (i + 1)) after) =
-        rw (k, unquoted, unit) (regroup front b (units (most - (i + 1)) after)) in
+    rw (k, unquoted, unit) (regroup front b (units (most - (i + 1)) after)) in
     sym one ∙ so_far

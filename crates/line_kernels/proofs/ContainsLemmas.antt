@@ -59,11 +59,11 @@ contains-occurs needle (b ∷ bs) (suc k) occurs =
 pub contains-nowhere : (needle bytes : List ℕ) → ((k : ℕ) → OccursAt bytes needle k → ⊥) → contains needle bytes ≡ false
 contains-nowhere needle [] none =
     ⊎_elim (λ (starts : starts_with nat_eq [] needle ≡ true). absurd (none 0 (starts-occurs [] needle starts))) (λ no_is. no_is)
-        (cases_Bool (starts_with nat_eq [] needle))
+    (cases_Bool (starts_with nat_eq [] needle))
 contains-nowhere needle (b ∷ bs) none =
     let rest = contains-nowhere needle bs (λ k occurs. none (suc k) (occurs-more b bs needle k occurs)) in
     ⊎_elim (λ (starts : starts_with nat_eq (b ∷ bs) needle ≡ true). absurd (none 0 (starts-occurs (b ∷ bs) needle starts)))
-        (λ no_is. rw no_is rest) (cases_Bool (starts_with nat_eq (b ∷ bs) needle))
+    (λ no_is. rw no_is rest) (cases_Bool (starts_with nat_eq (b ∷ bs) needle))
 
 -- what a search answers
 pub contains-found : (bytes needle : List ℕ) (found : Option ℕ) → FindsNeedle bytes needle 0 found → is_some found ≡ contains needle bytes

@@ -43,7 +43,7 @@ lines_from-count at (b ∷ c ∷ bs) =
     (λ (no_is : eqb b 10 ≡ false).
     let none : newlines (b ∷ c ∷ bs) ≡ 0 + newlines (c ∷ bs) = first ∙ ap (λ t. cond t 1 0 + newlines (c ∷ bs)) no_is in
     let lines : length (lines_from at (b ∷ c ∷ bs)) ≡ length (lines_from (at + 1) (c ∷ bs)) =
-        rw no_is (length-begun_at at (lines_from (at + 1) (c ∷ bs)) some) in
+    rw no_is (length-begun_at at (lines_from (at + 1) (c ∷ bs)) some) in
     omega (arith, none, lines, rest))
     (cases_Bool (eqb b 10))
 

@@ -58,12 +58,12 @@ low-hits ys zs is = subst (Each1 (λ y. y ≤ 1)) (sym is) (hits-low zs)
 pub lanes-next : (bytes : List ℕ) (at seen : ℕ) (lanes hits : List ℕ) → at + 64 * seen + 64 ≤ length bytes → length lanes ≡ 64 →
     sum_l lanes ≡ newlines (slice_range bytes at (at + 64 * seen))
     → hits ≡ map hit (slice_range bytes (at + 64 * seen) (at + 64 * seen + 64)) → (length (zip2 (λ a b. a + b) lanes hits) ≡ 64)
-        × (sum_l (zip2 (λ a b. a + b) lanes hits) ≡ newlines (slice_range bytes at (at + 64 * (seen + 1))))
+    × (sum_l (zip2 (λ a b. a + b) lanes hits) ≡ newlines (slice_range bytes at (at + 64 * (seen + 1))))
 lanes-next bytes at seen lanes hits within long counted is =
     let end : at + 64 * seen + 64 ≡ at + 64 * (seen + 1) = omega arith in
     let width : at + 64 * seen + 64 - (at + 64 * seen) ≡ 64 = omega arith in
     let size : length hits ≡ 64 = ap length is ∙ length-map _ hit ∙ length-slice_range bytes (at + 64 * seen) (at + 64 * seen + 64) within
-        ∙ width in
+    ∙ width in
     let joined = newlines-joined bytes at (at + 64 * seen) (at + 64 * seen + 64) (omega arith) (omega arith) in
     let here : sum_l hits ≡ newlines (slice_range bytes (at + 64 * seen) (at + 64 * seen + 64)) = ap sum_l is ∙ hits-sum _ in
     let sum : sum_l lanes + sum_l hits ≡ newlines (slice_range bytes at (at + 64 * seen + 64)) = omega (arith, counted, here, joined) in (

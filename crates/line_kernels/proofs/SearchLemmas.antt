@@ -25,7 +25,7 @@ begun-lies at count (l ∷ ls) lie =
     let high = head.1 in
     All-cons (LiesIn at (at + 1 + count)) (span at (l.len + 1)) ls (omega arith, omega arith)
     (All-weaker (LiesIn (at + 1) (at + 1 + count)) (LiesIn at (at + 1 + count)) (λ m lies. let low = lies.0 in (omega arith, lies.1)) ls
-        (All-tail (LiesIn (at + 1) (at + 1 + count)) l ls lie))
+    (All-tail (LiesIn (at + 1) (at + 1 + count)) l ls lie))
 
 -- the lines of bytes lie where the bytes stand
 pub lines_from-lie : (at : ℕ) (xs : List ℕ) → All (LiesIn at (at + length xs)) (lines_from at xs)
@@ -38,7 +38,7 @@ lines_from-lie at (b ∷ bs) =
     (λ (yes_is : eqb b 10 ≡ true). rw yes_is
     (All-cons (LiesIn at (at + 1 + length bs)) (span at 0) (lines_from (at + 1) bs) (omega arith, omega arith)
     (All-weaker (LiesIn (at + 1) (at + 1 + length bs)) (LiesIn at (at + 1 + length bs))
-        (λ m lies. let low = lies.0 in (omega arith, lies.1)) (lines_from (at + 1) bs) rest)))
+    (λ m lies. let low = lies.0 in (omega arith, lies.1)) (lines_from (at + 1) bs) rest)))
     (λ (no_is : eqb b 10 ≡ false). rw no_is (begun-lies at (length bs) (lines_from (at + 1) bs) rest))
     (cases_Bool (eqb b 10)))
 
@@ -113,7 +113,7 @@ pub found-next : (before after : Lines) (needle : List ℕ) (place : ℕ) (line 
     ((j : ℕ) → j < length needle → get_or needle j 0 ≢ 10)
     → FindsNeedle (bytes_of (source_of before) (range_left before)) needle 0 (Some place) → GoesToLine before place line after
     → filter (stands_in (source_of before) needle) (lines_left before) ≡ span_of line
-        ∷ filter (stands_in (source_of before) needle) (lines_left after)
+    ∷ filter (stands_in (source_of before) needle) (lines_left after)
 found-next before after needle place line some no_newline found goes =
     let b = source_of before in
     let from = (range_left before).from in
@@ -130,7 +130,7 @@ found-next before after needle place line some no_newline found goes =
     let earlier : filter (stands_in b needle) (lines_of b (range from l.at)) ≡ [] =
     none_stand b needle from l.at behind (omega arith) some
     (λ p low high stands. found.0.before (p - from) (omega arith) (omega arith)
-        (stands-occurs b needle from to p before.within low (omega arith) stands)) in
+    (stands-occurs b needle from to p before.within low (omega arith) stands)) in
     let reaches : from + place + length needle ≤ l.at + l.len =
     ⊎_elim (λ (at_end : l.at + l.len ≡ to). omega arith)
     (λ (newline : get_or b (l.at + l.len) 0 ≡ 10).
@@ -144,7 +144,7 @@ found-next before after needle place line some no_newline found goes =
     goes.ends in
     let shown : stands_in b needle l ≡ true =
     contains-occurs needle (text_of b l) (from + place - l.at) (stands-occurs b needle l.at (l.at + l.len) (from + place) (omega arith)
-        starts reaches here.1) in
+    starts reaches here.1) in
     ap (filter (stands_in b needle)) goes.passed ∙ filter-append (stands_in b needle) (lines_of b (range from l.at)) (l ∷ lines_left after)
     ∙ ap (λ ls. ls ++ filter (stands_in b needle) (l ∷ lines_left after)) earlier
-        ∙ filter-passed (stands_in b needle) l (lines_left after) shown
+    ∙ filter-passed (stands_in b needle) l (lines_left after) shown

@@ -48,7 +48,7 @@ IsSent text input limit before after verdict = (bytes : List ℕ) × IsVerdict t
 abbrev pub IsServeFault : List ℕ → List ℕ → ℕ → Option (List ℕ) → Option (List ℕ) → ServeFault → Type 0
 IsServeFault text input limit before after (Send sent) =
     (verdict : Verdict) × (bytes : List ℕ) × IsVerdict text input limit verdict bytes × (sent < length bytes)
-        × Appends before after (take sent bytes)
+    × Appends before after (take sent bytes)
 IsServeFault text input limit before after NoMemory = after ≡ before
 
 -- the count of a writer's failures rises by one where a sending stops, and else stays

@@ -49,7 +49,7 @@ pub Changes-write : (old new : NurseryBook) (key : ℕ) (m m' : Members) (change
     new.nurseries ≡ with_value old.nurseries key m' → nursery_of m' ≡ change (nursery_of m) → Changes old new key change
 Changes-write old new key m m' change at written same =
     let slots : Slots old.nurseries new.nurseries key (Some m') =
-        rw written (Updates-with_value old.nurseries key m' (some_value (get old.nurseries key) m at)) in
+    rw written (Updates-with_value old.nurseries key m' (some_value (get old.nurseries key) m at)) in
     from_members (get old.nurseries key) m (λ n. Updates old new key (Some (change n))) at
     (rw (← same) (Updates-slot old new key (Some m') slots))
 
@@ -58,7 +58,7 @@ pub Same-write : (old new : NurseryBook) (key : ℕ) (m m' : Members) → get ol
     new.nurseries ≡ with_value old.nurseries key m' → nursery_of m' ≡ nursery_of m → SameNurseries old new
 Same-write old new key m m' at written same other =
     let slots : Slots old.nurseries new.nurseries key (Some m') =
-        rw written (Updates-with_value old.nurseries key m' (some_value (get old.nurseries key) m at)) in
+    rw written (Updates-with_value old.nurseries key m' (some_value (get old.nurseries key) m at)) in
     elim (cases_eq other key) [
       | inl e ↦
           ap (nursery_at new) e ∙ ap (option_map nursery_of) slots.changed ∙ ap Some same

@@ -93,7 +93,7 @@ module _ (k f : Table) (whole : Result) (qs : List Started) (o : OnCourse k f wh
   -- whose serial number is greater.
   pub further :
       (u bound : ℕ) → v < u → Blocked f qs u → ((q : Started) → In q qs → q.serial < bound) → (n : ℕ) (q : Started) → In q qs →
-          live q.rest.stopped ≡ true → bound ≤ q.serial + n →
+      live q.rest.stopped ≡ true → bound ≤ q.serial + n →
       suc v ≤ resumes k q
   further u m h b small zero q i a z = let w : q.serial < m = small q i in absurd (omega arith)
   further u m h b small (suc n) q i a z =
@@ -108,7 +108,7 @@ module _ (k f : Table) (whole : Result) (qs : List Started) (o : OnCourse k f wh
     where
       by_stop : (s : Stopped) → live s ≡ true → StaysUntil f qs u q s →
           ((children : List ℕ) (c : Unended qs q children) → suc v ≤ (q.told c.number).end) →
-              suc v ≤ goes_on q.told s (stack_at k q.places) q.stop
+          suc v ≤ goes_on q.told s (stack_at k q.places) q.stop
       by_stop to_begin l p go = absurd p
       by_stop (asking kernel purpose) l p go = absurd p
       by_stop (asleep n since) l p go =
@@ -121,7 +121,7 @@ module _ (k f : Table) (whole : Result) (qs : List Started) (o : OnCourse k f wh
 -- nothing that was not made happens before the tick to which the clock jumps
 pub climb :
     (k f : Table) (whole : Result) (qs : List Started) → OnCourse k f whole qs → (t bound : ℕ) →
-        ((q : Started) → In q qs → q.serial < bound) → AllFrom k qs t → (u : ℕ) → Blocked f qs u →
+    ((q : Started) → In q qs → q.serial < bound) → AllFrom k qs t → (u : ℕ) → Blocked f qs u →
     (n v : ℕ) → v ≡ t + n → v ≤ u → AllFrom k qs v
 climb k f whole qs o t m small a u b zero v e h = subst (AllFrom k qs) (omega arith) a
 climb k f whole qs o t m small a u b (suc n) v e h = λ q i l.
@@ -133,6 +133,6 @@ climb k f whole qs o t m small a u b (suc n) v e h = λ q i l.
 -- so where the clock jumps
 pub jumps :
     (k f : Table) (whole : Result) (qs : List Started) → OnCourse k f whole qs → (t bound : ℕ) →
-        ((q : Started) → In q qs → q.serial < bound) → AllFrom k qs t → (u : ℕ) → t ≤ u → Blocked f qs u →
+    ((q : Started) → In q qs → q.serial < bound) → AllFrom k qs t → (u : ℕ) → t ≤ u → Blocked f qs u →
     AllFrom k qs u
 jumps k f whole qs o t m small a u h b = climb k f whole qs o t m small a u b (u - t) u (omega arith) (omega arith)

@@ -40,7 +40,7 @@ deadline_entered_once l d (entry t e rest) h n = deadline_entered_once l d rest 
 deadline_entered_once l d (sign m t rest) h n = deadline_entered_once l d rest h n
 deadline_entered_once l d (entered m t x rest) (inl e) n =
     ap (λ (b : Bool). either (deadline_if b x) (deadline_of l rest))
-        (subst (λ (y : Label). same_label l y ≡ true) e.0 (same_label_itself l)) ∙ ap (λ (y : Tick). Some y) (sym e.1)
+    (subst (λ (y : Label). same_label l y ≡ true) e.0 (same_label_itself l)) ∙ ap (λ (y : Tick). Some y) (sym e.1)
 deadline_entered_once l d (entered m t x rest) (inr h) n =
     by_test (same_label l m) n (entered_times l d rest h) (deadline_entered_once l d rest h)
   where
@@ -53,7 +53,7 @@ deadline_entered_once l d (task m s u e own rest) (inl h) n =
 deadline_entered_once l d (task m s u e own rest) (inr h) n =
     let some : 1 ≤ times_entered l rest = entered_times l d rest h in
     ap (λ (o : Option Tick). either o (deadline_of l rest)) (no_deadline_left l own (omega arith))
-        ∙ deadline_entered_once l d rest h (omega arith)
+    ∙ deadline_entered_once l d rest h (omega arith)
 
 -- the root signs for nobody
 signed_root : (r : Result) → signed [] r ≡ r
@@ -88,8 +88,11 @@ module _ (k f : Table) (job : Tree) (input : List ℕ) (names : GivesNamesOnce j
       (deadline_entered_once l d whole.log h (once_left l))
 
   fits_root : Fits k (root_task k job input)
-  fits_root = record { comes = λ told h. root_comes k job input told; lefts =
-      λ told h. ap (λ (r : Result). r.log) (root_comes k job input told) }
+  fits_root = record {
+    comes = λ told h. root_comes k job input told;
+    lefts =
+        λ told h. ap (λ (r : Result). r.log) (root_comes k job input told);
+  }
 
   of_root : (P : Started → Type 0) → P (root_task k job input) → (q : Started) → In q tasks → P q
   of_root P h q (inl e) = subst P (sym e) h

@@ -36,7 +36,7 @@ old_told k t told n [] p i h = refl
 old_told k t told n (b ∷ bs) p i h =
     let z : b.number ≡ n = p.0 in
     ap (λ (c : Bool). cond c (begun_comes_to k t b) (told_new k t told bs i)) (eqb_less i b.number (omega arith))
-        ∙ old_told k t told (suc n) bs p.1 i (omega arith)
+    ∙ old_told k t told (suc n) bs p.1 i (omega arith)
 
 -- of the first of new children its own
 pub first_told : (k : Table) (t : ℕ) (told : Telling) (b : Begun) (bs : List Begun) (i : ℕ) → i ≡ b.number →
@@ -130,7 +130,7 @@ module _ (k : Table) (t : ℕ) (told : Telling) where
   fill_entered n m (starts j y u ∷ es) [] p q x i l d h = absurd p
   fill_entered n m (starts j y u ∷ es) (b ∷ bs) p q x (inl e) l d h =
       let same : x.left ≡ (told j).log = ap (λ (z : Started). z.left) e
-          ∙ ap (λ (r : Result). r.log) (sym (ap told (p.0 ∙ sym p.1) ∙ q.0)) in
+      ∙ ap (λ (r : Result). r.log) (sym (ap told (p.0 ∙ sym p.1) ∙ q.0)) in
       inl (subst (λ (a : Log). EnteredIn l d a) same h)
   fill_entered n m (starts j y u ∷ es) (b ∷ bs) p q x (inr i) l d h = inr (fill_entered (suc n) (suc m) es bs p.3 q.1 x i l d h)
 
@@ -138,7 +138,7 @@ module _ (k : Table) (t : ℕ) (told : Telling) where
 
 module _ (k f : Table) (t m : ℕ) (wake : Wake) (q : Started) (o : Move) (s : Stopped)
     (w : TurnsOver q.stop t q.here f wake q.rest q.places q.count o) (stopped : o.stopped ≡ Some s) (fit : Fits k q)
-        (near : AgreesOn t k f q.places) (deadlines : AgreesIn t k q.left)
+    (near : AgreesOn t k f q.places) (deadlines : AgreesIn t k q.left)
     (come : (told : Telling) → Tells q told → WakesBy k told q.here q.stop t wake q.rest.stopped q.places) where
   abbrev left_before : Telling → Result
   left_before told = rest_comes_to (by_table k) told q.rest q.here (stack_at k q.places) q.stop
@@ -200,9 +200,9 @@ module _ (k f : Table) (t m : ℕ) (wake : Wake) (q : Started) (o : Move) (s : S
       let x : upto c (least_sign l q.left) ≡ min (upto c (least_sign l (fill d o.made))) (upto c (least_sign l (left_after d).log)) =
       ap (λ (a : Log). upto c (least_sign l a)) (left_is d tells_itself) ∙ least_join c l (fill d o.made) (left_after d).log in
       let y : upto c (least_sign l (fill d o.made)) ≡ min (upto c (made_sign l o.made)) (all_least c l (children_from k t m o.begun)) =
-          fill_least k t d c l q.count m o.made o.begun w.starts (tells_begun d tells_itself) in
+      fill_least k t d c l q.count m o.made o.begun w.starts (tells_begun d tells_itself) in
       let v : upto c (made_sign l (q.made ++ o.made)) ≡ min (upto c (made_sign l q.made)) (upto c (made_sign l o.made)) =
-          first_join c l q.made o.made in
+      first_join c l q.made o.made in
       omega arith
 
   -- and so is how often a label is entered
@@ -212,9 +212,9 @@ module _ (k f : Table) (t m : ℕ) (wake : Wake) (q : Started) (o : Move) (s : S
   times_turned l =
       let d : Telling = (turned k t m q o s).told in
       let x : times_entered l q.left ≡ times_entered l (fill d o.made) + times_entered l (left_after d).log =
-          ap (λ (a : Log). times_entered l a) (left_is d tells_itself) ∙ left_join l (fill d o.made) (left_after d).log in
+      ap (λ (a : Log). times_entered l a) (left_is d tells_itself) ∙ left_join l (fill d o.made) (left_after d).log in
       let y : times_entered l (fill d o.made) ≡ times_made l o.made + all_times l (children_from k t m o.begun) =
-          fill_times k t d l q.count m o.made o.begun w.starts (tells_begun d tells_itself) in
+      fill_times k t d l q.count m o.made o.begun w.starts (tells_begun d tells_itself) in
       let v : times_made l (q.made ++ o.made) ≡ times_made l q.made + times_made l o.made = times_join l q.made o.made in
       omega arith
 

@@ -41,7 +41,7 @@ ended_log : (k : Table) (q : Started) → Fits k q → (u : ℕ) (e : Option Exc
 ended_log k q p u e s =
     sym (ap (λ (r : Result). r.log) (p.comes q.told (told_tells q)))
     ∙ (ap (λ (z : Stopped). (task_comes_to (by_table k) q.told q.made (record { stopped = z; frames = q.rest.frames }) q.here
-        (stack_at k q.places) q.stop).log) s
+    (stack_at k q.places) q.stop).log) s
     ∙ followed_nil (fill q.told q.made))
 
 -- ticks that are equal as far as each tick
@@ -138,40 +138,70 @@ module _ (k f : Table) (whole : Result) (qs : List Started) (o : OnCourse k f wh
     froms : froms_all tasks ≡ froms_by k (all_entered (fill q.told es))
 
   child_record : (q : Started) (i : ℕ) (l : Label) (t : ℕ) (c : Kid qs q i) → (rows (q.child i)).label ≡ l → (rows (q.child i)).start ≡ t →
-      record_of (rows c.kid.serial) ≡ record { label = l; start = t; end = (q.told i).end; exc = (q.told i).exc; entries =
-          entries_of (q.told i).log }
+      record_of (rows c.kid.serial) ≡ record {
+        label = l;
+        start = t;
+        end = (q.told i).end;
+        exc = (q.told i).exc;
+        entries =
+            entries_of (q.told i).log;
+      }
   child_record q i l t c a b =
       let h : HasRow f rows c.kid = rowed c.kid c.among in
       let z : (c.kid.fate.end ≡ (rows c.kid.serial).end) × (c.kid.fate.exc ≡ (rows c.kid.serial).exc) =
-          ended_fate k c.kid (o.fits c.kid c.among) (rows c.kid.serial).end (rows c.kid.serial).exc h.ended in
+      ended_fate k c.kid (o.fits c.kid c.among) (rows c.kid.serial).end (rows c.kid.serial).exc h.ended in
       let x1 : (rows c.kid.serial).label ≡ l = ap (λ (n : ℕ). (rows n).label) c.serial ∙ a in
       let x2 : (rows c.kid.serial).start ≡ t = ap (λ (n : ℕ). (rows n).start) c.serial ∙ b in
       let x3 : (rows c.kid.serial).end ≡ (q.told i).end = sym z.0 ∙ ap (λ (r : Result). r.end) c.same in
       let x4 : (rows c.kid.serial).exc ≡ (q.told i).exc = sym z.1 ∙ ap (λ (r : Result). r.exc) c.same in
       let x5 : (rows c.kid.serial).entries ≡ entries_of (q.told i).log =
-          row_entries c.kid c.among ∙ ap (λ (r : Result). entries_of r.log) c.same in
+      row_entries c.kid c.among ∙ ap (λ (r : Result). entries_of r.log) c.same in
       λ j. record { label = x1 j; start = x2 j; end = x3 j; exc = x4 j; entries = x5 j }
 
   children_of : (q : Started) → In q qs → (es : List Event) → ((i : ℕ) → StartsChild i es → i < q.count) → StartsRows rows q.child es →
       Children q es
   children_of q j [] h s = record { tasks = []; among = tt; numbers = refl; records = refl; froms = refl }
   children_of q j (noted t e ∷ es) h s =
-      let r : Children q es = children_of q j es h s in record { tasks = r.tasks; among = r.among; numbers = r.numbers; records =
-          r.records; froms = r.froms }
+      let r : Children q es = children_of q j es h s in record {
+        tasks = r.tasks;
+        among = r.among;
+        numbers = r.numbers;
+        records =
+            r.records;
+        froms = r.froms;
+      }
   children_of q j (signs l t ∷ es) h s =
-      let r : Children q es = children_of q j es h s in record { tasks = r.tasks; among = r.among; numbers = r.numbers; records =
-          r.records; froms = r.froms }
+      let r : Children q es = children_of q j es h s in record {
+        tasks = r.tasks;
+        among = r.among;
+        numbers = r.numbers;
+        records =
+            r.records;
+        froms = r.froms;
+      }
   children_of q j (enters l t d ∷ es) h s =
-      let r : Children q es = children_of q j es h s in record { tasks = r.tasks; among = r.among; numbers = r.numbers; records =
-          r.records; froms = r.froms }
+      let r : Children q es = children_of q j es h s in record {
+        tasks = r.tasks;
+        among = r.among;
+        numbers = r.numbers;
+        records =
+            r.records;
+        froms = r.froms;
+      }
   children_of q j (starts i l t ∷ es) h s =
       let r : Children q es = children_of q j es (λ n m. h n (inr m)) s.2 in
       let c : Kid qs q i = o.kids q j i (h i (inl refl)) in
-      let x : record_of (rows c.kid.serial) ≡ record { label = l; start = t; end = (q.told i).end; exc = (q.told i).exc; entries =
-          entries_of (q.told i).log } = child_record q i l t c s.0 s.1 in
+      let x : record_of (rows c.kid.serial) ≡ record {
+        label = l;
+        start = t;
+        end = (q.told i).end;
+        exc = (q.told i).exc;
+        entries =
+            entries_of (q.told i).log;
+      } = child_record q i l t c s.0 s.1 in
       let y : records_of c.kid.fate.log ≡ records_of (q.told i).log = ap (λ (v : Result). records_of v.log) c.same in
       let z : (rows c.kid.serial).froms ++ froms_by k (all_entered c.kid.fate.log) ≡ froms_by k (entered_by (q.told i).log)
-          ++ froms_by k (all_entered (q.told i).log) =
+      ++ froms_by k (all_entered (q.told i).log) =
       ap (λ (v : List From). v ++ froms_by k (all_entered c.kid.fate.log)) (row_froms c.kid c.among)
       ∙ ap (λ (v : Result). froms_by k (entered_by v.log) ++ froms_by k (all_entered v.log)) c.same in
       record {
@@ -183,10 +213,10 @@ module _ (k f : Table) (whole : Result) (qs : List Started) (o : OnCourse k f wh
             ap (λ (v : List From). v ++ froms_all r.tasks) z
             ∙ (ap (λ (v : List From). (froms_by k (entered_by (q.told i).log) ++ froms_by k (all_entered (q.told i).log)) ++ v) r.froms
             ∙ (append_assoc (froms_by k (entered_by (q.told i).log)) (froms_by k (all_entered (q.told i).log))
-                (froms_by k (all_entered (fill q.told es)))
+            (froms_by k (all_entered (fill q.told es)))
             ∙ sym (froms_append k (entered_by (q.told i).log) (all_entered (q.told i).log ++ all_entered (fill q.told es))
             ∙ ap (λ (v : List From). froms_by k (entered_by (q.told i).log) ++ v)
-                (froms_append k (all_entered (q.told i).log) (all_entered (fill q.told es))))));
+            (froms_append k (all_entered (q.told i).log) (all_entered (fill q.told es))))));
       }
 
   all_children : (q : Started) → In q qs → Children q q.made
@@ -204,7 +234,7 @@ module _ (k f : Table) (whole : Result) (qs : List Started) (o : OnCourse k f wh
       let rest : stack ≡ serials ts = cc in
       let kids : (rows s).children ≡ serials c.tasks = ap (λ (n : ℕ). (rows n).children) first ∙ ((rowed q p.0).children ∙ sym c.numbers) in
       let more : (rows s).children ++ stack ≡ serials (c.tasks ++ ts) =
-          ap (λ (x : List ℕ). x ++ stack) kids ∙ (ap (λ (x : List ℕ). serials c.tasks ++ x) rest ∙ sym (serials_append c.tasks ts)) in
+      ap (λ (x : List ℕ). x ++ stack) kids ∙ (ap (λ (x : List ℕ). serials c.tasks ++ x) rest ∙ sym (serials_append c.tasks ts)) in
       let own : records_all c.tasks ≡ records_of q.fate.log = c.records ∙ sym (ap records_of (log_of q p.0)) in
       ap (λ (n : ℕ). record_of (rows n) ∷ records_by rows taken) first
       ∙ ap (λ (x : List Record). record_of (rows q.serial) ∷ x)
@@ -222,9 +252,9 @@ module _ (k f : Table) (whole : Result) (qs : List Started) (o : OnCourse k f wh
       let rest : stack ≡ serials ts = cc in
       let kids : (rows s).children ≡ serials c.tasks = ap (λ (n : ℕ). (rows n).children) first ∙ ((rowed q p.0).children ∙ sym c.numbers) in
       let more : (rows s).children ++ stack ≡ serials (c.tasks ++ ts) =
-          ap (λ (x : List ℕ). x ++ stack) kids ∙ (ap (λ (x : List ℕ). serials c.tasks ++ x) rest ∙ sym (serials_append c.tasks ts)) in
+      ap (λ (x : List ℕ). x ++ stack) kids ∙ (ap (λ (x : List ℕ). serials c.tasks ++ x) rest ∙ sym (serials_append c.tasks ts)) in
       let own : froms_all c.tasks ≡ froms_by k (all_entered q.fate.log) =
-          c.froms ∙ sym (ap (λ (a : Log). froms_by k (all_entered a)) (log_of q p.0)) in
+      c.froms ∙ sym (ap (λ (a : Log). froms_by k (all_entered a)) (log_of q p.0)) in
       ap (λ (n : ℕ). (rows n).froms ++ froms_in rows taken) first
       ∙ (ap (λ (x : List From). (rows q.serial).froms ++ x)
       (taken_froms d (c.tasks ++ ts) (all_in_append c.tasks ts c.among p.1) more
@@ -236,14 +266,14 @@ module _ (k f : Table) (whole : Result) (qs : List Started) (o : OnCourse k f wh
   root_row : (rows 0).end ≡ whole.end
   root_row = let h : HasRow f rows o.root.root = rowed o.root.root o.root.among in
       ap (λ (n : ℕ). (rows n).end) (sym o.root.first)
-          ∙ (sym (ended_fate k o.root.root (o.fits o.root.root o.root.among) (rows o.root.root.serial).end (rows o.root.root.serial).exc
-          h.ended).0 ∙ ap (λ (r : Result). r.end) o.root.comes)
+      ∙ (sym (ended_fate k o.root.root (o.fits o.root.root o.root.among) (rows o.root.root.serial).end (rows o.root.root.serial).exc
+      h.ended).0 ∙ ap (λ (r : Result). r.end) o.root.comes)
 
   root_exc : (rows 0).exc ≡ whole.exc
   root_exc = let h : HasRow f rows o.root.root = rowed o.root.root o.root.among in
       ap (λ (n : ℕ). (rows n).exc) (sym o.root.first)
-          ∙ (sym (ended_fate k o.root.root (o.fits o.root.root o.root.among) (rows o.root.root.serial).end (rows o.root.root.serial).exc
-          h.ended).1 ∙ ap (λ (r : Result). r.exc) o.root.comes)
+      ∙ (sym (ended_fate k o.root.root (o.fits o.root.root o.root.among) (rows o.root.root.serial).end (rows o.root.root.serial).exc
+      h.ended).1 ∙ ap (λ (r : Result). r.exc) o.root.comes)
 
   -- the row of the root has the end of the whole
   pub ends_over : (rows 0).end ≡ whole.end
@@ -257,7 +287,7 @@ module _ (k f : Table) (whole : Result) (qs : List Started) (o : OnCourse k f wh
       let q : Started = o.root.root in
       let z : q.serial ≡ 0 = o.root.first in
       let y : (rows q.serial).entries ≡ entries_of whole.log = row_entries q o.root.among
-          ∙ ap (λ (r : Result). entries_of r.log) o.root.comes in
+      ∙ ap (λ (r : Result). entries_of r.log) o.root.comes in
       let x : (rows 0).entries ≡ entries_of whole.log = ap (λ (n : ℕ). (rows n).entries) (sym z) ∙ y in
       let w : records_of q.fate.log ≡ records_of whole.log = ap (λ (r : Result). records_of r.log) o.root.comes in
       taken_records d (q ∷ []) (o.root.among, tt) (ap (λ (n : ℕ). n ∷ []) (sym z))

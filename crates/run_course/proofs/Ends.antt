@@ -65,7 +65,7 @@ ends_joined body r q h k le = record {
       let b : latest q.end r.members ≤ latest (latest q.end r.members) q.members = latest_ends (latest q.end r.members) q.members in
       let c : q.end ≤ latest q.end r.members = latest_ends q.end r.members in
       let d : latest q.end q.members ≤ latest (latest q.end r.members) q.members =
-          latest_later q.end (latest q.end r.members) q.members c in
+      latest_later q.end (latest q.end r.members) q.members c in
       let e : latest q.end (r.members ++ q.members) ≡ latest (latest q.end r.members) q.members = latest_append q.end r.members q.members in
       inside_followed (latest q.end (r.members ++ q.members)) r.log q.log
       (inside_later (latest r.end r.members) _ r.log (omega arith) h.inside)
@@ -137,13 +137,18 @@ ends_block : (body : Bool) (m : Mode) (kind : Kind) (label : Label) (t : ℕ) (d
 unfolding block
 ends_block body m kind label t d shield st inside h =
     let f : Tick = from_of m label d inside in
-    record { inside = inside_followed (inside f).end (inside f).log (entry (inside f).end _ nil) (inside_closed (inside f) (h f)) tt;
-        closed = λ e. refl }
+    record {
+      inside = inside_followed (inside f).end (inside f).log (entry (inside f).end _ nil) (inside_closed (inside f) (h f)) tt;
+      closed = λ e. refl;
+    }
 
 ends_signed : (body : Bool) (st : Stack) (r : Result) → Ends body r → Ends body (signed st r)
 unfolding signed
-ends_signed body st r h = record { inside = inside_followed (latest r.end r.members) r.log _ h.inside
-    (inside_sign_if (latest r.end r.members) r.exc (home_of st) r.end); closed = h.closed }
+ends_signed body st r h = record {
+  inside = inside_followed (latest r.end r.members) r.log _ h.inside
+      (inside_sign_if (latest r.end r.members) r.exc (home_of st) r.end);
+  closed = h.closed;
+}
 
 ends_gathered : (body : Bool) (label : Label) (r : Result) → Ends true r → Ends body (gathered label r)
 unfolding gathered

@@ -76,7 +76,7 @@ wakes_live f qs t q (settles x) (at_end u e) h = absurd h
 -- and none for which it waited is live
 none_waited : (f : Table) (qs : List Started) (t : ℕ) (q : Started) (w : Wake) (s : Stopped) (ps : List Place) → MayWake f qs t q w s →
     (i : ℕ) (home : List Place) → WaitsFor i home (Some s) ps → (c : Started) → In c qs → c.serial ≡ q.child i →
-        live c.rest.stopped ≡ true → ⊥
+    live c.rest.stopped ≡ true → ⊥
 none_waited f qs t q (settles x) (awaiting children ended e) (p ∷ ps) h i home a c among serial l =
     let y : c.rest.stopped ≡ at_end (h.ends i).end (h.ends i).exc = h.over i a.0 c among serial in
     let z : live c.rest.stopped ≡ false = ap live y in
@@ -167,8 +167,15 @@ module _ (k f : Table) (t m : ℕ) (q : Started) (ys : List Started) (wake : Wak
       by_starter (inl z) =
           of_turned h.number (subst (λ (v : Started). v.serial < serial) z h.earlier) (h.same ∙ ap (λ (v : Started). v.child h.number) z)
           (subst (λ (v : Started). HasChildAfter h.number home (Some v.rest.stopped) v.rest.frames v.places) z h.has)
-      by_starter (inr j) = record { starter = h.starter; among = inr (in_second h.starter new ys j); earlier = h.earlier; number =
-          h.number; same = h.same; has = h.has }
+      by_starter (inr j) = record {
+        starter = h.starter;
+        among = inr (in_second h.starter new ys j);
+        earlier = h.earlier;
+        number =
+            h.number;
+        same = h.same;
+        has = h.has;
+      }
 
   -- the task that had its turn
   turned_housed : IsHoused after_turn q'
@@ -273,8 +280,15 @@ housed_moved qs rs same all x i = record { placed = h.placed; kids = h.kids; own
     moved : ((x.serial ≡ 0) × (home_of x ≡ [])) ⊎ Home qs x.serial (home_of x) → ((x.serial ≡ 0) × (home_of x ≡ []))
         ⊎ Home rs x.serial (home_of x)
     moved (inl e) = inl e
-    moved (inr g) = inr (record { starter = g.starter; among = same.forth g.starter g.among; earlier = g.earlier; number = g.number; same =
-        g.same; has = g.has })
+    moved (inr g) = inr (record {
+      starter = g.starter;
+      among = same.forth g.starter g.among;
+      earlier = g.earlier;
+      number = g.number;
+      same =
+          g.same;
+      has = g.has;
+    })
 
 -- serial numbers are below the number of tasks started
 serials_below : (k : Table) (job : Tree) (input : List ℕ) (f : Table) (t m : ℕ) (qs : List Started) → Reached k job input f t m qs →
@@ -297,7 +311,7 @@ serials_below k job input f t m qs (jump g v u n qs' r le blocked) x i = serials
 pub tasks_are_housed : TasksAreHoused
 tasks_are_housed k job input inside f t m _ (begun f') q (inl e) =
     subst (λ (x : Started). IsHoused (root_task k job input ∷ []) x) (sym e)
-        (record { placed = (inside, tt); kids = tt; own = tt; home = λ l. inl (refl, refl) })
+    (record { placed = (inside, tt); kids = tt; own = tt; home = λ l. inl (refl, refl) })
 tasks_are_housed k job input inside f t m _ (begun f') q (inr i) = absurd i
 tasks_are_housed k job input inside f t m _ (turn g u n p qs others wake o s r at may goes stopped) q i =
     housed_after k g u n p others wake o s
@@ -372,7 +386,7 @@ module _ (qs : List Started) (all : (x : Started) → In x qs → IsHoused qs x)
   in_force zero x j lt a k = absurd (omega arith)
   in_force (suc n) x j lt a k =
       by_own (λ y b c d. in_force n y b c d) (at_place (λ m. EntersIn m x.made ⊎ Known m (labels_of (home_of x))) l x.places (all x j).own
-          k)
+      k)
     where
       Earlier : Type 0
       Earlier = (y : Started) → In y qs → y.serial < n → live y.rest.stopped ≡ true → Known l (labels_of y.places) →

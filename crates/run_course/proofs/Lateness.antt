@@ -24,7 +24,7 @@ slept_end (Some from) n t = by_now (nat_le from t) (nat_le from (t + n)) refl re
   where
     by_now : (now before : Bool) → nat_le from t ≡ now → nat_le from (t + n) ≡ before →
         (if now then raised_at cancelled t else (if before then raised_at cancelled from else done_at (t + n))).end
-            ≡ max t (min (t + n) from)
+        ≡ max t (min (t + n) from)
     by_now true before e f = grind (arith, nat_tests)
     by_now false true e f = grind (arith, nat_tests)
     by_now false false e f = grind (arith, nat_tests)
@@ -62,7 +62,7 @@ module _ (k : Table) (told : Telling) (here : Here) (t v : ℕ) where
   -- what a live task has left is as late as the tick in which it goes on
   pub late_rest : (s : Stopped) (fs : List Frame) (ps : List Place) → PlacedStop s fs ps → live s ≡ true →
       v ≤ goes_on told s (stack_at k ps) t →
-          Late v (rest_comes_to (by_table k) told (record { stopped = s; frames = fs }) here (stack_at k ps) t)
+      Late v (rest_comes_to (by_table k) told (record { stopped = s; frames = fs }) here (stack_at k ps) t)
   late_rest to_begin fs ps h l le = late_finish fs v (by_table k) told here (stack_at k ps) (done_at t) (late_done v t le)
   late_rest (asking kernel purpose) fs ps h l le =
       late_finish fs v (by_table k) told here (stack_at k ps) (answered (answer_of kernel here) purpose here (stack_at k ps) t)
@@ -77,7 +77,7 @@ module _ (k : Table) (told : Telling) (here : Here) (t v : ℕ) where
   -- and what any task has left happens then or later
   pub timed_rest : (s : Stopped) (fs : List Frame) (ps : List Place) → PlacedStop s fs ps →
       (live s ≡ true → v ≤ goes_on told s (stack_at k ps) t) → Timed v
-          (rest_comes_to (by_table k) told (record { stopped = s; frames = fs }) here (stack_at k ps) t).log
+      (rest_comes_to (by_table k) told (record { stopped = s; frames = fs }) here (stack_at k ps) t).log
   timed_rest to_begin fs ps h le = (late_rest to_begin fs ps h refl (le refl)).timed
   timed_rest (asking kernel purpose) fs ps h le = (late_rest (asking kernel purpose) fs ps h refl (le refl)).timed
   timed_rest (asleep n since) fs ps h le = (late_rest (asleep n since) fs ps h refl (le refl)).timed

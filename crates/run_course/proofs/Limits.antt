@@ -38,7 +38,7 @@ module _ (k f : Table) (whole : Result) (qs : List Started) (o : OnCourse k f wh
       of_starter p s =
           let a : Inside p.starter.fate.end (fill p.starter.told p.starter.made) =
           inside_first p.starter.fate.end (fill p.starter.told p.starter.made) _
-              (subst (λ (x : Log). Inside p.starter.fate.end x) (sym (log_of p.starter p.among)) s.1) in
+          (subst (λ (x : Log). Inside p.starter.fate.end x) (sym (log_of p.starter p.among)) s.1) in
           let b = inside_child p.starter.fate.end p.starter.told p.number p.starter.made a p.started in
           let c : (p.starter.told p.number).end ≤ p.starter.fate.end = b.0 in
           let d : p.starter.fate.end ≤ whole.end = s.0 in

@@ -20,8 +20,15 @@ pub record SameTasks (qs rs : List Started) : Type 0 where
 pub front_same : (q : Started) (qs others : List Started) → Front q qs others → SameTasks qs (q ∷ others)
 unfolding made_least all_least made_times all_times
 front_same q _ _ (is_front q' qs') =
-    record { forth = λ z i. i; back = λ z i. i; same_made = λ c l. refl; same_all = λ c l. refl; same_made_times =
-        λ l. refl; same_all_times = λ l. refl }
+    record {
+      forth = λ z i. i;
+      back = λ z i. i;
+      same_made = λ c l. refl;
+      same_all = λ c l. refl;
+      same_made_times =
+          λ l. refl;
+      same_all_times = λ l. refl;
+    }
 front_same q _ _ (behind_one q' x qs' others' at) = go (front_same q' qs' others' at)
   where
     go : SameTasks qs' (q' ∷ others') → SameTasks (x ∷ qs') (q' ∷ x ∷ others')
@@ -53,17 +60,29 @@ module _ (k f : Table) (whole : Result) (qs rs : List Started) (same : SameTasks
 
   parent_moved : (q : Started) → (q.fate ≡ whole) ⊎ Parent qs q → (q.fate ≡ whole) ⊎ Parent rs q
   parent_moved q (inl e) = inl e
-  parent_moved q (inr p) = inr (record { starter = p.starter; among = same.forth p.starter p.among; earlier = p.earlier; number =
-      p.number; started = p.started; same = p.same })
+  parent_moved q (inr p) = inr (record {
+    starter = p.starter;
+    among = same.forth p.starter p.among;
+    earlier = p.earlier;
+    number =
+        p.number;
+    started = p.started;
+    same = p.same;
+  })
 
   known_moved : (l : Label) (d : _) → HasFrom k f whole.log qs l d → HasFrom k f whole.log rs l d
-  known_moved l d p = record { settled = p.settled; kept = λ c. p.kept c
-      ∙ ap (λ (n : ℕ). min (upto (suc c) d) (suc n)) (sym (same.same_made c l)) }
+  known_moved l d p = record {
+    settled = p.settled;
+    kept = λ c. p.kept c
+        ∙ ap (λ (n : ℕ). min (upto (suc c) d) (suc n)) (sym (same.same_made c l));
+  }
 
   places_moved : (ps : List Place) → EachPlace (Entered qs) ps → EachPlace (Entered rs) ps
   places_moved [] p = tt
-  places_moved (x ∷ ps) p = (record { deadline = p.0.deadline; by = p.0.by; among = same.forth p.0.by p.0.among; made = p.0.made },
-      places_moved ps p.1)
+  places_moved (x ∷ ps) p = (
+    record { deadline = p.0.deadline; by = p.0.by; among = same.forth p.0.by p.0.among; made = p.0.made },
+    places_moved ps p.1,
+  )
 
   -- in another order they are still on their course
   pub course_moved : OnCourse k f whole qs → OnCourse k f whole rs

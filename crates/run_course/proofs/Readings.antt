@@ -53,8 +53,12 @@ pub first_join : (c : ℕ) (l : Label) (xs ys : List Event) → upto c (made_sig
 first_join c l [] ys = let h : upto c (made_sign l ys) ≤ c = upto_most c (made_sign l ys) in omega arith
 first_join c l (noted t e ∷ xs) ys = first_join c l xs ys
 first_join c l (signs m t ∷ xs) ys =
-    omega (arith, upto_earlier c (tick_if (same_label l m) t) (made_sign l (xs ++ ys)),
-        upto_earlier c (tick_if (same_label l m) t) (made_sign l xs), first_join c l xs ys)
+    omega (
+      arith,
+      upto_earlier c (tick_if (same_label l m) t) (made_sign l (xs ++ ys)),
+      upto_earlier c (tick_if (same_label l m) t) (made_sign l xs),
+      first_join c l xs ys,
+    )
 first_join c l (enters m t d ∷ xs) ys = first_join c l xs ys
 first_join c l (starts i m t ∷ xs) ys = first_join c l xs ys
 

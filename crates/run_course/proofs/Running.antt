@@ -154,7 +154,7 @@ ends_run k (turn f t m q qs others wake o s r at may goes stopped) =
     let a : all_weights qs ≡ rest_weight q.rest + all_weights others = weights_front at in
     let b : all_weights (children_from k t m o.begun) ≡ weight_of_begun o.begun = weights_begun k t m o.begun in
     let c : all_weights (children_from k t m o.begun ++ others) ≡ all_weights (children_from k t m o.begun) + all_weights others =
-        weights_join (children_from k t m o.begun) others in
+    weights_join (children_from k t m o.begun) others in
     let d : rest_weight (record { stopped = s; frames = o.frames }) + weight_of_begun o.begun < rest_weight q.rest =
     lighter t f wake q o s goes stopped in
     let e : turns_taken r + all_weights qs ≤ _ = ends_run k r in

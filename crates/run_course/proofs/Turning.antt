@@ -194,7 +194,7 @@ module _ (k f : Table) (whole : Result) (q : Started) (ys : List Started) (cours
   signed_after c l =
       let x : upto c (least_sign l whole.log) ≡ all_least c l (q ∷ ys) = course.signed c l in
       let y : all_least c l (q' ∷ new) ≡ min (upto c (made_sign l q.made)) (upto c (least_sign l q.left)) =
-          least_turned k f t m wake q o s w stopped fit near deadlines come c l in
+      least_turned k f t m wake q o s w stopped fit near deadlines come c l in
       let z : all_least c l after_turn ≡ min (all_least c l (q' ∷ new)) (all_least c l ys) = all_least_join c l (q' ∷ new) ys in
       x ∙ sym (z ∙ ap (λ (v : ℕ). min v (all_least c l ys)) y)
 
@@ -203,7 +203,7 @@ module _ (k f : Table) (whole : Result) (q : Started) (ys : List Started) (cours
   once_after l =
       let x : all_times l (q ∷ ys) ≤ 1 = course.once l in
       let y : all_times l (q' ∷ new) ≡ times_made l q.made + times_entered l q.left =
-          times_turned k f t m wake q o s w stopped fit near deadlines come l in
+      times_turned k f t m wake q o s w stopped fit near deadlines come l in
       let z : all_times l after_turn ≡ all_times l (q' ∷ new) + all_times l ys = all_times_join l (q' ∷ new) ys in
       subst (λ (v : ℕ). v ≤ 1) (sym (z ∙ ap (λ (v : ℕ). v + all_times l ys) y)) x
 
@@ -222,7 +222,7 @@ module _ (k f : Table) (whole : Result) (q : Started) (ys : List Started) (cours
   unfolding made_least
   least_after c l =
       let x : upto c (made_sign l (q.made ++ o.made)) ≡ min (upto c (made_sign l q.made)) (upto c (made_sign l o.made)) =
-          first_join c l q.made o.made in
+      first_join c l q.made o.made in
       omega (arith, begun_least k t c l m o.begun ys (made_low c l ys))
 
   -- a place's label was entered
@@ -313,16 +313,28 @@ module _ (k f : Table) (whole : Result) (q : Started) (ys : List Started) (cours
       place c l (inr j) = in_second c (q' ∷ new) ys j
 
       go : Kid (q ∷ ys) q i → Kid after_turn q' i
-      go c = record { kid = c.kid; among = place c.kid c.later c.among; serial = c.serial ∙ sym (old_child q.count q.child m i h); later =
-          c.later; same = c.same ∙ same }
+      go c = record {
+        kid = c.kid;
+        among = place c.kid c.later c.among;
+        serial = c.serial ∙ sym (old_child q.count q.child m i h);
+        later =
+            c.later;
+        same = c.same ∙ same;
+      }
 
   later_kid : (i : ℕ) → q.count ≤ i → i < q.count + length o.begun → Kid after_turn q' i
   later_kid i h j =
       let c : NewKid k t q.told q.count m o.begun i = new_kid k t q.told q.count m o.begun numbers i h j in
       let y : c.kid.serial ≡ m + (i - q.count) = c.serial in
       let v : q.serial < m = small q (inl refl) in
-      record { kid = c.kid; among = inr (in_first c.kid new ys c.among); serial = y ∙ sym (later_child q.count q.child m i h); later =
-          omega arith; same = c.same }
+      record {
+        kid = c.kid;
+        among = inr (in_first c.kid new ys c.among);
+        serial = y ∙ sym (later_child q.count q.child m i h);
+        later =
+            omega arith;
+        same = c.same;
+      }
 
   kids_turned : (i : ℕ) → i < q'.count → Kid after_turn q' i
   kids_turned i h = by_order (cases_lt i q.count)
@@ -336,8 +348,14 @@ module _ (k f : Table) (whole : Result) (q : Started) (ys : List Started) (cours
     where
       go_in : (c : Started) → c.serial ≡ x.child i → x.serial < c.serial → c.fate ≡ x.told i → In c (q ∷ ys) → Kid after_turn x i
       go_in c n l e (inl z) =
-          record { kid = q'; among = inl refl; serial = sym (ap (λ (v : Started). v.serial) z) ∙ n; later =
-              subst (λ (v : ℕ). x.serial < v) (ap (λ (v : Started). v.serial) z) l; same = sym (ap (λ (v : Started). v.fate) z) ∙ e }
+          record {
+            kid = q';
+            among = inl refl;
+            serial = sym (ap (λ (v : Started). v.serial) z) ∙ n;
+            later =
+                subst (λ (v : ℕ). x.serial < v) (ap (λ (v : Started). v.serial) z) l;
+            same = sym (ap (λ (v : Started). v.fate) z) ∙ e;
+          }
       go_in c n l e (inr z) = record { kid = c; among = in_second c (q' ∷ new) ys z; serial = n; later = l; same = e }
 
       go : Kid (q ∷ ys) x i → Kid after_turn x i
@@ -385,8 +403,15 @@ module _ (k f : Table) (whole : Result) (q : Started) (ys : List Started) (cours
             same = s ∙ (ap (λ (v : Started). v.told p.number) e
                 ∙ sym (old_told k t q.told q.count o.begun numbers p.number (course.numbered q (inl refl) p.number h')));
           }
-      by_task z (inr j) l h s = record { starter = z; among = in_second z (q' ∷ new) ys j; earlier = l; number = p.number; started =
-          h; same = s }
+      by_task z (inr j) l h s = record {
+        starter = z;
+        among = in_second z (q' ∷ new) ys j;
+        earlier = l;
+        number = p.number;
+        started =
+            h;
+        same = s;
+      }
 
   root_or_old : (x : Started) → (x.fate ≡ whole) ⊎ Parent (q ∷ ys) x → (x.fate ≡ whole) ⊎ Parent after_turn x
   root_or_old x (inl e) = inl e
@@ -397,8 +422,15 @@ module _ (k f : Table) (whole : Result) (q : Started) (ys : List Started) (cours
     where
       go : (q.fate ≡ whole) ⊎ Parent after_turn q → (q'.fate ≡ whole) ⊎ Parent after_turn q'
       go (inl e) = inl e
-      go (inr p) = inr (record { starter = p.starter; among = p.among; earlier = p.earlier; number = p.number; started = p.started; same =
-          p.same })
+      go (inr p) = inr (record {
+        starter = p.starter;
+        among = p.among;
+        earlier = p.earlier;
+        number = p.number;
+        started = p.started;
+        same =
+            p.same;
+      })
 
   parents_after : (x : Started) → In x after_turn → (x.fate ≡ whole) ⊎ Parent after_turn x
   parents_after x (inl e) = subst (λ (z : Started). (z.fate ≡ whole) ⊎ Parent after_turn z) (sym e) parent_turned
@@ -406,8 +438,15 @@ module _ (k f : Table) (whole : Result) (q : Started) (ys : List Started) (cours
     where
       of_new : NewChild k t m o.begun o.made d' x → Parent after_turn x
       of_new c = let v : q.serial < m = small q (inl refl) in let z : m ≤ x.serial = c.serial in
-          record { starter = q'; among = inl refl; earlier = omega arith; number = c.number; started =
-              starts_second c.number q.made o.made c.started; same = c.same }
+          record {
+            starter = q';
+            among = inl refl;
+            earlier = omega arith;
+            number = c.number;
+            started =
+                starts_second c.number q.made o.made c.started;
+            same = c.same;
+          }
 
       by_place : In x new ⊎ In x ys → (x.fate ≡ whole) ⊎ Parent after_turn x
       by_place (inl z) = inr (of_new (new_child k t d' q.count m o.made o.begun w.starts all_begun x z))
@@ -473,8 +512,13 @@ module _ (k f : Table) (whole : Result) (q : Started) (ys : List Started) (cours
     where
       by_task : (x : Started) → In x (q ∷ ys) → EntersWith l e.deadline x.made → Entered after_turn l
       by_task x (inl i) h =
-          record { deadline = e.deadline; by = q'; among = inl refl; made =
-              enters_first l e.deadline q.made o.made (subst (λ (z : Started). EntersWith l e.deadline z.made) i h) }
+          record {
+            deadline = e.deadline;
+            by = q';
+            among = inl refl;
+            made =
+                enters_first l e.deadline q.made o.made (subst (λ (z : Started). EntersWith l e.deadline z.made) i h);
+          }
       by_task x (inr i) h = record { deadline = e.deadline; by = x; among = in_second x (q' ∷ new) ys i; made = h }
 
   entered_place : (l : Label) (ps : List Place) → EachPlace (Entered (q ∷ ys)) ps → Known l (labels_of ps) → Entered after_turn l
@@ -507,8 +551,13 @@ module _ (k f : Table) (whole : Result) (q : Started) (ys : List Started) (cours
   root_after = by_place course.root.root course.root.among course.root.first course.root.comes
     where
       by_place : (x : Started) → In x (q ∷ ys) → x.serial ≡ 0 → x.fate ≡ whole → Root whole after_turn
-      by_place x (inl e) a b = record { root = q'; among = inl refl; first = sym (ap (λ (z : Started). z.serial) e) ∙ a; comes =
-          sym (ap (λ (z : Started). z.fate) e) ∙ b }
+      by_place x (inl e) a b = record {
+        root = q';
+        among = inl refl;
+        first = sym (ap (λ (z : Started). z.serial) e) ∙ a;
+        comes =
+            sym (ap (λ (z : Started). z.fate) e) ∙ b;
+      }
       by_place x (inr i) a b = record { root = x; among = in_second x (q' ∷ new) ys i; first = a; comes = b }
 
   -- a turn keeps the run on its course

@@ -58,7 +58,7 @@ module _ (k f : Table) (whole : Result) (qs : List Started) (o : OnCourse k f wh
       ended_fate k c.kid (o.fits c.kid c.among) (ends n).end (ends n).exc (e n (inl refl) c.kid c.among c.serial) in
       let y : told n ≡ c.kid.fate = tells n (h n (inl refl)) ∙ sym c.same in
       let first : _ = same_member (record { end = (told n).end; exc = (told n).exc }) (ends n) (ap (λ (r : Result). r.end) y ∙ z.0)
-          (ap (λ (r : Result). r.exc) y ∙ z.1) in
+      (ap (λ (r : Result). r.exc) y ∙ z.1) in
       λ j. first j ∷ told_ended told tells ends is (λ m x. h m (inr x)) (λ m x. e m (inr x)) j
 
   over_gives : (children : List ℕ) (ended : ℕ) (e x : Option Exc) → WaitIsOver qs q t children ended e x → (told : Telling) → Tells q told →
@@ -69,7 +69,7 @@ module _ (k f : Table) (whole : Result) (qs : List Started) (o : OnCourse k f wh
 
   by_stop : (wake : Wake) (s : Stopped) → (told : Telling) → Tells q told →
       (live s ≡ true → t ≤ goes_on q.told s (stack_at k q.places) q.stop) → MayWake f qs t q wake s →
-          WakesBy k told q.here q.stop t wake s q.places
+      WakesBy k told q.here q.stop t wake s q.places
   unfolding sleeping
   by_stop begins to_begin told tells late h = h
   by_stop begins (asking kernel purpose) told tells late h = absurd h

@@ -74,7 +74,7 @@ RunsAreTheMeaning =
     (rows : ℕ → Row) → ((q : Started) → In q qs → HasRow f rows q) → (rows 0).label ≡ root_label job.name → (rows 0).start ≡ 0 →
     (taken : List ℕ) → DepthFirst rows (0 ∷ []) taken →
     (records_by rows taken ≡ meaning_records job input) × (froms_in rows taken ≡ meaning_froms job input)
-        × ((rows 0).end ≡ meaning_end job input)
+    × ((rows 0).end ≡ meaning_end job input)
 
 -- a task that sleeps
 pub record Sleeps (qs : List Started) : Type 0 where

@@ -115,8 +115,15 @@ members_group = Some (group_by (codes "n") (cancelled ∷ raised_by (codes "E") 
 unfoldable pub run_by : List Pick → World
 unfolding turn_from turn_of step_of
 run_by picks =
-    let root : Kept = record { here = root_here (job_of three_tasks) []; places = []; rest = rest_at_start (block_of three_tasks); made =
-        []; count = 0; since = 0 } in
+    let root : Kept = record {
+      here = root_here (job_of three_tasks) [];
+      places = [];
+      rest = rest_at_start (block_of three_tasks);
+      made =
+          [];
+      count = 0;
+      since = 0;
+    } in
     played (record { froms = (λ l. None); tasks = root ∷ [] }) picks
 
 -- the tasks that are ready together have their turns in the order of their starts
@@ -144,7 +151,7 @@ in_reverse =
 abbrev pub three_records : List Record
 three_records =
     main_ran 0 3 (Some (group_by (codes "n") (raised_by (codes "E") (codes "c") 1 ∷ [])))
-        (nursery_passed (codes "n") 3 ∷ scope_caught (codes "o") 3 ∷ [])
+    (nursery_passed (codes "n") 3 ∷ scope_caught (codes "o") 3 ∷ [])
     ∷ ran (label_named (codes "a")) 0 1 None []
     ∷ ran (label_named (codes "b")) 0 3 (Some cancelled) (scope_passed (codes "g") 3 ∷ [])
     ∷ ran (label_named (codes "c")) 0 1 (Some (raised_by (codes "E") (codes "c") 1)) []

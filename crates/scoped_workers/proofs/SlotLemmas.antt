@@ -21,13 +21,13 @@ pub computed-one_more : (requests : List Request) (row : List Slot) (k : ℕ) (r
 computed-one_more requests row k request slot inside within is below this i q s less =
     ⊎_elim
     (λ (before : i < k). subst (IsComputed (slice_index_or requests i q)) (sym (get_or-set_other row k i slot s (omega arith)))
-        (below i q s before))
+    (below i q s before))
     (λ (behind : k ≤ i).
     let same : i ≡ k = omega arith in
     let asked : request ≡ slice_index_or requests i q = is ∙ get_or_default requests k request q inside
-        ∙ ap (λ j. slice_index_or requests j q) (sym same) in
+    ∙ ap (λ j. slice_index_or requests j q) (sym same) in
     subst (IsComputed (slice_index_or requests i q)) (sym (get_or-set_at row k i slot s same within))
-        (subst (λ r. IsComputed r slot) asked this))
+    (subst (λ r. IsComputed r slot) asked this))
     (cases_lt i k)
 
 -- one answer more is taken out
@@ -37,7 +37,7 @@ pub taken-one_more : (answers more : List Answer) (rest left row : List Slot) (s
 taken-one_more answers more rest left row slot answer taken before next holds is pushed =
     let this : slot ≡ done taken = ap (λ content. record { content = content }) (holds ∙ ap Done (sym is)) in
     ap (λ items. map done items ++ left) pushed ∙ ap (λ slots. slots ++ left) (map-append done answers (taken ∷ []))
-        ∙ append_assoc (map done answers) (done taken ∷ []) left
+    ∙ append_assoc (map done answers) (done taken ∷ []) left
     ∙ ap (λ s. map done answers ++ (s ∷ left)) (sym this) ∙ ap (λ slots. map done answers ++ slots) (sym next) ∙ before
 
 -- what is left of a full row is full
@@ -69,6 +69,6 @@ answers-computed requests answers row taken paired computed =
       count = count;
       each = λ i q a less.
           let slot : slice_index_or row i (done a) ≡ done (slice_index_or answers i a) =
-              sym (ap (λ slots. slice_index_or slots i (done a)) taken) ∙ get_or-map done answers i a in
+          sym (ap (λ slots. slice_index_or slots i (done a)) taken) ∙ get_or-map done answers i a in
           subst (IsComputed (slice_index_or requests i q)) slot (computed i q (done a) (omega arith));
     }

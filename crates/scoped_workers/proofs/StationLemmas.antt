@@ -37,7 +37,7 @@ top-push (x ∷ xs) n = let rest = top-push xs n in omega arith
 pub drawn-one_more : (requests : List Request) (drawn drawn_then : List ℕ) (answered then : List Numbered) (i : ℕ) (request : Request)
     (answer : Answer) → AreDrawn requests drawn answered → i < length requests → request ≡ slice_index_or requests i request
     → Answers request answer → drawn_then ≡ drawn ++ i ∷ [] → then ≡ answered ++ record { number = i; answer = answer } ∷ [] →
-        AreDrawn requests drawn_then then
+    AreDrawn requests drawn_then then
 drawn-one_more requests drawn drawn_then answered then i request answer before inside is right drew noted =
     let numbered : Numbered = record { number = i; answer = answer } in
     record {
@@ -58,7 +58,7 @@ gathered-one_more requests passes passes_then pass answered then its before draw
           λ i.
           let count : Pass → ℕ = λ (p : Pass). count_by (nat_eq i) (drawn_by p) in
           let left = ap (λ ns. count_by (nat_eq i) (map number ns)) appended ∙ ap (count_by (nat_eq i)) (map-append number answered its)
-              ∙ sum_by-append (λ x. cond (nat_eq i x) 1 0) (map number answered) (map number its) in
+          ∙ sum_by-append (λ x. cond (nat_eq i x) 1 0) (map number answered) (map number its) in
           let right = ap (sum_by count) pushed ∙ sum_by_push count passes pass in
           let same = ap (count_by (nat_eq i)) drawn.numbers in
           let was = before.each i in

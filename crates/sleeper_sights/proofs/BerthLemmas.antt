@@ -152,14 +152,14 @@ module _ {Z : Type 0} where
       own =
           let tasks : tasks_at lists berth.scope ≡ v.items = tasks_read lists berth.scope v kept read in
           let now : tasks_at lists berth.scope ++ task ∷ [] ≡ tasks_at (slice_set lists berth.scope w) berth.scope =
-              ap (λ (l : List ℕ). l ++ task ∷ []) tasks ∙ sym pushed ∙ sym (ap tasks_of (get-written lists berth.scope w kept)) in
+          ap (λ (l : List ℕ). l ++ task ∷ []) tasks ∙ sym pushed ∙ sym (ap tasks_of (get-written lists berth.scope w kept)) in
           subst (λ (l : List ℕ). IsPlaced (λ k. place_under berth.scope (berth_at (slice_set berths task (Some berth)) k)) l) now
           (placed-push (λ k. place_under berth.scope (berth_at berths k))
-              (λ k. place_under berth.scope (berth_at (slice_set berths task (Some berth)) k)) (tasks_at lists berth.scope) task
-              (h.placed berth.scope)
+          (λ k. place_under berth.scope (berth_at (slice_set berths task (Some berth)) k)) (tasks_at lists berth.scope) task
+          (h.placed berth.scope)
           (under_none berth.scope (berth_at berths task) awake)
           (ap (place_under berth.scope) (written berths task (Some berth) within) ∙ under_own berth
-              ∙ ap Some (last ∙ sym (ap length tasks)))
+          ∙ ap Some (last ∙ sym (ap length tasks)))
           (λ other apart. ap (place_under berth.scope) (unwritten berths task other (Some berth) apart)))
 
 -- where tasks sleep after it
@@ -175,11 +175,11 @@ puts_added berths more task berth same within = record {
 
 -- A task that slept in a berth, and what is left of the list of its scope without it
 pub record Leaves {Z : Type 0} (berths : List (Option Berth)) (lists : List (Vec ℕ Z)) (task : ℕ) (berth : Berth) (v w : Vec ℕ Z) : Type 0
-    where
-  pub kept : AllPlaced berths lists
-  pub slept : berth_at berths task ≡ Some berth
-  pub read : v ≡ get_or lists berth.scope v
-  pub taken : Removed v.items w.items berth.place
+  where
+    pub kept : AllPlaced berths lists
+    pub slept : berth_at berths task ≡ Some berth
+    pub read : v ≡ get_or lists berth.scope v
+    pub taken : Removed v.items w.items berth.place
 
 -- its berth has no task any more, or the last of its scope
 pub record Clears {Z : Type 0} (berths later : List (Option Berth)) (task : ℕ) (berth : Berth) (w : Vec ℕ Z) : Type 0 where
@@ -212,7 +212,7 @@ module _ {Z : Type 0} (berths : List (Option Berth)) (lists : List (Vec ℕ Z)) 
       (scope_of (berth_at berths moved) ≡ Some berth.scope) × (moved ≢ task)
   last_is h moved inside is =
       let m = moved_is (λ k. place_under berth.scope (berth_at berths k)) v.items w.items task berth.place moved (placed_in h)
-          (own_place berths lists task berth h.slept) h.taken inside is in
+      (own_place berths lists task berth h.slept) h.taken inside is in
       (under_is berth.scope (berth_at berths moved) (length v.items - 1) m.0, m.1)
 
   pub moved_within : Leaves berths lists task berth v w → (moved : ℕ) → berth.place < length w.items →
@@ -249,7 +249,7 @@ module _ {Z : Type 0} (berths : List (Option Berth)) (lists : List (Vec ℕ Z)) 
       | inl here ↦ rw here own
       | inr differs ↦
           placed-same (λ k. place_under scope (berth_at berths k)) (λ k. place_under scope (berth_at later k)) (tasks_at lists scope)
-              (tasks_at (slice_set lists berth.scope w) scope) (h.kept.placed scope)
+          (tasks_at (slice_set lists berth.scope w) scope) (h.kept.placed scope)
           (λ k. elsewhere scope differs k)
           (ap tasks_of (get-unwritten lists berth.scope scope w differs))
     ];
@@ -260,7 +260,7 @@ module _ {Z : Type 0} (berths : List (Option Berth)) (lists : List (Vec ℕ Z)) 
           subst (λ (l : List ℕ). IsPlaced (λ k. place_under berth.scope (berth_at later k)) l)
           (sym (ap tasks_of (get-written lists berth.scope w (scope_within berths lists task berth h.kept h.slept))))
           (placed-removed (λ k. place_under berth.scope (berth_at berths k)) (λ k. place_under berth.scope (berth_at later k)) v.items
-              w.items task berth.place (placed_in h) (own_place berths lists task berth h.slept) h.taken
+          w.items task berth.place (placed_in h) (own_place berths lists task berth h.slept) h.taken
           (ap (place_under berth.scope) c.gone)
           (λ inside. ap (place_under berth.scope) (c.moved inside) ∙ under_own berth)
           (λ other differs apart. ap (place_under berth.scope) (c.others other differs apart)))
@@ -279,7 +279,7 @@ module _ {Z : Type 0} (berths : List (Option Berth)) (lists : List (Vec ℕ Z)) 
                       elim (cases_eq k (get_or w.items berth.place 0)) [
                         | inl is ↦
                             under_other scope (berth_at later k) berth.scope (ap (λ (n : ℕ). scope_of (berth_at later n)) is
-                                ∙ ap scope_of (c.moved inside)) differs
+                            ∙ ap scope_of (c.moved inside)) differs
                             ∙ sym (under_other scope (berth_at berths k) berth.scope (last_is h k inside is).0 differs)
                         | inr other ↦ ap (place_under scope) (c.others k apart (λ _. other))
                       ]

@@ -105,7 +105,7 @@ placed-removed old new list rest task place h at r gone moved others = record {
             elsewhere_or (inl inside) =
                 let last : p ≡ length list - 1 = omega (arith, in_list, past) in
                 apart (omega (arith, inside, r.long)) (sym found ∙ ap (λ (n : ℕ). get_or list n 0) last
-                    ∙ sym (r.seam (omega (arith, inside))))
+                ∙ sym (r.seam (omega (arith, inside))))
             elsewhere_or (inr out) = elsewhere (omega (arith, in_list, past, placed, out))
 
     stands_again : (k p : ℕ) → new k ≡ Some p → (p < length rest) × (get_or rest p 0 ≡ k)
@@ -138,9 +138,9 @@ placed-removed old new list rest task place h at r gone moved others = record {
               let differs : get_or rest p 0 ≢ task = λ same. elsewhere (some_same p place (sym was ∙ ap old (sym e ∙ same) ∙ at)) in
               let apart : place < length rest → get_or rest p 0 ≢ get_or rest place 0 = λ inside same.
               let last : old (get_or list (length list - 1) 0) ≡ Some (length list - 1) =
-                  h.placed (length list - 1) (omega (arith, inside, r.long)) in
+              h.placed (length list - 1) (omega (arith, inside, r.long)) in
               let q : p ≡ length list - 1 = some_same p (length list - 1) (sym was
-                  ∙ ap old (sym e ∙ same ∙ r.seam (omega (arith, inside, r.long))) ∙ last) in
+              ∙ ap old (sym e ∙ same ∙ r.seam (omega (arith, inside, r.long))) ∙ last) in
               absurd (omega (arith, q, within, r.long)) in
               others (get_or rest p 0) differs apart ∙ ap old e ∙ was
         ]

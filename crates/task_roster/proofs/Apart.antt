@@ -70,16 +70,16 @@ times_step : (c s : ℕ) (rows : List Row) (stack : List ℕ) (row hollow : Row)
 times_step c s rows stack row hollow is none =
     let at : get_or rows s row ≡ row = get_or_from_slice_get rows s row row is in
     let moved : times_child c (slice_set rows s hollow) + times c (get_or rows s row).children.items
-        ≡ times_child c rows + times c hollow.children.items =
+    ≡ times_child c rows + times c hollow.children.items =
     sum_by-set (λ (r : Row). times c r.children.items) rows s hollow row (slice_get_within rows s row is) in
     let its : times c (get_or rows s row).children.items ≡ times c row.children.items = ap (λ (r : Row). times c r.children.items) at in
     let gone : times c hollow.children.items ≡ 0 = ap (times c) none in
     let before : times c (stack ++ s ∷ []) ≡ times c stack + one_if (s == c) = sum_by_push (λ n. one_if (n == c)) stack s in
     let after : times c (stack ++ reverse row.children.items) ≡ times c stack + times c (reverse row.children.items) =
-        sum_by-append (λ n. one_if (n == c)) stack (reverse row.children.items) in
+    sum_by-append (λ n. one_if (n == c)) stack (reverse row.children.items) in
     let turned : times c (reverse row.children.items) ≡ times c row.children.items = times_reverse c row.children.items in
     let taken : taken_at (slice_get (slice_set rows s hollow) c) ≤ one_if (s == c) + taken_at (slice_get rows c) =
-        taken_after rows s c hollow in
+    taken_after rows s c hollow in
     omega arith
 
 -- what is on the stack has not been taken
@@ -106,12 +106,12 @@ apart_next : (n s : ℕ) (rows : List Row) (stack : List ℕ) (row hollow : Row)
 apart_next n s rows stack row hollow a is none =
     let theirs : All (λ c. c < n) row.children.items =
     subst (λ (r : Row). All (λ c. c < n) r.children.items) (get_or_from_slice_get rows s row row is)
-        (All-get_or (λ (r : Row). All (λ c. c < n) r.children.items) rows s row (slice_get_within rows s row is) a.within) in
+    (All-get_or (λ (r : Row). All (λ c. c < n) r.children.items) rows s row (slice_get_within rows s row is) a.within) in
     record {
       len = length-set rows s hollow ∙ a.len;
       stacked =
           All-append (λ c. c < n) stack (reverse row.children.items) (All-pop (λ c. c < n) (stack ++ s ∷ []) stack (Some s) refl
-              a.stacked).0
+          a.stacked).0
           (All-permutation (λ c. c < n) row.children.items (reverse row.children.items) (IsPermutation-reverse row.children.items) theirs);
       within = All-set (λ (r : Row). All (λ c. c < n) r.children.items) rows s hollow
           (subst (All (λ c. c < n)) (sym none) (All-nil (λ c. c < n))) a.within;
@@ -135,10 +135,10 @@ one_less : (s : ℕ) (rows : List Row) (row hollow : Row) (ended : Ended) → sl
 one_less s rows row hollow ended is some none =
     let at : get_or rows s row ≡ row = get_or_from_slice_get rows s row row is in
     let moved : rows_left (slice_set rows s hollow) + one_if (is_some (get_or rows s row).end)
-        ≡ rows_left rows + one_if (is_some hollow.end) =
+    ≡ rows_left rows + one_if (is_some hollow.end) =
     sum_by-set (λ (r : Row). one_if (is_some r.end)) rows s hollow row (slice_get_within rows s row is) in
     let one : one_if (is_some (get_or rows s row).end) ≡ 1 = ap (λ (r : Row). one_if (is_some r.end)) at
-        ∙ ap (λ (e : Option Ended). one_if (is_some e)) some in
+    ∙ ap (λ (e : Option Ended). one_if (is_some e)) some in
     let gone : one_if (is_some hollow.end) ≡ 0 = ap (λ (e : Option Ended). one_if (is_some e)) none in
     omega arith
 
@@ -172,7 +172,7 @@ no_child k P never [] all = refl
 no_child k P never (x ∷ rows) all =
     let Q : Row → Type 0 = λ r. All P r.children.items in
     let step : times_child k (x ∷ rows) ≡ times k x.children.items + times_child k rows =
-        sum_by-cons (λ (r : Row). times k r.children.items) x rows in
+    sum_by-cons (λ (r : Row). times k r.children.items) x rows in
     let first : times k x.children.items ≡ 0 = not_among k P never x.children.items (All-head Q x rows all) in
     let others : times_child k rows ≡ 0 = no_child k P never rows (All-tail Q x rows all) in
     omega arith

@@ -69,7 +69,7 @@ froms_more rs (d ∷ done) s = ap (λ (x : List From). (rs d).froms ++ x) (froms
 
 same_row : (l m : Label) (start from end to : ℕ) (e f : Ending) (xs ys : List Shown) → l ≡ m → start ≡ from → end ≡ to → e ≡ f → xs ≡ ys
     → ◌≡◌ {A = report.Row} (record { label = l; start = start; end = end; ending = e; entries = xs })
-        (record { label = m; start = from; end = to; ending = f; entries = ys })
+    (record { label = m; start = from; end = to; ending = f; entries = ys })
 same_row l m start from end to e f xs ys a b c d g =
     ap (λ x. record { label = x; start = start; end = end; ending = e; entries = xs }) a
     ∙ ap (λ x. record { label = m; start = x; end = end; ending = e; entries = xs }) b
@@ -87,7 +87,7 @@ shown_record input row start ended r at e is =
 told_next : (input : List ℕ) (rs : ℕ → course.Row) (rows : List Row) (stack : List ℕ) (told : List Record) (told_froms : List ScopeFrom)
     (s : ℕ) (row hollow : Row) (ended : Ended) (r : Record)
     → Told input rs rows (stack ++ s ∷ []) told told_froms → slice_get rows s ≡ Some row → row.end ≡ Some ended → hollow.end ≡ None →
-        IsRecordOf row.start ended r
+    IsRecordOf row.start ended r
     → Told input rs (slice_set rows s hollow) (stack ++ reverse row.children.items) (told ++ r ∷ []) (told_froms ++ ended.froms.items)
 told_next input rs rows stack told told_froms s row hollow ended r t is some none of =
     let here : IsShown input (rs s) row = t.left s row is (ap is_some some) in
@@ -99,13 +99,13 @@ told_next input rs rows stack told told_froms s row hollow ended r t is some non
           subst (DepthFirst rs (0 ∷ [])) (sym (append_assoc t.done (s ∷ []) rest))
           (t.order (s ∷ rest) (rw (reverse-append stack (s ∷ [])) (and_more s (reverse stack) rest
           (subst (λ (x : List ℕ). DepthFirst rs x rest) (reverse-append stack (reverse row.children.items)
-              ∙ ap (λ (x : List ℕ). x ++ reverse stack) (reverse-reverse row.children.items ∙ here.children)) d))));
+          ∙ ap (λ (x : List ℕ). x ++ reverse stack) (reverse-reverse row.children.items ∙ here.children)) d))));
       records = map-append row_in told (r ∷ [])
           ∙ ap (λ (x : List report.Row). x ++ row_in r ∷ []) t.records
           ∙ ap (λ (x : report.Row). map (row_of input) (records_by rs t.done) ++ x ∷ [])
-              (shown_record input (rs s) row.start ended r here.start end of)
+          (shown_record input (rs s) row.start ended r here.start end of)
           ∙ sym (ap (map (row_of input)) (records_more rs t.done s) ∙ map-append (row_of input) (records_by rs t.done)
-              (record_of (rs s) ∷ []));
+          (record_of (rs s) ∷ []));
       slices = All-push (λ (x : Record). All (IsSlice input) x.entries.items) told r t.slices
           (subst (All (IsSlice input)) (sym of.entries) end.slices);
       froms = map-append from_of told_froms ended.froms.items
@@ -122,9 +122,9 @@ told_next input rs rows stack told told_froms s row hollow ended r t is some non
 pub told_step : (input : List ℕ) (rs : ℕ → course.Row) (rows after : List Row) (stack popped grown : List ℕ) (told more : List Record)
     (froms more_froms : List ScopeFrom) (s : ℕ) (row : Row) (ended : Ended) (r : Record)
     → Told input rs rows stack told froms → stack ≡ popped ++ s ∷ [] → slice_get rows s ≡ Some row → row.end ≡ Some ended →
-        IsTakenOut rows s after → IsRecordOf row.start ended r
+    IsTakenOut rows s after → IsRecordOf row.start ended r
     → grown ≡ popped ++ reverse row.children.items → more ≡ told ++ r ∷ [] → more_froms ≡ froms ++ ended.froms.items →
-        Told input rs after grown more more_froms
+    Told input rs after grown more more_froms
 told_step input rs rows after stack popped grown told more froms more_froms s row ended r t top is some out of grows more_is froms_is =
     rw (out.set, grows, more_is, froms_is) (told_next input rs rows popped told froms s row out.hollow ended r (rw top at t) is some
-        out.endless of)
+    out.endless of)

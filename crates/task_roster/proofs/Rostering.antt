@@ -201,7 +201,7 @@ module _ (old new : Roster) (p : ℕ) (child : Task) (tick id : ℕ) (ok : IsRos
     same_task = λ j less. ap (task_by new.live) (add_old j less)
         ∙ set_keeps (task_by new.live) old.rows.items p a.before a.grown a.is
         (ap (λ (e : Option Ended). task_unless e (live_at new.live a.grown.task)) a.grows.end
-            ∙ ap (λ k. task_unless a.before.end (live_at new.live k)) a.grows.task) j
+        ∙ ap (λ k. task_unless a.before.end (live_at new.live k)) a.grows.task) j
         ∙ task_kept old.live new.live (row_at old j) (λ r is none. a.live.others r.task (not_fresh old id j r ok a.fresh is none));
     same_gone = λ j. ap (λ (xs : List Row). gone_by (slice_get xs j)) a.rows
         ∙ push_keeps gone_by (slice_set old.rows.items p a.grown) a.row (ap (option_map gone_from) a.begins.end) j
@@ -253,13 +253,18 @@ module _ (old new : Roster) (p : ℕ) (child : Task) (tick id : ℕ) (ok : IsRos
       mine : Some x ≡ Some (record { task = child; row = many old }) → key ≡ id → HasRow new x.row key
       mine e k =
           let row : many old ≡ x.row = sym (ap (λ (y : Running). y.row) (same_Some _ _ e)) in
-          record { row = a.row; is = subst (λ n. row_at new n ≡ Some a.row) row (add_here old new p child tick id ok a); endless =
-              a.begins.end; id_is = a.begins.task ∙ sym k }
+          record {
+            row = a.row;
+            is = subst (λ n. row_at new n ≡ Some a.row) row (add_here old new p child tick id ok a);
+            endless =
+                a.begins.end;
+            id_is = a.begins.task ∙ sym k;
+          }
 
       others : HasRow old x.row key → HasRow new x.row key
       others h =
           let s : Still (slice_set old.rows.items p a.grown) x.row h.row =
-              still_set old.rows.items p x.row a.before a.grown h.row a.is a.grows.end a.grows.task h.is in
+          still_set old.rows.items p x.row a.before a.grown h.row a.is a.grows.end a.grows.task h.is in
           record {
             row = s.row;
             is = add_old old new p child tick id ok a x.row (slice_get_within old.rows.items x.row h.row h.is) ∙ s.is;
@@ -279,7 +284,7 @@ module _ (old new : Roster) (p : ℕ) (child : Task) (tick id : ℕ) (ok : IsRos
       before s =
           let l : Lives old j s.row = ok.lives j s.row s.is (s.end ∙ none) in
           let kept : running_at new s.row.task ≡ running_at old s.row.task =
-              a.live.others s.row.task (not_fresh old id j s.row ok a.fresh s.is (s.end ∙ none)) in
+          a.live.others s.row.task (not_fresh old id j s.row ok a.fresh s.is (s.end ∙ none)) in
           record { running = l.running; is = ap (running_at new) (sym s.task) ∙ kept ∙ l.is; row_is = l.row_is }
 
       by : (slice_get (slice_set old.rows.items p a.grown) j ≡ Some row)
@@ -404,8 +409,14 @@ module _ (old new : Roster) (id tick : ℕ) (exc : Option held.Exc) (x : Running
   }
 
   abbrev close_kept : Gone
-  close_kept = record { label = x.task.label; end = tick; exc = option_map exc_of exc; entries = x.task.entries.items; froms =
-      x.task.froms.items }
+  close_kept = record {
+    label = x.task.label;
+    end = tick;
+    exc = option_map exc_of exc;
+    entries = x.task.entries.items;
+    froms =
+        x.task.froms.items;
+  }
 
   close_is : gone_from c.ended ≡ close_kept
   close_is = rw (c.label, c.tick_is, c.exc_is, c.entries, c.froms) refl
@@ -431,7 +442,7 @@ module _ (old new : Roster) (id tick : ℕ) (exc : Option held.Exc) (x : Running
       others : key ≢ id → HasRow old y.row key → HasRow new y.row key
       others ne h =
           let apart : y.row ≢ x.row = λ e. ne (sym h.id_is ∙ ap (λ (r : Row). r.task)
-              (same_Some _ _ (sym h.is ∙ ap (row_at old) e ∙ mine.is)) ∙ mine.id_is) in
+          (same_Some _ _ (sym h.is ∙ ap (row_at old) e ∙ mine.is)) ∙ mine.id_is) in
           record { row = h.row; is = close_other y.row apart ∙ h.is; endless = h.endless; id_is = h.id_is }
 
       by : (((key == id) ≡ true) × (key ≡ id)) ⊎ (((key == id) ≡ false) × (key ≢ id)) → HasRow new y.row key
@@ -529,5 +540,5 @@ pub root_stays : (before started after : Roster) (root child : Task) (id other t
     HasRoot before root id → Starts before started 0 child tick other → Ends started after other last exc → IsSome (running_at after id)
 root_stays before started after root child id other tick last exc h s e =
     let apart : id ≢ other = λ same. false≢true (sym (ap is_some s.fresh) ∙ ap (λ k. is_some (running_at before k)) (sym same)
-        ∙ ap is_some h.lives) in
+    ∙ ap is_some h.lives) in
     ap is_some (e.others id apart ∙ s.others id apart ∙ h.lives)

@@ -15,8 +15,14 @@ ending_in (outcomes.Raised e) = with_exception (exc_of e)
 
 -- a record as it is shown
 abbrev pub row_in : Record → Row
-row_in r = record { label = r.label; start = r.from_tick; end = r.to_tick; ending = ending_in r.outcome; entries =
-    map entry_of r.entries.items }
+row_in r = record {
+  label = r.label;
+  start = r.from_tick;
+  end = r.to_tick;
+  ending = ending_in r.outcome;
+  entries =
+      map entry_of r.entries.items;
+}
 
 -- every line of the records is the slice of the input at its place
 abbrev pub AreSlices : List ℕ → List Record → Type 0

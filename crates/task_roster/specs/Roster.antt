@@ -193,6 +193,12 @@ pub record Ends (old new : Roster) (id tick : ℕ) (exc : Option held.Exc) : Typ
   pub left : task_of new row ≡ None
   pub kept :
       gone_of new row
-      ≡ Some (record { label = task.label; end = tick; exc = option_map exc_of exc; entries = task.entries.items; froms =
-          task.froms.items })
+      ≡ Some (record {
+        label = task.label;
+        end = tick;
+        exc = option_map exc_of exc;
+        entries = task.entries.items;
+        froms =
+            task.froms.items;
+      })
   pub same : SameBut old new row

@@ -53,11 +53,11 @@ module _ (t : ℕ) (here : Here) (froms : Table) (ps : List Place) (count : ℕ)
   pub handler_runs : (name : List ℕ) (body : Steps) (cleanup : Cleaned) (fs : List Frame) (e x : Exc) →
       Placed (in_try (except name body) cleanup ∷ fs) ps → keep (named name) e ≡ Some x →
       Goes t here froms (with_frames (in_try (except name body) cleanup ∷ fs) (Some e))
-          (onward (steps_left body ∷ in_handler (drop (named name) e) cleanup ∷ fs) ps None)
+      (onward (steps_left body ∷ in_handler (drop (named name) e) cleanup ∷ fs) ps None)
   unfolding step_of
   handler_runs name body cleanup fs e x p k =
       goes_by t here froms (with_frames (in_try (except name body) cleanup ∷ fs) (Some e))
-          (onward (steps_left body ∷ in_handler (drop (named name) e) cleanup ∷ fs) ps None)
+      (onward (steps_left body ∷ in_handler (drop (named name) e) cleanup ∷ fs) ps None)
       (ap (λ (o : Option Exc). handler_if o (drop (named name) e) e body cleanup fs ps) k) p
 
   -- and one whose name none has
@@ -67,5 +67,5 @@ module _ (t : ℕ) (here : Here) (froms : Table) (ps : List Place) (count : ℕ)
   unfolding step_of
   handler_passes name body cleanup fs e p k =
       goes_by t here froms (with_frames (in_try (except name body) cleanup ∷ fs) (Some e))
-          (onward (in_try unhandled cleanup ∷ fs) ps (Some e))
+      (onward (in_try unhandled cleanup ∷ fs) ps (Some e))
       (ap (λ (o : Option Exc). handler_if o (drop (named name) e) e body cleanup fs ps) k) p

@@ -80,8 +80,17 @@ still_known ps es = all_grow (labels_of ps) (known_after (labels_of ps) es) (λ 
 pub onward_case : (t : ℕ) (froms : Table) (w : ℕ) (home : List Place) (fs : List Frame) (ps : List Place) (exc : Option Exc) (count : ℕ) →
     Placed fs ps → home_places fs ps ≡ home → frames_weight fs ≤ w → Case t froms w home ps count (onward fs ps exc)
 onward_case t froms w home fs ps exc count p h le =
-    record { placed = p; at_home = h; made_now = tt; places = all_own ps; starts_made = tt; begun_in = tt; stops = tt; weight =
-        omega arith }
+    record {
+      placed = p;
+      at_home = h;
+      made_now = tt;
+      places = all_own ps;
+      starts_made = tt;
+      begun_in = tt;
+      stops = tt;
+      weight =
+          omega arith;
+    }
 
 -- a sleep
 pub sleep_case : (t : ℕ) (froms : Table) (n w : ℕ) (home : List Place) (fs : List Frame) (ps : List Place) (count : ℕ) → Placed fs ps →
@@ -92,22 +101,40 @@ sleep_case t froms n w home fs ps count p h le = by_sight (seen (stack_at froms 
     by_sight true e n = onward_case t froms w home fs ps (Some cancelled) count p h (omega arith)
     by_sight false e zero = onward_case t froms w home fs ps None count p h (omega arith)
     by_sight false e (suc n) =
-        record { placed = p; at_home = h; made_now = tt; places = all_own ps; starts_made = tt; begun_in = tt; stops =
-            (refl, omega arith, e); weight = omega arith }
+        record {
+          placed = p;
+          at_home = h;
+          made_now = tt;
+          places = all_own ps;
+          starts_made = tt;
+          begun_in = tt;
+          stops =
+              (refl, omega arith, e);
+          weight = omega arith;
+        }
 
 asks_case : (t : ℕ) (froms : Table) (kernel : Kernel) (purpose : Purpose) (w : ℕ) (home : List Place) (fs : List Frame) (ps : List Place)
     (count : ℕ) →
     Suits kernel purpose → Placed fs ps → home_places fs ps ≡ home → weight_of_stop (Some (asking kernel purpose)) + frames_weight fs ≤ w →
     Case t froms w home ps count (halts (asking kernel purpose) fs ps)
 asks_case t froms kernel purpose w home fs ps count suits p h le =
-    record { placed = (suits, p); at_home = h; made_now = tt; places = all_own ps; starts_made = tt; begun_in = tt; stops = tt; weight =
-        omega arith }
+    record {
+      placed = (suits, p);
+      at_home = h;
+      made_now = tt;
+      places = all_own ps;
+      starts_made = tt;
+      begun_in = tt;
+      stops = tt;
+      weight =
+          omega arith;
+    }
 
 enter_case : (t : ℕ) (froms : Table) (label : Label) (shield : Bool) (deadline : Tick) (body : Steps) (exit : Frame) (w : ℕ)
     (home : List Place) (fs : List Frame) (ps : List Place) (count : ℕ) →
     Placed (steps_left body ∷ exit ∷ fs) (record { label = label; shield = shield } ∷ ps) →
     home_places (steps_left body ∷ exit ∷ fs) (record { label = label; shield = shield } ∷ ps) ≡ home →
-        frames_weight (steps_left body ∷ exit ∷ fs) ≤ w →
+    frames_weight (steps_left body ∷ exit ∷ fs) ≤ w →
     Case t froms w home ps count (enters_block label shield deadline t body exit fs ps)
 enter_case t froms label shield deadline body exit w home fs ps count p h le =
     record {
@@ -199,13 +226,13 @@ over_starts name here t of body ps first zero = tt
 over_starts name here t of body ps first (suc k) =
     let b = begun_one (first + k) (here_in (label_over name here k) (cut_of here.input here.part of k) here) body ps in
     starts_append (starts_over name here t first k) (starts (first + k) (label_over name here k) t ∷ []) first
-        (begun_over name here of body ps first k) (b ∷ [])
+    (begun_over name here of body ps first k) (b ∷ [])
     (over_starts name here t of body ps first k)
     (last (sym (over_length name here of body ps first k)))
   where
     last : {n : ℕ} → k ≡ n →
         Starts (first + n) (starts (first + k) (label_over name here k) t ∷ [])
-            (begun_one (first + k) (here_in (label_over name here k) (cut_of here.input here.part of k) here) body ps ∷ [])
+        (begun_one (first + k) (here_in (label_over name here k) (cut_of here.input here.part of k) here) body ps ∷ [])
     last e = (ap (λ (n : ℕ). first + n) e, ap (λ (n : ℕ). first + n) e, refl, tt)
 
 over_begun : (name : List ℕ) (here : Here) (of : ℕ) (body : Steps) (ps : List Place) (first : ℕ) (ls : List Label) → AllKnown ps ls →
@@ -231,13 +258,13 @@ over_made : (name : List ℕ) (here : Here) (t first : ℕ) (ls : List Label) (k
 over_made name here t first ls zero = tt
 over_made name here t first ls (suc k) =
     made_append t (starts_over name here t first k) (starts (first + k) (label_over name here k) t ∷ []) ls
-        (over_made name here t first ls k) (refl, tt)
+    (over_made name here t first ls k) (refl, tt)
 
 start_case : (t : ℕ) (froms : Table) (here : Here) (name : List ℕ) (over : Option ℕ) (body ss : Steps) (fs : List Frame) (ps : List Place)
     (count : ℕ) →
     StartsIn false body → StartsIn (in_body fs) ss → Placed fs ps →
     Case t froms (frames_weight (steps_left (step (start name over body) ss) ∷ fs)) (home_places fs ps) ps count
-        (step_on froms t here (start name over body) ss fs ps count)
+    (step_on froms t here (start name over body) ss fs ps count)
 start_case t froms here name None body ss fs ps count i b p =
     record {
       placed = (subst (λ (x : Bool). StartsIn x ss) (sym (body_started (count ∷ []) fs)) b, placed_started (count ∷ []) fs ps p);
@@ -251,8 +278,10 @@ start_case t froms here name None body ss fs ps count i b p =
     }
 start_case t froms here name (Some k) body ss fs ps count i b p =
     record {
-      placed = (subst (λ (x : Bool). StartsIn x ss) (sym (body_started (numbered count k) fs)) b,
-          placed_started (numbered count k) fs ps p);
+      placed = (
+        subst (λ (x : Bool). StartsIn x ss) (sym (body_started (numbered count k) fs)) b,
+        placed_started (numbered count k) fs ps p,
+      );
       at_home = home_started (numbered count k) fs ps;
       made_now = over_made name here t count (labels_of ps) k;
       places = still_known ps (starts_over name here t count k);
@@ -317,20 +346,20 @@ step_case t froms here (cancel name) ss fs ps count a b p =
     }
 step_case t froms here (scope name d shield fail body) ss fs ps count a b p =
     enter_case t froms (label_here name here) shield (due d t) body (in_scope fail) _ _ (steps_left ss ∷ fs) ps count (a, (b, p)) refl
-        (omega arith)
+    (omega arith)
 step_case t froms here (nursery name d shield body) ss fs ps count a b p =
     enter_case t froms (label_here name here) shield (due d t) body (in_nursery []) _ _ (steps_left ss ∷ fs) ps count (a, (b, p)) refl
-        (omega arith)
+    (omega arith)
 step_case t froms here (start name over body) ss fs ps count a b p = start_case t froms here name over body ss fs ps count a.1 b p
 step_case t froms here (repeat n body) ss fs ps count a b p =
     passes_case t froms n body _ _ (steps_left ss ∷ fs) ps count a (b, p) refl (omega arith)
 step_case t froms here (attempt body handler cleanup) ss fs ps count a b p =
     onward_case t froms _ _ (steps_left body ∷ in_try handler cleanup ∷ steps_left ss ∷ fs) ps None count (a.0, (a.1, a.2, (b, p))) refl
-        (omega arith)
+    (omega arith)
 
 steps_case : (t : ℕ) (froms : Table) (here : Here) (ss : Steps) (fs : List Frame) (ps : List Place) (exc : Option Exc) (count : ℕ) →
     StartsIn (in_body fs) ss → Placed fs ps → Case t froms (frames_weight (steps_left ss ∷ fs)) (home_places fs ps) ps count
-        (step_steps froms t here ss fs ps exc count)
+    (step_steps froms t here ss fs ps exc count)
 steps_case t froms here ss fs ps (Some e) count b p = onward_case t froms _ _ fs ps (Some e) count p refl (omega arith)
 steps_case t froms here stop fs ps None count b p = onward_case t froms _ _ fs ps None count p refl (omega arith)
 steps_case t froms here (step s ss) fs ps None count b p = step_case t froms (inside fs here) s ss fs ps count b.0 b.1 p
@@ -338,7 +367,7 @@ steps_case t froms here (step s ss) fs ps None count b p = step_case t froms (in
 try_case : (t : ℕ) (froms : Table) (handler : Handled) (cleanup : Cleaned) (fs : List Frame) (ps : List Place) (exc : Option Exc)
     (count : ℕ) →
     HandlerStarts handler → CleanupStarts cleanup → Placed fs ps →
-        Case t froms (frames_weight (in_try handler cleanup ∷ fs)) (home_places fs ps) ps count (step_try handler cleanup fs ps exc)
+    Case t froms (frames_weight (in_try handler cleanup ∷ fs)) (home_places fs ps) ps count (step_try handler cleanup fs ps exc)
 try_case t froms unhandled uncleaned fs ps exc count a b p = onward_case t froms _ _ fs ps exc count p refl (omega arith)
 try_case t froms unhandled (finally body) fs ps exc count a b p =
     onward_case t froms _ _ (steps_left body ∷ in_cleanup exc ∷ fs) ps None count (b, p) refl (omega arith)

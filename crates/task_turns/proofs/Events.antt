@@ -129,7 +129,7 @@ froms_append (starts i l t ∷ es) fs froms = froms_append es fs froms
 pub known_agree : (t : ℕ) (table : Table) (told : Telling) (es : List Event) (ls : List Label) (froms : Table) → MadeAt t ls es →
     AgreesIn t table (fill told es) →
     ((l : Label) → Known l ls → SameFrom t table froms l) → (l : Label) → Known l (known_after ls es) →
-        SameFrom t table (froms_after froms es) l
+    SameFrom t table (froms_after froms es) l
 known_agree t table told [] ls froms a b h l k = h l k
 known_agree t table told (noted u e ∷ es) ls froms a b h l k = known_agree t table told es ls froms a.1 b h l k
 known_agree t table told (signs m u ∷ es) ls froms a b h l k =
@@ -161,4 +161,4 @@ pub agrees_after : (t : ℕ) (table : Table) (told : Telling) (es : List Event) 
     AgreesOn t table froms ps → AgreesIn t table (fill told es) → AgreesOn t table (froms_after froms es) qs
 agrees_after t table told es ps qs froms a k h b =
     by_known t table (froms_after froms es) (known_after (labels_of ps) es)
-        (known_agree t table told es (labels_of ps) froms a b (on_places t table froms ps h)) qs k
+    (known_agree t table told es (labels_of ps) froms a b (on_places t table froms ps h)) qs k

@@ -67,7 +67,7 @@ from_opened t (signs m u ∷ es) ls froms l d a k o =
 from_opened t (enters m u c ∷ es) ls froms l d a k (inl o) =
     from_lowered es (opened froms m c) l o.2
     ∙ (ap (λ (b : Bool). from_by (opened_if b c (froms l)) (made_sign l es))
-        (ap (λ (x : Label). same_label l x) (sym o.0) ∙ same_label_itself l)
+    (ap (λ (x : Label). same_label l x) (sym o.0) ∙ same_label_itself l)
     ∙ ap (λ (x : Tick). from_by x (made_sign l es)) (sym o.1))
 from_opened t (enters m u c ∷ es) ls froms l d a k (inr o) = from_opened t es (m ∷ ls) (opened froms m c) l d a.1 new o.1
   where
@@ -96,7 +96,7 @@ unsigned t [] ls l a k h = refl
 unsigned t (noted v x ∷ es) ls l a k h = unsigned t es ls l a.1 k h
 unsigned t (signs m v ∷ es) ls l a k h =
     ap (λ (b : Bool). earlier (tick_if b v) (made_sign l es)) (same_differs l m (λ e. k (subst (λ (x : Label). Known x ls) (sym e) a.1)))
-        ∙ unsigned t es ls l a.2 k h
+    ∙ unsigned t es ls l a.2 k h
 unsigned t (enters m v d ∷ es) ls l a k h = unsigned t es (m ∷ ls) l a.1 new (λ i. h (inr i))
   where
     new : Known l (m ∷ ls) → ⊥

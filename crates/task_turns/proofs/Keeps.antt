@@ -66,20 +66,20 @@ module _ (table froms : Table) (told : Telling) (t : ℕ) (here : Here) where
   first_step : (s : Step) (ss : Steps) (fs : List Frame) (ps : List Place) (r : Result) →
       walk_step (by_table table) s (inside fs here) (stack_at table ps) t ≡ r →
       going_to table told here t (steps_left (step s ss) ∷ fs) ps None
-          ≡ finish (by_table table) told (steps_left ss ∷ fs) here (stack_at table ps) r
+      ≡ finish (by_table table) told (steps_left ss ∷ fs) here (stack_at table ps) r
   first_step s ss fs ps r e =
       finish_step fs (by_table table) told s ss here (stack_at table ps) t
-          ∙ ap (λ (x : Result). finish (by_table table) told (steps_left ss ∷ fs) here (stack_at table ps) x) e
+      ∙ ap (λ (x : Result). finish (by_table table) told (steps_left ss ∷ fs) here (stack_at table ps) x) e
 
   -- what is left with a sleep to come
   pub keeps_sleeps : (n : ℕ) (fs : List Frame) (ps : List Place) → AgreesOn t table froms ps →
       finish (by_table table) told fs here (stack_at table ps) (sleeping (stack_at table ps) n t)
-          ≡ behind told (sleeps froms n t fs ps).made (left_after table told here t (sleeps froms n t fs ps))
+      ≡ behind told (sleeps froms n t fs ps).made (left_after table told here t (sleeps froms n t fs ps))
   keeps_sleeps n fs ps a = by_sight (seen (stack_at froms ps) t) (seen_alike t table froms ps a) n
     where
       by_sight : (b : Bool) → seen (stack_at table ps) t ≡ b → (n : ℕ) →
           finish (by_table table) told fs here (stack_at table ps) (sleeping (stack_at table ps) n t)
-              ≡ behind told (falls_asleep b n t fs ps).made (left_after table told here t (falls_asleep b n t fs ps))
+          ≡ behind told (falls_asleep b n t fs ps).made (left_after table told here t (falls_asleep b n t fs ps))
       by_sight true e n = ap (λ (x : Result). finish (by_table table) told fs here (stack_at table ps) x)
           (sleep_seen (stack_at table ps) n t e)
       by_sight false e zero = ap (λ (x : Result). finish (by_table table) told fs here (stack_at table ps) x)
@@ -100,9 +100,9 @@ module _ (table froms : Table) (told : Telling) (t : ℕ) (here : Here) where
       first_step (cancel name) ss fs ps (after (fill told (signs_to (label_among name ps) t)) (done_at t))
       (ap (λ (x : Log). record (done_at t) { log = x })
       (ap (λ (o : Option Label). sign_of o t) (label_at_places table name ps) ∙ sym (fill_signs_to told (label_among name ps) t)
-          ∙ sym (followed_nil (fill told (signs_to (label_among name ps) t)))))
+      ∙ sym (followed_nil (fill told (signs_to (label_among name ps) t)))))
       ∙ finish_after (steps_left ss ∷ fs) (fill told (signs_to (label_among name ps) t)) (by_table table) told here (stack_at table ps)
-          (done_at t)
+      (done_at t)
 
   -- children of a `start .. over` at a place are told of by their numbers
   over_told : (at : Here) (name : List ℕ) (of : ℕ) (body : Steps) (ps : List Place) (first k : ℕ) →
@@ -110,7 +110,7 @@ module _ (table froms : Table) (told : Telling) (t : ℕ) (here : Here) where
       (i : ℕ) → i < k →
       told (first + i)
       ≡ signed (stack_at table ps) (walk (by_table table) body (here_in (label_over name at i) (cut_of at.input at.part of i) at)
-          (stack_at table ps) t)
+      (stack_at table ps) t)
   over_told at name of body ps first zero h i lt = absurd (omega arith)
   over_told at name of body ps first (suc k) h i lt =
       by_last (last_or_before i k lt) (λ l. over_told at name of body ps first k (told_first t table told front (one ∷ []) h) i l)
@@ -125,7 +125,7 @@ module _ (table froms : Table) (told : Telling) (t : ℕ) (here : Here) where
       Tells i =
           told (first + i)
           ≡ signed (stack_at table ps) (walk (by_table table) body (here_in (label_over name at i) (cut_of at.input at.part of i) at)
-              (stack_at table ps) t)
+          (stack_at table ps) t)
 
       by_last : (i ≡ k) ⊎ (i < k) → (i < k → Tells i) → Tells i
       by_last (inl e) more = subst Tells (sym e) ((told_second t table told front (one ∷ []) h).0 ∙ begun_walk table t one)
@@ -136,10 +136,10 @@ module _ (table froms : Table) (told : Telling) (t : ℕ) (here : Here) where
       Placed fs ps →
       AllTold t table told (step_on froms t (inside fs here) (start name over body) ss fs ps count).begun →
       Keeps (steps_left (step (start name over body) ss) ∷ fs) ps None
-          (step_on froms t (inside fs here) (start name over body) ss fs ps count)
+      (step_on froms t (inside fs here) (start name over body) ss fs ps count)
   keeps_start name None body ss (in_nursery children ∷ fs) (p ∷ ps) count b w h =
       finish_start fs (by_table table) told count name body ss children here
-          (record { label = p.label; shield = p.shield; from = table p.label })
+      (record { label = p.label; shield = p.shield; from = table p.label })
       (stack_at table ps) t
       (h.0 ∙ begun_walk table t (begun_one count (here_in (label_here name (inside fs here)) here.part here) body (p ∷ ps)))
   keeps_start name (Some k) body ss (in_nursery children ∷ fs) (p ∷ ps) count b w h =
@@ -159,7 +159,7 @@ module _ (table froms : Table) (told : Telling) (t : ℕ) (here : Here) where
   keeps_need : (o : Option Span) (name : List ℕ) (ss : Steps) (fs : List Frame) (ps : List Place) →
       finish (by_table table) told (steps_left ss ∷ fs) here (stack_at table ps) (needing o name here.task t)
       ≡ finish (by_table table) told (steps_left ss ∷ fs) here (stack_at table ps)
-          (answered (one_line o) (needs name) here (stack_at table ps) t)
+      (answered (one_line o) (needs name) here (stack_at table ps) t)
   unfolding needing
   keeps_need None name ss fs ps = refl
   keeps_need (Some l) name ss fs ps = refl
@@ -217,13 +217,13 @@ module _ (table froms : Table) (told : Telling) (t : ℕ) (here : Here) where
   -- a block is left, whatever made it end
   pub block_leaves : (kind : Kind) (fs : List Frame) (p : Place) (ps : List Place) (exc : Option Exc) → AgreesOn t table froms (p ∷ ps) →
       finish (by_table table) told fs here (stack_at table ps) (block_left kind
-          (record { label = p.label; shield = p.shield; from = table p.label }) (stack_at table ps) (so_far exc t))
+      (record { label = p.label; shield = p.shield; from = table p.label }) (stack_at table ps) (so_far exc t))
       ≡ behind told (leaves froms t kind fs p ps exc).made (left_after table told here t (leaves froms t kind fs p ps exc))
   block_leaves kind fs p ps exc a =
       ap (λ (b : Bool). finish (by_table table) told fs here (stack_at table ps)
-          (leaving_log kind p.label (left_with b exc) (so_far exc t))) (catches_alike t table froms p ps a)
+      (leaving_log kind p.label (left_with b exc) (so_far exc t))) (catches_alike t table froms p ps a)
       ∙ finish_after fs (fill told (leaves froms t kind fs p ps exc).made) (by_table table) told here (stack_at table ps)
-          (so_far (leaves froms t kind fs p ps exc).exc t)
+      (so_far (leaves froms t kind fs p ps exc).exc t)
 
   -- the body of a `try` has ended
   keeps_try : (handler : Handled) (cleanup : Cleaned) (fs : List Frame) (ps : List Place) (exc : Option Exc) →
@@ -244,20 +244,20 @@ module _ (table froms : Table) (told : Telling) (t : ℕ) (here : Here) where
   unfolding finish signed
   keeps_end ps exc count =
       ap (λ (x : Log). record (so_far exc t) { log = x }) (sym (fill_home told table exc ps t)
-          ∙ sym (followed_nil (fill told (signs_home exc ps t))))
+      ∙ sym (followed_nil (fill told (signs_home exc ps t))))
 
   -- the body of a nursery has ended
   keeps_wait : (children : List ℕ) (fs : List Frame) (p : Place) (ps : List Place) (exc : Option Exc) (count : ℕ) →
       Keeps (in_nursery children ∷ fs) (p ∷ ps) exc (step_frames froms t here (in_nursery children ∷ fs) (p ∷ ps) exc count)
   keeps_wait children fs p ps exc count =
       finish_wait fs (by_table table) told children here (record { label = p.label; shield = p.shield; from = table p.label })
-          (stack_at table ps) t exc
+      (stack_at table ps) t exc
       ∙ ap
       (λ (x : Log).
       after x
       (finish (by_table table) told fs here (stack_at table ps)
       (waited (told_members told children) t exc (record { label = p.label; shield = p.shield; from = table p.label })
-          (stack_at table ps))))
+      (stack_at table ps))))
       (sym (fill_home told table exc (p ∷ ps) t))
 
   -- each kind of frame
@@ -268,7 +268,7 @@ module _ (table froms : Table) (told : Telling) (t : ℕ) (here : Here) where
   keeps_frames (in_scope fail ∷ fs) [] exc count a w h = absurd w
   keeps_frames (in_scope fail ∷ fs) (p ∷ ps) exc count a w h =
       finish_leave fs (by_table table) told fail here (record { label = p.label; shield = p.shield; from = table p.label })
-          (stack_at table ps) (so_far exc t)
+      (stack_at table ps) (so_far exc t)
       ∙ block_leaves (a_scope fail) fs p ps exc a
   keeps_frames (in_nursery children ∷ fs) [] exc count a w h = absurd w
   keeps_frames (in_nursery children ∷ fs) (p ∷ ps) exc count a w h = keeps_wait children fs p ps exc count

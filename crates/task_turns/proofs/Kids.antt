@@ -41,7 +41,7 @@ numbered_below : (first k : ℕ) → AllBelow (first + k) (numbered first k)
 numbered_below first zero = tt
 numbered_below first (suc k) =
     all_append (first + suc k) (numbered first k) ((first + k) ∷ [])
-        (all_grow (first + k) (first + suc k) (omega arith) (numbered first k) (numbered_below first k)) (omega arith, tt)
+    (all_grow (first + k) (first + suc k) (omega arith) (numbered first k) (numbered_below first k)) (omega arith, tt)
 
 -- children that are started now are below the new count
 kids_started : (n m : ℕ) → n ≤ m → (more : List ℕ) → AllBelow m more → (fs : List Frame) → KidsBelow n fs →
@@ -177,5 +177,5 @@ step_kids t froms here m k = kids_frames t froms here m.count m.frames m.places 
 pub wake_kids : (t : ℕ) (froms : Table) (here : Here) (w : Wake) (s : Stopped) (fs : List Frame) (ps : List Place) (n : ℕ) →
     KidsAfter n (Some s) fs →
     KidsAfter (n + length (wake_of froms t here w s fs ps).begun) (wake_of froms t here w s fs ps).stopped
-        (wake_of froms t here w s fs ps).frames
+    (wake_of froms t here w s fs ps).frames
 wake_kids t froms here w s fs ps n k = kids_woken t froms here n w s fs ps (kids_left n (Some s) fs k)

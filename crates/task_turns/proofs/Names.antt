@@ -55,10 +55,10 @@ mutual
       let front = distinct_left (names_of body ++ handled_names handler) (cleaned_names cleanup) d in (
         new_steps body round (distinct_left (names_of body) (handled_names handler) front)
             (λ n i. h n (among_left n (names_of body ++ handled_names handler) (cleaned_names cleanup)
-                (among_left n (names_of body) (handled_names handler) i))),
+            (among_left n (names_of body) (handled_names handler) i))),
         new_handler handler round (distinct_right (names_of body) (handled_names handler) front)
             (λ n i. h n (among_left n (names_of body ++ handled_names handler) (cleaned_names cleanup)
-                (among_right n (names_of body) (handled_names handler) i))),
+            (among_right n (names_of body) (handled_names handler) i))),
         new_cleanup cleanup round (distinct_right (names_of body ++ handled_names handler) (cleaned_names cleanup) d)
             (λ n i. h n (among_right n (names_of body ++ handled_names handler) (cleaned_names cleanup) i)),
       )
@@ -239,11 +239,16 @@ turn_new (suc n) froms t here m h own =
 pub turn_stays_new : (n t : ℕ) (here : Here) (froms : Table) (w : Wake) (rest : Rest) (ps : List Place) (count : ℕ) →
     CanWake w rest.stopped →
     NewIn rest.frames (places_behind (Some rest.stopped) ps) → OwnNames (names_at ps) →
-        StaysNew (turn_from n froms t here w rest.stopped rest.frames ps count)
+    StaysNew (turn_from n froms t here w rest.stopped rest.frames ps count)
 unfolding turn_from
 turn_stays_new n t here froms w rest ps count c h own =
     let o = wake_of froms t here w rest.stopped rest.frames ps in
     let one : StaysNew o = wake_new froms t here c rest.frames ps h own in
     then_new o.stopped o _ refl one
-    (λ e. turn_new n (froms_after froms o.made) t here (record { frames = o.frames; places = o.places; exc = o.exc; count =
-        count + length o.begun }) (not_stopped o e one.frames) one.own)
+    (λ e. turn_new n (froms_after froms o.made) t here (record {
+      frames = o.frames;
+      places = o.places;
+      exc = o.exc;
+      count =
+          count + length o.begun;
+    }) (not_stopped o e one.frames) one.own)

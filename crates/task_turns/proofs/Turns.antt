@@ -21,7 +21,7 @@ use Rattle.task_turns.proofs.Kids.{kids_grow, step_kids}
 pub behind_append : (told : Telling) (es fs : List Event) (r : Result) → behind told (es ++ fs) r ≡ behind told es (behind told fs r)
 behind_append told es fs r =
     ap (λ (x : Log). record r { log = x }) (ap (λ (x : Log). followed_by x r.log) (fill_append told es fs)
-        ∙ followed_assoc (fill told es) (fill told fs) r.log)
+    ∙ followed_assoc (fill told es) (fill told fs) r.log)
 
 -- who agrees with a log agrees with the first part of it
 pub agrees_in_first : (t : ℕ) (table : Table) (a b : Log) → AgreesIn t table (followed_by a b) → AgreesIn t table a
@@ -103,7 +103,7 @@ module _ (t : ℕ) (here : Here) (froms : Table) (Given : Table → Telling → 
     -- the two of them keep the promise of one
     pub turned_then : (o q : Move) → o.stopped ≡ None → Turned t here froms Given before bound was fs ps n o →
         Goes t here (froms_after froms o.made) (record { frames = o.frames; places = o.places; exc = o.exc; count = n + length o.begun })
-            q →
+        q →
         Turned t here froms Given before bound was fs ps n (then_move None o q)
     turned_then o q s x y =
         record {
@@ -112,7 +112,7 @@ module _ (t : ℕ) (here : Here) (froms : Table) (Given : Table → Telling → 
           at_home = y.at_home ∙ (ap (λ (z : Option Stopped). home_after z o.frames o.places) (sym s) ∙ x.at_home);
           kids = λ k. subst (λ (c : ℕ). KidsAfter c q.stopped q.frames)
               (in_all n (length o.begun) (length q.begun) (length (o.begun ++ q.begun)) (length-append o.begun q.begun))
-                  (y.kids (kids_there k));
+              (y.kids (kids_there k));
           housed = housed_append o.begun q.begun q.stopped q.frames q.places
               (housed_on o.frames o.places q.stopped q.frames q.places y.stays o.begun houses_there) y.housed;
           stays = λ i home h. y.stays i home (has_going i home o.frames o.places (has_there i home (x.stays i home h)));
@@ -120,13 +120,13 @@ module _ (t : ℕ) (here : Here) (froms : Table) (Given : Table → Telling → 
               (made_grows t (labels_of o.places) between known q.made y.made_now);
           places = subst (λ (ls : List Label). AllKnown q.places ls) (sym (known_append o.made q.made (labels_of ps)))
               (all_grow (known_after (labels_of o.places) q.made) (known_after between q.made)
-                  (known_grows (labels_of o.places) between known q.made) q.places y.places);
+              (known_grows (labels_of o.places) between known q.made) q.places y.places);
           starts = starts_append o.made q.made n o.begun q.begun x.starts y.starts;
           begun_in = subst (λ (ls : List Label). BegunIn ls (o.begun ++ q.begun)) (sym (known_append o.made q.made (labels_of ps)))
               (begun_append (known_after between q.made) o.begun q.begun
               (begun_grow between (known_after between q.made) (λ l k. known_stays l q.made between k) o.begun x.begun_in)
               (begun_grow (known_after (labels_of o.places) q.made) (known_after between q.made)
-                  (known_grows (labels_of o.places) between known q.made) q.begun y.begun_in));
+              (known_grows (labels_of o.places) between known q.made) q.begun y.begun_in));
           stops = stops_append t froms o.made q.stopped q.places q.made y.stops;
           weight = let e = weight_append o.begun q.begun in let g = x.weight in let h = y.weight in omega arith;
         }
@@ -178,7 +178,7 @@ module _ (t : ℕ) (here : Here) (froms : Table) (Given : Table → Telling → 
     -- a move, and then a turn from there
     pub turned_on : (s : Option Stopped) (o q : Move) → o.stopped ≡ s → Turned t here froms Given before bound was fs ps n o →
         (Placed o.frames o.places → Goes t here (froms_after froms o.made)
-            (record { frames = o.frames; places = o.places; exc = o.exc; count = n + length o.begun }) q) →
+        (record { frames = o.frames; places = o.places; exc = o.exc; count = n + length o.begun }) q) →
         Turned t here froms Given before bound was fs ps n (then_move s o q)
     turned_on (Some s) o q e x go = x
     turned_on None o q e x go = turned_then o q e x (go (subst (λ (s : Option Stopped). PlacedAfter s o.frames o.places) e x.placed))
@@ -193,6 +193,6 @@ turned_turn zero t here froms m p = turned_nothing t here froms m p
 turned_turn (suc n) t here froms m p =
     let o = step_of froms t here m in
     turned_on t here froms (λ table told. Unit {0}) (λ table told. left_of table told here t m) (1 + frames_weight m.frames) None m.frames
-        m.places m.count
+    m.places m.count
     o.stopped o (turn_of n (froms_after froms o.made) t here (moved m o)) refl (turned_step t here froms m p)
     (λ q. turned_turn n t here (froms_after froms o.made) (moved m o) q)

@@ -67,18 +67,18 @@ module _ (table froms : Table) (told : Telling) (t : ℕ) (here : Here) where
   -- lines are noted, and the task goes on in the same tick
   wakes_lines : (ls : List Span) (fs : List Frame) (ps : List Place) →
       finish (by_table table) told fs here (stack_at table ps) (showing ls t)
-          ≡ behind told (lines_made t ls) (left_after table told here t (making (lines_made t ls) fs ps))
+      ≡ behind told (lines_made t ls) (left_after table told here t (making (lines_made t ls) fs ps))
   unfolding showing
   wakes_lines ls fs ps =
       ap (λ (x : Log). finish (by_table table) told fs here (stack_at table ps) (record (done_at t) { log = x }))
-          (sym (fill_lines told t ls) ∙ sym (followed_nil (fill told (lines_made t ls))))
+      (sym (fill_lines told t ls) ∙ sym (followed_nil (fill told (lines_made t ls))))
       ∙ finish_after fs (fill told (lines_made t ls)) (by_table table) told here (stack_at table ps) (done_at t)
 
   -- an answer, by what it is for
   wakes_answer : (a : Answer) (purpose : Purpose) (fs : List Frame) (ps : List Place) → AgreesOn t table froms ps →
       finish (by_table table) told fs here (stack_at table ps) (answered a purpose here (stack_at table ps) t)
       ≡ behind told (goes_on_with froms t here a purpose fs ps).made
-          (left_after table told here t (goes_on_with froms t here a purpose fs ps))
+      (left_after table told here t (goes_on_with froms t here a purpose fs ps))
   wakes_answer (lines ls) purpose fs ps g = wakes_lines ls fs ps
   wakes_answer missing (needs name) fs ps g = refl
   wakes_answer missing shows fs ps g = refl
@@ -95,7 +95,7 @@ module _ (table froms : Table) (told : Telling) (t : ℕ) (here : Here) where
   unfolding gathered
   wakes_settled exc children ended e u fs (p ∷ ps) g s =
       at_last (latest ended (told_members told children)) (group_of (by_nursery p.label)
-          (parts_of (with_exc e (excs_of (told_members told children))))) s.0 s.1
+      (parts_of (with_exc e (excs_of (told_members told children))))) s.0 s.1
       ∙ block_leaves table froms told t here a_nursery fs p ps exc g
     where
       left : Result → Result
@@ -115,16 +115,16 @@ module _ (table froms : Table) (told : Telling) (t : ℕ) (here : Here) where
   wake_keeps u from_start fs ps g e = ap (λ (v : ℕ). finish (by_table table) told fs here (stack_at table ps) (done_at v)) e
   wake_keeps u (from_asking {a} {kernel} {purpose}) fs ps g e =
       ap (λ (v : ℕ). finish (by_table table) told fs here (stack_at table ps)
-          (answered (answer_of kernel here) purpose here (stack_at table ps) v)) e.0
+      (answered (answer_of kernel here) purpose here (stack_at table ps) v)) e.0
       ∙ (ap (λ (b : Answer). finish (by_table table) told fs here (stack_at table ps) (answered b purpose here (stack_at table ps) t))
-          (sym e.1)
+      (sym e.1)
       ∙ wakes_answer a purpose fs ps g)
   wake_keeps u (from_sleep {n} {since}) fs ps g e =
       ap (λ (r : Result). finish (by_table table) told fs here (stack_at table ps) r) (slept_seen (stack_at table ps) n since t e.0 e.1 e.2)
   wake_keeps u (from_due {n} {since}) fs ps g e =
       ap (λ (r : Result). finish (by_table table) told fs here (stack_at table ps) r)
       (slept_due (stack_at table ps) n since (subst (λ (v : ℕ). seen (stack_at table ps) v ≡ false) (sym e.0) e.1)
-          ∙ ap (λ (v : ℕ). done_at v) e.0)
+      ∙ ap (λ (v : ℕ). done_at v) e.0)
   wake_keeps u (from_wait {exc} {children} {ended} {e}) fs ps g h = wakes_settled exc children ended e u fs ps g h
 
 -- ---- what a wake makes and leaves
@@ -226,7 +226,7 @@ turned_from n u t here froms w rest ps count c p =
     let o = wake_of froms t here w rest.stopped rest.frames ps in
     let m : Midway = record { frames = o.frames; places = o.places; exc = o.exc; count = count + length o.begun } in
     turned_on t here froms (λ table told. WakesBy table told here u t w rest.stopped ps)
-        (λ table told. rest_comes_to (by_table table) told rest here (stack_at table ps) u)
+    (λ table told. rest_comes_to (by_table table) told rest here (stack_at table ps) u)
     (rest_weight rest) (Some rest.stopped) rest.frames ps count
     o.stopped o (turn_of n (froms_after froms o.made) t here m) refl (turned_wake u t here froms w rest ps count c p)
     (λ q. turned_turn n t here (froms_after froms o.made) m q)

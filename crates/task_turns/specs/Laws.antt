@@ -23,25 +23,25 @@ EachStepGoes = (t : ℕ) (here : Here) (froms : Table) (m : Midway) → Placed m
 abbrev pub EachTurnKeeps : Type 0
 EachTurnKeeps =
     (n u t : ℕ) (here : Here) (froms : Table) (w : Wake) (rest : Rest) (ps : List Place) (count : ℕ) → CanWake w rest.stopped →
-        PlacedStop rest.stopped rest.frames ps →
+    PlacedStop rest.stopped rest.frames ps →
     TurnsOver u t here froms w rest ps count (turn_from n froms t here w rest.stopped rest.frames ps count)
 
 abbrev pub EachTurnStops : Type 0
 EachTurnStops =
     (n t : ℕ) (here : Here) (froms : Table) (w : Wake) (rest : Rest) (ps : List Place) (count : ℕ) →
     frames_length (wake_of froms t here w rest.stopped rest.frames ps).frames < n →
-        IsSome (turn_from n froms t here w rest.stopped rest.frames ps count).stopped
+    IsSome (turn_from n froms t here w rest.stopped rest.frames ps count).stopped
 
 -- A turn that keeps the promise leaves what the task comes to as it was: with what it made before, its stop and its frames
 -- before the turn, as with what it has made, its stop and its frames after it.
 abbrev pub TaskComesToTheSame : Type 0
 TaskComesToTheSame =
     (u t : ℕ) (here : Here) (froms : Table) (w : Wake) (rest : Rest) (ps : List Place) (count : ℕ) (o : Move) (made : List Event)
-        (s : Stopped) →
+    (s : Stopped) →
     TurnsOver u t here froms w rest ps count o → o.stopped ≡ Some s → (table : Table) (told : Telling) →
-        WakesBy table told here u t w rest.stopped ps →
+    WakesBy table told here u t w rest.stopped ps →
     AgreesOn t table froms ps → AgreesIn t table (rest_comes_to (by_table table) told rest here (stack_at table ps) u).log →
-        AllTold t table told o.begun →
+    AllTold t table told o.begun →
     task_comes_to (by_table table) told made rest here (stack_at table ps) u
     ≡ task_comes_to (by_table table) told (made ++ o.made) (record { stopped = s; frames = o.frames }) here (stack_at table o.places) t
 
@@ -54,7 +54,7 @@ FromsAreLowered = (es : List Event) (froms : Table) (l : Label) → (EntersIn l 
 abbrev pub FromsAreOpened : Type 0
 FromsAreOpened =
     (t : ℕ) (es : List Event) (ls : List Label) (froms : Table) (l : Label) (d : Tick) → MadeAt t ls es → (Known l ls → ⊥) →
-        EntersOnceWith l d es →
+    EntersOnceWith l d es →
     froms_after froms es l ≡ from_by d (made_sign l es)
 
 -- in a job whose names are given once, none is the name of a scope round it
@@ -70,4 +70,4 @@ abbrev pub EachTurnStaysNew : Type 0
 EachTurnStaysNew =
     (n t : ℕ) (here : Here) (froms : Table) (w : Wake) (rest : Rest) (ps : List Place) (count : ℕ) → CanWake w rest.stopped →
     NewIn rest.frames (places_behind (Some rest.stopped) ps) → OwnNames (names_at ps) →
-        StaysNew (turn_from n froms t here w rest.stopped rest.frames ps count)
+    StaysNew (turn_from n froms t here w rest.stopped rest.frames ps count)

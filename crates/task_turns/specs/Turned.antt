@@ -145,7 +145,7 @@ pub record Turned
     -- is left after the move.
     pub keeps :
         (table : Table) (told : Telling) → Given table told → AgreesOn t table froms places_before →
-            AgreesIn t table (before table told).log →
+        AgreesIn t table (before table told).log →
         AllTold t table told o.begun → before table told ≡ behind told o.made (left_after table told here t o)
     -- the frames that are left fit the places
     pub placed : PlacedAfter o.stopped o.frames o.places

@@ -61,8 +61,13 @@ unfoldable pub turn_from : ℕ → Table → ℕ → Here → Wake → Stopped �
 turn_from n froms t here w s fs ps count =
     let o = wake_of froms t here w s fs ps in
     then_move o.stopped o
-    (turn_of n (froms_after froms o.made) t here (record { frames = o.frames; places = o.places; exc = o.exc; count =
-        count + length o.begun }))
+    (turn_of n (froms_after froms o.made) t here (record {
+      frames = o.frames;
+      places = o.places;
+      exc = o.exc;
+      count =
+          count + length o.begun;
+    }))
 
 -- A nursery settles in the tick of its last member, with the group of what its members raised: its innermost place is the
 -- nursery, and its children ended like this.

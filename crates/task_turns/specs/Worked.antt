@@ -105,7 +105,7 @@ caught_then_asks = refl
 -- the answer to `find` is noted, and the child that has no more to do ends
 pub answer_is_noted :
     later_turn never 2 (codes "a") (has_answer (lines (record { at = 0; len = 1 } ∷ []))) (asking (ask.find (codes "a")) shows)
-        (steps_left stop ∷ []) (place (codes "n") ∷ [])
+    (steps_left stop ∷ []) (place (codes "n") ∷ [])
     ≡ record {
       frames = [];
       places = place (codes "n") ∷ [];
@@ -120,7 +120,7 @@ answer_is_noted = refl
 -- a `need` that misses raises, and the failed child signs for its home nursery as its last event
 pub need_misses :
     later_turn never 2 [] (has_answer missing) (asking (ask.need (codes "a")) (needs (codes "E"))) (steps_left stop ∷ [])
-        (place (codes "n") ∷ [])
+    (place (codes "n") ∷ [])
     ≡ record {
       frames = [];
       places = place (codes "n") ∷ [];

@@ -76,7 +76,7 @@ key_upto tick key later other upto by =
       | inl less ↦
           let same : tick ≡ later = omega (arith, by, tick_upto tick key later other upto) in
           absurd (let above : is_gt (pair_cmp (tick, key) (later, other)) ≡ true =
-              rw (cmp-same tick later same, cmp-greater key other less) refl in cc)
+          rw (cmp-same tick later same, cmp-greater key other less) refl in cc)
       | inr more ↦ more
     ]
 
@@ -196,7 +196,7 @@ is_first : (ticks : BTreeMap ℕ ℕ) (order : BTreeSet (ℕ × ℕ)) (first : �
     sorted.IsLowerBound pair_cmp order first → IsFirst ticks.entries first.0 first.1
 is_first ticks order first agree among below =
     let upto = λ (other later : ℕ) (has : get nat_cmp ticks other ≡ Some later).
-        below (later, other) (agree other later ∙ ap (λ o. is_tick o later) has ∙ is_tick-same later) in
+    below (later, other) (agree other later ∙ ap (λ o. is_tick o later) has ∙ is_tick-same later) in
     record {
       has = is_tick-is _ first.0 (sym (agree first.1 first.0) ∙ among);
       earliest = λ other later has. tick_upto first.0 first.1 later other (upto other later has);

@@ -15,11 +15,11 @@ prune_parts-parts-preserved t c =
     elim c.match-branch-2.branch [
       | prune_parts-in-Some+in_ok-push-in-Some w ↦
           pruned_some (side c.args.keeps (wanted_of c.args.wanted.now)) c.args.parts.now c.parts.left.items c.match-branch-2.left.items
-              c.parts.part-index c.part-item.result _ _ (omega arith)
+          c.parts.part-index c.part-item.result _ _ (omega arith)
           c.parts.invariant c.in_ok-exc.ensures w.in-Some.is c.part-item.is
-              (ap (λ v. v.items) w.left-is ∙ w.in_ok-push-in-Some.ensures.items)
+          (ap (λ v. v.items) w.left-is ∙ w.in_ok-push-in-Some.ensures.items)
       | prune_parts-in-None w ↦
           pruned_none (side c.args.keeps (wanted_of c.args.wanted.now)) c.args.parts.now c.parts.left.items c.match-branch-2.left.items
-              c.parts.part-index c.part-item.result _ (omega arith)
+          c.parts.part-index c.part-item.result _ (omega arith)
           c.parts.invariant c.in_ok-exc.ensures w.in-None.is c.part-item.is (ap (λ v. v.items) w.left-is)
     ]

@@ -8,4 +8,4 @@ use Rattle.exc_groups.proofs.leaves.group.Goals as goal
 pub returns : goal.returns
 returns c = ap (λ ps. Some (tree.group (whose_of c.args.whose) ps)) c.new.ensures ∙ group_of-some (whose_of c.args.whose) c.args.parts.items
     (λ none. let same : false ≡ true = c.if-is_empty.ensures ∙ ap (λ xs. length xs == 0) c.as_slice.ensures.value ∙ ap (λ n. n == 0) none in
-        cc)
+    cc)

@@ -25,7 +25,7 @@ pub phases-preserved-in-Ready : goal.phases-preserved-in-Ready
 phases-preserved-in-Ready g c =
     let e = c.in_ok-runner-in-Ready.ensures in
     runs_on c.args.job.now c.args.input.now c.args.settings.limit c.phases.runner c.in_ok-runner-in-Ready.runner c.phases.invariant e.same
-        e.underway
+    e.underway
 
 pub jump-requires-clause-underway : goal.jump-requires-clause-underway
 jump-requires-clause-underway g c = c.phases.invariant.underway
@@ -35,7 +35,7 @@ returns-in_err-runner-in-Blocked-clause-late g c =
     let p = err_from_is_err_and c.from_residual-in_err-runner-in-Blocked.result c.from_residual-in_err-runner-in-Blocked.ensures.1 in
     rw (p.1, p.2)
     (said_for c.args.job.now c.args.input.now c.args.settings.limit c.phases.runner c.phases.invariant
-        (λ (j : Tree) (xs : List ℕ) (n : ℕ). IsLate j xs n c.in_err-runner-in-Blocked.field-0.0)
+    (λ (j : Tree) (xs : List ℕ) (n : ℕ). IsLate j xs n c.in_err-runner-in-Blocked.field-0.0)
     c.in_err-runner-in-Blocked.ensures.late)
 
 pub phases-smaller : goal.phases-smaller
@@ -47,7 +47,7 @@ pub phases-preserved : goal.phases-preserved
 phases-preserved g c =
     let e = c.in_ok-runner-in-Blocked.ensures in
     runs_on c.args.job.now c.args.input.now c.args.settings.limit c.phases.runner c.in_ok-runner-in-Blocked.runner c.phases.invariant e.same
-        e.underway
+    e.underway
 
 pub finish-requires-clause-underway : goal.finish-requires-clause-underway
 finish-requires-clause-underway g c = c.phases.invariant.underway
@@ -58,19 +58,19 @@ returns-in-Over-clause-name g c = c.in_ok-run-in-Over.ensures.run.name ∙ ap (�
 pub returns-in-Over-clause-records : goal.returns-in-Over-clause-records
 returns-in-Over-clause-records g c =
     (said_for c.args.job.now c.args.input.now c.args.settings.limit c.phases.runner c.phases.invariant
-        (λ (j : Tree) (xs : List ℕ) (n : ℕ). IsRun j xs c.in_ok-run-in-Over.run')
+    (λ (j : Tree) (xs : List ℕ) (n : ℕ). IsRun j xs c.in_ok-run-in-Over.run')
     c.in_ok-run-in-Over.ensures.run).rows
 
 pub returns-in-Over-clause-lines : goal.returns-in-Over-clause-lines
 returns-in-Over-clause-lines g c =
     (said_for c.args.job.now c.args.input.now c.args.settings.limit c.phases.runner c.phases.invariant
-        (λ (j : Tree) (xs : List ℕ) (n : ℕ). IsRun j xs c.in_ok-run-in-Over.run')
+    (λ (j : Tree) (xs : List ℕ) (n : ℕ). IsRun j xs c.in_ok-run-in-Over.run')
     c.in_ok-run-in-Over.ensures.run).slices
 
 pub returns-in-Over-clause-froms : goal.returns-in-Over-clause-froms
 returns-in-Over-clause-froms g c =
     (said_for c.args.job.now c.args.input.now c.args.settings.limit c.phases.runner c.phases.invariant
-        (λ (j : Tree) (xs : List ℕ) (n : ℕ). IsRun j xs c.in_ok-run-in-Over.run')
+    (λ (j : Tree) (xs : List ℕ) (n : ℕ). IsRun j xs c.in_ok-run-in-Over.run')
     c.in_ok-run-in-Over.ensures.run).froms
 
 pub returns-in-Over-clause-turns : goal.returns-in-Over-clause-turns
@@ -80,4 +80,4 @@ returns-in-Over-clause-turns g c =
 pub returns-in-Over-clause-in_time : goal.returns-in-Over-clause-in_time
 returns-in-Over-clause-in_time g c =
     said_for c.args.job.now c.args.input.now c.args.settings.limit c.phases.runner c.phases.invariant
-        (λ (j : Tree) (xs : List ℕ) (n : ℕ). meaning_end j xs ≤ n) c.in_ok-run-in-Over.ensures.in_time
+    (λ (j : Tree) (xs : List ℕ) (n : ℕ). meaning_end j xs ≤ n) c.in_ok-run-in-Over.ensures.in_time

@@ -6,14 +6,14 @@ use Rattle.job_tokens.proofs.number.value_of.Goals as goal
 pub returns-then-value-gt-GREATEST_NUMBER : goal.returns-then-value-gt-GREATEST_NUMBER
 returns-then-value-gt-GREATEST_NUMBER c =
     let step = value_step c.loop-digit.value c.args.digits.now c.loop-digit.digit-index c.from.result c.loop-digit-test.true
-        (c.from.ensures ∙ c.saturating_sub.ensures) in
+    (c.from.ensures ∙ c.saturating_sub.ensures) in
     sym (is_above (10 * c.loop-digit.value + c.from.result) c.args.digits.now (drop (c.loop-digit.digit-index + 1) c.args.digits.now)
-        (sym step ∙ c.loop-digit.invariant.so_far) (omega arith))
+    (sym step ∙ c.loop-digit.invariant.so_far) (omega arith))
 
 pub loop-digit-preserved : goal.loop-digit-preserved
 loop-digit-preserved c =
     let step = value_step c.loop-digit.value c.args.digits.now c.loop-digit.digit-index c.from.result c.loop-digit-test.true
-        (c.from.ensures ∙ c.saturating_sub.ensures) in
+    (c.from.ensures ∙ c.saturating_sub.ensures) in
     record { within = omega arith; so_far = sym step ∙ c.loop-digit.invariant.so_far }
 
 pub returns : goal.returns

@@ -31,5 +31,5 @@ pub returns-clause-units : goal.returns-clause-units
 returns-clause-units c =
     let full : c.loop-len.len ≡ 64 = omega arith in
     let found = ends (take c.loop-len.len c.loop-len.room) (64 - c.loop-len.len) c.loop-len.rest.now c.in_ok-after.after.now
-        (units 64 c.args.bytes.now) c.in_ok-after.ensures.value c.loop-len.invariant.so_far in
+    (units 64 c.args.bytes.now) c.in_ok-after.ensures.value c.loop-len.invariant.so_far in
     subst (λ (n : ℕ). units 64 c.args.bytes.now ≡ Some (take n c.loop-len.room, c.in_ok-after.after.now)) full found

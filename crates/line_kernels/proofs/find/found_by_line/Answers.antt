@@ -15,10 +15,10 @@ loop-line-preserved-in-Continue-1 c =
     let steps = c.in-Some.ensures.steps in
     let placed : IsLineOf b line = subst (λ x. IsLineOf x line) before.source steps.placed in
     let has : contains needle (line_text line) ≡ true = sym (ap (contains needle) c.text.ensures) ∙ sym c.contains.ensures
-        ∙ c.if-contains.true in
+    ∙ c.if-contains.true in
     let shows : filter (stands_in b needle) (lines_left c.loop-line.line-iterator) ≡ span_of line ∷ filter (stands_in b needle) left =
     ap (filter (stands_in b needle)) steps.first ∙ filter-passed (stands_in b needle) (span_of line) left
-        (stands_in-line b needle line true placed has) in
+    (stands_in-line b needle line true placed has) in
     let pushed : c.push.new.self.items ≡ c.loop-line.lines.items ++ line ∷ [] = c.in_ok-push.ensures.items in
     record {
       source = steps.same_source ∙ before.source;

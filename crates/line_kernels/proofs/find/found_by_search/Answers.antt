@@ -18,13 +18,13 @@ lines-preserved c =
     let after = c.line_at.new.self in
     let goes = c.line_at.ensures in
     let in_text : FindsNeedle c.text.result.now needle 0 (Some c.in-Some.place) =
-        subst (λ (n : List ℕ). FindsNeedle c.text.result.now n 0 (Some c.in-Some.place)) c.new-finder.ensures c.in-Some.ensures in
+    subst (λ (n : List ℕ). FindsNeedle c.text.result.now n 0 (Some c.in-Some.place)) c.new-finder.ensures c.in-Some.ensures in
     let found : FindsNeedle (bytes_of (source_of left) (range_left left)) needle 0 (Some c.in-Some.place) =
-        subst (λ (h : List ℕ). FindsNeedle h needle 0 (Some c.in-Some.place)) c.text.ensures in_text in
+    subst (λ (h : List ℕ). FindsNeedle h needle 0 (Some c.in-Some.place)) c.text.ensures in_text in
     let next = found-next left after needle c.in-Some.place line c.requires.some c.requires.in_one_line found goes in
     let shows : filter (stands_in b needle) (lines_left left) ≡ span_of line ∷ filter (stands_in b needle) (lines_left after) =
     subst (λ (x : List ℕ). filter (stands_in x needle) (lines_left left) ≡ span_of line ∷ filter (stands_in x needle) (lines_left after))
-        before.source next in
+    before.source next in
     let placed : IsLineOf b line = subst (λ (x : List ℕ). IsLineOf x line) before.source goes.placed in
     let pushed : c.push.new.self.items ≡ c.lines.lines.items ++ line ∷ [] = c.in_ok-push.ensures.items in
     record {
@@ -41,12 +41,12 @@ returns c =
     let before = c.lines.invariant in
     let left = c.lines.left in
     let in_text : FindsNeedle c.text.result.now needle 0 None =
-        subst (λ (n : List ℕ). FindsNeedle c.text.result.now n 0 None) c.new-finder.ensures c.in_default.ensures in
+    subst (λ (n : List ℕ). FindsNeedle c.text.result.now n 0 None) c.new-finder.ensures c.in_default.ensures in
     let missed : FindsNeedle (bytes_of (source_of left) (range_left left)) needle 0 None =
-        subst (λ (h : List ℕ). FindsNeedle h needle 0 None) c.text.ensures in_text in
+    subst (λ (h : List ℕ). FindsNeedle h needle 0 None) c.text.ensures in_text in
     let none : filter (stands_in b needle) (lines_left left) ≡ [] =
     subst (λ (x : List ℕ). filter (stands_in x needle) (lines_left left) ≡ []) before.source
-        (missed-none left needle c.requires.some missed) in
+    (missed-none left needle c.requires.some missed) in
     let all : found_in b needle (range_of c.args.part) ≡ map span_of c.lines.lines.items =
     before.found ∙ ap (λ ls. map span_of c.lines.lines.items ++ ls) none ∙ append-nil (map span_of c.lines.lines.items) in
     record {

@@ -13,7 +13,7 @@ loop-line-preserved c =
     let placed : IsLineOf b line = subst (λ x. IsLineOf x line) before.source steps.placed in
     let pushed : c.push.new.self.items ≡ c.loop-line.lines.items ++ line ∷ [] = c.in_ok-push.ensures.items in
     let one : length (c.loop-line.lines.items ++ line ∷ []) ≡ length c.loop-line.lines.items + 1 =
-        length-append c.loop-line.lines.items (line ∷ []) in
+    length-append c.loop-line.lines.items (line ∷ []) in
     let few : length c.push.new.self.items ≤ c.args.count = omega (arith, ap length pushed) in
     record {
       source = steps.same_source ∙ before.source;

@@ -9,7 +9,7 @@ longer-smaller c =
     let before = span_of c.longer.longest in
     let steps = c.in-Some.ensures in
     longer-fewer before.len (lines_left c.longer.left) (span_of c.in-Some.line) (lines_left c.next_longer_than.new.self)
-        (ap (λ n. from_longer n (lines_left c.longer.left)) (sym (ap length c.text.ensures)) ∙ steps.first)
+    (ap (λ n. from_longer n (lines_left c.longer.left)) (sym (ap length c.text.ensures)) ∙ steps.first)
 
 pub longer-preserved : goal.longer-preserved
 longer-preserved c =

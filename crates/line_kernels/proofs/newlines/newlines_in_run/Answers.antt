@@ -15,7 +15,7 @@ blocks-2-preserved c =
     let keeps = c.blocks-2.invariant in
     let hits = c.newline_lanes-lanes.result in
     let next = lanes-next c.args.bytes.now c.args.at c.blocks-2.seen c.blocks-2.lanes hits (omega arith) keeps.1 keeps.3
-        c.newline_lanes-lanes.ensures in
+    c.newline_lanes-lanes.ensures in
     (omega arith, next.0, added-low c.blocks-2.seen c.blocks-2.lanes hits keeps.2 (low-hits hits _ c.newline_lanes-lanes.ensures), next.1)
 
 pub overflow_cast-result : goal.overflow_cast-result

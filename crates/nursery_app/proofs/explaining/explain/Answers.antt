@@ -22,7 +22,7 @@ returns c =
           (pieces _ _ _ _ _ _ _ _ _ _ _ _
           (c.in_ok-message.ensures ∙ headed_same c.args.job.now _ _ _ _ _ _ c.line_of-line.ensures.value c.column_of-column.ensures.value
           (c.sentence_of-sentence.ensures ∙ ap (λ (x : Option ℕ). sentence_of c.args.fault.kind x c.in_ok-asked.asked)
-              (c.copied.ensures ∙ c.first.ensures.value ∙ first_at text _ at rest)))
+          (c.copied.ensures ∙ c.first.ensures.value ∙ first_at text _ at rest)))
           (c.in_ok-push_shown.ensures ∙ ap (λ (x : List ℕ). string_bytes c.in_ok-message.message ++ x) front)
           (c.in_ok-push_shown-2.ensures ∙ ap (λ (x : List ℕ). string_bytes c.push_shown.new.message ++ x) back)
           c.in_ok-push_str.ensures.bytes

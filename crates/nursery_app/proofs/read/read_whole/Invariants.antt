@@ -5,4 +5,4 @@ use Rattle.nursery_app.proofs.read.read_whole.Given as goal
 abbrev pub invariant-reads : goal.invariant-reads
 invariant-reads g l =
     (vec_len l.bytes ≤ l.most) × (l._turn ≤ vec_len l.bytes) × Consumes (g.R.Read.remaining l.fn.reader) (g.R.Read.remaining l.reader)
-        l.bytes.items
+    l.bytes.items

@@ -15,4 +15,4 @@ pub returns : goal.returns
 returns g c =
     let count = c.in_ok-claims.ensures.requests in
     gathered-all c.args.requests.now c.in_ok-gathered.gathered.passes.items _ (c.in_ok-gathered.ensures.answered c.if-refused.false)
-        (λ i inside. c.close.ensures.each_once i (omega arith))
+    (λ i inside. c.close.ensures.each_once i (omega arith))

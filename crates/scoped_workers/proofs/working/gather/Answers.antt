@@ -32,5 +32,5 @@ loop-station-preserved c =
           λ fits.
           let was = c.in_ok-take.ensures.refused fits in
           gathered-one_more requests passes _ station.pass _ _ station.answered.items (before.answered was.0) (this.answered was.1) pushed
-              c.in_ok-take.ensures.answered;
+          c.in_ok-take.ensures.answered;
     }

@@ -25,7 +25,7 @@ put-requires c =
     let requests = c.args.requests.now in
     let count = before.count in
     let this = All-head (IsRight requests) c.in-Some.numbered c.next.new.self.rest.items
-        (subst (All (IsRight requests)) c.in-Some.ensures.steps.0 before.right) in
+    (subst (All (IsRight requests)) c.in-Some.ensures.steps.0 before.right) in
     let inside = this.0 in
     omega arith
 

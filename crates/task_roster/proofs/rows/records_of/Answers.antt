@@ -26,7 +26,7 @@ rows-preserved c = record {
       c.push_reversed.new.stack.items c.rows.records.items c.push-in-Some.new.self.items c.rows.froms.items c.append.new.self.items
       c.in-Some.place c.take_row-start.result c.in-Some-end.ended c.told_of-record.result.0
       (c.rows.invariant.told input rs are) c.in-Some.ensures.items c.take_row-start.ensures.taken c.in-Some-end.is
-          c.take_row-start.ensures.left c.told_of-record.ensures.record c.in_ok-push_reversed.ensures c.in_ok-push-2.ensures.items
+      c.take_row-start.ensures.left c.told_of-record.ensures.record c.in_ok-push_reversed.ensures c.in_ok-push-2.ensures.items
       (c.in_ok-append.ensures.items ∙ ap (λ (x : List ScopeFrom). c.rows.froms.items ++ x) c.told_of-record.ensures.froms);
 }
 

@@ -30,7 +30,7 @@ four_apart a b c d as_a as_b as_c as_d = record {
       (All-cons In d [] (subst (All P) (sym as_d) (All-nil P)) (All-nil In))));
   once = λ x.
       let all : times_child x (a ∷ b ∷ c ∷ d ∷ []) ≡ 0 + times x a.children.items + times x b.children.items + times x c.children.items
-          + times x d.children.items = refl in
+      + times x d.children.items = refl in
       let of_a : times x a.children.items ≡ 0 + one_if (1 == x) + one_if (2 == x) = ap (times x) as_a in
       let of_b : times x b.children.items ≡ 0 + one_if (3 == x) = ap (times x) as_b in
       let of_c : times x c.children.items ≡ 0 = ap (times x) as_c in
@@ -50,11 +50,11 @@ four_apart a b c d as_a as_b as_c as_d = record {
 pub records_of-requires-clause-tree : goal.records_of-requires-clause-tree
 records_of-requires-clause-tree g c =
     let items : c.push-4.new.self.items ≡ c.in_ok-ended.field-0 ∷ c.in_ok-ended-2.field-0 ∷ c.in_ok-ended-3.field-0
-        ∷ c.in_ok-ended-4.field-0 ∷ [] =
+    ∷ c.in_ok-ended-4.field-0 ∷ [] =
     c.in_ok-push-4.ensures.items
     ∙ ap (λ (x : List Row). x ++ c.in_ok-ended-4.field-0 ∷ []) (c.in_ok-push-3.ensures.items
     ∙ ap (λ (x : List Row). x ++ c.in_ok-ended-3.field-0 ∷ []) (c.in_ok-push-2.ensures.items
     ∙ ap (λ (x : List Row). x ++ c.in_ok-ended-2.field-0 ∷ []) (c.in_ok-push.ensures.items
     ∙ ap (λ (x : List Row). x ++ c.in_ok-ended.field-0 ∷ []) c.new-rows.ensures.items))) in
     rw items (four_apart _ _ _ _ c.in_ok-ended.ensures.children c.in_ok-ended-2.ensures.children c.in_ok-ended-3.ensures.children
-        c.in_ok-ended-4.ensures.children)
+    c.in_ok-ended-4.ensures.children)

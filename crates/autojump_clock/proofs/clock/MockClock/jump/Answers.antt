@@ -6,5 +6,10 @@ pub returns-then-next-self : goal.returns-then-next-self
 returns-then-next-self c =
     let first : IsFirst c.self.inside.timers c.unwrap-due.result.0 c.unwrap-due.result.1 = rw c.unwrap-due.ensures at c.first.ensures in
     rw (← c.self.view_is)
-    (record { next = c.earlier-next.result; is_next = rw c.earlier-next.ensures (first_is_next _ c.args.next_cancel _ _ first); late =
-        c.if-next-self.true; unchanged = same_clock _ })
+    (record {
+      next = c.earlier-next.result;
+      is_next = rw c.earlier-next.ensures (first_is_next _ c.args.next_cancel _ _ first);
+      late =
+          c.if-next-self.true;
+      unchanged = same_clock _;
+    })

@@ -13,7 +13,7 @@ invariant_of-self-2 c =
     let b = c.self.inside in
     ready_push b.current.items b.next.items c.push.new.self.items b.places c.make_room.new.self (c.args.task, c.args.call)
     c.self.invariant c.in_ok-push.ensures.items c.in_ok-make_room.ensures.left
-        (rw (c.len.ensures ∙ b.next.ok.0) at c.in_ok-make_room.ensures.room)
+    (rw (c.len.ensures ∙ b.next.ok.0) at c.in_ok-make_room.ensures.room)
 
 pub returns-clause-added : goal.returns-clause-added
 returns-clause-added c =

@@ -12,9 +12,9 @@ invariant_of-cut c =
     let r = range_of p in
     let here = cuts.here in
     let step : cut_point b r cuts.count cuts.given ≤ cut_point b r cuts.count (cuts.given + 1) =
-        cut_point-ordered b r cuts.count cuts.given p.ordered c.requires in
+    cut_point-ordered b r cuts.count cuts.given p.ordered c.requires in
     let next : IsCutPoint b r (cuts.given + 1) (cut_point b r cuts.count (cuts.given + 1)) =
-        cut_point-lies b r cuts.count (cuts.given + 1) p.ordered (omega arith) (omega (arith, c.requires)) in
+    cut_point-lies b r cuts.count (cuts.given + 1) p.ordered (omega arith) (omega (arith, c.requires)) in
     record {
       ordered = omega (arith, step, here, c.next_end-end.ensures);
       within = omega (arith, next.high, p.within, c.next_end-end.ensures);

@@ -13,7 +13,7 @@ returns-then-place-self c =
     let reached : target_of (range_of part) cuts.count (cuts.given + 1) ≤ cut_point (buffer_of part) (range_of part) cuts.count cuts.given =
     omega (arith, here, c.steps.ensures, c.if-place-self.true) in
     here ∙ sym (same_end (buffer_of part) (range_of part) cuts.count cuts.given part.ordered part.aligned
-        (omega (arith, c.requires, c.if-self.false)) reached)
+    (omega (arith, c.requires, c.if-self.false)) reached)
 
 pub next_start-requires : goal.next_start-requires
 next_start-requires c =

@@ -11,9 +11,9 @@ returns-in-Some-clause-steps c =
     let found = lines_of-newline s.buffer.now s.next s.end k s.within c.in-Some.ensures in
     let fits : s.next + k + 1 ≤ s.end = found.0 in
     let text : take k (slice_range s.buffer.now s.next s.end) ≡ slice_range s.buffer.now s.next (s.next + k) =
-        take-slice_range s.buffer.now s.next s.end k (omega arith) in
+    take-slice_range s.buffer.now s.next s.end k (omega arith) in
     let long : length (slice_range s.buffer.now s.next (s.next + k)) ≡ s.next + k - s.next =
-        length-slice_range s.buffer.now s.next (s.next + k) (omega arith) in
+    length-slice_range s.buffer.now s.next (s.next + k) (omega arith) in
     let len : length (take k (slice_range s.buffer.now s.next s.end)) ≡ k = omega (arith, ap length text) in
     record {
       first = found.1 ∙ ap (λ n. span s.next n ∷ lines_of s.buffer.now (range (s.next + k + 1) s.end)) (sym len);

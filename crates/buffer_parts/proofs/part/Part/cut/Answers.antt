@@ -10,9 +10,9 @@ invariant_of-result c =
     let b = buffer_of p in
     let r = range_of p in
     let step : cut_point b r c.args.k c.args.i ≤ cut_point b r c.args.k (c.args.i + 1) =
-        cut_point-ordered b r c.args.k c.args.i p.ordered c.requires.below in
+    cut_point-ordered b r c.args.k c.args.i p.ordered c.requires.below in
     let next : IsCutPoint b r (c.args.i + 1) (cut_point b r c.args.k (c.args.i + 1)) =
-        cut_point-lies b r c.args.k (c.args.i + 1) p.ordered (omega arith) (omega arith) in
+    cut_point-lies b r c.args.k (c.args.i + 1) p.ordered (omega arith) (omega arith) in
     record {
       ordered = omega (arith, step, c.cut_point.ensures, c.cut_point-2.ensures);
       within = omega (arith, next.high, c.cut_point-2.ensures);

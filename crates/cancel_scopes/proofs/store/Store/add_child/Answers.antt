@@ -12,7 +12,7 @@ pub push_reserved-requires : goal.push_reserved-requires
 push_reserved-requires c =
     let slots = c.args.self.now.scopes.slots in
     place_same slots c.in-Some.parent c.in-Some.parent c.index_mut-scope.result.now refl
-        (subst (HasPlace slots) c.in-Some.is c.requires.parent) c.index_mut-scope.ensures.value
+    (subst (HasPlace slots) c.in-Some.is c.requires.parent) c.index_mut-scope.ensures.value
 
 pub returns-in_default-clause-same : goal.returns-in_default-clause-same
 returns-in_default-clause-same c = outlines-none c.args.self.now.scopes.slots
@@ -25,11 +25,11 @@ returns-in_default-clause-family c =
 pub returns-clause-same : goal.returns-clause-same
 returns-clause-same c =
     added-outlines c.args.self.now.scopes.slots c.args.key c.in-Some.parent c.index_mut-scope.result.now _ c.index_mut-scope.ensures.value
-        refl refl refl
+    refl refl refl
 
 pub returns-clause-family : goal.returns-clause-family
 returns-clause-family c =
     let slots = c.args.self.now.scopes.slots in
     added slots c.args.key c.in-Some.parent c.index_mut-scope.result.now _ c.index_mut-scope.ensures.value refl refl
-        c.push_reserved.ensures.items
+    c.push_reserved.ensures.items
     (subst (Orphaned slots c.args.key) c.in-Some.is c.requires.orphan)

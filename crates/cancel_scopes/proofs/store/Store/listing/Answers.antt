@@ -5,5 +5,10 @@ use Rattle.cancel_scopes.proofs.store.Store.listing.Goals as goal
 pub push_reserved-requires : goal.push_reserved-requires
 push_reserved-requires c =
     let changed = c.args.self.now.changed in
-    omega (arith, changed.ok.0, c.requires.room, unlisted_fits c.args.self.now.scopes.slots changed.items c.args.key c.index.result.now
-        c.index.ensures c.in_default.is c.requires.listed)
+    omega (
+      arith,
+      changed.ok.0,
+      c.requires.room,
+      unlisted_fits c.args.self.now.scopes.slots changed.items c.args.key c.index.result.now
+          c.index.ensures c.in_default.is c.requires.listed,
+    )

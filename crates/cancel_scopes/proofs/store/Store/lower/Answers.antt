@@ -9,7 +9,7 @@ pub returns-clause-lowers : goal.returns-clause-lowers
 returns-clause-lowers c =
     let s : Scope = c.index_mut-scope.result.now in
     let same : c.listing-place.new.self.scopes.slots ≡ c.args.self.now.scopes.slots =
-        ap (λ (sc : Slab Scope). sc.slots) c.listing-place.ensures.scopes in
+    ap (λ (sc : Slab Scope). sc.slots) c.listing-place.ensures.scopes in
     record {
       scope = s;
       place = c.listing-place.result;
@@ -22,10 +22,10 @@ pub returns-clause-listed : goal.returns-clause-listed
 returns-clause-listed c =
     let s : Scope = c.index_mut-scope.result.now in
     let same : c.listing-place.new.self.scopes.slots ≡ c.args.self.now.scopes.slots =
-        ap (λ (sc : Slab Scope). sc.slots) c.listing-place.ensures.scopes in
+    ap (λ (sc : Slab Scope). sc.slots) c.listing-place.ensures.scopes in
     let after : Scope = record s { sight = Some c.args.tick; listed = Some c.listing-place.result } in
     subst (λ (l : Slots). IsListed (slice_set l c.args.key (Some after)) c.listing-place.new.self.changed.items) (sym same)
     (lists-listed c.args.self.now.scopes.slots c.args.self.now.changed.items c.listing-place.new.self.changed.items c.args.key
-        c.listing-place.result s after
+    c.listing-place.result s after
     (sym (ap (λ (l : Slots). scope_in l c.args.key) same) ∙ c.index_mut-scope.ensures.value) c.listing-place.ensures.lists refl
-        c.requires.listed)
+    c.requires.listed)

@@ -8,18 +8,23 @@ use Rattle.cancel_scopes.proofs.store.Store.lower_child.Goals as goal
 pub lower-requires-clause-lowered_room : goal.lower-requires-clause-lowered_room
 lower-requires-clause-lowered_room c =
     let lowered = c.args.self.now.lowered in
-    omega (arith, lowered.ok.0, c.requires.lowered_room, c.requires.state.room,
-        later_count c.args.tick c.args.self.now.scopes.slots c.index-key.result.now c.index-scope.result.now c.index-scope.ensures
-        (sym c.before-2.ensures ∙ c.if-before.true))
+    omega (
+      arith,
+      lowered.ok.0,
+      c.requires.lowered_room,
+      c.requires.state.room,
+      later_count c.args.tick c.args.self.now.scopes.slots c.index-key.result.now c.index-scope.result.now c.index-scope.ensures
+          (sym c.before-2.ensures ∙ c.if-before.true),
+    )
 
 pub returns-then-scope-clause-state : goal.returns-then-scope-clause-state
 returns-then-scope-clause-state c =
     let slots = c.args.self.now.scopes.slots in
     let at : place_under c.args.parent (scope_in slots c.index-key.result.now) ≡ Some c.args.place =
     child_key slots c.args.parent c.args.place c.index-key.result.now c.index.result.now c.index.ensures c.requires.state.family
-        c.requires.place c.index-key.ensures in
+    c.requires.place c.index-key.ensures in
     child-stays c.args.tick c.args.parent c.args.place slots c.args.self.now.changed.items c.args.self.now.lowered.items
-        c.index-key.result.now c.index-scope.result.now
+    c.index-key.result.now c.index-scope.result.now
     c.requires.state c.requires.parent at c.index-scope.ensures (inl c.if-scope.true)
 
 pub returns-else-before-clause-state : goal.returns-else-before-clause-state
@@ -27,9 +32,9 @@ returns-else-before-clause-state c =
     let slots = c.args.self.now.scopes.slots in
     let at : place_under c.args.parent (scope_in slots c.index-key.result.now) ≡ Some c.args.place =
     child_key slots c.args.parent c.args.place c.index-key.result.now c.index.result.now c.index.ensures c.requires.state.family
-        c.requires.place c.index-key.ensures in
+    c.requires.place c.index-key.ensures in
     child-stays c.args.tick c.args.parent c.args.place slots c.args.self.now.changed.items c.args.self.now.lowered.items
-        c.index-key.result.now c.index-scope.result.now
+    c.index-key.result.now c.index-scope.result.now
     c.requires.state c.requires.parent at c.index-scope.ensures (inr (sym c.before-2.ensures ∙ c.if-before.false))
 
 pub returns-then-before-clause-state : goal.returns-then-before-clause-state
@@ -39,7 +44,7 @@ returns-then-before-clause-state c =
     let h = c.lower.ensures.lowers in
     let at : place_under c.args.parent (scope_in slots key) ≡ Some c.args.place =
     child_key slots c.args.parent c.args.place key c.index.result.now c.index.ensures c.requires.state.family c.requires.place
-        c.index-key.ensures in
+    c.index-key.ensures in
     let same : c.index-scope.result.now ≡ h.scope = scope_same slots key c.index-scope.result.now h.scope c.index-scope.ensures h.kept in
     rw c.lower.ensures.lowered
     (child-lowered c.args.tick c.args.parent c.args.place slots c.args.self.now.changed.items c.args.self.now.lowered.items key

@@ -18,7 +18,7 @@ lower_child-requires-clause-state c = c.children.invariant.state
 pub lower_child-requires-clause-parent : goal.lower_child-requires-clause-parent
 lower_child-requires-clause-parent c =
     low_stays c.args.tick c.args.self.now.scopes.slots c.children.self.scopes.slots c.args.parent c.children.invariant.along
-        c.requires.parent
+    c.requires.parent
 
 pub lower_child-requires-clause-place : goal.lower_child-requires-clause-place
 lower_child-requires-clause-place c =
@@ -26,7 +26,7 @@ lower_child-requires-clause-place c =
     let same : children_at (scope_in c.children.self.scopes.slots c.args.parent) ≡ parent.children.items =
     c.children.invariant.along.children c.args.parent ∙ ap children_at c.index.ensures in
     let inside : c.children.place < length parent.children.items =
-        omega (arith, parent.children.ok.0, c.children-test.true, c.len-place-end.ensures) in
+    omega (arith, parent.children.ok.0, c.children-test.true, c.len-place-end.ensures) in
     subst (λ (l : List ℕ). c.children.place < length l) (sym same) inside
 
 pub lower_child-requires-clause-changed_room : goal.lower_child-requires-clause-changed_room
@@ -53,7 +53,7 @@ returns-clause-state c =
     let same : children_at (scope_in c.children.self.scopes.slots c.args.parent) ≡ parent.children.items =
     c.children.invariant.along.children c.args.parent ∙ ap children_at c.index.ensures in
     let outside : length parent.children.items ≤ c.children.place =
-        omega (arith, parent.children.ok.0, c.children-test.false, c.len-place-end.ensures) in
+    omega (arith, parent.children.ok.0, c.children-test.false, c.len-place-end.ensures) in
     all_children c.args.tick c.args.parent c.children.place c.children.self.scopes.slots c.children.self.changed.items
-        c.children.self.lowered.items
+    c.children.self.lowered.items
     (subst (λ (l : List ℕ). length l ≤ c.children.place) (sym same) outside) c.children.invariant.state

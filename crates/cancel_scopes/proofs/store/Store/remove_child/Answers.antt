@@ -26,7 +26,7 @@ index_mut-scope-requires-then-place-len c =
     let inside : c.args.place < length rest.items = omega (arith, c.if-place-len.true, c.len.ensures, rest.ok.0) in
     moved_kept slots c.in-Some.parent c.args.place s rest.items _ c.index-moved.result.now lost c.index_mut-scope.ensures.value
     (removed s.children.items rest.items c.args.place _ _ s.children.ok.0 rest.ok.0 c.swap_remove.ensures.len
-        c.swap_remove.ensures.by_index.0 c.swap_remove.ensures.by_index.1)
+    c.swap_remove.ensures.by_index.0 c.swap_remove.ensures.by_index.1)
     refl refl inside (get_or_read rest.items c.args.place _ inside c.index-moved.ensures 0)
 
 pub returns-then-place-len-clause-same : goal.returns-then-place-len-clause-same
@@ -47,9 +47,9 @@ returns-then-place-len-clause-family c =
     left-moved slots c.in-Some.parent c.args.place s rest.items _ c.index-moved.result.now c.index_mut-scope-then-place-len.result.now
     lost c.index_mut-scope.ensures.value
     (removed s.children.items rest.items c.args.place _ _ s.children.ok.0 rest.ok.0 c.swap_remove.ensures.len
-        c.swap_remove.ensures.by_index.0 c.swap_remove.ensures.by_index.1)
+    c.swap_remove.ensures.by_index.0 c.swap_remove.ensures.by_index.1)
     refl refl refl inside (get_or_read rest.items c.args.place _ inside c.index-moved.ensures 0)
-        c.index_mut-scope-then-place-len.ensures.value
+    c.index_mut-scope-then-place-len.ensures.value
 
 pub returns-else-place-len-clause-family : goal.returns-else-place-len-clause-family
 returns-else-place-len-clause-family c =
@@ -60,5 +60,5 @@ returns-else-place-len-clause-family c =
     let out : length rest.items ≤ c.args.place = omega (arith, c.if-place-len.false, c.len.ensures, rest.ok.0) in
     left-last slots c.in-Some.parent c.args.place s rest.items _ lost c.index_mut-scope.ensures.value
     (removed s.children.items rest.items c.args.place _ _ s.children.ok.0 rest.ok.0 c.swap_remove.ensures.len
-        c.swap_remove.ensures.by_index.0 c.swap_remove.ensures.by_index.1)
+    c.swap_remove.ensures.by_index.0 c.swap_remove.ensures.by_index.1)
     refl refl refl out

@@ -16,12 +16,12 @@ returns-then-place-len-clause-marks c =
     let rest = c.swap_remove.new.self in
     let inside : c.in-Some.place < length rest.items = omega (arith, c.if-place-len.true, c.len.ensures, rest.ok.0) in
     unmarks-moved c.args.self.now.scopes.slots changed.items rest.items c.args.key c.in-Some.place c.index_mut-scope.result.now
-        c.index-moved.result.now c.index_mut-scope-then-place-len.result.now
+    c.index-moved.result.now c.index_mut-scope-then-place-len.result.now
     c.index_mut-scope.ensures.value (ap place_of c.index.ensures ∙ c.in-Some.is)
     (removed changed.items rest.items c.in-Some.place _ _ changed.ok.0 rest.ok.0 c.swap_remove.ensures.len c.swap_remove.ensures.by_index.0
-        c.swap_remove.ensures.by_index.1)
+    c.swap_remove.ensures.by_index.1)
     inside (get_or_read rest.items c.in-Some.place _ inside c.index-moved.ensures 0) c.index_mut-scope-then-place-len.ensures.value
-        c.requires.listed
+    c.requires.listed
 
 pub returns-then-place-len-clause-listed : goal.returns-then-place-len-clause-listed
 returns-then-place-len-clause-listed c =
@@ -29,12 +29,12 @@ returns-then-place-len-clause-listed c =
     let rest = c.swap_remove.new.self in
     let inside : c.in-Some.place < length rest.items = omega (arith, c.if-place-len.true, c.len.ensures, rest.ok.0) in
     unmarked-moved c.args.self.now.scopes.slots changed.items rest.items c.args.key c.in-Some.place c.index_mut-scope.result.now
-        c.index-moved.result.now c.index_mut-scope-then-place-len.result.now
+    c.index-moved.result.now c.index_mut-scope-then-place-len.result.now
     c.index_mut-scope.ensures.value (ap place_of c.index.ensures ∙ c.in-Some.is)
     (removed changed.items rest.items c.in-Some.place _ _ changed.ok.0 rest.ok.0 c.swap_remove.ensures.len c.swap_remove.ensures.by_index.0
-        c.swap_remove.ensures.by_index.1)
+    c.swap_remove.ensures.by_index.1)
     inside (get_or_read rest.items c.in-Some.place _ inside c.index-moved.ensures 0) c.index_mut-scope-then-place-len.ensures.value
-        c.requires.listed
+    c.requires.listed
 
 pub returns-else-place-len-clause-listed : goal.returns-else-place-len-clause-listed
 returns-else-place-len-clause-listed c =
@@ -44,5 +44,5 @@ returns-else-place-len-clause-listed c =
     unmarked-last c.args.self.now.scopes.slots changed.items rest.items c.args.key c.in-Some.place c.index_mut-scope.result.now
     c.index_mut-scope.ensures.value (ap place_of c.index.ensures ∙ c.in-Some.is)
     (removed changed.items rest.items c.in-Some.place _ _ changed.ok.0 rest.ok.0 c.swap_remove.ensures.len c.swap_remove.ensures.by_index.0
-        c.swap_remove.ensures.by_index.1)
+    c.swap_remove.ensures.by_index.1)
     out c.requires.listed

@@ -34,10 +34,10 @@ remove_child-requires c =
     record {
       lost = rw c.key_of.ensures
           (lost unmarked c.remove-scope.new.self.slots key c.remove-scope.result tree family gone.value gone.updates.changed
-              gone.updates.others
+          gone.updates.others
           (childless unmarked key c.remove-scope.result tree family
           (innermost_kept c.args.self.now slots unmarked key c.args.id c.self.view_is c.id.view_is (same_find slots unmarked same.finds)
-              c.requires.innermost) gone.value));
+          c.requires.innermost) gone.value));
     }
 
 pub invariant_of-self : goal.invariant_of-self
@@ -59,7 +59,7 @@ invariant_of-self c =
     rw (child.changed, child.lowered, c.unmark.ensures.room, c.unmark.ensures.lowered)
     (closed-ready slots unmarked gone new key s c.self.inside.store.changed.items c.unmark.new.self.changed.items _ _ _
     c.self.invariant marks c.unmark.ensures.listed closed (rw removed.slots (length-set unmarked key None)) removed.updates.changed
-        removed.updates.others child.same child.family)
+    removed.updates.others child.same child.family)
 
 pub returns-clause-closed : goal.returns-clause-closed
 returns-clause-closed c =
@@ -96,6 +96,6 @@ returns-clause-from c stack is =
 pub returns-clause-marks : goal.returns-clause-marks
 returns-clause-marks c =
     closed-marks c.self.inside.store.scopes.slots c.unmark.new.self.scopes.slots c.remove-scope.new.self.slots
-        c.remove_child.new.self.scopes.slots
+    c.remove_child.new.self.scopes.slots
     c.id.inside.key c.remove-scope.result c.args.self.now c.args.id c.self.view_is c.id.view_is
     c.unmark.ensures.marks c.remove-scope.ensures.updates.others c.remove_child.ensures.same

@@ -12,46 +12,46 @@ pub returns-then-not-reached : goal.returns-then-not-reached
 returns-then-not-reached c stack is =
     catches-not (find_in c.self.inside.store.scopes.slots) c.id.inside.key (outline_of c.index-scope.result.now) c.args.tick stack
     (stack_is c.args.self.now c.self.inside.store.scopes.slots c.id.inside.key c.args.id (outline_of c.index-scope.result.now) stack
-        c.self.view_is c.id.view_is (found_at c.self.inside.store.scopes.slots c.id.inside.key c.index-scope.result.now
-        c.index-scope.ensures) is)
+    c.self.view_is c.id.view_is (found_at c.self.inside.store.scopes.slots c.id.inside.key c.index-scope.result.now
+    c.index-scope.ensures) is)
     (sym c.reached.ensures ∙ c.if-not-reached.true)
 
 pub seen-requires : goal.seen-requires
 seen-requires c =
     rw (stack_round c.args.self.now c.self.inside.store.scopes.slots c.id.inside.key c.in-Some.parent (outline_of c.index-scope.result.now)
-        c.self.view_is c.self.invariant.tree (found_at c.self.inside.store.scopes.slots c.id.inside.key c.index-scope.result.now
-        c.index-scope.ensures) c.in-Some.is) refl
+    c.self.view_is c.self.invariant.tree (found_at c.self.inside.store.scopes.slots c.id.inside.key c.index-scope.result.now
+    c.index-scope.ensures) c.in-Some.is) refl
 
 pub returns-then-scope : goal.returns-then-scope
 returns-then-scope c stack is =
     c.if-scope.true
     ∙ catches-shielded (find_in c.self.inside.store.scopes.slots) c.id.inside.key (outline_of c.index-scope.result.now) c.args.tick stack
     (stack_is c.args.self.now c.self.inside.store.scopes.slots c.id.inside.key c.args.id (outline_of c.index-scope.result.now) stack
-        c.self.view_is c.id.view_is (found_at c.self.inside.store.scopes.slots c.id.inside.key c.index-scope.result.now
-        c.index-scope.ensures) is)
+    c.self.view_is c.id.view_is (found_at c.self.inside.store.scopes.slots c.id.inside.key c.index-scope.result.now
+    c.index-scope.ensures) is)
     (sym c.reached.ensures ∙ c.if-not-reached.false) c.if-scope.true
 
 pub returns-else-scope : goal.returns-else-scope
 returns-else-scope c stack is =
     catches-inner (find_in c.self.inside.store.scopes.slots) c.id.inside.key (outline_of c.index-scope.result.now) c.args.tick stack
-        c.seen.result
+    c.seen.result
     (stack_is c.args.self.now c.self.inside.store.scopes.slots c.id.inside.key c.args.id (outline_of c.index-scope.result.now) stack
-        c.self.view_is c.id.view_is (found_at c.self.inside.store.scopes.slots c.id.inside.key c.index-scope.result.now
-        c.index-scope.ensures) is)
+    c.self.view_is c.id.view_is (found_at c.self.inside.store.scopes.slots c.id.inside.key c.index-scope.result.now
+    c.index-scope.ensures) is)
     (sym c.reached.ensures ∙ c.if-not-reached.false)
     c.if-scope.false
     (c.seen.ensures (round (find_in c.self.inside.store.scopes.slots) (outline_of c.index-scope.result.now))
-        (stack_round c.args.self.now c.self.inside.store.scopes.slots c.id.inside.key c.in-Some.parent (outline_of c.index-scope.result.now)
-        c.self.view_is c.self.invariant.tree (found_at c.self.inside.store.scopes.slots c.id.inside.key c.index-scope.result.now
-        c.index-scope.ensures) c.in-Some.is))
+    (stack_round c.args.self.now c.self.inside.store.scopes.slots c.id.inside.key c.in-Some.parent (outline_of c.index-scope.result.now)
+    c.self.view_is c.self.invariant.tree (found_at c.self.inside.store.scopes.slots c.id.inside.key c.index-scope.result.now
+    c.index-scope.ensures) c.in-Some.is))
 
 pub returns-in-None : goal.returns-in-None
 returns-in-None c stack is =
     catches-outermost (find_in c.self.inside.store.scopes.slots) c.id.inside.key (outline_of c.index-scope.result.now) c.args.tick stack
     (stack_is c.args.self.now c.self.inside.store.scopes.slots c.id.inside.key c.args.id (outline_of c.index-scope.result.now) stack
-        c.self.view_is c.id.view_is (found_at c.self.inside.store.scopes.slots c.id.inside.key c.index-scope.result.now
-        c.index-scope.ensures) is)
+    c.self.view_is c.id.view_is (found_at c.self.inside.store.scopes.slots c.id.inside.key c.index-scope.result.now
+    c.index-scope.ensures) is)
     (sym c.reached.ensures ∙ c.if-not-reached.false)
     (c.self.invariant.tree.placed c.id.inside.key (outline_of c.index-scope.result.now)
-        (found_at c.self.inside.store.scopes.slots c.id.inside.key c.index-scope.result.now c.index-scope.ensures))
+    (found_at c.self.inside.store.scopes.slots c.id.inside.key c.index-scope.result.now c.index-scope.ensures))
     c.in-None.is

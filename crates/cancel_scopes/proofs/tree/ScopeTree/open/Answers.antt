@@ -18,7 +18,7 @@ pub invariant_of-self : goal.invariant_of-self
 invariant_of-self c =
     let room = c.make_room.ensures in
     roomier-ready c.self.inside.store.scopes.slots c.make_room.new.self.scopes.slots c.self.inside.store.changed.items
-        c.make_room.new.self.changed.items _ _ _ _ _ _
+    c.make_room.new.self.changed.items _ _ _ _ _ _
     c.self.invariant room.same room.marks room.changed room.changed_grows room.lowered room.lowered_grows
 
 pub returns-in_err-make_room-clause-err : goal.returns-in_err-make_room-clause-err
@@ -26,7 +26,7 @@ returns-in_err-make_room-clause-err c =
     let room = c.make_room.ensures in
     let slots = c.make_room.new.self.scopes.slots in
     let seen : tree_of slots ≡ c.args.self.now =
-        tree_of-same c.self.inside.store.scopes.slots slots room.same.long room.same.finds room.marks ∙ c.self.view_is in
+    tree_of-same c.self.inside.store.scopes.slots slots room.same.long room.same.finds room.marks ∙ c.self.view_is in
     let stays : SameStacks c.args.self.now (tree_of slots) = λ at. ap (λ (t : Tree). stack_of t at) seen in
     search (rules, stays)
 
@@ -34,7 +34,7 @@ pub add_child-requires-clause-parent : goal.add_child-requires-clause-parent
 add_child-requires-clause-parent c =
     let put = c.insert_reserved-key.ensures in
     place_stays c.make_room.new.self.scopes.slots c.insert_reserved-key.new.self.slots c.insert_reserved-key.result
-        c.scope_under-scope.result c.key_of-parent.result
+    c.scope_under-scope.result c.key_of-parent.result
     put.was_vacant put.updates.others c.in_ok-make_room.ensures.place
 
 pub add_child-requires-clause-orphan : goal.add_child-requires-clause-orphan
@@ -43,11 +43,11 @@ add_child-requires-clause-orphan c =
     let room = c.make_room.ensures in
     let ready =
     roomier-ready c.self.inside.store.scopes.slots c.make_room.new.self.scopes.slots c.self.inside.store.changed.items
-        c.make_room.new.self.changed.items _ _ _ _ _ _
+    c.make_room.new.self.changed.items _ _ _ _ _ _
     c.self.invariant room.same room.marks room.changed room.changed_grows room.lowered room.lowered_grows in
     let made = c.scope_under-scope.ensures in
     orphaned c.make_room.new.self.scopes.slots c.insert_reserved-key.new.self.slots c.insert_reserved-key.result c.scope_under-scope.result
-        c.key_of-parent.result
+    c.key_of-parent.result
     ready.family put.was_vacant put.updates.changed put.updates.others made.parent made.childless made.place
 
 pub invariant_of-self-2 : goal.invariant_of-self-2
@@ -64,25 +64,37 @@ invariant_of-self-2 c =
     roomier-ready c.self.inside.store.scopes.slots slots c.self.inside.store.changed.items c.make_room.new.self.changed.items _ _ _ _ _ _
     c.self.invariant room.same room.marks room.changed room.changed_grows room.lowered room.lowered_grows in
     let inserts : Inserts slots inserted key s =
-        record { free = put.was_vacant; kept = put.updates.changed; others = put.updates.others; under = made.under } in
+    record { free = put.was_vacant; kept = put.updates.changed; others = put.updates.others; under = made.under } in
     let fits : length c.add_child.new.self.scopes.slots ≤ vec_capacity c.make_room.new.self.changed =
-    omega (arith, child.same.long, c.capacity-capacity.ensures.slots, c.capacity-capacity.ensures.value, put.capacity,
-        c.in_ok-make_room.ensures.changed_room) in
+    omega (
+      arith,
+      child.same.long,
+      c.capacity-capacity.ensures.slots,
+      c.capacity-capacity.ensures.value,
+      put.capacity,
+      c.in_ok-make_room.ensures.changed_room,
+    ) in
     let lowered_fits : length c.add_child.new.self.scopes.slots ≤ vec_capacity c.make_room.new.self.lowered =
-    omega (arith, child.same.long, c.capacity-capacity.ensures.slots, c.capacity-capacity.ensures.value, put.capacity,
-        c.in_ok-make_room.ensures.lowered_room) in
+    omega (
+      arith,
+      child.same.long,
+      c.capacity-capacity.ensures.slots,
+      c.capacity-capacity.ensures.value,
+      put.capacity,
+      c.in_ok-make_room.ensures.lowered_room,
+    ) in
     rw (child.changed, child.lowered)
     (opened-ready slots inserted key s c.add_child.new.self.scopes.slots c.make_room.new.self.changed.items _ _ _ _ _ _ _
-        c.key_of-parent.result c.args.shield c.args.deadline
+    c.key_of-parent.result c.args.shield c.args.deadline
     ready inserts made.parent made.shield made.from made.sight made.unmarked child.same child.family refl fits ready.none_lowered
-        lowered_fits)
+    lowered_fits)
 
 pub returns-clause-fresh : goal.returns-clause-fresh
 returns-clause-fresh c =
     let room = c.make_room.ensures in
     let slots = c.make_room.new.self.scopes.slots in
     let seen : tree_of slots ≡ c.args.self.now =
-        tree_of-same c.self.inside.store.scopes.slots slots room.same.long room.same.finds room.marks ∙ c.self.view_is in
+    tree_of-same c.self.inside.store.scopes.slots slots room.same.long room.same.finds room.marks ∙ c.self.view_is in
     fresh c.args.self.now slots c.insert_reserved-key.result seen c.insert_reserved-key.ensures.was_vacant
 
 pub returns-clause-opened : goal.returns-clause-opened
@@ -99,13 +111,13 @@ returns-clause-opened c =
     roomier-ready c.self.inside.store.scopes.slots slots c.self.inside.store.changed.items c.make_room.new.self.changed.items _ _ _ _ _ _
     c.self.invariant room.same room.marks room.changed room.changed_grows room.lowered room.lowered_grows in
     let seen : tree_of slots ≡ c.args.self.now =
-        tree_of-same c.self.inside.store.scopes.slots slots room.same.long room.same.finds room.marks ∙ c.self.view_is in
+    tree_of-same c.self.inside.store.scopes.slots slots room.same.long room.same.finds room.marks ∙ c.self.view_is in
     let inserts : Inserts slots inserted key s =
-        record { free = put.was_vacant; kept = put.updates.changed; others = put.updates.others; under = made.under } in
+    record { free = put.was_vacant; kept = put.updates.changed; others = put.updates.others; under = made.under } in
     ap (λ (t : Tree). stack_of t key) (tree_of-same inserted c.add_child.new.self.scopes.slots child.same.long child.same.finds
-        child.same.marks)
+    child.same.marks)
     ∙ opened c.args.self.now slots inserted key (outline_of s) c.args.parent _ seen (opens slots inserted key s inserts) ready.tree
-        (made.parent ∙ c.key_of-parent.ensures) (let e = made in cc)
+    (made.parent ∙ c.key_of-parent.ensures) (let e = made in cc)
 
 pub returns-clause-others : goal.returns-clause-others
 returns-clause-others c other differs =
@@ -121,11 +133,11 @@ returns-clause-others c other differs =
     roomier-ready c.self.inside.store.scopes.slots slots c.self.inside.store.changed.items c.make_room.new.self.changed.items _ _ _ _ _ _
     c.self.invariant room.same room.marks room.changed room.changed_grows room.lowered room.lowered_grows in
     let seen : tree_of slots ≡ c.args.self.now =
-        tree_of-same c.self.inside.store.scopes.slots slots room.same.long room.same.finds room.marks ∙ c.self.view_is in
+    tree_of-same c.self.inside.store.scopes.slots slots room.same.long room.same.finds room.marks ∙ c.self.view_is in
     let inserts : Inserts slots inserted key s =
-        record { free = put.was_vacant; kept = put.updates.changed; others = put.updates.others; under = made.under } in
+    record { free = put.was_vacant; kept = put.updates.changed; others = put.updates.others; under = made.under } in
     ap (λ (t : Tree). stack_of t other) (tree_of-same inserted c.add_child.new.self.scopes.slots child.same.long child.same.finds
-        child.same.marks)
+    child.same.marks)
     ∙ opened-others c.args.self.now slots inserted key (outline_of s) seen (opens slots inserted key s inserts) ready.tree other differs
 
 pub returns-clause-marks : goal.returns-clause-marks
@@ -139,9 +151,9 @@ returns-clause-marks c at =
     let s : Scope = c.scope_under-scope.result in
     let key = c.insert_reserved-key.result in
     let seen : tree_of slots ≡ c.args.self.now =
-        tree_of-same c.self.inside.store.scopes.slots slots room.same.long room.same.finds room.marks ∙ c.self.view_is in
+    tree_of-same c.self.inside.store.scopes.slots slots room.same.long room.same.finds room.marks ∙ c.self.view_is in
     let inserts : Inserts slots inserted key s =
-        record { free = put.was_vacant; kept = put.updates.changed; others = put.updates.others; under = made.under } in
+    record { free = put.was_vacant; kept = put.updates.changed; others = put.updates.others; under = made.under } in
     ap (λ (t : Tree). is_changed t at) (tree_of-same inserted c.add_child.new.self.scopes.slots child.same.long child.same.finds
-        child.same.marks)
+    child.same.marks)
     ∙ opened-marks slots inserted key s c.args.self.now seen inserts made.unmarked at

@@ -10,10 +10,10 @@ index-requires c =
 pub returns-clause-parent_open : goal.returns-clause-parent_open
 returns-clause-parent_open c parent up =
     parent_open c.args.self.now c.self.inside.store.scopes.slots c.id.inside.key parent (outline_of c.index.result.now) c.self.view_is
-        c.self.invariant.tree (found_at c.self.inside.store.scopes.slots c.id.inside.key c.index.result.now c.index.ensures) up
+    c.self.invariant.tree (found_at c.self.inside.store.scopes.slots c.id.inside.key c.index.result.now c.index.ensures) up
 
 pub returns-clause-round : goal.returns-clause-round
 returns-clause-round c stack is =
     parent_round c.args.self.now c.self.inside.store.scopes.slots c.id.inside.key c.args.id (outline_of c.index.result.now) stack
-        c.self.view_is c.id.view_is c.self.invariant.tree (found_at c.self.inside.store.scopes.slots c.id.inside.key c.index.result.now
-        c.index.ensures) is
+    c.self.view_is c.id.view_is c.self.invariant.tree (found_at c.self.inside.store.scopes.slots c.id.inside.key c.index.result.now
+    c.index.ensures) is

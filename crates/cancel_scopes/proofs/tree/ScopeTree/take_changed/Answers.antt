@@ -13,7 +13,7 @@ pub invariant_of-self : goal.invariant_of-self
 invariant_of-self c =
     rw (c.unmark.ensures.room, c.unmark.ensures.lowered)
     (marked-ready c.self.inside.store.scopes.slots c.unmark.new.self.scopes.slots c.self.inside.store.changed.items
-        c.unmark.new.self.changed.items _ _ _
+    c.unmark.new.self.changed.items _ _ _
     c.self.invariant c.unmark.ensures.marks.same c.unmark.ensures.listed)
 
 pub returns-clause-stacks : goal.returns-clause-stacks

@@ -1,6 +1,7 @@
 use Rattle.std.proofs.Common.{inr, ap, arith}
 use Rattle.job_tree.specs.Names.{size_of}
-use Rattle.job_grammar.proofs.Arms.{few_steps, size_refused, size_passed}
+use Rattle.job_tree.proofs.Sizes.{few_steps}
+use Rattle.job_grammar.proofs.Arms.{size_refused, size_passed}
 use Rattle.job_grammar.proofs.draft.Draft.check_size.Goals as goal
 
 pub returns-then-size_of-most_steps-clause-err : goal.returns-then-size_of-most_steps-clause-err

@@ -20,32 +20,32 @@ take_turn-requires-clause-goes g c = turn_goes _ c.args.self c.turns.runner c.ne
 pub turns-smaller : goal.turns-smaller
 turns-smaller g c =
     turn_fewer _ c.args.self c.turns.runner c.next.new.self _ _ c.in-Some.turn.0 c.in-Some.turn.1 c.turns.invariant
-        c.in-Some.ensures.hands_out c.take_turn.new.self c.in_ok-take_turn.ensures.going
+    c.in-Some.ensures.hands_out c.take_turn.new.self c.in_ok-take_turn.ensures.going
     c.in_ok-take_turn.ensures.same c.in_ok-take_turn.ensures.current
 
 pub turns-preserved : goal.turns-preserved
 turns-preserved g c =
     commits_next _ c.args.self c.turns.runner c.next.new.self _ _ c.in-Some.turn.0 c.in-Some.turn.1 c.turns.invariant
-        c.in-Some.ensures.hands_out c.take_turn.new.self c.in_ok-take_turn.ensures.going
+    c.in-Some.ensures.hands_out c.take_turn.new.self c.in_ok-take_turn.ensures.going
     c.in_ok-take_turn.ensures.same c.in_ok-take_turn.ensures.current c.in_ok-take_turn.ensures.turns c.in-Some.ensures.placed
 
 pub returns-clause-underway : goal.returns-clause-underway
 returns-clause-underway g c =
     commits_last c.args.self c.turns.runner c.see_changed.new.self c.next.new.self c.turn_over.new.self c.turns.invariant
-        c.in_default.ensures.idle.0 (c.in_default.ensures.none.0 refl)
+    c.in_default.ensures.idle.0 (c.in_default.ensures.none.0 refl)
     c.in_ok-see_changed.ensures.rest c.in_ok-see_changed.ensures.going c.in_ok-see_changed.ensures.unchanged c.turn_over.ensures.current
-        c.turn_over.ensures.next c.turn_over.ensures.unplaced
+    c.turn_over.ensures.next c.turn_over.ensures.unplaced
 
 pub returns-clause-same : goal.returns-clause-same
 returns-clause-same g c =
     commits_same c.args.self c.turns.runner c.see_changed.new.self c.next.new.self c.turn_over.new.self c.turns.invariant
-        c.in_default.ensures.idle.0 (c.in_default.ensures.none.0 refl)
+    c.in_default.ensures.idle.0 (c.in_default.ensures.none.0 refl)
     c.in_ok-see_changed.ensures.rest c.in_ok-see_changed.ensures.going c.in_ok-see_changed.ensures.unchanged c.turn_over.ensures.current
-        c.turn_over.ensures.next c.turn_over.ensures.unplaced
+    c.turn_over.ensures.next c.turn_over.ensures.unplaced
 
 pub returns-clause-turns : goal.returns-clause-turns
 returns-clause-turns g c =
     commits_turns c.args.self c.turns.runner c.see_changed.new.self c.next.new.self c.turn_over.new.self c.turns.invariant
-        c.in_default.ensures.idle.0 (c.in_default.ensures.none.0 refl)
+    c.in_default.ensures.idle.0 (c.in_default.ensures.none.0 refl)
     c.in_ok-see_changed.ensures.rest c.in_ok-see_changed.ensures.going c.in_ok-see_changed.ensures.unchanged c.turn_over.ensures.current
-        c.turn_over.ensures.next c.turn_over.ensures.unplaced
+    c.turn_over.ensures.next c.turn_over.ensures.unplaced

@@ -16,14 +16,14 @@ seen_from-sight-requires c =
 pub returns-in_ok-add-clause-going : goal.returns-in_ok-add-clause-going
 returns-in_ok-add-clause-going c =
     sleeps_within c.args.id c.args.row c.args.due c.args.self.now c.sleep_until.new.self c.in_ok-sleep_until.ensures.timers
-        c.in_ok-sleep_until.ensures.time c.requires c.scope.result
+    c.in_ok-sleep_until.ensures.time c.requires c.scope.result
     c.scope.ensures c.in-Some.scope c.in-Some.is c.seen_from-sight.result
     (subst (λ (t : Tree). ForSome (stack_of t c.in-Some.scope) (λ stack. c.seen_from-sight.result ≡ sight stack)) c.scopes.ensures
-        c.seen_from-sight.ensures) c.add.new.self
+    c.seen_from-sight.ensures) c.add.new.self
     c.in_ok-add.ensures.scopes c.in_ok-add.ensures.sights
 
 pub returns-in_default-clause-going : goal.returns-in_default-clause-going
 returns-in_default-clause-going c =
     sleeps_alone c.args.id c.args.row c.args.due c.args.self.now c.sleep_until.new.self c.in_ok-sleep_until.ensures.timers
-        c.in_ok-sleep_until.ensures.time c.requires c.scope.result
+    c.in_ok-sleep_until.ensures.time c.requires c.scope.result
     c.scope.ensures c.in_default.is

@@ -9,11 +9,11 @@ records_of-requires-clause-ended c =
 pub returns-clause-run : goal.returns-clause-run
 returns-clause-run c =
     is_run c.args.self c.requires.underway c.requires.over c.into_rows.result.items (ap (λ v. v.items) c.into_rows.ensures)
-        c.in_ok-records.records.items c.in_ok-records.froms.items
+    c.in_ok-records.records.items c.in_ok-records.froms.items
     c.in_ok-records.ensures c.new.result (c.new.ensures.name ∙ c.name.ensures) c.new.ensures.records c.new.ensures.froms
 
 pub returns-clause-in_time : goal.returns-clause-in_time
 returns-clause-in_time c =
     ends_in_time c.args.self c.requires.underway c.requires.over c.into_rows.result.items (ap (λ v. v.items) c.into_rows.ensures)
-        c.in_ok-records.records.items c.in_ok-records.froms.items
+    c.in_ok-records.records.items c.in_ok-records.froms.items
     c.in_ok-records.ensures

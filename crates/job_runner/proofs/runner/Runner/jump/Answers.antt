@@ -29,13 +29,13 @@ wake_seen-requires c = jumped c.args.self c.requires.underway c.requires.blocked
 pub returns-clause-underway : goal.returns-clause-underway
 returns-clause-underway c =
     landed c.args.self c.requires.underway c.requires.blocked c.first-next_cancel.result c.first-next_cancel.ensures c.jump.new.self
-        c.in-To.tick c.in-To.ensures c.set_now.new.self c.set_now.ensures
+    c.in-To.tick c.in-To.ensures c.set_now.new.self c.set_now.ensures
     c.wake_due.new.self
     (both_woken c.args.self c.requires.underway c.requires.blocked c.first-next_cancel.result c.first-next_cancel.ensures c.jump.new.self
-        c.in-To.tick c.in-To.ensures c.set_now.new.self c.set_now.ensures
+    c.in-To.tick c.in-To.ensures c.set_now.new.self c.set_now.ensures
     c.wake_seen.new.self c.wake_due.new.self c.in_ok-wake_seen-in-To.ensures.rest c.in_ok-wake_due-in-To.ensures.rest)
     c.in_ok-wake_due-in-To.ensures.shelved c.in_ok-wake_due-in-To.ensures.current c.turn_over.new.self c.turn_over.ensures.current
-        c.turn_over.ensures.next c.turn_over.ensures.unplaced
+    c.turn_over.ensures.next c.turn_over.ensures.unplaced
 
 pub returns-clause-ready : goal.returns-clause-ready
 returns-clause-ready c = ready_some c.turn_over.new.self.current c.wake_due.new.self.batch.next (gone_of c.wake_due.new.self.roster 0)

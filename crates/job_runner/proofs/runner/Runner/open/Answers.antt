@@ -12,8 +12,14 @@ returns-clause-underway c =
       modest = c.steps-steps.ensures.modest;
     })
     c.requires.small
-    (record { tick = c.new.ensures.tick; scopes = c.new.ensures.scopes; labels = c.new.ensures.labels; book = c.new.ensures.book; started =
-        c.new.ensures.started })
+    (record {
+      tick = c.new.ensures.tick;
+      scopes = c.new.ensures.scopes;
+      labels = c.new.ensures.labels;
+      book = c.new.ensures.book;
+      started =
+          c.new.ensures.started;
+    })
     (record {
       label = c.in_ok-task.ensures.label;
       buffer = ap buffer_of c.in_ok-task.ensures.part ∙ c.whole.ensures.buffer;
@@ -26,6 +32,6 @@ returns-clause-underway c =
       froms = c.in_ok-task.ensures.froms;
     })
     c.in_ok-roster.ensures.root refl c.in_ok-roster.ensures.agree c.new-2.ensures.now c.new-2.ensures.limit c.requires.bounded
-        c.new-2.ensures.timers c.new-3.ensures c.new.ensures.unchanged c.new-batch.result.next
+    c.new-2.ensures.timers c.new-3.ensures c.new.ensures.unchanged c.new-batch.result.next
     c.add.new.self.next c.new-batch.ensures.next c.in_ok-add.ensures.added c.turn_over.ensures.current c.turn_over.ensures.next
-        c.turn_over.ensures.unplaced
+    c.turn_over.ensures.unplaced

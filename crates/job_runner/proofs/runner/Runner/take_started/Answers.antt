@@ -15,16 +15,16 @@ start-requires-clause-parent c = row_there c.args.self.now c.started.self c.args
 pub started-smaller : goal.started-smaller
 started-smaller c =
     let e : length c.started.self.world.started.items ≡ length (c.in-Some.task ∷ c.take_started.new.self.started.items) =
-        ap (λ (ts : List Task). length ts) c.in-Some.ensures.task in
+    ap (λ (ts : List Task). length ts) c.in-Some.ensures.task in
     let f : length c.take_started.new.self.started.items < length c.started.self.world.started.items = omega (arith, e) in
     f
 
 pub started-preserved : goal.started-preserved
 started-preserved c =
     taking_more c.args.self.now c.started.self c.take_started.new.self c.start.new.self c.add.new.self c.args.row c.now.result
-        c.in-Some.task c.in_ok-id.id c.started.invariant c.requires.row
+    c.in-Some.task c.in_ok-id.id c.started.invariant c.requires.row
     c.in-Some.ensures.task c.take_started.ensures.rest c.now.ensures c.in_ok-id.ensures.started c.in_ok-id.ensures.agree
-        c.in_ok-add.ensures.current c.in_ok-add.ensures.added
+    c.in_ok-add.ensures.current c.in_ok-add.ensures.added
 
 pub returns : goal.returns
 returns c = taking_all c.args.self.now c.started.self c.take_started.new.self c.args.row c.started.invariant c.in_default.ensures.task.0

@@ -12,11 +12,11 @@ pub returns-in_ok-add-clause-going : goal.returns-in_ok-add-clause-going
 returns-in_ok-add-clause-going c =
     settles_going c.args.self.now c.add.new.self c.args.id c.args.row c.args.nursery c.settled.result c.requires
     (subst (λ (b : NurseryBook). HasNursery b c.args.nursery (λ n. c.settled.result ≡ is_settled n)) c.book.ensures c.settled.ensures)
-        c.if-settled.true
+    c.if-settled.true
     c.in_ok-add.ensures.current c.in_ok-add.ensures.added
 
 pub returns-else-settled-clause-going : goal.returns-else-settled-clause-going
 returns-else-settled-clause-going c =
     waits_going c.args.self.now c.args.id c.args.row c.args.nursery c.settled.result c.requires
     (subst (λ (b : NurseryBook). HasNursery b c.args.nursery (λ n. c.settled.result ≡ is_settled n)) c.book.ensures c.settled.ensures)
-        c.if-settled.false
+    c.if-settled.false

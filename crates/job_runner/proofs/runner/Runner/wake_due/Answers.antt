@@ -9,14 +9,14 @@ pub due-smaller : goal.due-smaller
 due-smaller c =
     due_fewer c.args.self.now c.due.self c.in-Some.id c.due.invariant c.take_due.new.self c.in-Some.ensures
     (record (c.due.self) { clock = c.take_due.new.self; sleepers = c.remove.new.self; batch = c.add.new.self }) refl c.remove.ensures.scopes
-        c.remove.ensures.sights c.in_ok-add.ensures.current
+    c.remove.ensures.sights c.in_ok-add.ensures.current
     c.in_ok-add.ensures.added
 
 pub due-preserved : goal.due-preserved
 due-preserved c =
     due_next c.args.self.now c.due.self c.in-Some.id c.due.invariant c.take_due.new.self c.in-Some.ensures
     (record (c.due.self) { clock = c.take_due.new.self; sleepers = c.remove.new.self; batch = c.add.new.self }) refl c.remove.ensures.scopes
-        c.remove.ensures.sights c.in_ok-add.ensures.current
+    c.remove.ensures.sights c.in_ok-add.ensures.current
     c.in_ok-add.ensures.added
 
 pub returns-clause-shelved : goal.returns-clause-shelved

@@ -13,5 +13,5 @@ returns c =
     let m = c.index_mut-members.result.now in
     rw (← c.id.view_is)
     (Changes-write c.args.self.now _ c.id.inside.key m _ (with_child c.args.place (option_map exc_of c.args.exc))
-        c.index_mut-members.ensures.value refl
+    c.index_mut-members.ensures.value refl
     (ap (with_children m) (map-set end_of m.children.items c.args.place (Ended c.args.exc))))

@@ -28,6 +28,6 @@ draws-preserved g c =
           λ fits.
           let more = c.note.ensures.more fits in
           drawn-one_more c.args.requests.now (drawn_by c.draws.self.pass) _ _ _ i _ more.0
-              (c.draws.invariant.answered (c.note.ensures.kept fits)) (omega arith) c.index-requests-number.is more.1
-              (ap drawn_by c.note.ensures.pass ∙ c.in-Some.ensures.drawn) more.2;
+          (c.draws.invariant.answered (c.note.ensures.kept fits)) (omega arith) c.index-requests-number.is more.1
+          (ap drawn_by c.note.ensures.pass ∙ c.in-Some.ensures.drawn) more.2;
     }

@@ -8,7 +8,7 @@ use Rattle.sleeper_sights.proofs.berths.Berths.add.Goals as goal
 pub invariant_of-self : goal.invariant_of-self
 invariant_of-self c =
     placed_grown c.self.inside.by_task.items c.grow_to_task.new.berths.items c.self.inside.by_scope.items c.self.inside.by_scope.items
-        c.self.invariant c.grow_to_task.ensures.same (λ scope. refl)
+    c.self.invariant c.grow_to_task.ensures.same (λ scope. refl)
 
 pub returns-in_err-grow_to_task-clause-err : goal.returns-in_err-grow_to_task-clause-err
 returns-in_err-grow_to_task-clause-err c =
@@ -18,7 +18,7 @@ returns-in_err-grow_to_task-clause-err c =
 pub invariant_of-self-in_err-grow_to_scope : goal.invariant_of-self-in_err-grow_to_scope
 invariant_of-self-in_err-grow_to_scope c =
     placed_grown c.self.inside.by_task.items c.grow_to_task.new.berths.items c.self.inside.by_scope.items c.grow_to_scope.new.lists.items
-        c.self.invariant c.grow_to_task.ensures.same c.grow_to_scope.ensures.same
+    c.self.invariant c.grow_to_task.ensures.same c.grow_to_scope.ensures.same
 
 pub returns-in_err-grow_to_scope-clause-err : goal.returns-in_err-grow_to_scope-clause-err
 returns-in_err-grow_to_scope-clause-err c =
@@ -30,10 +30,10 @@ invariant_of-self-in_err-push c =
     let lists = c.grow_to_scope.new.lists in
     let kept : c.args.scope < length lists.items = omega (arith, c.in_ok-grow_to_scope.ensures.long, lists.ok.0) in
     placed_grown c.self.inside.by_task.items c.grow_to_task.new.berths.items c.self.inside.by_scope.items _ c.self.invariant
-        c.grow_to_task.ensures.same
+    c.grow_to_task.ensures.same
     (then_same c.self.inside.by_scope.items lists.items _ c.grow_to_scope.ensures.same
     (tasks_again lists.items c.args.scope c.index_mut-tasks.result.now c.push.new.self kept c.index_mut-tasks.ensures.value
-        c.in_err-push.ensures.items))
+    c.in_err-push.ensures.items))
 
 pub returns-in_err-push-clause-err : goal.returns-in_err-push-clause-err
 returns-in_err-push-clause-err c =
@@ -48,13 +48,13 @@ invariant_of-self-2 c =
     let within : c.args.task < length berths.items = omega (arith, c.in_ok-grow_to_task.ensures.long, berths.ok.0) in
     let kept : c.args.scope < length lists.items = omega (arith, c.in_ok-grow_to_scope.ensures.long, lists.ok.0) in
     let placed = placed_grown c.self.inside.by_task.items berths.items c.self.inside.by_scope.items lists.items c.self.invariant
-        c.grow_to_task.ensures.same c.grow_to_scope.ensures.same in
+    c.grow_to_task.ensures.same c.grow_to_scope.ensures.same in
     let awake : scope_at c.args.self.now c.args.task ≡ None = c.requires in
     let was = rw (← c.self.view_is) at awake in
     let free : scope_of (berth_at berths.items c.args.task) ≡ None =
-        ap scope_of (c.grow_to_task.ensures.same c.args.task) ∙ sym (scope_seen c.self.inside.by_task.items c.args.task) ∙ was in
+    ap scope_of (c.grow_to_task.ensures.same c.args.task) ∙ sym (scope_seen c.self.inside.by_task.items c.args.task) ∙ was in
     placed_added berths.items lists.items c.args.task _ v c.push.new.self placed free within kept c.index_mut-tasks.ensures.value
-        c.in_ok-push.ensures.items (c.len-place.ensures ∙ v.ok.0)
+    c.in_ok-push.ensures.items (c.len-place.ensures ∙ v.ok.0)
 
 pub returns-clause-ok : goal.returns-clause-ok
 returns-clause-ok c =

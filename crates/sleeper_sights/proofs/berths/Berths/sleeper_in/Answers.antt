@@ -14,9 +14,9 @@ returns c =
     let lists = c.self.inside.by_scope in
     let inside : c.args.scope < length lists.items = rw c.deref.ensures.value at c.in-Some.ensures.lookup.3.0 in
     let read : c.in-Some.tasks.now ≡ get_or lists.items c.args.scope c.in-Some.tasks.now =
-        rw c.deref.ensures.value at c.in-Some.ensures.lookup.1 in
+    rw c.deref.ensures.value at c.in-Some.ensures.lookup.1 in
     let are : tasks_at lists.items c.args.scope ≡ c.deref-2.result.now =
-        tasks_read lists.items c.args.scope c.in-Some.tasks.now inside read ∙ sym c.deref-2.ensures.value in
+    tasks_read lists.items c.args.scope c.in-Some.tasks.now inside read ∙ sym c.deref-2.ensures.value in
     rw (← c.self.view_is)
     (last_seen c.self.inside.by_task.items lists.items c.args.scope c.deref-2.result.now c.copied.result c.self.invariant are
-        (c.copied.ensures ∙ c.last.ensures.value))
+    (c.copied.ensures ∙ c.last.ensures.value))

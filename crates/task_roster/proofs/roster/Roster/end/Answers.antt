@@ -4,16 +4,26 @@ use Rattle.task_roster.proofs.Rostering.{within, ends, agrees_ended}
 use Rattle.task_roster.proofs.roster.Roster.end.Goals as goal
 
 pub index_mut-requires : goal.index_mut-requires
-index_mut-requires c = omega (arith, within c.args.self.now c.args.id c.in-Some.field-0 c.requires.agree
-    (sym c.take.ensures.value ∙ c.in-Some.is), c.args.self.now.rows.ok.0)
+index_mut-requires c = omega (
+  arith,
+  within c.args.self.now c.args.id c.in-Some.field-0 c.requires.agree
+      (sym c.take.ensures.value ∙ c.in-Some.is),
+  c.args.self.now.rows.ok.0,
+)
 
 pub returns-clause-ended : goal.returns-clause-ended
 returns-clause-ended c = ends _ _ _ _ _ c.in-Some.field-0 c.requires.agree (record {
   lived = sym c.take.ensures.value ∙ c.in-Some.is;
   live = c.take.ensures.emptied;
   before = c.index_mut.result.now;
-  ended = record { label = c.into_parts-label.result.0; tick = c.args.tick; exc = c.args.exc; entries = c.into_parts-label.result.1; froms =
-      c.into_parts-label.result.2 };
+  ended = record {
+    label = c.into_parts-label.result.0;
+    tick = c.args.tick;
+    exc = c.args.exc;
+    entries = c.into_parts-label.result.1;
+    froms =
+        c.into_parts-label.result.2;
+  };
   is = slice_get_read _ _ c.in-Some.field-0.row c.index_mut.result.now refl
       (within c.args.self.now c.args.id c.in-Some.field-0 c.requires.agree (sym c.take.ensures.value ∙ c.in-Some.is))
       c.index_mut.ensures.value;
@@ -30,8 +40,14 @@ returns-clause-agree c = agrees_ended c.args.self.now _ c.args.id c.args.tick c.
   lived = sym c.take.ensures.value ∙ c.in-Some.is;
   live = c.take.ensures.emptied;
   before = c.index_mut.result.now;
-  ended = record { label = c.into_parts-label.result.0; tick = c.args.tick; exc = c.args.exc; entries = c.into_parts-label.result.1; froms =
-      c.into_parts-label.result.2 };
+  ended = record {
+    label = c.into_parts-label.result.0;
+    tick = c.args.tick;
+    exc = c.args.exc;
+    entries = c.into_parts-label.result.1;
+    froms =
+        c.into_parts-label.result.2;
+  };
   is = slice_get_read _ _ c.in-Some.field-0.row c.index_mut.result.now refl
       (within c.args.self.now c.args.id c.in-Some.field-0 c.requires.agree (sym c.take.ensures.value ∙ c.in-Some.is))
       c.index_mut.ensures.value;

@@ -9,8 +9,14 @@ returns-clause-root c = has_root _ _ _ (record {
   nothing = c.new-live.ensures;
   live = c.in_ok-id.ensures.put;
   row = c.begun.result;
-  begins = record { parent = c.begun.ensures.parent; task = c.begun.ensures.task; start = c.begun.ensures.start; end =
-      c.begun.ensures.end; children = c.begun.ensures.children };
+  begins = record {
+    parent = c.begun.ensures.parent;
+    task = c.begun.ensures.task;
+    start = c.begun.ensures.start;
+    end =
+        c.begun.ensures.end;
+    children = c.begun.ensures.children;
+  };
   rows = c.in_ok-push.ensures.items ∙ ap (λ (xs : List Row). xs ++ c.begun.result ∷ []) c.new-rows.ensures.items;
 })
 
@@ -20,7 +26,13 @@ returns-clause-agree c = agrees_first _ c.args.task c.in_ok-id.id (record {
   nothing = c.new-live.ensures;
   live = c.in_ok-id.ensures.put;
   row = c.begun.result;
-  begins = record { parent = c.begun.ensures.parent; task = c.begun.ensures.task; start = c.begun.ensures.start; end =
-      c.begun.ensures.end; children = c.begun.ensures.children };
+  begins = record {
+    parent = c.begun.ensures.parent;
+    task = c.begun.ensures.task;
+    start = c.begun.ensures.start;
+    end =
+        c.begun.ensures.end;
+    children = c.begun.ensures.children;
+  };
   rows = c.in_ok-push.ensures.items ∙ ap (λ (xs : List Row). xs ++ c.begun.result ∷ []) c.new-rows.ensures.items;
 })

@@ -16,10 +16,22 @@ returns-clause-started c =
       grown = record c.index_mut.result.now { children = c.push.new.self };
       row = c.begun.result;
       is = slice_get_read _ _ c.args.parent c.index_mut.result.now refl c.requires.parent c.index_mut.ensures.value;
-      grows = record { parent = refl; task = refl; start = refl; end = refl; children = c.in_ok-push.ensures.items
-          ∙ ap (λ n. c.index_mut.result.now.children.items ++ n ∷ []) next };
-      begins = record { parent = c.begun.ensures.parent; task = c.begun.ensures.task; start = c.begun.ensures.start; end =
-          c.begun.ensures.end; children = c.begun.ensures.children };
+      grows = record {
+        parent = refl;
+        task = refl;
+        start = refl;
+        end = refl;
+        children = c.in_ok-push.ensures.items
+            ∙ ap (λ n. c.index_mut.result.now.children.items ++ n ∷ []) next;
+      };
+      begins = record {
+        parent = c.begun.ensures.parent;
+        task = c.begun.ensures.task;
+        start = c.begun.ensures.start;
+        end =
+            c.begun.ensures.end;
+        children = c.begun.ensures.children;
+      };
       rows = c.in_ok-push-2.ensures.items;
     })
 
@@ -34,9 +46,21 @@ returns-clause-agree c =
       grown = record c.index_mut.result.now { children = c.push.new.self };
       row = c.begun.result;
       is = slice_get_read _ _ c.args.parent c.index_mut.result.now refl c.requires.parent c.index_mut.ensures.value;
-      grows = record { parent = refl; task = refl; start = refl; end = refl; children = c.in_ok-push.ensures.items
-          ∙ ap (λ n. c.index_mut.result.now.children.items ++ n ∷ []) next };
-      begins = record { parent = c.begun.ensures.parent; task = c.begun.ensures.task; start = c.begun.ensures.start; end =
-          c.begun.ensures.end; children = c.begun.ensures.children };
+      grows = record {
+        parent = refl;
+        task = refl;
+        start = refl;
+        end = refl;
+        children = c.in_ok-push.ensures.items
+            ∙ ap (λ n. c.index_mut.result.now.children.items ++ n ∷ []) next;
+      };
+      begins = record {
+        parent = c.begun.ensures.parent;
+        task = c.begun.ensures.task;
+        start = c.begun.ensures.start;
+        end =
+            c.begun.ensures.end;
+        children = c.begun.ensures.children;
+      };
       rows = c.in_ok-push-2.ensures.items;
     })

@@ -15,7 +15,7 @@ returns-clause-turn c =
     let y : Running = record { task = c.turn.new.self; row = x.row } in
     let lived : running_at c.args.self.now c.args.id ≡ Some x = sym c.in-Some.ensures.value in
     let live : Updates c.args.self.now.live (with_live c.args.self.now.live c.args.id y) c.args.id (Some y) =
-        written c.args.self.now.live c.args.id x y lived in
+    written c.args.self.now.live c.args.id x y lived in
     record {
       row = x.row;
       before = x.task;
@@ -39,4 +39,4 @@ returns-clause-agree c =
     let y : Running = record { task = c.turn.new.self; row = x.row } in
     let lived : running_at c.args.self.now c.args.id ≡ Some x = sym c.in-Some.ensures.value in
     agrees_turned c.args.self.now (rewritten c.args.self.now c.args.id y) c.args.id x y c.requires.agree lived
-        (written c.args.self.now.live c.args.id x y lived) refl refl
+    (written c.args.self.now.live c.args.id x y lived) refl refl
