@@ -143,37 +143,39 @@ fn started_tasks_are_taken_in_order(rt: HostRuntime) -> Result<(), Fail> {
     Ok(())
 }
 
-// How many passes the first step of a job makes, and the block of them.
-fn passes(job: &Job) -> Result<(u64, &Body), Fail> {
+// The block of the first step of a job, which is a `repeat`.
+fn repeated(job: &Job) -> Result<&Body, Fail> {
     let step = job.steps().first().ok_or("a step")?;
-    let Step::Repeat { count, body } = step else {
+    let Step::Repeat { body, .. } = step else {
         return Err("a repeat")?;
     };
-    Ok((*count, body))
+    Ok(body)
 }
 
 #[test]
-fn passes_are_numbered_from_0(rt: HostRuntime) -> Result<(), Fail> {
+fn the_first_pass_is_numbered_0(rt: HostRuntime) -> Result<(), Fail> {
     let alloc = rt.alloc();
-    let job = job(
-        alloc,
-        b"trio-job 2\njob main { repeat 2 { scope s { sleep 1; } } }",
-    )?;
+    let job = job(alloc, b"trio-job 2\njob main { repeat 2 { sleep 1; } }")?;
     let part = Part::whole(b"one\ntwo\n");
     assert!(rt; part.text().len() <= MOST_INPUT);
     let mut task = Task::root(alloc, &job, part)?;
-    let (count, body) = passes(&job)?;
-    assert_eq!(rt; task.label_here(name(b"s")?)?.indices().len(), 0);
-    task.begin_passes(count, body)?;
-    assert_eq!(rt; task.label_here(name(b"s")?)?.indices(), [0].as_slice());
-    assert!(rt; task.frames.pop().is_some());
-    assert!(rt; task.frames.pop().is_some());
-    assert!(rt; task.next_pass(0, 1, body, None)?.is_none());
-    assert_eq!(rt; task.label_here(name(b"s")?)?.indices(), [1].as_slice());
-    assert!(rt; task.frames.pop().is_some());
-    assert!(rt; task.frames.pop().is_some());
-    assert!(rt; task.next_pass(1, 0, body, None)?.is_none());
-    assert_eq!(rt; task.frames.len(), 1);
+    task.begin_passes(2, repeated(&job)?)?;
+    let label = task.label_here(name(b"s")?)?;
+    assert_eq!(rt; label.indices(), [0].as_slice());
+    Ok(())
+}
+
+#[test]
+fn the_next_pass_is_numbered_1(rt: HostRuntime) -> Result<(), Fail> {
+    let alloc = rt.alloc();
+    let job = job(alloc, b"trio-job 2\njob main { repeat 2 { sleep 1; } }")?;
+    let part = Part::whole(b"one\ntwo\n");
+    assert!(rt; part.text().len() <= MOST_INPUT);
+    let mut task = Task::root(alloc, &job, part)?;
+    let exc = task.next_pass(0, 1, repeated(&job)?, None)?;
+    assert!(rt; exc.is_none());
+    let label = task.label_here(name(b"s")?)?;
+    assert_eq!(rt; label.indices(), [1].as_slice());
     Ok(())
 }
 
@@ -184,8 +186,7 @@ fn an_exception_ends_the_passes(rt: HostRuntime) -> Result<(), Fail> {
     let part = Part::whole(b"one\ntwo\n");
     assert!(rt; part.text().len() <= MOST_INPUT);
     let mut task = Task::root(alloc, &job, part)?;
-    let (_, body) = passes(&job)?;
-    let exc = task.next_pass(0, 4, body, Some(Exc::Cancelled))?;
+    let exc = task.next_pass(0, 4, repeated(&job)?, Some(Exc::Cancelled))?;
     assert!(rt; exc.is_some());
     assert_eq!(rt; task.frames.len(), 1);
     Ok(())
@@ -198,8 +199,7 @@ fn a_repeat_of_no_pass_does_nothing(rt: HostRuntime) -> Result<(), Fail> {
     let part = Part::whole(b"one\ntwo\n");
     assert!(rt; part.text().len() <= MOST_INPUT);
     let mut task = Task::root(alloc, &job, part)?;
-    let (count, body) = passes(&job)?;
-    task.begin_passes(count, body)?;
+    task.begin_passes(0, repeated(&job)?)?;
     assert_eq!(rt; task.frames.len(), 1);
     Ok(())
 }
