@@ -1,5 +1,5 @@
 -- A step of the code that is one of the steps of a block, as the definitions' step: one lemma for each kind.
-use Rattle.std.proofs.Common.{◌≡◌, ℕ, zero, suc, ◌+◌, ◌-◌, Bool, false, Option, Some, None, List, [], ◌∷◌, ◌++◌, length, refl, ap, sym, ◌∙◌, subst, append_assoc, arith, Bor}
+use Rattle.std.proofs.Common.{◌≡◌, ℕ, zero, suc, ◌+◌, ◌-◌, Bool, Option, Some, None, List, [], ◌∷◌, ◌++◌, length, refl, ap, sym, ◌∙◌, subst, append_assoc, arith, Bor}
 use Rattle.std.specs.List.{slice_get}
 use Rattle.cancel_scopes.specs.Tree.{outer_of}
 use Rattle.exc_groups.specs.Exceptions.{raised}
@@ -29,15 +29,15 @@ use Rattle.task_machine.specs.Entered.{EntersAt, EntersOne, EntersBlock, EntersN
 use Rattle.task_machine.specs.Fitting.{blocks_of}
 use Rattle.task_machine.specs.Frames.{frames_of}
 use Rattle.task_machine.specs.Stacked.{AreAt}
-use Rattle.task_machine.specs.Standing.{step_at, AtStep, here_of, here_inside, HasBlock, Stands, Took, Takes}
+use Rattle.task_machine.specs.Standing.{step_at, AtStep, here_of, HasBlock, Stands, Took, Takes}
 use Rattle.task_machine.specs.Started.{StartsOne, StartsOver}
 use Rattle.task_machine.specs.Stops.{Numbers, MovesAs}
-use Rattle.task_machine.specs.Tasks.{scope_of, path_of}
+use Rattle.task_machine.specs.Tasks.{scope_of}
 use Rattle.task_machine.specs.Worlds.{label_at}
 use Rattle.task_machine.proofs.FrameLemmas.{frames_pushed, path_inside}
 use Rattle.task_machine.proofs.Tooks.{took_onward, took_halts, took_sleep, took_cancel}
 use Rattle.task_machine.proofs.TooksEntered.{took_scope, took_nursery}
-use Rattle.task_machine.proofs.TooksStarted.{took_start, took_start_over}
+use Rattle.task_machine.proofs.TooksStarted.{here_inside, took_start, took_start_over}
 use Rattle.task_machine.proofs.Advances.{takes_step, blocks_onto, own_keys, blocks_same, blocks_off}
 
 -- a task has the same blocks once the first of its steps is taken
@@ -261,8 +261,8 @@ takes_cancel frames first task before old new name a is world cancels =
     (λ froms numbers ps count stands new_name.
     subst (λ (o : Move). Took frames before before old new (On None) froms numbers o)
     (ap (λ (gs : List rest.Frame). making (signs_to (label_among name ps) old.tick) gs ps) (frames_put frames task before first a numbers)
-    ∙ sym (ap (λ (s : Step). step_on froms old.tick (here_inside before) (step_in s) (steps_of a.left.now) (frames_of numbers a.outer) ps count)
-    is))
+    ∙ sym (ap (λ (s : Step). step_on froms old.tick (here_inside before) (step_in s) (steps_of a.left.now)
+    (frames_of numbers a.outer) ps count) is))
     (took_cancel frames before before old new froms numbers None ps name stands refl (blocks_put frames task before first a) world cancels))
 
 -- ---- a scope or nursery is entered
@@ -280,8 +280,8 @@ takes_scope frames first task before after old new name deadline shield fail bod
     takes_on frames first task before after old new (On None) a
     (λ froms numbers ps count stands fresh.
     subst (λ (o : Move). Took frames before after old new (On None) froms numbers o)
-    (sym (ap (λ (s : Step). step_on froms old.tick (here_inside before) (step_in s) (steps_of a.left.now) (frames_of numbers a.outer) ps count)
-    is))
+    (sym (ap (λ (s : Step). step_on froms old.tick (here_inside before) (step_in s) (steps_of a.left.now)
+    (frames_of numbers a.outer) ps count) is))
     (subst
     (λ (gs : List rest.Frame). Took frames before after old new (On None) froms numbers
     (making (rest.enters (label_in before name) old.tick (due deadline old.tick) ∷ []) (rest.steps_left body ∷ rest.in_scope fail ∷ gs)
@@ -304,8 +304,8 @@ takes_nursery me frames first task before after old new name deadline shield bod
     takes_on frames first task before after old new (On None) a
     (λ froms numbers ps count stands fresh.
     subst (λ (o : Move). Took frames before after old new (On None) froms numbers o)
-    (sym (ap (λ (s : Step). step_on froms old.tick (here_inside before) (step_in s) (steps_of a.left.now) (frames_of numbers a.outer) ps count)
-    is))
+    (sym (ap (λ (s : Step). step_on froms old.tick (here_inside before) (step_in s) (steps_of a.left.now)
+    (frames_of numbers a.outer) ps count) is))
     (subst
     (λ (gs : List rest.Frame). Took frames before after old new (On None) froms numbers
     (making (rest.enters (label_in before name) old.tick (due deadline old.tick) ∷ [])
@@ -355,11 +355,11 @@ takes_start frames fs id first task before old new name body a is within apart w
     takes_on frames first task before before old new (On None) a
     (λ froms numbers ps count stands new_name.
     subst (λ (o : Move). Took frames before before old new (On None) froms numbers o)
-    (ap (λ (gs : List rest.Frame). step_on froms old.tick (here_inside before) (tree.start name None body) (steps_of a.left.now) gs ps count)
-    (sym (frames_pushed numbers fs a.outer
+    (ap (λ (gs : List rest.Frame). step_on froms old.tick (here_inside before) (tree.start name None body) (steps_of a.left.now) gs
+    ps count) (sym (frames_pushed numbers fs a.outer
     (Nursery id) within))
-    ∙ sym (ap (λ (s : Step). step_on froms old.tick (here_inside before) (step_in s) (steps_of a.left.now) (frames_of numbers a.outer) ps count)
-    is))
+    ∙ sym (ap (λ (s : Step). step_on froms old.tick (here_inside before) (step_in s) (steps_of a.left.now)
+    (frames_of numbers a.outer) ps count) is))
     (took_start frames fs id a.left before old new froms numbers None ps name body count stands
     (in_body fs a.outer before.frames.items id a.left a.held within)
     (blocks_put frames task before first a) apart world starts modest))
@@ -378,8 +378,8 @@ takes_start_over frames fs id first task before old new name k body a is within 
     (ap (λ (gs : List rest.Frame). step_on froms old.tick (here_inside before) (tree.start name (Some k) body) (steps_of a.left.now) gs ps
     count) (sym
     (frames_pushed numbers fs a.outer (Nursery id) within))
-    ∙ sym (ap (λ (s : Step). step_on froms old.tick (here_inside before) (step_in s) (steps_of a.left.now) (frames_of numbers a.outer) ps count)
-    is))
+    ∙ sym (ap (λ (s : Step). step_on froms old.tick (here_inside before) (step_in s) (steps_of a.left.now)
+    (frames_of numbers a.outer) ps count) is))
     (took_start_over frames fs id a.left before old new froms numbers None ps name k body count stands
     (in_body fs a.outer before.frames.items id a.left a.held within)
     (blocks_put frames task before first a) apart world starts modest))
@@ -400,7 +400,8 @@ takes_attempt frames first task before after world body handler cleanup a is sta
     (step_on froms world.tick (here_inside before) (step_in first) (steps_of a.left.now) (frames_of numbers a.outer) ps count) stands stays
     (blocks_same before.frames.items after.frames.items (ap (λ (fs : List rest.Frame). blocks_onto fs []) (held own_keys))
     ∙ blocks_put frames task before first a)
-    (ap (λ (s : Step). step_on froms world.tick (here_inside before) (step_in s) (steps_of a.left.now) (frames_of numbers a.outer) ps count) is
+    (ap (λ (s : Step). step_on froms world.tick (here_inside before) (step_in s) (steps_of a.left.now)
+    (frames_of numbers a.outer) ps count) is
     ∙ ap (λ (gs : List rest.Frame). onward (rest.steps_left body ∷ rest.in_try (handled_of handler) (cleaned_of cleanup) ∷ gs) ps None) (sym
     (frames_put frames task before first a numbers))
     ∙ ap (λ (gs : List rest.Frame). onward gs ps None) (sym (held numbers))))

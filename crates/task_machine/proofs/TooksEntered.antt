@@ -160,8 +160,8 @@ frames_others numbers more fs same = onto_others numbers more fs [] same
 pub took_nursery : (me : ℕ) (frames : List Frame) (before after : Task) (old new : World) (froms : Table) (numbers : Numbers)
     (stopped : Option Stopped) (ps : List Place)
     (label : Label)
-    (shield : Bool) (deadline : Tick) (body : tree.Steps) → Stands frames before old froms numbers stopped ps → blocks_of before.frames.items ≡ blocks_of frames →
-    (IsName label.name (names_at ps) → ⊥) →
+    (shield : Bool) (deadline : Tick) (body : tree.Steps) → Stands frames before old froms numbers stopped ps →
+    blocks_of before.frames.items ≡ blocks_of frames → (IsName label.name (names_at ps) → ⊥) →
     after ≡ record before { frames = after.frames; own = after.own; froms = after.froms } →
     EntersNursery me before after old new label body →
     new ≡ record old { scopes = new.scopes; labels = new.labels; book = new.book } →

@@ -38,7 +38,7 @@ use Rattle.task_machine.specs.Acts.{Acts, scoping_of}
 use Rattle.task_machine.specs.Fitting.{Block, a_nursery, blocks_of}
 use Rattle.task_machine.specs.Frames.{frames_of}
 use Rattle.task_machine.specs.Stacked.{AreAt}
-use Rattle.task_machine.specs.Standing.{here_inside, HasBlock, HasNurseryOf, Stands, shown_made, IsBegun, AreBegun, BeginsAt, Grown, Took}
+use Rattle.task_machine.specs.Standing.{here_of, HasBlock, HasNurseryOf, Stands, shown_made, IsBegun, AreBegun, BeginsAt, Grown, Took}
 use Rattle.task_machine.specs.Started.{IsChild, running, home_at, StartsOne, AreChildren, StartsOver}
 use Rattle.task_machine.specs.Stops.{Numbers}
 use Rattle.task_machine.specs.Tasks.{scope_of, path_of}
@@ -48,6 +48,10 @@ use Rattle.task_machine.proofs.Begins.{begins_more}
 use Rattle.task_machine.proofs.Taking.{shown_append}
 use Rattle.task_machine.proofs.Tooks.{has_last, not_grown, updated_has, is_at}
 use Rattle.task_machine.proofs.TooksEntered.{entered_frames, entered_blocks, with_numbers, numbers_put, numbers_else, frames_others}
+
+-- where a task is inside its passes, as its steps see it
+abbrev pub here_inside : Task → Here
+here_inside task = record (here_of task) { path = path_of task }
 
 -- ---- places in lists
 
@@ -457,7 +461,8 @@ begins_over self id n name k body ps first (suc i) tasks c at number e =
     by_part before (inr got) = by_place got.place got.behind got.got
       where
         by_place : (j : ℕ) → at ≡ length (numbered first i) + j → slice_get ((first + i) ∷ []) j ≡ Some number →
-            BeginsAt id (length n.children + at) number (c.0 ++ c.1 ∷ []) (begun_over name (here_inside self) k body ps first i ++ last ∷ [])
+            BeginsAt id (length n.children + at) number (c.0 ++ c.1 ∷ [])
+            (begun_over name (here_inside self) k body ps first i ++ last ∷ [])
         by_place zero behind at_first =
             same_long id (length n.children + at) number c.0 (c.1 ∷ []) (begun_over name (here_inside self) k body ps first i) (last ∷ [])
             (children_long self id n name k body ps first i c.0 c.3)
@@ -491,7 +496,8 @@ took_start_over frames fs id left task old new froms numbers stopped ps name k b
     × (slice_get m.children (length s.nursery.children + i) ≡ Some None)))
     (sym s.book.changed) (refl, got_behind s.nursery.children (running k) i (length s.nursery.children + i) refl ∙ running_at k i less))
     has modest k (omega arith) s.tasks s.children)
-    (over_froms name (here_inside task) old.tick count k froms) (over_unshown (buffer_of task.part) name (here_inside task) old.tick count k)
+    (over_froms name (here_inside task) old.tick count k froms)
+    (over_unshown (buffer_of task.part) name (here_inside task) old.tick count k)
     (starts_acts old.tick name (here_inside task) old.tick count k (scoping_of task old) (scoping_of task new)
     (ap (λ (w : World). scoping_of task w) world))
     (begins_over task id s.nursery name k body ps count k s.tasks s.children)

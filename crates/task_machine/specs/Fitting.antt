@@ -29,7 +29,7 @@ use Rattle.task_machine.specs.Labels.{Labels}
 use Rattle.task_machine.specs.Tasks.{home_scope}
 use Rattle.task_machine.specs.Worlds.{label_at}
 
--- all numbers of the steps left are in their ranges
+-- all numbers of the steps and of the passes left are in their ranges
 abbrev pub AreModestFrames : List rest.Frame → Type 0
 AreModestFrames [] = Unit {0}
 AreModestFrames (rest.steps_left ss ∷ fs) = AreModest ss × AreModestFrames fs

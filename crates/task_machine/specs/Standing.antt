@@ -39,17 +39,13 @@ use Rattle.task_machine.specs.Fitting.{Block, a_scope, a_nursery, blocks_of, wai
 use Rattle.task_machine.specs.Frames.{frames_of}
 use Rattle.task_machine.specs.Stacked.{AreAt}
 use Rattle.task_machine.specs.Stops.{Numbers, IsHalt, MovesAs}
-use Rattle.task_machine.specs.Tasks.{scope_of, path_of, home_of}
+use Rattle.task_machine.specs.Tasks.{scope_of, home_of}
 use Rattle.task_machine.specs.Waking.{wake_in}
 use Rattle.task_machine.specs.Worlds.{label_at}
 
 -- where a task is
 abbrev pub here_of : Task → Here
 here_of task = record { input = buffer_of task.part; part = range_of task.part; task = task.label; path = task.label.indices }
-
--- and where it is inside its passes: that is where its steps see it
-abbrev pub here_inside : Task → Here
-here_inside task = record (here_of task) { path = path_of task }
 
 -- a nursery is among blocks
 abbrev pub HasBlock : ℕ → List Block → Type 0

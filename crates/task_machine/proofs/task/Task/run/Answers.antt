@@ -137,8 +137,8 @@ returns-in_ok-begin_passes-in-Repeat-clause-fits c =
     let modest = subst (λ (s : Step). IsModestStep (step_of s)) c.in-Repeat.is c.requires.modest in
     let starts = subst (λ (s : Step). StartsAt (in_body (frames_behind (frames_of (λ id. []) c.args.self.now.frames.items))) (step_of s))
     c.in-Repeat.is c.requires.starts in
-    repeat_fits c.in-Repeat.count c.in-Repeat.body c.args.self.now c.begin_passes.new.self c.args.world.now c.requires.fits modest.0 modest.1
-    starts e.blocks (e.step (λ id. []) []) e.stays
+    repeat_fits c.in-Repeat.count c.in-Repeat.body c.args.self.now c.begin_passes.new.self c.args.world.now c.requires.fits
+    modest.0 modest.1 starts e.blocks (e.step (λ id. []) []) e.stays
 
 pub returns-in_ok-begin_passes-in-Repeat-clause-length : goal.returns-in_ok-begin_passes-in-Repeat-clause-length
 returns-in_ok-begin_passes-in-Repeat-clause-length c =
