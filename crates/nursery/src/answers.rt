@@ -10,14 +10,25 @@ use nursery_app::{
     Verdict, WriteOut, check, explain, send, serve, split_feed,
 };
 use std::alloc::{AllocError, Global};
-use std::io;
+use std::io::{self, IsTerminal};
 use std::rt::Files;
 use std::thread::Threads;
 
-/// Serves standard input with the defaults, and gives the status.
+/// What a run with no words at a terminal waits for.
+const AWAITED: &str =
+    "reading a feed: a job text, a line `%input`, the input, and Ctrl-D behind it (--help tells more)\n";
+
+/// Serves standard input with the defaults, and gives the status. Where that is a terminal, standard error says first
+/// what is waited for.
 pub(crate) fn run_feed<R: Input + Print + Eprint + Threads + Sync + AllocGlobal>(
     rt: &R,
-) -> Result<u8, Stop> {
+) -> Result<u8, Stop>
+where
+    R::Reader: IsTerminal,
+{
+    if rt.reader().is_terminal() {
+        let _ = rt.eprint(AWAITED);
+    }
     let feed = read_feed(rt)?;
     let (text, input) = split_feed(feed.as_slice());
     if input.len() > MOST_INPUT {
