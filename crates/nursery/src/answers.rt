@@ -1,6 +1,8 @@
 ghost use Rattle.std.specs.Prelude.{◌≤◌, length, IfOk};
 ghost use Rattle.job_meaning.specs.declared.limits.TheConstants.{MOST_INPUT};
-ghost use Rattle.nursery.specs.Statuses.{TellsVerdict, TellsCheck, TellsUpgrade};
+ghost use Rattle.job_meaning.specs.Laws.{in_format_2};
+ghost use Rattle.nursery_app.specs.Checking.{as_it_is};
+ghost use Rattle.nursery.specs.Statuses.{TellsVerdict, TellsAnswer};
 
 use crate::sources::{read_feed, read_input, read_job_text};
 use crate::stop::Stop;
@@ -10,14 +12,25 @@ use nursery_app::{
     Verdict, WriteOut, check, explain, send, serve, split_feed, upgrade,
 };
 use std::alloc::{AllocError, Global};
-use std::io;
+use std::io::{self, IsTerminal};
 use std::rt::Files;
 use std::thread::Threads;
 
-/// Serves standard input with the defaults, and gives the status.
+/// What a run with no words at a terminal waits for.
+const AWAITED: &str =
+    "reading a feed: a job text, a line `%input`, the input, and Ctrl-D behind it (--help tells more)\n";
+
+/// Serves standard input with the defaults, and gives the status. Where that is a terminal, standard error says first
+/// what is waited for.
 pub(crate) fn run_feed<R: Input + Print + Eprint + Threads + Sync + AllocGlobal>(
     rt: &R,
-) -> Result<u8, Stop> {
+) -> Result<u8, Stop>
+where
+    R::Reader: IsTerminal,
+{
+    if rt.reader().is_terminal() {
+        let _ = rt.eprint(AWAITED);
+    }
     let feed = read_feed(rt)?;
     let (text, input) = split_feed(feed.as_slice());
     if input.len() > MOST_INPUT {
@@ -101,7 +114,7 @@ pub(crate) fn check_job<R: Files + Input + Print + Eprint + AllocGlobal>(
 
 // Writes the canonical text of a job text, and gives the status.
 fn check_text<R: Print + Eprint + AllocGlobal>(rt: &R, job: &str, text: &[u8]) -> Result<u8, Stop>
-    ensures { IfOk result (TellsCheck text.now) }
+    ensures { IfOk result (TellsAnswer as_it_is text.now) }
 {
     let mut out = WriteOut::new(io::writer(rt));
     let verdict = check(rt.alloc(), text, &mut out)?;
@@ -122,12 +135,13 @@ pub(crate) fn upgrade_job<R: Files + Input + Print + Eprint + AllocGlobal>(
 
 // Writes the canonical text in format 2 of a job text, and gives the status.
 fn upgrade_text<R: Print + Eprint + AllocGlobal>(rt: &R, job: &str, text: &[u8]) -> Result<u8, Stop>
-    ensures { IfOk result (TellsUpgrade text.now) }
+    ensures { IfOk result (TellsAnswer in_format_2 text.now) }
 {
     let mut out = WriteOut::new(io::writer(rt));
     let verdict = upgrade(rt.alloc(), text, &mut out)?;
-    if let CheckVerdict::JobRefused(fault) = verdict {
-        tell_refusal(rt, job, text, fault);
+    match verdict {
+        CheckVerdict::JobRefused(fault) => tell_refusal(rt, job, text, fault),
+        CheckVerdict::Fine => {}
     }
     Ok(verdict.status())
 }

@@ -1,6 +1,6 @@
-//! The program `nursery`: `run` runs a job file over an input file, `check` writes a job's canonical text,
-//! `upgrade` that of the same job in format 2, and with no words it serves standard input: a job text, a line that is exactly `%input`, and the input. Its answer goes to
-//! standard output, and what went wrong to standard error. The work is in `nursery_app`.
+//! The program `nursery`: `run` runs a job file over an input file, `check` writes a job's canonical text, `upgrade` that
+//! of the same job in format 2, and with no words it serves standard input: a job text, a line that is exactly `%input`,
+//! and the input. Its answer goes to standard output, and what went wrong to standard error. The work is in `nursery_app`.
 #![tactic(auto)]
 
 mod answers;
@@ -10,10 +10,11 @@ mod stop;
 use crate::answers::{check_job, run_feed, run_job, show_help, upgrade_job};
 use crate::stop::Stop;
 use nursery_app::{Command, CommandFault, read_command};
+use std::env;
+use std::io::{self, IsTerminal};
 use std::process::ExitCode;
 use std::rt::{Env, Files};
 use std::thread::Threads;
-use std::{env, io};
 
 // The words behind the program's name.
 fn words<R: Env + AllocGlobal>(rt: &R) -> Result<Vec<String>, Stop> {
@@ -32,7 +33,10 @@ fn words<R: Env + AllocGlobal>(rt: &R) -> Result<Vec<String>, Stop> {
 // Does what the words ask for, and gives the status.
 fn obey<R: Files + Env + Input + Print + Eprint + Threads + Sync + AllocGlobal>(
     rt: &R,
-) -> Result<u8, Stop> {
+) -> Result<u8, Stop>
+where
+    R::Reader: IsTerminal,
+{
     let words = words(rt)?;
     match read_command(rt.alloc(), words.as_slice()) {
         Ok(Command::Feed) => run_feed(rt),

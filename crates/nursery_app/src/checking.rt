@@ -1,6 +1,7 @@
 ghost use Rattle.std.specs.Prelude.{◌≡◌, ◌<◌, IfOk, IfErr, OnOk};
 ghost use Rattle.nursery_app.specs.Verdict.{CountsFailure};
-ghost use Rattle.nursery_app.specs.Checking.{IsCheck, IsCheckSent, IsCheckFault, IsUpgrade, IsUpgradeSent, IsUpgradeFault};
+ghost use Rattle.job_meaning.specs.Laws.{in_format_2};
+ghost use Rattle.nursery_app.specs.Checking.{IsAnswer, IsAnswerSent, IsAnswerFault, as_it_is};
 
 use crate::lines::refusal;
 use crate::verdict::{CheckVerdict, ServeFault};
@@ -16,9 +17,9 @@ pub fn check<W: Out>(
     out: &mut W,
 ) -> Result<CheckVerdict, ServeFault>
     requires { W.failed out.old < 18446744073709551615 }
-    ensures sent { IfOk result (IsCheckSent job_text.now (W.contents out.old) (W.contents out.new)) }
+    ensures sent { IfOk result (IsAnswerSent as_it_is job_text.now (W.contents out.old) (W.contents out.new)) }
     ensures well { OnOk result (W.failed out.new ≡ W.failed out.old) }
-    ensures fault { IfErr result (IsCheckFault job_text.now (W.contents out.old) (W.contents out.new)) }
+    ensures fault { IfErr result (IsAnswerFault as_it_is job_text.now (W.contents out.old) (W.contents out.new)) }
     ensures counted { IfErr result (CountsFailure (W.failed out.old) (W.failed out.new)) }
 {
     let Ok((verdict, bytes)) = checked(alloc, job_text) else {
@@ -32,7 +33,7 @@ pub fn check<W: Out>(
 
 // The verdict and all its bytes.
 fn checked(alloc: Global, job_text: &[u8]) -> Result<(CheckVerdict, Vec<u8>), AllocError>
-    ensures { IfOk result (λ r. IsCheck job_text.now r.0 r.1.items) }
+    ensures { IfOk result (λ r. IsAnswer as_it_is job_text.now r.0 r.1.items) }
 {
     match read_job(alloc, job_text) {
         Ok(job) => {
@@ -58,9 +59,9 @@ pub fn upgrade<W: Out>(
     out: &mut W,
 ) -> Result<CheckVerdict, ServeFault>
     requires { W.failed out.old < 18446744073709551615 }
-    ensures sent { IfOk result (IsUpgradeSent job_text.now (W.contents out.old) (W.contents out.new)) }
+    ensures sent { IfOk result (IsAnswerSent in_format_2 job_text.now (W.contents out.old) (W.contents out.new)) }
     ensures well { OnOk result (W.failed out.new ≡ W.failed out.old) }
-    ensures fault { IfErr result (IsUpgradeFault job_text.now (W.contents out.old) (W.contents out.new)) }
+    ensures fault { IfErr result (IsAnswerFault in_format_2 job_text.now (W.contents out.old) (W.contents out.new)) }
     ensures counted { IfErr result (CountsFailure (W.failed out.old) (W.failed out.new)) }
 {
     let Ok((verdict, bytes)) = upgraded(alloc, job_text) else {
@@ -74,7 +75,7 @@ pub fn upgrade<W: Out>(
 
 // The verdict and all its bytes.
 fn upgraded(alloc: Global, job_text: &[u8]) -> Result<(CheckVerdict, Vec<u8>), AllocError>
-    ensures { IfOk result (λ r. IsUpgrade job_text.now r.0 r.1.items) }
+    ensures { IfOk result (λ r. IsAnswer in_format_2 job_text.now r.0 r.1.items) }
 {
     match read_job(alloc, job_text) {
         Ok(job) => {
@@ -86,8 +87,8 @@ fn upgraded(alloc: Global, job_text: &[u8]) -> Result<(CheckVerdict, Vec<u8>), A
             if matches!(fault.kind, JobKind::NoMemory) {
                 return Err(AllocError);
             }
-            let line = refusal(alloc, fault)?;
-            Ok((CheckVerdict::JobRefused(fault), line))
+            let answer = refusal(alloc, fault)?;
+            Ok((CheckVerdict::JobRefused(fault), answer))
         }
     }
 }

@@ -68,12 +68,15 @@ const UPGRADE_EXAMPLE: &str = "Example:
     trio-job 2
     job main{find\"er\";}";
 
+// The program's version, as `--version` tells it.
+const VERSION: &str = "0.1.0";
+
 // What reads the words behind the program's name.
 pub(crate) fn parser<'a>(alloc: Global) -> Result<Command<'a>, AllocError> {
     Command::new(alloc, "nursery")
         .no_binary_name(true)
         .bin_name("nursery")?
-        .version("0.1.0")
+        .version(VERSION)
         .about(ABOUT)
         .after_help(EXAMPLE)
         .subcommand_required(true)

@@ -2,7 +2,7 @@
 # The command line on real files, by the program that the gate built: for each case standard output, standard error and
 # the status are compared.
 set -eu
-cd "$(dirname "$0")/.."
+cd "$(dirname "$0")/../.."
 nursery=$PWD/crates/nursery/out/nursery
 folder=$(mktemp -d)
 trap 'rm -rf "$folder"' EXIT

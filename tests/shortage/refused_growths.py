@@ -1,10 +1,10 @@
 #!/usr/bin/env python3
 """Refuses each growth of memory in turn, and compares what nursery answers then.
 
-    python3 tests/refused_growths.py PROGRAM [CRATES]
+    python3 tests/shortage/refused_growths.py PROGRAM [CRATES]
 
 PROGRAM is the built executable, CRATES the folder of the crates with their built tests. It wants a C compiler for the shim that
-refuses (tests/refuse_growth.c), and Python 3.10. Of each job, with 1 and with 3 workers, the growth 0, 1, 2 and so on is refused until a run
+refuses (tests/shortage/refuse_growth.c), and Python 3.10. Of each job, with 1 and with 3 workers, the growth 0, 1, 2 and so on is refused until a run
 meets none: each time the program gives the job's own bytes and status, or `no memory`, status 5 and nothing on standard output. Where the growth that is refused is one
 of the system's for a thread, the others do its work, and the answer is the job's own; where it is one for the sentence that explains a
 refused text on standard error, the refusal stands without it.

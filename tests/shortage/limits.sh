@@ -2,7 +2,7 @@
 # The program where memory, stack and streams are short: it answers what it would answer, or the refusal that fits, with nothing
 # on standard output but a front of the right answer, and no signal ends it.
 set -eu
-cd "$(dirname "$0")/.."
+cd "$(dirname "$0")/../.."
 nursery=$PWD/crates/nursery/out/nursery
 folder=$(mktemp -d)
 trap 'rm -rf "$folder"' EXIT

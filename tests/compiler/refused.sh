@@ -2,7 +2,7 @@
 # What must not compile: the borrow checker must refuse each snippet crates/NAME/refused/*.txt at the end of its crate. They are
 # text files, since rt reads code only below src/. It works on a copy.
 set -eu
-cd "$(dirname "$0")/.."
+cd "$(dirname "$0")/../.."
 room=$(mktemp -d)
 trap 'rm -rf "$room"' EXIT
 for snippet in crates/*/refused/*.txt; do

@@ -1,7 +1,7 @@
 #!/usr/bin/env python3
 """Runs random jobs by nursery and by Trio itself, and compares the reports.
 
-    python3 tests/against_trio.py PROGRAM [JOBS [SEED]]
+    python3 tests/random/against_trio.py PROGRAM [JOBS [SEED]]
 
 PROGRAM is the built executable (crates/nursery/out/nursery behind `rt run`). It wants Python 3.11 and Trio 0.22 or later,
 and is no part of the gate. Each job is also run as a Trio program under MockClock: its scopes, shields, deadlines and levels

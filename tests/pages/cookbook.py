@@ -1,9 +1,9 @@
 #!/usr/bin/env python3
 """Compares the jobs and reports that docs/COOKBOOK.md and README.md show with examples/.
 
-    python3 tests/cookbook.py
+    python3 tests/pages/cookbook.py
 
-It wants Python 3.10 or later, and no program: tests/examples.sh compares the stored reports with it. Where a paragraph names an
+It wants Python 3.10 or later, and no program: tests/pages/examples.sh compares the stored reports with it. Where a paragraph names an
 example, as (`examples/NAME.feed`), the next two indented blocks are its job, without the first line and the input, and its report.
 In the cookbook there is no other block, and a job has the feed's own layout; in README other blocks stand too, and a job may have
 its line ends elsewhere.
@@ -13,7 +13,7 @@ import os
 import re
 import sys
 
-ROOT = os.path.join(os.path.dirname(os.path.abspath(__file__)), "..")
+ROOT = os.path.join(os.path.dirname(os.path.abspath(__file__)), "..", "..")
 FIRST_LINE = "trio-job 1\n"
 NAMED = re.compile(r"\(`examples/(\w+)\.feed`")
 

@@ -1,7 +1,7 @@
 #!/usr/bin/env python3
 """Runs random texts through nursery under each order and number of workers, and compares the answers.
 
-    python3 tests/random_jobs.py PROGRAM [TEXTS [SEED]]
+    python3 tests/random/random_jobs.py PROGRAM [TEXTS [SEED]]
 
 PROGRAM is the built executable. It wants Python 3.10 or later. Of each text: the bytes and the status are the same under
 every order and with 1, 3 and 64 workers, and as a feed; each line shown is the input's slice at its place; a job's canonical
@@ -172,7 +172,7 @@ class Program:
 
 def cut_texts():
     """The job of each example, cut behind each of its bytes."""
-    for path in sorted(glob.glob(os.path.join(os.path.dirname(os.path.abspath(__file__)), "..", "examples", "*.feed"))):
+    for path in sorted(glob.glob(os.path.join(os.path.dirname(os.path.abspath(__file__)), "..", "..", "examples", "*.feed"))):
         with open(path, "rb") as file:
             text = file.read().split(b"%input\n")[0].rstrip()
         for end in range(len(text) + 1):
