@@ -36,11 +36,13 @@ newer_or One (Some more) other = Some hint.NewerFormat
 newer_or One None other = other
 newer_or Two rest other = other
 
+-- the keyword that a token nearly is, of those that may stand for the symbol
+abbrev pub nearly : Format → Symbol → Shape → Option Hint
+nearly format symbol shape = word_in shape >>= λ bytes. first_near (words_for format symbol) bytes >>= λ k. Some (hint.Meant k)
+
 -- that a token may stand for the symbol in format 2, or the keyword that it nearly is, of those that may stand for the symbol
 abbrev pub meant_by : Format → Option Symbol → Shape → Option Hint
-meant_by format symbol shape =
-    symbol >>= λ s. newer_or format (next Two s shape)
-    (word_in shape >>= λ bytes. first_near (words_for format s) bytes >>= λ k. Some (hint.Meant k))
+meant_by format symbol shape = symbol >>= λ s. newer_or format (next Two s shape) (nearly format s shape)
 
 -- where tokens leave the grammar: with a token at that place the keyword meant, and with none the block that is open
 abbrev pub syntax_hint : Format → List Token → Option Shape → Option Hint

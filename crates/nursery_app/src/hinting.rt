@@ -1,5 +1,5 @@
 ghost use Rattle.std.specs.Prelude.{◌≡◌, IfOk};
-ghost use Rattle.nursery_app.specs.Hinting.{IsHint, IsSyntaxHint, IsTwiceHint, version_hint, token_hint, meant_by, syntax_hint, twice_hint};
+ghost use Rattle.nursery_app.specs.Hinting.{IsHint, IsSyntaxHint, IsTwiceHint, version_hint, token_hint, nearly, meant_by, syntax_hint, twice_hint};
 
 use crate::expecting::expected_at;
 use crate::nearness::meant;
@@ -99,9 +99,16 @@ fn meant_by(format: Format, symbol: Option<Symbol>, shape: Shape) -> Option<Hint
     ensures { result ≡ meant_by format symbol shape }
 {
     let symbol = symbol?;
-    if format == Format::One && symbol.next(Format::Two, shape).is_some() {
-        return Some(Hint::NewerFormat);
+    match (format, symbol.next(Format::Two, shape)) {
+        (Format::One, Some(_)) => Some(Hint::NewerFormat),
+        _ => nearly(format, symbol, shape),
     }
+}
+
+// The keyword that a token nearly is, of those that may stand for the symbol.
+fn nearly(format: Format, symbol: Symbol, shape: Shape) -> Option<Hint>
+    ensures { result ≡ nearly format symbol shape }
+{
     let word = shape.word()?;
     let keyword = meant(format, symbol, word.bytes())?;
     Some(Hint::Meant(keyword))
