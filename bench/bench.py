@@ -48,6 +48,10 @@ def job(body):
     return b"trio-job 1\njob main { " + body + b" }\n"
 
 
+def job_of_format_2(body):
+    return b"trio-job 2\njob main { " + body + b" }\n"
+
+
 def grid(inner, outer=64, middle=64):
     return job(b"nursery n { start a over %d { nursery m { start b over %d { %s } } } }" % (outer, middle, inner))
 
@@ -194,6 +198,24 @@ class Bench:
         each = "/".join(f"{(run.seconds - empty.seconds) * 1e9 / turns:.0f}" for run in runs)
         table.row(tasks, turns, *[milliseconds(run.seconds) for run in runs], each, max(run.memory for run in runs) // 1024)
 
+    def large(self):
+        """Jobs of a million steps, in format 2."""
+        empty = Run("empty", self.program, "run", self.file("empty.job", job(b"")), os.devnull)
+        measure([empty], self.rounds)
+        table = Table("Work", "turns or steps", "ms", "ns each", "MB")
+        ends = b" ".join(b"start r%d over 64 { }" % i for i in range(15))
+        started = b"nursery n { start p over %d { nursery m { start q over 64 { nursery k { " + ends + b" } } } } }"
+        for name, body, turns in [
+            ("499,000 sleeps in one task", b"repeat 499 { repeat 1000 { sleep 1; } }", 499_001),
+            ("998,000 checkpoints in one task, each a step", b"repeat 1000 { " + b"checkpoint;" * 998 + b" }", 998_000),
+            ("246,021 tasks that end at once", started % 4, 246_282),
+            ("922,576 tasks that end at once", started % 15, 923_552),
+        ]:
+            run = Run(name, self.program, "run", self.file("large.job", job_of_format_2(body)), os.devnull)
+            measure([run], min(self.rounds, 3))
+            each = (run.seconds - empty.seconds) * 1e9 / turns
+            table.row(name, turns, milliseconds(run.seconds), f"{each:.0f}", run.memory // 1024)
+
     def workers(self):
         """Workers beside one another: 64 searches of the whole input, its 64 parts, and many small requests."""
         data = self.made("all.txt", lambda: log(16 * MIB, 0.03))
@@ -228,7 +250,7 @@ def main():
     with tempfile.TemporaryDirectory() as folder:
         Run.out = os.path.join(folder, "out")
         bench = Bench(program, rounds, folder)
-        for table in [bench.lines, bench.turns, bench.workers, bench.trio]:
+        for table in [bench.lines, bench.turns, bench.large, bench.workers, bench.trio]:
             print(f"\n{table.__doc__.splitlines()[0]}\n")
             table()
     return 0

@@ -84,20 +84,22 @@ wants 0 "$report" '' run find.job -
 cp find.job in
 wants 0 "$report" '' run - log.txt
 wants 0 'trio-job 1\njob main{find"er";}\n' '' check -
+wants 0 'trio-job 2\njob main{find"er";}\n' '' upgrade -
 { cat find.job; echo %input; cat log.txt; } > in
 wants 0 "$report" ''
 { cat raise.job; echo %input; } > in
 wants 1 'job main 2\ntask main 0 2 raised Boom(main@2)\n' ''
 : > in
-wants 2 'refused J3 Version at 0\n' 'standard input:1:1: a job text begins with the line `trio-job 1`, ended by a newline alone\n\n^\n'
+wants 2 'refused J3 Version at 0\n' 'standard input:1:1: a job text begins with the line `trio-job 1` or `trio-job 2`, ended by a newline alone\n\n^\n'
 
 # ---- 2: a refused job, told with its place
 
-# refuses TEXT LINE TOLD: the job text is refused by both commands, with that line and that text behind `bad.job:`.
+# refuses TEXT LINE TOLD: the job text is refused by all three commands, with that line and that text behind `bad.job:`.
 refuses() {
     printf "$1" > bad.job
     wants 2 "$2\n" "bad.job:$3\n" run bad.job log.txt
     wants 2 "$2\n" "bad.job:$3\n" check bad.job
+    wants 2 "$2\n" "bad.job:$3\n" upgrade bad.job
 }
 
 refuses 'trio-job 1\njob main { sleep }\n' 'refused J6 Syntax at 28' \
@@ -105,18 +107,22 @@ refuses 'trio-job 1\njob main { sleep }\n' 'refused J6 Syntax at 28' \
 refuses 'trio-job 1\njob main {\n  sleep 1\n}\n' 'refused J6 Syntax at 32' '4:1: expected `;`\n}\n^'
 refuses 'trio-job 1\njob main {\n\tfind "\303\244";\n}\n' 'refused J2 NotAscii at 29' \
     '3:8: this byte is not ASCII\n find "??";\n       ^'
-refuses 'trio-job 2\n' 'refused J3 Version at 0' \
-    '1:1: a job text begins with the line `trio-job 1`, ended by a newline alone\ntrio-job 2\n^'
+refuses 'trio-job 3\n' 'refused J3 Version at 0' \
+    '1:1: a job text begins with the line `trio-job 1` or `trio-job 2`, ended by a newline alone\ntrio-job 3\n^'
 refuses 'trio-job 1\r\njob main { }\n' 'refused J3 Version at 0' \
-    '1:1: a job text begins with the line `trio-job 1`, ended by a newline alone\ntrio-job 1 \n^\nits line ends are carriage returns and newlines: save it with newlines alone'
+    '1:1: a job text begins with the line `trio-job 1` or `trio-job 2`, ended by a newline alone\ntrio-job 1 \n^\nits line ends are carriage returns and newlines: save it with newlines alone'
 refuses 'trio-job 1\njob main { sleep 1s; }\n' 'refused J4 Token at 28' \
     '2:18: a letter or `_` stands directly behind this number\njob main { sleep 1s; }\n                 ^'
 refuses 'trio-job 1\njob main { pace 0; }\n' 'refused J5 Number at 27' \
-    '2:17: a number out of its range: `over` takes 1 to 64, `pace` 1 to 1000000, others 0 to 1000000000; no leading zero\njob main { pace 0; }\n                ^'
+    '2:17: a number out of its range: `over` takes 1 to 64, `pace` 1 to 1000000, `repeat` 0 to 1000, others 0 to 1000000000; no leading zero\njob main { pace 0; }\n                ^'
 refuses 'trio-job 1\njob main { scope s { } scope s { } }\n' 'refused J8 Twice at 40' \
     '2:30: this name was given before: jobs, scopes, nurseries and starts need names of their own\njob main { scope s { } scope s { } }\n                             ^\nit was first given at bad.job:2:18'
 refuses 'trio-job 1\njob main { slep 1; }\n' 'refused J6 Syntax at 22' \
     '2:12: expected a step, as `sleep 1;`, or `}` (a `start` stands only right inside a nursery)\njob main { slep 1; }\n           ^\ndid you mean `sleep`?'
+refuses 'trio-job 1\njob main { repeat 2 { } }\n' 'refused J6 Syntax at 22' \
+    '2:12: expected a step, as `sleep 1;`, or `}` (a `start` stands only right inside a nursery)\njob main { repeat 2 { } }\n           ^\nformat 2 has this: begin the job text with the line `trio-job 2`'
+refuses 'trio-job 2\njob main { repeat 1000 { repeat 1000 { } } }\n' 'refused J11 TooLarge at 0' \
+    '1:1: the job has more than 100000 steps, in format 2 more than 1000000, the copies that `over` makes and the passes of `repeat` counted\ntrio-job 2\n^'
 refuses 'trio-job 1\njob main {\n  scope s {\n    sleep 1;\n}\n' 'refused J6 Syntax at 49' \
     '6:1: expected a step, as `sleep 1;`, or `}` (a `start` stands only right inside a nursery)\n\n^\nthe innermost block that is not closed begins at bad.job:2:10'
 refuses 'trio-job 1\njob main { cancel x; }\n' 'refused J9 NotEnclosing at 29' \
@@ -164,6 +170,7 @@ words='run find.job log.txt --limit 4294967296'; holds 2 err "'--limit <T>'" '42
 words='run find.job'; holds 2 err '<INPUT>' 'Usage: nursery run '
 words='run'; holds 2 err '<JOB>' '<INPUT>'
 words='check'; holds 2 err '<JOB>' 'Usage: nursery check '
+words='upgrade'; holds 2 err '<JOB>' 'Usage: nursery upgrade '
 words='check find.job log.txt'; holds 2 err "'log.txt'"
 words='go'; holds 2 err "'go'" 'Usage: nursery '
 words='--fast'; holds 2 err "'--fast'"
@@ -173,10 +180,11 @@ wants 2 '' 'error: an argument is not UTF-8 text\n' check "$(printf 'a\377b')"
 # ---- help and version
 
 wants 0 'nursery 0.1.0\n' '' --version
-words='--help'; holds 0 out 'Usage: nursery <COMMAND>' '  run ' '  check ' '$ nursery run first.job log.txt' '  line 0+5 error' 'Exit status'
+words='--help'; holds 0 out 'Usage: nursery <COMMAND>' '  run ' '  check ' '  upgrade ' '$ nursery run first.job log.txt' '  line 0+5 error' 'Exit status'
 words='help'; holds 0 out 'Usage: nursery <COMMAND>'
 words='run --help'; holds 0 out 'Usage: nursery run [OPTIONS] <JOB> <INPUT>' '--workers <N>' '--order <ORDER>' '--limit <T>' '  line 6+10 ERROR disk'
 words='check --help'; holds 0 out 'Usage: nursery check <JOB>' 'expected a number'
+words='upgrade --help'; holds 0 out 'Usage: nursery upgrade <JOB>' 'job main{find"er";}'
 
 # The examples that help shows are true.
 printf 'trio-job 1\njob watch {\n  scope limit after 10 { pace 2; find "ERROR"; }\n}\n' > watch.job
@@ -198,6 +206,7 @@ wants 3 'limit 4294967295\n' '' run forever.job log.txt --limit 4294967295
 
 wants 4 '' 'cannot read the job file\n' run no.job log.txt
 wants 4 '' 'cannot read the job file\n' check no.job
+wants 4 '' 'cannot read the job file\n' upgrade no.job
 wants 4 '' 'cannot read the input file\n' run find.job no.txt
 wants 4 '' 'cannot read the job file\n' run no.job no.txt
 wants 4 '' 'cannot read the job file\n' run a_folder log.txt
@@ -255,6 +264,7 @@ if [ -c /dev/full ]; then
     full run bad.job log.txt
     full run forever.job log.txt
     full check find.job
+    full upgrade find.job
     full --help
     full --version
     # Standard error is: the refusal stands on standard output already, and the status stays.

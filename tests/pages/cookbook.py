@@ -14,7 +14,7 @@ import re
 import sys
 
 ROOT = os.path.join(os.path.dirname(os.path.abspath(__file__)), "..", "..")
-FIRST_LINE = "trio-job 1\n"
+FIRST_LINES = ("trio-job 1\n", "trio-job 2\n")
 NAMED = re.compile(r"\(`examples/(\w+)\.feed`")
 
 
@@ -39,9 +39,9 @@ def pieces_of(page):
 
 def job_of(name):
     feed = content_of("examples", name + ".feed")
-    if not feed.startswith(FIRST_LINE):
-        raise Wrong(f"examples/{name}.feed does not begin with the line `trio-job 1`")
-    return feed.removeprefix(FIRST_LINE).partition("%input\n")[0]
+    if not feed.startswith(FIRST_LINES):
+        raise Wrong(f"examples/{name}.feed does not begin with the line `trio-job 1` or `trio-job 2`")
+    return feed.partition("\n")[2].partition("%input\n")[0]
 
 
 def compare_page(page, text, is_cookbook):

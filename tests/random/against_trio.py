@@ -18,7 +18,7 @@ import sys
 import trio
 import trio.testing
 
-from jobs import Jobs, text_of_block
+from jobs import random_job
 
 LIMIT = 1_000_000
 FOREVER = 2**40
@@ -127,8 +127,10 @@ class Task:
                 lower(scopes[name])
             case ("scope", name, deadline, shield, fail, body):
                 await self.scope(name, deadline, shield, fail, body, scopes)
-            case ("nursery", name, items):
-                await self.nursery(name, items, scopes)
+            case ("nursery", name, after, shield, items):
+                await self.nursery(name, after, shield, items, scopes)
+            case ("repeat", count, body):
+                await self.repeat(count, body, scopes)
             case ("try", body, handler, cleanup):
                 await self.handled(body, handler, cleanup, scopes)
 
@@ -145,9 +147,18 @@ class Task:
         if fail and scope.cancelled_caught:
             raise Named("TooSlow", label, now())
 
-    async def nursery(self, name, items, scopes):
+    async def repeat(self, count, body, scopes):
+        around = self.indices
+        try:
+            for number in range(count):
+                self.indices = [*around, number]
+                await self.block(body, scopes)
+        finally:
+            self.indices = around
+
+    async def nursery(self, name, after, shield, items, scopes):
         label = self.label_of(name)
-        own = trio.CancelScope()
+        own = trio.CancelScope(deadline=math.inf if after is None else now() + after, shield=shield)
         try:
             with own:
                 await self.members(label, items, {**scopes, name: own}, own)
@@ -277,8 +288,7 @@ def main():
     seed = int(sys.argv[3]) if len(sys.argv) > 3 else 1
     differ = 0
     for i in range(jobs):
-        steps = Jobs(seed * 1_000_000 + i).job()
-        text = "trio-job 1\njob main " + text_of_block(steps)
+        steps, text = random_job(seed * 1_000_000 + i)
         ours, theirs = by_nursery(program, text), by_trio(steps)
         if ours != theirs:
             differ += 1

@@ -1,4 +1,4 @@
-"""Random jobs: nested lists of steps, each a tuple whose first part is its keyword, and their text."""
+"""Random jobs of both formats: nested lists of steps, each a tuple whose first part is its keyword, and their text."""
 
 import random
 
@@ -7,10 +7,11 @@ NAMES = ["A", "B", "C"]
 
 
 class Jobs:
-    """Random jobs: nested lists of steps, each a tuple whose first part is its keyword."""
+    """Random jobs of one format: nested lists of steps, each a tuple whose first part is its keyword."""
 
     def __init__(self, seed):
         self.random = random.Random(seed)
+        self.format = self.random.choice([1, 2])
         self.names = 0
 
     def job(self):
@@ -28,6 +29,8 @@ class Jobs:
         pick = self.random.random()
         if depth == 0 or pick < 0.3:
             return self.leaf(around)
+        if self.format == 2 and pick < 0.4:
+            return ("repeat", self.random.randint(0, 3), self.block(depth - 1, around, 3))
         if pick < 0.5:
             return self.scope(depth, around)
         if pick < 0.75:
@@ -65,6 +68,8 @@ class Jobs:
     def nursery(self, depth, around):
         r = self.random
         name = self.name("n")
+        after = r.choice([None, r.randint(0, 6)]) if self.format == 2 else None
+        shield = self.format == 2 and r.random() < 0.3
         items = []
         for _ in range(r.randint(1, 5)):
             if r.random() < 0.7:
@@ -72,7 +77,7 @@ class Jobs:
                 items.append(("start", self.name("t"), over, self.block(depth - 1, around + [name], 3)))
             else:
                 items.append(self.step(depth - 1, around + [name]))
-        return ("nursery", name, items)
+        return ("nursery", name, after, shield, items)
 
     def handled(self, depth, around):
         r = self.random
@@ -80,6 +85,13 @@ class Jobs:
         handler = (r.choice(NAMES + ["TooSlow"]), self.block(depth - 1, around, 2)) if r.random() < 0.7 else None
         cleanup = self.block(depth - 1, around, 2) if handler is None or r.random() < 0.5 else None
         return ("try", body, handler, cleanup)
+
+
+def random_job(seed):
+    """The steps of a random job, and its text."""
+    jobs = Jobs(seed)
+    steps = jobs.job()
+    return steps, f"trio-job {jobs.format}\njob main " + text_of_block(steps)
 
 
 def text_of_block(steps):
@@ -94,8 +106,10 @@ def text_of(step):
                 words += [deadline[0], str(deadline[1])]
             words += ["shield"] * shield + ["fail"] * fail
             return " ".join(words) + " " + text_of_block(body)
-        case ("nursery", name, items):
-            return f"nursery {name} " + text_of_block(items)
+        case ("nursery", name, after, shield, items):
+            return f"nursery {name} " + (f"after {after} " if after is not None else "") + "shield " * shield + text_of_block(items)
+        case ("repeat", count, body):
+            return f"repeat {count} " + text_of_block(body)
         case ("start", name, over, body):
             return f"start {name} " + (f"over {over} " if over else "") + text_of_block(body)
         case ("try", body, handler, cleanup):

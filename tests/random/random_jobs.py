@@ -20,9 +20,9 @@ import tempfile
 from collections import Counter
 from concurrent.futures import ThreadPoolExecutor
 
-from jobs import Jobs, text_of_block
+from jobs import random_job
 
-FIRST_LINE = b"trio-job 1\n"
+FIRST_LINES = [b"trio-job 1\n", b"trio-job 2\n"]
 ORDERS = ["forward", "reverse", "turn"]
 WORKERS = ["1", "3", "64"]
 LIMIT = 1_000_000
@@ -39,7 +39,7 @@ class Wrong(Exception):
 
 
 def job_text(seed):
-    return FIRST_LINE + b"job main " + text_of_block(Jobs(seed).job()).encode()
+    return random_job(seed)[1].encode()
 
 
 def nearly(dice, text):
@@ -51,7 +51,7 @@ def nearly(dice, text):
         if pick == 0:
             text[place : place + 1] = bytes([dice.choice(b'{};" \n0a_\\\xff')])
         elif pick == 1:
-            text[place:place] = dice.choice([b"}", b"{", b";", b" 0", b" forever;", b' find "\\x0a";', b" over 65"])
+            text[place:place] = dice.choice([b"}", b"{", b";", b" 0", b" forever;", b' find "\\x0a";', b" over 65", b" repeat 2 {", b" repeat 1001", b" shield"])
         elif pick == 2:
             del text[place : place + dice.randint(1, 8)]
         elif pick == 3:
@@ -67,7 +67,7 @@ def text_of(dice, seed):
         return job_text(seed)
     if pick < 0.95:
         return nearly(dice, job_text(seed))
-    return dice.choice([b"", FIRST_LINE]) + dice.randbytes(dice.randint(0, 60))
+    return dice.choice([b"", *FIRST_LINES]) + dice.randbytes(dice.randint(0, 60))
 
 
 def input_of(dice):
@@ -138,6 +138,9 @@ class Program:
     def check(self, text):
         return self.call(["check", "-"], text)
 
+    def upgrade(self, text):
+        return self.call(["upgrade", "-"], text)
+
     def examine(self, text, data):
         """Raises Wrong where something does not hold. Gives the status."""
         with open(self.input, "wb") as file:
@@ -153,6 +156,7 @@ class Program:
         if b"%input" not in text and self.call([], lines + b"%input\n" + data)[:2] != self.run(lines)[:2]:
             raise Wrong("another answer to the feed")
         self.examine_check(text, (status, out), is_job)
+        self.examine_upgrade(text, (status, out), is_job)
         return status
 
     def examine_check(self, text, answer, is_job):
@@ -168,6 +172,20 @@ class Program:
             raise Wrong("the canonical text is not its own canonical text")
         if self.run(canonical)[:2] != answer:
             raise Wrong("the canonical text has another report")
+
+
+    def examine_upgrade(self, text, answer, is_job):
+        status, out, _ = self.upgrade(text)
+        if not is_job:
+            if (status, out) != answer:
+                raise Wrong("upgrade and run refuse differently")
+            return
+        if status != 0 or not out.startswith(b"trio-job 2\n"):
+            raise Wrong(f"upgrade gives status {status} and {out!r}")
+        if self.upgrade(out)[:2] != (0, out) or self.check(out)[:2] != (0, out):
+            raise Wrong("what was upgraded is not its own upgrade")
+        if self.run(out)[:2] != answer:
+            raise Wrong("what was upgraded has another report")
 
 
 def cut_texts():

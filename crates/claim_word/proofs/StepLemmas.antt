@@ -20,7 +20,7 @@ placed counts s n id me w wide rule = (
 
 -- a claim may be made with a pass that was not told that none is left
 pub claims_allowed : (counts : Counts) (slots id : ℕ) (me : Me (Unit {0}) Hand) → me.0.parts ≡ 1 → me.0.nones ≡ 0 →
-    counts.requests ≤ 2000000 → counts.passes ≤ 64
+    counts.requests ≤ 4000000 → counts.passes ≤ 64
     → Allows (Kept counts) slots id me 0 (λ n. (n + 1) % 18446744073709551616) (Draws (step slots 0 1 0 none) me)
 claims_allowed counts slots id me one untold few_requests few_passes s rule homes at small =
     let word = slice_index s.words 0 in

@@ -12,7 +12,7 @@ pub struct Claims {
     ghost one_word: { word.shared.table_id.words ≡ 1 },
     ghost no_slot: { word.shared.table_id.slots ≡ 0 },
     ghost known: { word.shared.key.requests ≡ requests },
-    ghost few: { (requests ≤ 2000000) × (word.shared.key.passes ≤ 64) },
+    ghost few: { (requests ≤ 4000000) × (word.shared.key.passes ≤ 64) },
 }
 
 impl Claims {
@@ -24,7 +24,7 @@ impl Claims {
         requests: usize,
         passes: usize,
     ) -> Result<(Claims, Vec<Pass>), AllocError>
-        requires few_requests { requests ≤ 2000000 }
+        requires few_requests { requests ≤ 4000000 }
         requires some_pass { 1 ≤ passes }
         requires few_passes { passes ≤ 64 }
         ensures requests { IfOk result (λ made. requests_of made.0 ≡ requests) }

@@ -5,7 +5,7 @@ use Rattle.std.specs.Str.{bytes_eq}
 use Rattle.std.proofs.lemmas.Cmp.{nat_list_eq_equiv}
 use Rattle.job_tree.specs.declared.deadline.Deadline.{Deadline}
 use Rattle.job_tree.specs.declared.deadline.Deadline.TheVariants.{Never, After, At}
-use Rattle.job_tree.specs.Tree.{Step, sleep, checkpoint, forever, pace, find, head, longest, need, raise, cancel, scope, nursery, start, attempt, Steps, stop, step, Handled, unhandled, except, Cleaned, uncleaned, finally, Tree}
+use Rattle.job_tree.specs.Tree.{Step, sleep, checkpoint, forever, pace, find, head, longest, need, raise, cancel, scope, nursery, start, repeat, attempt, Steps, stop, step, Handled, unhandled, except, Cleaned, uncleaned, finally, Tree}
 use Rattle.job_tree.specs.Names.{names_of, names_in, handled_names, cleaned_names, GivesNamesOnce}
 use Rattle.job_tokens.specs.declared.token.Shape.{Shape}
 use Rattle.job_tokens.specs.declared.token.Token.{Token}
@@ -140,8 +140,12 @@ mutual
       let shielded = flag_pieces word.Shield s flagged in
       let passed = past_deadline d shielded ∙ past_flag word.Shield s flagged ∙ past_flag word.Fail f block in
       behind_name n (passed ∙ steps_give body rest)
-  step_gives (nursery n d s body) rest = behind_name n (steps_give body rest)
+  step_gives (nursery n d s body) rest =
+      let block = opens ∷ steps_pieces body rest in
+      let passed = past_deadline d (flag_pieces word.Shield s block) ∙ past_flag word.Shield s block in
+      behind_name n (passed ∙ steps_give body rest)
   step_gives (start n o body) rest = behind_name n (past_over o (opens ∷ steps_pieces body rest) ∙ steps_give body rest)
+  step_gives (repeat n body) rest = steps_give body rest
   step_gives (attempt body h c) rest =
       let cleaned = cleanup_pieces c rest in
       let inner = steps_give body (handler_pieces h cleaned) in

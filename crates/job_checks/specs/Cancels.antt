@@ -3,7 +3,7 @@ use Rattle.std.specs.Prelude.{ℕ, List, [], ◌∷◌, ◌++◌, Option, Some, 
 use Rattle.job_tokens.specs.declared.token.Token.{Token}
 use Rattle.job_syntax.specs.declared.role.Role.{Role}
 use Rattle.job_syntax.specs.declared.role.Role.TheVariants as role
-use Rattle.job_tree.specs.Tree.{Step, sleep, checkpoint, forever, pace, find, head, longest, need, raise, cancel, scope, nursery, start, attempt, Steps, stop, step, Handled, unhandled, except, Cleaned, uncleaned, finally}
+use Rattle.job_tree.specs.Tree.{Step, sleep, checkpoint, forever, pace, find, head, longest, need, raise, cancel, scope, nursery, start, repeat, attempt, Steps, stop, step, Handled, unhandled, except, Cleaned, uncleaned, finally}
 use Rattle.job_checks.specs.Given.{is_among}
 
 -- a `cancel`: what it names, and the names of the scopes and nurseries round it, the innermost first
@@ -31,6 +31,7 @@ abbrev mutual
   cancels_in round (scope name deadline shield fail body) = cancels_of (name ∷ round) body
   cancels_in round (nursery name deadline shield body) = cancels_of (name ∷ round) body
   cancels_in round (start name over body) = cancels_of round body
+  cancels_in round (repeat count body) = cancels_of round body
   cancels_in round (attempt body handler cleanup) =
       cancels_of round body ++ (handled_cancels round handler ++ cleaned_cancels round cleanup)
 

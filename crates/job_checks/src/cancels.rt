@@ -64,10 +64,11 @@ fn search_step<'a>(step: &Step, round: &Round, search: Search<'a>) -> Search<'a>
         Step::Scope { name, body, .. } => {
             search_steps(body.as_slice(), &Round::Inside(&*name, &*round), search)
         }
-        Step::Nursery { name, body } => {
+        Step::Nursery { name, body, .. } => {
             search_steps(body.as_slice(), &Round::Inside(&*name, &*round), search)
         }
         Step::Start { body, .. } => search_steps(body.as_slice(), round, search),
+        Step::Repeat { body, .. } => search_steps(body.as_slice(), round, search),
         Step::Try {
             body,
             handler,

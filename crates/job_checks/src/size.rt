@@ -26,6 +26,9 @@ fn size_in(step: &Step) -> u64
         Step::Scope { body, .. } => one_more(size_of(body.as_slice())),
         Step::Nursery { body, .. } => one_more(size_of(body.as_slice())),
         Step::Start { over, body, .. } => times(*over, one_more(size_of(body.as_slice()))),
+        Step::Repeat { count, body } => {
+            one_more(times(Some(*count), one_more(size_of(body.as_slice()))))
+        }
         Step::Try {
             body,
             handler,
@@ -66,7 +69,7 @@ fn one_more(size: u64) -> u64
     size.saturating_add(1)
 }
 
-// The size of all copies.
+// The size of all copies, or of all passes.
 fn times(over: Option<u64>, size: u64) -> u64
     ensures { result ≡ min (copies_of over * size) 18446744073709551615 }
 {

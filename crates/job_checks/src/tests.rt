@@ -42,6 +42,8 @@ fn nursery(alloc: Global, child: &[u8], over: Option<u64>, step: Step) -> Result
     };
     Ok(Step::Nursery {
         name: word(b"n")?,
+        deadline: Deadline::Never,
+        shield: false,
         body: block(alloc, start)?,
     })
 }

@@ -1,12 +1,15 @@
 -- What each arm of the reading answers.
-use Rattle.std.proofs.Common.{◌≡◌, ℕ, ◌<◌, ◌≤◌, List, [], length, Option, Some, None, inr, refl, sym, ap, subst, ◌∙◌, arith}
+use Rattle.std.proofs.Common.{false, ◌≡◌, ℕ, ◌<◌, ◌≤◌, List, [], length, Option, Some, None, inr, refl, sym, ap, subst, ◌∙◌, arith}
 use Rattle.std.specs.Prelude.{Result, Ok, Err, IfErr}
+use Rattle.job_tree.specs.declared.format.Format.{Format}
 use Rattle.job_tree.specs.Tree.{Tree}
+use Rattle.job_tree.specs.Modest.{most_steps}
 use Rattle.job_tokens.specs.declared.token.Token.{Token}
 use Rattle.job_tokens.specs.Shapes.{shapes_of}
 use Rattle.job_tree.specs.Names.{size_of}
 use Rattle.job_tokens.specs.Lexing.{Gives}
 use Rattle.job_syntax.specs.declared.role.Role.{Role}
+use Rattle.job_syntax.specs.Pieces.{AreSteps}
 use Rattle.job_syntax.specs.Syntax.{fault_at, roles_at, whole_job}
 use Rattle.job_syntax.specs.Ranges.{number_fault}
 use Rattle.job_syntax.specs.Depth.{depth_fault}
@@ -20,7 +23,7 @@ use Rattle.job_grammar.specs.declared.fault.JobKind.{JobKind}
 use Rattle.job_grammar.specs.declared.fault.JobKind.TheVariants as kind
 use Rattle.job_grammar.specs.declared.fault.JobFault.{JobFault}
 use Rattle.job_grammar.specs.declared.draft.Draft.{Draft}
-use Rattle.job_grammar.specs.Refusals.{most_steps, HasTokens, AreTokensOf, IsOf, IsOfSomeJob, IsReadTo, roles_of, stray_of, Passes, IsRefused, IsFair, Spells}
+use Rattle.job_grammar.specs.Refusals.{format_of, HasTokens, AreTokensOf, IsOf, IsOfSomeJob, IsReadTo, roles_of, stray_of, Passes, IsRefused, IsFair, Spells}
 use Rattle.job_grammar.specs.Drafts.{IsDraftTo, tree_of}
 use Rattle.job_grammar.proofs.Passing.{within, refused_after, passes_tokens, passes_numbers, passes_syntax, passes_depth, passes_given, passes_cancels, passes_reserved, passes_size, passes_all}
 
@@ -49,36 +52,41 @@ pub tokens_read : (text : List ℕ) (tokens : List Token) → Passes text 3 → 
 tokens_read text tokens before lexed = record { tokens_are = lexed; passes = passes_tokens text tokens before lexed }
 
 -- the first number out of its range is a refusal of a text read to the pass for tokens
-pub number_refused : (text : List ℕ) (tokens : List Token) (at : ℕ) → IsReadTo 4 text tokens → number_fault None tokens ≡ Some at →
+pub number_refused : (text : List ℕ) (tokens : List Token) (at : ℕ) → IsReadTo 4 text tokens → number_fault (format_of text) None tokens ≡ Some at →
     IsRefused text kind.Number at
 number_refused text tokens at read found = refused_after text 4 kind.Number at read.passes refl (tokens, read.tokens_are, found)
 
 -- where no number is out of its range, the text is read to the pass for numbers
-pub numbers_read : (text : List ℕ) (tokens : List Token) → IsReadTo 4 text tokens → number_fault None tokens ≡ None → IsReadTo 5 text tokens
+pub numbers_read : (text : List ℕ) (tokens : List Token) → IsReadTo 4 text tokens → number_fault (format_of text) None tokens ≡ None → IsReadTo 5 text tokens
 numbers_read text tokens read none =
     record { tokens_are = read.tokens_are; passes = passes_numbers text tokens read.passes read.tokens_are none }
 
 -- the place at which tokens leave the grammar is a refusal of a text read to the pass for numbers
 pub syntax_refused : (text : List ℕ) (tokens : List Token) (at : ℕ) → IsReadTo 5 text tokens →
-    fault_at (length text) whole_job tokens ≡ Some at → IsRefused text kind.Syntax at
+    fault_at (format_of text) (length text) whole_job tokens ≡ Some at → IsRefused text kind.Syntax at
 syntax_refused text tokens at read found =
     refused_after text 5 kind.Syntax at read.passes refl (
       tokens,
       read.tokens_are,
-      subst (λ (o : Option ℕ). IsFault (length text) whole_job tokens o) found (fault_at-means (length text) whole_job tokens),
+      subst (λ (o : Option ℕ). IsFault (format_of text) (length text) whole_job tokens o) found (fault_at-means (format_of text) (length text) whole_job tokens),
     )
 
 -- the job whose tokens leave the grammar nowhere
-some_job : (text : List ℕ) (tokens : List Token) (roles : List Role) → fault_at (length text) whole_job tokens ≡ None →
-    roles ≡ roles_at whole_job tokens → IsOfSomeJob tokens roles
+some_job : (text : List ℕ) (tokens : List Token) (roles : List Role) → fault_at (format_of text) (length text) whole_job tokens ≡ None →
+    roles ≡ roles_at (format_of text) whole_job tokens → IsOfSomeJob (format_of text) tokens roles
 some_job text tokens roles none are =
-    let job = job_of_text (shapes_of tokens) (subst (λ (o : Option ℕ). IsFault (length text) whole_job tokens o) none
-    (fault_at-means (length text) whole_job tokens)) in
-    (job.0, (job.1, job.2), are ∙ roles_of_job job.0 tokens job.1 job.2)
+    let job = job_of_text (format_of text) (shapes_of tokens) (subst (λ (o : Option ℕ). IsFault (format_of text) (length text) whole_job tokens o)
+    none (fault_at-means (format_of text) (length text) whole_job tokens)) in
+    let steps : AreSteps job.0.format false job.0.steps = subst (λ (format : Format). AreSteps format false job.0.steps) (sym job.1) job.2 in (
+      job.0,
+      (steps, job.3),
+      job.1,
+      are ∙ ap (λ (format : Format). roles_at format whole_job tokens) (sym job.1) ∙ roles_of_job job.0 tokens steps job.3,
+    )
 
--- where they leave it nowhere, the text is read to the pass for syntax, and its tokens and roles are those of some job
+-- the tokens leave the grammar nowhere
 pub course_read : (text : List ℕ) (tokens : List Token) (roles : List Role) → IsReadTo 5 text tokens →
-    fault_at (length text) whole_job tokens ≡ None → roles ≡ roles_at whole_job tokens → IsReadTo 6 text tokens × IsOfSomeJob tokens roles
+    fault_at (format_of text) (length text) whole_job tokens ≡ None → roles ≡ roles_at (format_of text) whole_job tokens → IsReadTo 6 text tokens × IsOfSomeJob (format_of text) tokens roles
 course_read text tokens roles read none are = (
   record { tokens_are = read.tokens_are; passes = passes_syntax text tokens read.passes read.tokens_are none },
   some_job text tokens roles none are,
@@ -104,22 +112,30 @@ none_is_some o job p q = cc
 
 -- the tree is read from the tokens of a job
 job_is : (text : List ℕ) (tokens : List Token) (job : Tree) → IsReadTo 7 text tokens → AreTokensOf tokens job →
-    job_at (shapes_of tokens) ≡ Some job
-job_is text tokens job read are =
-    ap job_at are.1 ∙ job_again job are.0 (within text tokens job (read.tokens_are, are) (λ at. read.passes kind.Depth at (omega arith)))
+    job.format ≡ format_of text → job_at job.format (shapes_of tokens) ≡ Some job
+job_is text tokens job read are of =
+    ap (job_at job.format) are.1
+    ∙ job_again job are.0 (within text tokens job (read.tokens_are, are, of) (λ at. read.passes kind.Depth at (omega arith)))
 
--- of tokens of some job, in a text read to the pass for depth, a job is always read
-pub job_is_there : (text : List ℕ) (tokens : List Token) (roles : List Role) → IsReadTo 7 text tokens → IsOfSomeJob tokens roles →
-    None ≡ job_at (shapes_of tokens) → ⊥
-job_is_there text tokens roles read (job, are, roles_are) none =
-    none_is_some (job_at (shapes_of tokens)) job (job_is text tokens job read are) (sym none)
+-- the same in the format of the text
+job_is_in : (text : List ℕ) (tokens : List Token) (format : Format) (job : Tree) → IsReadTo 7 text tokens → AreTokensOf tokens job →
+    job.format ≡ format → format ≡ format_of text → job_at format (shapes_of tokens) ≡ Some job
+job_is_in text tokens format job read are same of =
+    ap (λ (f : Format). job_at f (shapes_of tokens)) (sym same) ∙ job_is text tokens job read are (same ∙ of)
 
--- the job that is read of them is that of the text, and the roles are those of this job
-pub job_found : (text : List ℕ) (tokens : List Token) (roles : List Role) (job : Tree) → IsReadTo 7 text tokens → IsOfSomeJob tokens roles →
-    Some job ≡ job_at (shapes_of tokens) → IsOf text tokens job × (roles ≡ roles_of job)
-job_found text tokens roles job read (other, are, roles_are) found =
-    let same : other ≡ job = some_same other job (sym (job_is text tokens other read are) ∙ sym found) in
-    subst (λ (j : Tree). IsOf text tokens j × (roles ≡ roles_of j)) same ((read.tokens_are, are), roles_are)
+-- tokens of a job are read as a job
+pub job_is_there : (text : List ℕ) (format : Format) (tokens : List Token) (roles : List Role) → format ≡ format_of text →
+    IsReadTo 7 text tokens → IsOfSomeJob format tokens roles → None ≡ job_at format (shapes_of tokens) → ⊥
+job_is_there text format tokens roles of read (job, are, same, roles_are) none =
+    none_is_some (job_at format (shapes_of tokens)) job (job_is_in text tokens format job read are same of) (sym none)
+
+-- and as that job
+pub job_found : (text : List ℕ) (format : Format) (tokens : List Token) (roles : List Role) (job : Tree) → format ≡ format_of text →
+    IsReadTo 7 text tokens → IsOfSomeJob format tokens roles → Some job ≡ job_at format (shapes_of tokens) →
+    IsOf text tokens job × (roles ≡ roles_of job)
+job_found text format tokens roles job of read (other, are, same_format, roles_are) found =
+    let same : other ≡ job = some_same other job (sym (job_is_in text tokens format other read are same_format of) ∙ sym found) in
+    subst (λ (j : Tree). IsOf text tokens j × (roles ≡ roles_of j)) same ((read.tokens_are, are, same_format ∙ of), roles_are)
 
 gives_none : {X : Type 0} (view : X → Tree) (o : Option X) (read : Option Tree) → o ≡ None → Gives view o read → read ≡ None
 gives_none view None read e gives = gives
@@ -131,22 +147,23 @@ gives_some {X = X} view x None read e gives = absurd cc
 gives_some {X = X} view x (Some y) read e gives = subst (λ (o : Option X). Gives view o read) e gives
 
 -- what was read of the tokens that were lent
-pub never_none : {X : Type 0} (view : X → Tree) (text : List ℕ) (tokens lent : List Token) (roles : List Role) (o : Option X) →
-    IsReadTo 7 text tokens → IsOfSomeJob tokens roles → lent ≡ tokens → Gives view o (job_at (shapes_of lent)) → o ≡ None → ⊥
-never_none view text tokens lent roles o read of_some same gives e =
-    job_is_there text tokens roles read of_some (sym (ap (λ (ts : List Token). job_at (shapes_of ts)) (sym same)
-    ∙ gives_none view o (job_at (shapes_of lent)) e gives))
+pub never_none : {X : Type 0} (view : X → Tree) (text : List ℕ) (format : Format) (tokens lent : List Token) (roles : List Role)
+    (o : Option X) → format ≡ format_of text →
+    IsReadTo 7 text tokens → IsOfSomeJob format tokens roles → lent ≡ tokens → Gives view o (job_at format (shapes_of lent)) → o ≡ None → ⊥
+never_none view text format tokens lent roles o of read of_some same gives e =
+    job_is_there text format tokens roles of read of_some (sym (ap (λ (ts : List Token). job_at format (shapes_of ts)) (sym same)
+    ∙ gives_none view o (job_at format (shapes_of lent)) e gives))
 
--- what was read of the lent tokens of a text that is read to the pass for depth makes a draft of that text
+-- a draft is of what was read of them
 pub drafted : {X : Type 0} (view : X → Tree) (x : X) (text : List ℕ) (d : Draft) (lent : List Token) (o : Option X) →
-    IsReadTo 7 text d.tokens.items → IsOfSomeJob d.tokens.items d.roles.items → lent ≡ d.tokens.items →
-    Gives view o (job_at (shapes_of lent)) → o ≡ Some x
+    d.format ≡ format_of text → IsReadTo 7 text d.tokens.items → IsOfSomeJob d.format d.tokens.items d.roles.items →
+    lent ≡ d.tokens.items → Gives view o (job_at d.format (shapes_of lent)) → o ≡ Some x
     → d.text.now ≡ text → view x ≡ tree_of d → IsDraftTo 7 text d
-drafted view x text d lent o read of_some same gives e text_is is =
-    let found : Some (tree_of d) ≡ job_at (shapes_of d.tokens.items) =
-    sym (ap (λ (ts : List Token). job_at (shapes_of ts)) (sym same) ∙ gives_some view x o (job_at (shapes_of lent)) e gives
-    ∙ ap some_of is) in
-    let job = job_found text d.tokens.items d.roles.items (tree_of d) read of_some found in
+drafted view x text d lent o of read of_some same gives e text_is is =
+    let found : Some (tree_of d) ≡ job_at d.format (shapes_of d.tokens.items) =
+    sym (ap (λ (ts : List Token). job_at d.format (shapes_of ts)) (sym same)
+    ∙ gives_some view x o (job_at d.format (shapes_of lent)) e gives ∙ ap some_of is) in
+    let job = job_found text d.format d.tokens.items d.roles.items (tree_of d) of read of_some found in
     record { text_is = text_is; is_of = job.0; roles_are = job.1; passes = read.passes }
   where
     some_of : Tree → Option Tree
@@ -203,11 +220,11 @@ reserved_passed text d h e = next_draft 9 10 text d h (passes_reserved text d.to
     (by_roles d reserved_in None h.roles_are e))
 
 -- more step instances than the greatest number of them are a refusal of the text of such a draft, at place 0
-pub size_refused : (text : List ℕ) (d : Draft) → IsDraftTo 10 text d → most_steps < size_of d.steps → IsRefused text kind.TooLarge 0
+pub size_refused : (text : List ℕ) (d : Draft) → IsDraftTo 10 text d → most_steps d.format < size_of d.steps → IsRefused text kind.TooLarge 0
 size_refused text d h lt = refused_after text 10 kind.TooLarge 0 h.passes refl (d.tokens.items, tree_of d, h.is_of, lt, refl)
 
 -- where there are no more than that, the draft is one to the last pass
-pub size_passed : (text : List ℕ) (d : Draft) → IsDraftTo 10 text d → size_of d.steps ≤ most_steps → IsDraftTo 11 text d
+pub size_passed : (text : List ℕ) (d : Draft) → IsDraftTo 10 text d → size_of d.steps ≤ most_steps d.format → IsDraftTo 11 text d
 size_passed text d h le = next_draft 10 11 text d h (passes_size text d.tokens.items (tree_of d) h.passes h.is_of le)
 
 -- a job that all passes have seen is spelled

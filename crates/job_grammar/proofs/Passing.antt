@@ -1,9 +1,14 @@
 -- One pass after the other, and that each finds one place.
-use Rattle.std.proofs.Common.{◌≡◌, ℕ, ◌+◌, ◌<◌, ◌≤◌, List, [], length, take, drop, Option, Some, None, inl, inr, refl, sym, ap, subst, ◌∙◌, arith}
+use Rattle.std.proofs.Common.{Bool, true, false, ◌≡◌, ℕ, ◌+◌, ◌<◌, ◌≤◌, List, [], length, take, drop, Option, Some, None, inl, inr, refl, sym, ap, subst, ◌∙◌, arith}
 use Rattle.std.specs.Prelude.{Result, Ok, Err, MatchResult, ◌==◌, if◌then◌else◌}
 use Rattle.std.specs.List.{prefix_len}
 use Rattle.std.proofs.lemmas.Bool.{cases_lt}
+use Rattle.std.proofs.lemmas.Slice.Eq.{bytes_eq-Decides}
+use Rattle.std.specs.Str.{bytes_eq}
+use Rattle.job_tree.specs.declared.format.Format.{Format}
+use Rattle.job_tree.specs.declared.format.Format.TheVariants.{One, Two}
 use Rattle.job_tree.specs.Tree.{Tree}
+use Rattle.job_tree.specs.Modest.{most_steps}
 use Rattle.job_tokens.specs.declared.token.Token.{Token}
 use Rattle.job_tokens.specs.Shapes.{shapes_of}
 use Rattle.job_tokens.proofs.Course.{Lexes-unique}
@@ -24,7 +29,7 @@ use Rattle.job_grammar.specs.declared.fault.JobKind.{JobKind}
 use Rattle.job_grammar.specs.declared.fault.JobKind.TheVariants as kind
 use Rattle.job_grammar.specs.declared.fault.JobFault.{JobFault}
 use Rattle.job_grammar.specs.Kinds.{number_of}
-use Rattle.job_grammar.specs.Refusals.{most_bytes, most_steps, first_line, is_ascii, HasTokens, IsOf, roles_of, stray_of, Finds, Passes, IsRefused, IsFair, AnswersUnlessMemory, Spells}
+use Rattle.job_grammar.specs.Refusals.{most_bytes, first_line, format_if, format_of, IsHeadless, is_ascii, HasTokens, IsOf, roles_of, stray_of, Finds, Passes, IsRefused, IsFair, AnswersUnlessMemory, Spells}
 
 next_pass : (text : List ℕ) (n : ℕ) → Passes text n → ((k : JobKind) (at : ℕ) → number_of k ≡ n + 1 → Finds k text at → ⊥) →
     Passes text (n + 1)
@@ -50,9 +55,27 @@ here_ascii : (text : List ℕ) → length text ≤ prefix_len is_ascii text → 
 here_ascii text all kind.NotAscii at e finds = omega (arith, finds.0, finds.1)
 here_ascii text all _ at e finds = absurd (omega arith)
 
-here_version : (text : List ℕ) → take 11 text ≡ first_line → (k : JobKind) (at : ℕ) → number_of k ≡ 3 → Finds k text at → ⊥
-here_version text is kind.Version at e finds = finds.0 is
-here_version text is _ at e finds = absurd (omega arith)
+-- a text that begins with the first line of a format is of that format
+pub format_is : (text : List ℕ) (format : Format) → take 11 text ≡ first_line format → format ≡ format_of text
+format_is text One e = rw e refl
+format_is text Two e = rw e refl
+
+-- a text that begins with neither first line counts as one of format 1
+pub format_headless : (text : List ℕ) → IsHeadless text → One ≡ format_of text
+format_headless text none = by_test (bytes_eq (take 11 text) (first_line Two)) refl
+  where
+    by_test : (b : Bool) → bytes_eq (take 11 text) (first_line Two) ≡ b → One ≡ format_if b
+    by_test true e = absurd (none.1 ((bytes_eq-Decides (take 11 text) (first_line Two)).0 e))
+    by_test false e = refl
+
+not_headless : (text : List ℕ) (format : Format) → take 11 text ≡ first_line format → IsHeadless text → ⊥
+not_headless text One is none = none.0 is
+not_headless text Two is none = none.1 is
+
+here_version : (text : List ℕ) (format : Format) → take 11 text ≡ first_line format → (k : JobKind) (at : ℕ) → number_of k ≡ 3 →
+    Finds k text at → ⊥
+here_version text format is kind.Version at e finds = not_headless text format is finds.0
+here_version text format is _ at e finds = absurd (omega arith)
 
 -- a text of at most the greatest number of bytes passes the first pass
 pub passes_one : (text : List ℕ) → length text ≤ most_bytes → Passes text 1
@@ -63,8 +86,8 @@ pub passes_two : (text : List ℕ) → Passes text 1 → length text ≤ prefix_
 passes_two text before all = next_pass text 1 before (here_ascii text all)
 
 -- a text that passed these and begins with the first line passes the third
-pub passes_three : (text : List ℕ) → Passes text 2 → take 11 text ≡ first_line → Passes text 3
-passes_three text before is = next_pass text 2 before (here_version text is)
+pub passes_three : (text : List ℕ) (format : Format) → Passes text 2 → take 11 text ≡ first_line format → Passes text 3
+passes_three text format before is = next_pass text 2 before (here_version text format is)
 
 -- ---- the tokens
 
@@ -88,18 +111,18 @@ here_token : (text : List ℕ) (tokens : List Token) → HasTokens text tokens N
 here_token text tokens lexed kind.Token at e finds = none_is_some None at refl (same_end text tokens finds.0 None (Some at) lexed finds.1)
 here_token text tokens lexed _ at e finds = absurd (omega arith)
 
-here_number : (text : List ℕ) (tokens : List Token) → HasTokens text tokens None → number_fault None tokens ≡ None →
+here_number : (text : List ℕ) (tokens : List Token) → HasTokens text tokens None → number_fault (format_of text) None tokens ≡ None →
     (k : JobKind) (at : ℕ) → number_of k ≡ 5 → Finds k text at → ⊥
 here_number text tokens lexed none kind.Number at e finds =
-    none_is_some (number_fault None finds.0) at (subst (λ (ts : List Token). number_fault None ts ≡ None)
+    none_is_some (number_fault (format_of text) None finds.0) at (subst (λ (ts : List Token). number_fault (format_of text) None ts ≡ None)
     (same_tokens text tokens finds.0 None None lexed finds.1) none) finds.2
 here_number text tokens lexed none _ at e finds = absurd (omega arith)
 
-here_syntax : (text : List ℕ) (tokens : List Token) → HasTokens text tokens None → fault_at (length text) whole_job tokens ≡ None →
+here_syntax : (text : List ℕ) (tokens : List Token) → HasTokens text tokens None → fault_at (format_of text) (length text) whole_job tokens ≡ None →
     (k : JobKind) (at : ℕ) → number_of k ≡ 6 → Finds k text at → ⊥
 here_syntax text tokens lexed none kind.Syntax at e finds =
-    none_is_some (fault_at (length text) whole_job finds.0) at (subst (λ (ts : List Token). fault_at (length text) whole_job ts ≡ None)
-    (same_tokens text tokens finds.0 None None lexed finds.1) none) (fault_at-leaves (length text) whole_job finds.0 at finds.2)
+    none_is_some (fault_at (format_of text) (length text) whole_job finds.0) at (subst (λ (ts : List Token). fault_at (format_of text) (length text) whole_job ts ≡ None)
+    (same_tokens text tokens finds.0 None None lexed finds.1) none) (fault_at-leaves (format_of text) (length text) whole_job finds.0 at finds.2)
 here_syntax text tokens lexed none _ at e finds = absurd (omega arith)
 
 -- ---- the job
@@ -110,16 +133,17 @@ none_of None never = refl
 none_of (Some x) never = absurd (never x refl)
 
 -- a number that is not above the greatest number of step instances is at most it
-pub small_enough : (n : ℕ) → (most_steps < n → ⊥) → n ≤ most_steps
-small_enough n never = elim (cases_lt most_steps n) [ inl lt ↦ absurd (never lt) | inr le ↦ le ]
+pub small_enough : (most n : ℕ) → (most < n → ⊥) → n ≤ most
+small_enough most n never = elim (cases_lt most n) [ inl lt ↦ absurd (never lt) | inr le ↦ le ]
 
 some_tree : (a b : Tree) → Some a ≡ Some b → a ≡ b
 some_tree a b e = cc
 
 -- what tokens are for, whatever job they are of
 same_roles : (text : List ℕ) (ts us : List Token) (a b : Tree) → IsOf text ts a → IsOf text us b → roles_of a ≡ roles_of b
-same_roles text ts us a b (p, (are_a, same_a)) (q, (are_b, same_b)) =
-    sym (roles_of_job a ts are_a same_a) ∙ ap (roles_at whole_job) (same_tokens text ts us None None p q) ∙ roles_of_job b us are_b same_b
+same_roles text ts us a b (p, (are_a, same_a), of_a) (q, (are_b, same_b), of_b) =
+    sym (roles_of_job a ts are_a same_a) ∙ ap (roles_at a.format whole_job) (same_tokens text ts us None None p q)
+    ∙ ap (λ (format : Format). roles_at format whole_job us) (of_a ∙ sym of_b) ∙ roles_of_job b us are_b same_b
 
 -- what a pass along tokens and what they are for finds
 same_found : (text : List ℕ) (ts us : List Token) (a b : Tree) (pass : List Token → List Role → Option ℕ) → IsOf text ts a →
@@ -133,14 +157,17 @@ IsShallow text = (at : ℕ) → Finds kind.Depth text at → ⊥
 
 -- of a text that is not too deep, at most 31 blocks stand in one another inside the job's own
 pub within : (text : List ℕ) (ts : List Token) (job : Tree) → IsOf text ts job → IsShallow text → AreWithin 31 job.steps
-within text ts job (lexed, (are, same)) never = within_depth job ts same (none_of (depth_fault 0 ts) (λ at e. never at (ts, lexed, e)))
+within text ts job (lexed, (are, same), of) never = within_depth job ts same (none_of (depth_fault 0 ts) (λ at e. never at (ts, lexed, e)))
 
 -- a text that is not too deep is that of one job only
 pub same_job : (text : List ℕ) (ts us : List Token) (a b : Tree) → IsOf text ts a → IsOf text us b → IsShallow text → a ≡ b
 same_job text ts us a b p q never =
     let shapes : shapes_in (job_pieces a) ≡ shapes_in (job_pieces b) =
     sym p.1.1 ∙ ap shapes_of (same_tokens text ts us None None p.0 q.0) ∙ q.1.1 in
-    some_tree a b (sym (job_again a p.1.0 (within text ts a p never)) ∙ ap job_at shapes ∙ job_again b q.1.0 (within text us b q never))
+    some_tree a b
+    (sym (job_again a p.1.0 (within text ts a p never)) ∙ ap (job_at a.format) shapes
+    ∙ ap (λ (format : Format). job_at format (shapes_in (job_pieces b))) (p.2 ∙ sym q.2)
+    ∙ job_again b q.1.0 (within text us b q never))
 
 same_stray : (text : List ℕ) (ts us : List Token) (a b : Tree) → IsOf text ts a → IsOf text us b → IsShallow text →
     stray_of a ts (roles_of a) ≡ stray_of b us (roles_of b)
@@ -174,13 +201,15 @@ here_reserved text tokens job is_of none kind.Reserved at e finds =
     ∙ finds.3)
 here_reserved text tokens job is_of none _ at e finds = absurd (omega arith)
 
-here_large : (text : List ℕ) (tokens : List Token) (job : Tree) → IsOf text tokens job → IsShallow text → size_of job.steps ≤ most_steps →
-    (k : JobKind) (at : ℕ) → number_of k ≡ 11 → Finds k text at → ⊥
+here_large : (text : List ℕ) (tokens : List Token) (job : Tree) → IsOf text tokens job → IsShallow text →
+    size_of job.steps ≤ most_steps job.format → (k : JobKind) (at : ℕ) → number_of k ≡ 11 → Finds k text at → ⊥
 here_large text tokens job is_of never small kind.TooLarge at e finds =
     let same : size_of job.steps ≡ size_of finds.1.steps =
     ap (λ (j : Tree). size_of j.steps) (same_job text tokens finds.0 job finds.1 is_of finds.2 never) in
-    let large : most_steps < size_of finds.1.steps = finds.3 in
-    omega (arith, same, large, small)
+    let most : most_steps job.format ≡ most_steps finds.1.format =
+    ap (λ (j : Tree). most_steps j.format) (same_job text tokens finds.0 job finds.1 is_of finds.2 never) in
+    let large : most_steps finds.1.format < size_of finds.1.steps = finds.3 in
+    omega (arith, same, most, large, small)
 here_large text tokens job is_of never small _ at e finds = absurd (omega arith)
 
 -- a text that passed three passes, and of which all tokens can be read, passes the pass for tokens too
@@ -188,13 +217,13 @@ pub passes_tokens : (text : List ℕ) (tokens : List Token) → Passes text 3 �
 passes_tokens text tokens before lexed = next_pass text 3 before (here_token text tokens lexed)
 
 -- one that passed so far, with no number out of its range, passes the pass for numbers too
-pub passes_numbers : (text : List ℕ) (tokens : List Token) → Passes text 4 → HasTokens text tokens None → number_fault None tokens ≡ None →
+pub passes_numbers : (text : List ℕ) (tokens : List Token) → Passes text 4 → HasTokens text tokens None → number_fault (format_of text) None tokens ≡ None →
     Passes text 5
 passes_numbers text tokens before lexed none = next_pass text 4 before (here_number text tokens lexed none)
 
 -- one that passed so far, with tokens that leave the grammar nowhere, passes the pass for syntax too
 pub passes_syntax : (text : List ℕ) (tokens : List Token) → Passes text 5 → HasTokens text tokens None →
-    fault_at (length text) whole_job tokens ≡ None → Passes text 6
+    fault_at (format_of text) (length text) whole_job tokens ≡ None → Passes text 6
 passes_syntax text tokens before lexed none = next_pass text 5 before (here_syntax text tokens lexed none)
 
 -- one that passed so far, with no block too deep, passes the pass for depth too
@@ -220,7 +249,7 @@ passes_reserved text tokens job before is_of none = next_pass text 9 before (her
 
 -- one that passed so far, of a job with at most the greatest number of step instances, passes the last pass too
 pub passes_size : (text : List ℕ) (tokens : List Token) (job : Tree) → Passes text 10 → IsOf text tokens job →
-    size_of job.steps ≤ most_steps → Passes text 11
+    size_of job.steps ≤ most_steps job.format → Passes text 11
 passes_size text tokens job before is_of small =
     next_pass text 10 before (here_large text tokens job is_of (λ at. before kind.Depth at (omega arith)) small)
 
@@ -242,12 +271,12 @@ one_place text kind.NotAscii a b below p q = sym p.0 ∙ q.0
 one_place text kind.Version a b below p q = p.1 ∙ sym q.1
 one_place text kind.Token a b below (ts, p) (us, q) = some_same a b (same_end text ts us (Some a) (Some b) p q)
 one_place text kind.Number a b below (ts, p, at_a) (us, q, at_b) =
-    some_is (number_fault None us) a b (subst (λ (xs : List Token). number_fault None xs ≡ Some a) (same_tokens text ts us None None p q)
+    some_is (number_fault (format_of text) None us) a b (subst (λ (xs : List Token). number_fault (format_of text) None xs ≡ Some a) (same_tokens text ts us None None p q)
     at_a) at_b
 one_place text kind.Syntax a b below (ts, p, at_a) (us, q, at_b) =
-    some_is (fault_at (length text) whole_job us) a b (subst (λ (xs : List Token). fault_at (length text) whole_job xs ≡ Some a)
-    (same_tokens text ts us None None p q) (fault_at-leaves (length text) whole_job ts a at_a))
-    (fault_at-leaves (length text) whole_job us b at_b)
+    some_is (fault_at (format_of text) (length text) whole_job us) a b (subst (λ (xs : List Token). fault_at (format_of text) (length text) whole_job xs ≡ Some a)
+    (same_tokens text ts us None None p q) (fault_at-leaves (format_of text) (length text) whole_job ts a at_a))
+    (fault_at-leaves (format_of text) (length text) whole_job us b at_b)
 one_place text kind.Depth a b below (ts, p, at_a) (us, q, at_b) =
     some_is (depth_fault 0 us) a b (subst (λ (xs : List Token). depth_fault 0 xs ≡ Some a) (same_tokens text ts us None None p q) at_a) at_b
 one_place text kind.Twice a b below (ts, j, p, at_a) (us, k, q, at_b) =

@@ -1,9 +1,10 @@
 -- What is known of a job that a text spells.
-use Rattle.std.proofs.Common.{ℕ, List, [], false, None, refl}
+use Rattle.std.proofs.Common.{◌≡◌, ℕ, List, [], false, None, refl, ap, sym, ◌∙◌}
+use Rattle.job_tree.specs.declared.format.Format.{Format}
 use Rattle.job_tree.specs.Tree.{Tree}
 use Rattle.job_tree.specs.Names.{GivesNamesOnce, size_of}
 use Rattle.job_tree.specs.Starting.{StartsInNurseries}
-use Rattle.job_tree.specs.Modest.{IsModest}
+use Rattle.job_tree.specs.Modest.{IsModest, most_steps}
 use Rattle.job_syntax.specs.Ranges.{number_fault}
 use Rattle.job_syntax.proofs.Modest.{modest_numbers}
 use Rattle.job_syntax.proofs.Starting.{starts_in}
@@ -20,11 +21,12 @@ gives_names_once text job (ts, is_of, none) =
 
 -- each start stands directly in a nursery
 pub starts_in_nurseries : (text : List ℕ) (job : Tree) → Spells text job → StartsInNurseries job
-starts_in_nurseries text job (ts, is_of, none) = starts_in false job.steps is_of.1.0
+starts_in_nurseries text job (ts, is_of, none) = starts_in job.format false job.steps is_of.1.0
 
 -- its numbers are in their ranges, and it has not too many steps
 pub is_modest : (text : List ℕ) (job : Tree) → Spells text job → IsModest job
 is_modest text job (ts, is_of, none) = record {
-  numbers = modest_numbers job ts is_of.1.0 is_of.1.1 (none_of (number_fault None ts) (λ at e. none kind.Number at (ts, is_of.0, e)));
-  size = small_enough (size_of job.steps) (λ lt. none kind.TooLarge 0 (ts, job, is_of, lt, refl));
+  numbers = modest_numbers job ts is_of.1.0 is_of.1.1 (none_of (number_fault job.format None ts)
+      (λ at e. none kind.Number at (ts, is_of.0, ap (λ (format : Format). number_fault format None ts) (sym is_of.2) ∙ e)));
+  size = small_enough (most_steps job.format) (size_of job.steps) (λ lt. none kind.TooLarge 0 (ts, job, is_of, lt, refl));
 }

@@ -7,4 +7,4 @@ use Rattle.job_grammar.specs.Refusals.{first_line}
 
 -- the first line, and then the tokens as short as can be
 abbrev pub canon : Tree → List ℕ
-canon job = first_line ++ canon_of (shapes_in (job_pieces job))
+canon job = first_line job.format ++ canon_of (shapes_in (job_pieces job))

@@ -6,7 +6,7 @@ use Rattle.job_grammar.specs.Refusals.{IsOf, roles_of, Passes}
 
 -- the job of a draft
 abbrev pub tree_of : Draft → Tree
-tree_of d = record { name = d.name; steps = d.steps }
+tree_of d = record { format = d.format; name = d.name; steps = d.steps }
 
 -- a draft is of this text, its tokens are those of the job, and the first so many passes find nothing
 pub record IsDraftTo (n : ℕ) (text : List ℕ) (d : Draft) : Type 0 where

@@ -1,8 +1,12 @@
 -- What a job text spells, and why one is refused.
-use Rattle.std.specs.Prelude.{◌≡◌, ◌≢◌, ◌⊎◌, ℕ, ◌<◌, ◌≤◌, Bool, false, nat_lt, List, [], length, take, drop, Option, Some, None, Result, Err, codes}
+use Rattle.std.specs.Prelude.{◌≡◌, ◌≢◌, ◌⊎◌, ℕ, ◌<◌, ◌≤◌, Bool, true, false, nat_lt, List, [], length, take, drop, Option, Some, None, Result, Err, codes}
 use Rattle.std.specs.List.{prefix_len}
+use Rattle.std.specs.Str.{bytes_eq}
+use Rattle.job_tree.specs.declared.format.Format.{Format}
+use Rattle.job_tree.specs.declared.format.Format.TheVariants.{One, Two}
 use Rattle.job_tree.specs.Tree.{Tree}
 use Rattle.job_tree.specs.Names.{size_of}
+use Rattle.job_tree.specs.Modest.{most_steps}
 use Rattle.job_tokens.specs.declared.token.Token.{Token}
 use Rattle.job_tokens.specs.Shapes.{shapes_of}
 use Rattle.job_tokens.specs.Lexing.{Lexes}
@@ -23,13 +27,18 @@ use Rattle.job_grammar.specs.Kinds.{number_of, no_memory}
 abbrev pub most_bytes : ℕ
 most_bytes = 65536
 
--- the greatest number of step instances of a job
-abbrev pub most_steps : ℕ
-most_steps = 100000
+-- the line with which a text of a format begins
+abbrev pub first_line : Format → List ℕ
+first_line One = codes "trio-job 1\n"
+first_line Two = codes "trio-job 2\n"
 
--- `trio-job 1` and a newline
-abbrev pub first_line : List ℕ
-first_line = codes "trio-job 1\n"
+abbrev pub format_if : Bool → Format
+format_if true = Two
+format_if false = One
+
+-- the format whose first line a text begins with, and format 1 where it begins with neither
+abbrev pub format_of : List ℕ → Format
+format_of text = format_if (bytes_eq (take 11 text) (first_line Two))
 
 abbrev pub is_ascii : ℕ → Bool
 is_ascii b = nat_lt b 128
@@ -40,11 +49,11 @@ HasTokens text tokens fault = Lexes (length text) (drop 11 text) tokens fault
 
 -- these are the tokens of this job
 abbrev pub AreTokensOf : List Token → Tree → Type 0
-AreTokensOf tokens job = AreSteps false job.steps × (shapes_of tokens ≡ shapes_in (job_pieces job))
+AreTokensOf tokens job = AreSteps job.format false job.steps × (shapes_of tokens ≡ shapes_in (job_pieces job))
 
--- the text is of the grammar: it has these tokens, and they are those of this job
+-- the text is of the grammar of its format: it has these tokens, and they are those of this job
 abbrev pub IsOf : List ℕ → List Token → Tree → Type 0
-IsOf text tokens job = HasTokens text tokens None × AreTokensOf tokens job
+IsOf text tokens job = HasTokens text tokens None × AreTokensOf tokens job × (job.format ≡ format_of text)
 
 -- what each token of a job is for
 abbrev pub roles_of : Tree → List Role
@@ -54,20 +63,24 @@ roles_of job = roles_in (job_pieces job)
 abbrev pub stray_of : Tree → List Token → List Role → Option ℕ
 stray_of job tokens roles = stray_in (cancels_of [] job.steps) (targets_in tokens roles)
 
+-- the text begins with no format's first line
+abbrev pub IsHeadless : List ℕ → Type 0
+IsHeadless text = (take 11 text ≢ first_line One) × (take 11 text ≢ first_line Two)
+
 -- what the pass for a kind finds, and where
 abbrev pub Finds : JobKind → List ℕ → ℕ → Type 0
 Finds kind.TooLong text at = (most_bytes < length text) × (at ≡ most_bytes)
 Finds kind.NotAscii text at = (prefix_len is_ascii text ≡ at) × (at < length text)
-Finds kind.Version text at = (take 11 text ≢ first_line) × (at ≡ 0)
+Finds kind.Version text at = IsHeadless text × (at ≡ 0)
 Finds kind.Token text at = (tokens : List Token) × HasTokens text tokens (Some at)
-Finds kind.Number text at = (tokens : List Token) × HasTokens text tokens None × (number_fault None tokens ≡ Some at)
-Finds kind.Syntax text at = (tokens : List Token) × HasTokens text tokens None × LeavesAt (length text) whole_job tokens at
+Finds kind.Number text at = (tokens : List Token) × HasTokens text tokens None × (number_fault (format_of text) None tokens ≡ Some at)
+Finds kind.Syntax text at = (tokens : List Token) × HasTokens text tokens None × LeavesAt (format_of text) (length text) whole_job tokens at
 Finds kind.Depth text at = (tokens : List Token) × HasTokens text tokens None × (depth_fault 0 tokens ≡ Some at)
 Finds kind.Twice text at = (tokens : List Token) × (job : Tree) × IsOf text tokens job × (twice_in [] tokens (roles_of job) ≡ Some at)
 Finds kind.NotEnclosing text at = (tokens : List Token) × (job : Tree) × IsOf text tokens job
     × (stray_of job tokens (roles_of job) ≡ Some at)
 Finds kind.Reserved text at = (tokens : List Token) × (job : Tree) × IsOf text tokens job × (reserved_in tokens (roles_of job) ≡ Some at)
-Finds kind.TooLarge text at = (tokens : List Token) × (job : Tree) × IsOf text tokens job × (most_steps < size_of job.steps) × (at ≡ 0)
+Finds kind.TooLarge text at = (tokens : List Token) × (job : Tree) × IsOf text tokens job × (most_steps job.format < size_of job.steps) × (at ≡ 0)
 Finds kind.NoMemory text at = ⊥
 
 -- the first so many passes find nothing
@@ -97,6 +110,6 @@ pub record IsReadTo (n : ℕ) (text : List ℕ) (tokens : List Token) : Type 0 w
   pub tokens_are : HasTokens text tokens None
   pub passes : Passes text n
 
--- these are the tokens of some job, and this is what each is for
-abbrev pub IsOfSomeJob : List Token → List Role → Type 0
-IsOfSomeJob tokens roles = (job : Tree) × AreTokensOf tokens job × (roles ≡ roles_of job)
+-- these are the tokens of some job of a format, and this is what each is for
+abbrev pub IsOfSomeJob : Format → List Token → List Role → Type 0
+IsOfSomeJob format tokens roles = (job : Tree) × AreTokensOf tokens job × (job.format ≡ format) × (roles ≡ roles_of job)

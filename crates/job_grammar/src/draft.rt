@@ -1,5 +1,5 @@
 ghost use Rattle.std.specs.Prelude.{◌≡◌, IfOk, IfErr, OnOk};
-ghost use Rattle.job_grammar.specs.Refusals.{IsReadTo, IsOfSomeJob, IsFair, Spells};
+ghost use Rattle.job_grammar.specs.Refusals.{format_of, IsReadTo, IsOfSomeJob, IsFair, Spells};
 ghost use Rattle.job_grammar.specs.Drafts.{IsDraftTo};
 
 use crate::fault::{JobFault, JobKind, refuse_at};
@@ -7,16 +7,14 @@ use crate::job::Job;
 use job_checks::{given_twice, reserved_name, size_of, stray_cancel};
 use job_syntax::{Role, job_at};
 use job_tokens::Token;
-use job_tree::{Body, Name};
+use job_tree::{Body, Format, Name};
 use std::alloc::{AllocError, Global};
-
-/// The most step instances of a job.
-pub const MOST_STEPS: u64 = 100_000;
 
 /// A job that the last passes have not seen yet, with its text, its tokens and what each is for.
 #[derive(Drop)]
 pub struct Draft<'t> {
     text: &'t [u8],
+    format: Format,
     tokens: Vec<Token>,
     roles: Vec<Role>,
     name: Name,
@@ -28,11 +26,13 @@ impl<'t> Draft<'t> {
     pub fn new(
         alloc: Global,
         text: &'t [u8],
+        format: Format,
         tokens: Vec<Token>,
         roles: Vec<Role>,
     ) -> Result<Draft<'t>, AllocError>
+        requires format { format ≡ format_of text.now }
         requires read { IsReadTo 7 text.now tokens.items }
-        requires of_some_job { IsOfSomeJob tokens.items roles.items }
+        requires of_some_job { IsOfSomeJob format tokens.items roles.items }
         ensures draft { IfOk result (λ draft. IsDraftTo 7 text.now draft) }
     {
         let Some(job) = job_at(alloc, &tokens)? else {
@@ -41,6 +41,7 @@ impl<'t> Draft<'t> {
         let (name, steps) = job;
         Ok(Draft {
             text,
+            format,
             tokens,
             roles,
             name,
@@ -84,7 +85,7 @@ impl<'t> Draft<'t> {
         ensures ok { OnOk result (IsDraftTo 11 self.now.text.now self.now) }
         ensures err { IfErr result (IsFair self.now.text.now) }
     {
-        if size_of(self.steps.as_slice()) > MOST_STEPS {
+        if size_of(self.steps.as_slice()) > self.format.most_steps() {
             return Err(JobFault {
                 at: 0,
                 kind: JobKind::TooLarge,
@@ -98,6 +99,6 @@ impl<'t> Draft<'t> {
         requires { IsDraftTo 11 self.text.now self }
         ensures { Spells self.entry.text.now result }
     {
-        Job::new(self.name, self.steps)
+        Job::new(self.format, self.name, self.steps)
     }
 }

@@ -11,15 +11,15 @@ pub enum JobKind {
     TooLong,
     /// A byte is above 127. The place is that byte.
     NotAscii,
-    /// The text does not begin with the line `trio-job 1`. The place is 0.
+    /// The text begins neither with the line `trio-job 1` nor with `trio-job 2`. The place is 0.
     Version,
     /// A byte begins no token, a word has more than 32 bytes, a letter or `_` stands directly behind digits, or a string has
     /// no or too many units, a wrong unit or no end. The place is the first byte of what is no token.
     Token,
-    /// A number has a leading zero or is out of its range: 1 to 64 behind `over`, 1 to 1,000,000 behind `pace`, and else 0 to
-    /// 1,000,000,000. The place is its first digit.
+    /// A number has a leading zero or is out of its range: 1 to 64 behind `over`, 1 to 1,000,000 behind `pace`, in
+    /// format 2 0 to 1,000 behind `repeat`, and else 0 to 1,000,000,000. The place is its first digit.
     Number,
-    /// The tokens are no text of the grammar. The place is the first token that no text of the grammar continues with, or
+    /// The tokens are no text of the format's grammar. The place is the first token that no text of it continues with, or
     /// the text's length where the tokens end too early.
     Syntax,
     /// A block stands at depth 33, the job's own block being depth 1. The place is its `{`.
@@ -30,7 +30,8 @@ pub enum JobKind {
     NotEnclosing,
     /// A name is a keyword or `Cancelled`, or `TooSlow` anywhere but behind `except`. The place is that name.
     Reserved,
-    /// The job has more than 100,000 step instances, the copies that `over` makes counted. The place is 0.
+    /// The job has more than 100,000 step instances, in format 2 more than 1,000,000, the copies that `over` makes and the
+    /// passes of a `repeat` counted. The place is 0.
     TooLarge,
     /// A growth was refused. The place is 0.
     NoMemory,

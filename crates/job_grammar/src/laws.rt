@@ -19,7 +19,7 @@ pub fn canonical_text_spells()
 {}
 
 /// What is known of each job that a text spells: it gives each of its names once, its own included; each `start` stands
-/// directly in a nursery's body; its numbers are in their ranges, and it has at most 100,000 step instances.
+/// directly in a nursery's body; its numbers are in their ranges, and it has no more step instances than its format allows.
 pub fn spelled_jobs_are_sound()
     ensures names { (text : List ℕ) (job : Tree) → Spells text job → GivesNamesOnce job }
     ensures starts { (text : List ℕ) (job : Tree) → Spells text job → StartsInNurseries job }

@@ -1,21 +1,32 @@
-ghost use Rattle.std.specs.Prelude.{◌≡◌, ℕ, drop, Ok, Err, IfOk, IfErr, OnOk, MatchResult};
+ghost use Rattle.std.specs.Prelude.{◌≡◌, ℕ, drop, Ok, Err, IfOk, IfErr, OnOk, MatchResult, MatchOption, take};
 ghost use Rattle.std.specs.List.{prefix_len};
 ghost use Rattle.job_tree.specs.Tree.{Tree};
 ghost use Rattle.job_grammar.specs.declared.fault.JobKind.{JobKind};
-ghost use Rattle.job_grammar.specs.Refusals.{is_ascii, IsReadTo, Passes, IsRefused, IsFair, IsOfSomeJob, Spells, AnswersUnlessMemory};
+ghost use Rattle.job_grammar.specs.Refusals.{first_line, format_of, IsHeadless, is_ascii, IsReadTo, Passes, IsRefused, IsFair, IsOfSomeJob, Spells, AnswersUnlessMemory};
 
 use crate::draft::Draft;
 use crate::fault::{JobFault, JobKind, refuse_at};
 use crate::job::Job;
 use job_syntax::{Course, Role, depth_fault, follow, number_fault};
 use job_tokens::{Lexed, Token, lex};
+use job_tree::Format;
 use std::alloc::Global;
 
 /// The most bytes of a job text.
 pub const MOST_BYTES: usize = 65_536;
 
-/// The line with which each job text begins.
-pub const FIRST_LINE: [u8; 11] = *b"trio-job 1\n";
+/// How many bytes the line has with which a job text begins.
+pub const FIRST_LINE_LENGTH: usize = 11;
+
+/// The line with which each job text of a format begins.
+pub fn first_line(format: Format) -> &'static [u8]
+    ensures { result.now ≡ first_line format }
+{
+    match format {
+        Format::One => b"trio-job 1\n",
+        Format::Two => b"trio-job 2\n",
+    }
+}
 
 /// The job that a text spells, or why the text is refused.
 pub fn read_job(alloc: Global, text: &[u8]) -> Result<Job, JobFault>
@@ -36,12 +47,12 @@ pub fn read_job(alloc: Global, text: &[u8]) -> Result<Job, JobFault>
 fn read(alloc: Global, text: &[u8]) -> Result<Job, JobFault>
     ensures { MatchResult result (Spells text.now) (IsFair text.now) }
 {
-    let body = check_bytes(text)?;
+    let (format, body) = check_bytes(text)?;
     let tokens = tokens_of(alloc, text, body)?;
-    check_numbers(text, &tokens)?;
-    let roles = roles_of(alloc, text, &tokens)?;
+    check_numbers(text, format, &tokens)?;
+    let roles = roles_of(alloc, text, format, &tokens)?;
     check_depth(text, &tokens)?;
-    let draft = Draft::new(alloc, text, tokens, roles)?;
+    let draft = Draft::new(alloc, text, format, tokens, roles)?;
     draft.check_given(alloc)?;
     draft.check_cancels()?;
     draft.check_reserved()?;
@@ -49,9 +60,9 @@ fn read(alloc: Global, text: &[u8]) -> Result<Job, JobFault>
     Ok(draft.into_job())
 }
 
-// The bytes behind the first line.
-fn check_bytes(text: &[u8]) -> Result<&[u8], JobFault>
-    ensures ok { IfOk result (λ body. (body.now ≡ drop 11 text.now) × Passes text.now 3) }
+// The text's format, and the bytes behind its first line.
+fn check_bytes(text: &[u8]) -> Result<(Format, &[u8]), JobFault>
+    ensures ok { IfOk result (λ found. (found.0 ≡ format_of text.now) × (found.1.now ≡ drop 11 text.now) × Passes text.now 3) }
     ensures err { IfErr result (IsFair text.now) }
 {
     if text.len() > MOST_BYTES {
@@ -67,13 +78,36 @@ fn check_bytes(text: &[u8]) -> Result<&[u8], JobFault>
             kind: JobKind::NotAscii,
         });
     }
-    let Some(body) = text.strip_prefix(&FIRST_LINE) else {
+    let Some(found) = behind_first_line(text) else {
         return Err(JobFault {
             at: 0,
             kind: JobKind::Version,
         });
     };
-    Ok(body)
+    Ok(found)
+}
+
+/// The format whose first line a text begins with, and format 1 where it begins with neither.
+pub fn format_of(text: &[u8]) -> Format
+    ensures { result ≡ format_of text.now }
+{
+    match behind_first_line(text) {
+        Some((format, _)) => format,
+        None => Format::One,
+    }
+}
+
+// The format whose first line the text begins with, and the bytes behind it.
+fn behind_first_line(text: &[u8]) -> Option<(Format, &[u8])>
+    ensures { MatchOption result (IsHeadless text.now) (λ found. (take 11 text.now ≡ first_line found.0) × (found.1.now ≡ drop 11 text.now)) }
+{
+    if let Some(body) = text.strip_prefix(first_line(Format::One)) {
+        return Some((Format::One, body));
+    }
+    if let Some(body) = text.strip_prefix(first_line(Format::Two)) {
+        return Some((Format::Two, body));
+    }
+    None
 }
 
 // How many bytes stand before the first that is above 127.
@@ -100,21 +134,28 @@ fn tokens_of(alloc: Global, text: &[u8], body: &[u8]) -> Result<Vec<Token>, JobF
     Ok(tokens)
 }
 
-fn check_numbers(text: &[u8], tokens: &[Token]) -> Result<(), JobFault>
-    requires { IsReadTo 4 text.now tokens.now }
+fn check_numbers(text: &[u8], format: Format, tokens: &[Token]) -> Result<(), JobFault>
+    requires format { format ≡ format_of text.now }
+    requires read { IsReadTo 4 text.now tokens.now }
     ensures ok { OnOk result (IsReadTo 5 text.now tokens.now) }
     ensures err { IfErr result (IsFair text.now) }
 {
-    refuse_at(number_fault(tokens), JobKind::Number)
+    refuse_at(number_fault(format, tokens), JobKind::Number)
 }
 
 // What each token is for, where the tokens are those of a job.
-fn roles_of(alloc: Global, text: &[u8], tokens: &[Token]) -> Result<Vec<Role>, JobFault>
-    requires { IsReadTo 5 text.now tokens.now }
-    ensures ok { IfOk result (λ roles. IsReadTo 6 text.now tokens.now × IsOfSomeJob tokens.now roles.items) }
+fn roles_of(
+    alloc: Global,
+    text: &[u8],
+    format: Format,
+    tokens: &[Token],
+) -> Result<Vec<Role>, JobFault>
+    requires format { format ≡ format_of text.now }
+    requires read { IsReadTo 5 text.now tokens.now }
+    ensures ok { IfOk result (λ roles. IsReadTo 6 text.now tokens.now × IsOfSomeJob (format_of text.now) tokens.now roles.items) }
     ensures err { IfErr result (IsFair text.now) }
 {
-    let Course { fault, roles } = follow(alloc, tokens, text.len())?;
+    let Course { fault, roles } = follow(alloc, format, tokens, text.len())?;
     refuse_at(fault, JobKind::Syntax)?;
     Ok(roles)
 }

@@ -238,3 +238,81 @@ fn line_of_a_refusal(rt: HostRuntime) -> Result<(), Fail> {
     assert_eq!(rt; line.as_str(), "refused J6 Syntax at 27");
     Ok(())
 }
+
+#[test]
+fn two_formats(rt: HostRuntime) -> Result<(), Fail> {
+    let rows = [
+        (
+            b"trio-job 1\njob main { repeat 1001 { } }".as_slice(),
+            6,
+            22,
+        ),
+        (
+            b"trio-job 2\njob main { repeat 1001 { } }".as_slice(),
+            5,
+            29,
+        ),
+        (b"trio-job 2\njob main { repeat 1000 { } }".as_slice(), 0, 0),
+        (
+            b"trio-job 1\njob main { nursery n after 3 { } }".as_slice(),
+            6,
+            32,
+        ),
+        (
+            b"trio-job 2\njob main { nursery n after 3 { } }".as_slice(),
+            0,
+            0,
+        ),
+        (
+            b"trio-job 2\njob main { nursery n after 3 shield { } }".as_slice(),
+            0,
+            0,
+        ),
+        (
+            b"trio-job 2\njob main { nursery n at 3 { } }".as_slice(),
+            6,
+            32,
+        ),
+        (
+            b"trio-job 2\njob main { repeat 2 { start a { } } }".as_slice(),
+            6,
+            33,
+        ),
+        (
+            b"trio-job 2\njob main { repeat 1000 { repeat 1000 { } } }".as_slice(),
+            11,
+            0,
+        ),
+        (b"trio-job 2".as_slice(), 3, 0),
+    ];
+    for (text, number, at) in rows {
+        assert_eq!(rt; answer(rt.alloc(), text)?, (number, at), "of {text:?}");
+    }
+    Ok(())
+}
+
+#[test]
+fn a_job_of_format_2(rt: HostRuntime) -> Result<(), Fail> {
+    let text = b"trio-job 2\njob main { repeat 1000 { repeat 100 { } } }".as_slice();
+    let job = read_job(rt.alloc(), text)?;
+    assert_eq!(rt; job.format(), 2);
+    assert_eq!(rt; job.size(), 102_001);
+    let written = write_job(rt.alloc(), &job)?;
+    let shortest = b"trio-job 2\njob main{repeat 1000{repeat 100{}}}".as_slice();
+    assert_eq!(rt; written.as_slice(), shortest);
+    Ok(())
+}
+
+#[test]
+fn upgrades(rt: HostRuntime) -> Result<(), Fail> {
+    let job = read_job(rt.alloc(), b"trio-job 1\njob main { find \"er\"; }")?;
+    assert_eq!(rt; job.format(), 1);
+    let job = to_format_2(job);
+    assert_eq!(rt; job.format(), 2);
+    let written = write_job(rt.alloc(), &job)?;
+    let shortest = b"trio-job 2\njob main{find\"er\";}".as_slice();
+    assert_eq!(rt; written.as_slice(), shortest);
+    let again = write_job(rt.alloc(), &to_format_2(job))?;
+    assert_eq!(rt; again.as_slice(), shortest);
+    Ok(())
+}

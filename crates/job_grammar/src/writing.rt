@@ -10,7 +10,7 @@ ghost use Rattle.job_grammar.specs.Jobs.{IsReadable};
 ghost use Rattle.job_grammar.specs.Printing.{Appends};
 
 use crate::job::Job;
-use crate::reading::FIRST_LINE;
+use crate::reading::first_line;
 use job_syntax::Keyword;
 use job_tokens::{Mark, Shape, push_canon};
 use job_tree::{Body, Deadline, Handler, Name, Step};
@@ -22,7 +22,7 @@ pub fn write_job(alloc: Global, job: &Job) -> Result<Vec<u8>, AllocError>
     ensures again { IfOk result (λ text. Spells text.items job.now) }
 {
     let shapes = shapes_of_job(alloc, job)?;
-    let mut text = Vec::from_slice(alloc, &FIRST_LINE)?;
+    let mut text = Vec::from_slice(alloc, first_line(job.text_format()))?;
     push_canon(alloc, &mut text, &shapes)?;
     Ok(text)
 }
@@ -93,13 +93,25 @@ fn push_step(shapes: &mut Vec<Shape>, step: &Step) -> Result<(), AllocError>
             push_body(shapes, body)?;
             Ok(())
         }
-        Step::Nursery { name, body } => {
+        Step::Nursery {
+            name,
+            deadline,
+            shield,
+            body,
+        } => {
             push_named(shapes, Keyword::Nursery, *name)?;
-            push_body(shapes, body)
+            push_deadline(shapes, *deadline)?;
+            push_flag(shapes, Keyword::Shield, *shield)?;
+            push_body(shapes, body)?;
+            Ok(())
         }
         Step::Start { name, over, body } => {
             push_named(shapes, Keyword::Start, *name)?;
             push_over(shapes, *over)?;
+            push_body(shapes, body)
+        }
+        Step::Repeat { count, body } => {
+            push_counted(shapes, Keyword::Repeat, *count)?;
             push_body(shapes, body)
         }
         Step::Try {

@@ -2,15 +2,15 @@
 use Rattle.std.proofs.Common.{◌≡◌, ℕ, zero, suc, ◌+◌, ◌<◌, ◌≤◌, min, Bool, true, false, ◌&&◌, ◌||◌, not, Option, Some, None, List, [], ◌∷◌, refl, ap, sym, ◌∙◌, subst, ◌⊎◌, inl, inr, arith, nat_le, nat_lt, if◌then◌else◌}
 use Rattle.std.proofs.lemmas.Bool.{true≢false, le-ltb, cases_lt}
 use Rattle.std.proofs.lemmas.Bool.Decides.{nat_tests}
-use Rattle.job_tree.specs.Tree.{Step, sleep, checkpoint, forever, pace, find, head, longest, need, raise, cancel, scope, nursery, start, attempt, Steps, stop, step, Handled, unhandled, except, Cleaned, uncleaned, finally}
+use Rattle.job_tree.specs.Tree.{Step, sleep, checkpoint, forever, pace, find, head, longest, need, raise, cancel, scope, nursery, start, repeat, attempt, Steps, stop, step, Handled, unhandled, except, Cleaned, uncleaned, finally}
 use Rattle.exc_groups.specs.Exceptions.{Label, Exc, cancelled, by_nursery, group_of, parts_of}
 use Rattle.exc_groups.specs.Split.{Wanted, keep, drop}
 use Rattle.cancel_scopes.specs.Sight.{Tick, sight, seen, reached, catches}
 use Rattle.job_meaning.specs.Log.{Log, nil, entry, entered, followed_by, Member, Result}
-use Rattle.job_meaning.specs.Walk.{Stack, Mode, two_walks, by_table, Here, walk, walk_step, walk_handler, walk_cleanup, done_at, raised_at, joined, and_then, then_if, slept, sleeping, cancelling, label_on, Kind, from_of, block, left_from, left_with, left_as, exc_after, within, signed, sign_if, home_of, latest, with_exc, excs_of, gathered, child, each, handled, handled_exc, handled_if, handler_exc, with_outcome, outcome_after, cleaned}
+use Rattle.job_meaning.specs.Walk.{Stack, Mode, two_walks, by_table, Here, walk, walk_step, walk_handler, walk_cleanup, done_at, raised_at, joined, and_then, then_if, slept, sleeping, cancelling, label_on, Kind, from_of, block, left_from, left_with, left_as, exc_after, within, signed, sign_if, home_of, latest, with_exc, excs_of, gathered, child, each, passes, handled, handled_exc, handled_if, handler_exc, with_outcome, outcome_after, cleaned}
 use Rattle.job_meaning.specs.Before.{upto, Near, Agree, soon, later, known_members, clipped, exc_if, entered_if, task_if}
 use Rattle.job_meaning.specs.Laws.{NothingBeforeItsCause}
-use Rattle.job_meaning.proofs.Late.{Timed, Late, late, late_signed, late_gathered, latest_ends, child_ends, each_ends}
+use Rattle.job_meaning.proofs.Late.{Timed, Late, late, late_signed, late_gathered, latest_ends, child_ends, each_ends, late_passes}
 use Rattle.job_meaning.proofs.Clips.{sight_near, seen_near, reached_near, label_near, home_near, both_clipped, clipped_tail, least_near, from_near, both_known, latest_known, all_known}
 
 -- a walk agrees with itself
@@ -308,6 +308,14 @@ agree_each c (suc k) go go' t e e' h =
     let y = e' k in
     agree_joined c (each k go t) (each k go' t) (go k) (go' k) (agree_each c k go go' t e e' h) (h k) (omega arith) (omega arith)
 
+-- passes of a `repeat`
+pub agree_passes : (c : ℕ) (k first : ℕ) (go go' : ℕ → ℕ → Result) (t : ℕ) → ((i u : ℕ) → Agree c (go i u) (go' i u)) →
+    ((i u : ℕ) → Late u (go i u)) → ((i u : ℕ) → Late u (go' i u)) → Agree c (passes first k go t) (passes first k go' t)
+agree_passes c zero first go go' t h l l' = agree_same c (done_at t)
+agree_passes c (suc k) first go go' t h l l' =
+    agree_and_then c (go first t) (go' first t) _ _ (h first t) (λ u. agree_passes c k (suc first) go go' u h l l')
+    (λ u. late_passes k (suc first) go u l) (λ u. late_passes k (suc first) go' u l')
+
 -- an outcome that goes by the exception agrees where the walks do
 agree_outcome : (c : ℕ) (r q : Result) (f : Option Exc → Option Exc) → Agree c r q →
     Agree c (with_outcome (f r.exc) r) (with_outcome (f q.exc) q)
@@ -400,6 +408,8 @@ mutual
   agree_step c m (start name (Some k) body) here st su t near =
       agree_each c k _ _ t (λ i. child_ends _ t _) (λ i. child_ends _ t _)
       (λ i. agree_child c _ t _ _ (agree_signed c st su _ _ near (agree c m body _ st su t near)))
+  agree_step c m (repeat count body) here st su t near =
+      agree_passes c count 0 _ _ t (λ i u. agree c m body _ st su u near) (λ i u. late m body _ st u) (λ i u. late m body _ su u)
   agree_step c m (attempt body handler cleanup) here st su t near =
       agree_cleanup c m cleanup here st su _ _ near (agree_handler c m handler here st su _ _ near (agree c m body here st su t near))
 

@@ -2,15 +2,15 @@
 use Rattle.std.proofs.Common.{◌≡◌, ℕ, zero, suc, ◌+◌, Bool, Option, Some, None, List, [], ◌∷◌, ◌++◌, refl, ap, sym, ◌∙◌, append_assoc, ◌<◌, arith}
 use Rattle.std.proofs.lemmas.List.{append-nil}
 use Rattle.job_tree.specs.declared.deadline.Deadline.{Deadline}
-use Rattle.job_tree.specs.Tree.{Step, scope, nursery, start, attempt, Steps, stop, step, Handled, unhandled, except, Cleaned, uncleaned, finally}
+use Rattle.job_tree.specs.Tree.{Step, scope, nursery, start, repeat, attempt, Steps, stop, step, Handled, unhandled, except, Cleaned, uncleaned, finally}
 use Rattle.buffer_parts.specs.Cuts.{cut_of}
 use Rattle.exc_groups.specs.Exceptions.{Label, Exc}
 use Rattle.exc_groups.specs.Split.{Wanted, named, keep, drop}
 use Rattle.cancel_scopes.specs.Sight.{Level}
 use Rattle.job_meaning.proofs.Clips.{followed_nil}
 use Rattle.job_meaning.specs.Log.{Log, nil, entry, sign, entered, task, followed_by, Member, Result, Table}
-use Rattle.job_meaning.specs.Walk.{Stack, Mode, by_table, Here, walk, walk_step, walk_handler, walk_cleanup, done_at, joined, and_then, then_if, block, due, within, Kind, signed, gathered, child, handled, handled_exc, handled_if, cleaned, with_outcome, handler_exc, outcome_after, sign_if, a_scope, a_nursery, label_here, label_over, each, here_in}
-use Rattle.job_meaning.specs.Rest.{Event, noted, signs, enters, starts, fill, numbered, starts_over, Telling, told_members, Frame, steps_left, in_scope, in_nursery, in_try, in_handler, in_cleanup, inside, block_left, with_children, waited, finish, rest_comes_to, rest_at_start}
+use Rattle.job_meaning.specs.Walk.{in_pass, passes, Stack, Mode, by_table, Here, walk, walk_step, walk_handler, walk_cleanup, done_at, joined, and_then, then_if, block, due, within, Kind, signed, gathered, child, handled, handled_exc, handled_if, cleaned, with_outcome, handler_exc, outcome_after, sign_if, a_scope, a_nursery, label_here, label_over, each, here_in}
+use Rattle.job_meaning.specs.Rest.{Event, noted, signs, enters, starts, fill, numbered, starts_over, Telling, told_members, Frame, steps_left, in_scope, in_nursery, in_repeat, in_try, in_handler, in_cleanup, inside, block_left, with_children, waited, finish, rest_comes_to, rest_at_start}
 
 -- three logs one after another are the same, whichever two come together first
 pub followed_assoc : (a b c : Log) → followed_by (followed_by a b) c ≡ followed_by a (followed_by b c)
@@ -89,6 +89,10 @@ finish_after (in_nursery children ∷ fs) a m told here (l ∷ outer) r =
     ∙ (ap (λ (x : Result). finish m told fs here outer x) (after_block_left a a_nursery l outer
     (gathered l.label (with_children (told_members told children) (signed (l ∷ outer) r))))
     ∙ finish_after fs a m told here outer _)
+finish_after (in_repeat pass left body ∷ fs) a m told here st r =
+    ap (λ (x : Result). finish m told fs here st x)
+    (after_and_then a r (λ u. passes (suc pass) left (λ i v. walk m body (in_pass i (inside fs here)) st v) u))
+    ∙ finish_after fs a m told here st _
 finish_after (in_try handler cleanup ∷ fs) a m told here st r =
     ap (λ (x : Result). finish m told fs here st (walk_cleanup m cleanup (inside fs here) st x))
     (after_handler a m handler (inside fs here) st r)
@@ -188,6 +192,39 @@ pub finish_no_handler : (fs : List Frame) (m : Mode) (told : Telling) (handler :
 unfolding finish walk handled
 finish_no_handler fs m told unhandled cleanup here st r = refl
 finish_no_handler fs m told (except name body) cleanup here st r = refl
+
+-- a `repeat` without a pass
+pub finish_no_pass : (fs : List Frame) (m : Mode) (told : Telling) (body ss : Steps) (here : Here) (st : Stack) (t : ℕ) →
+    finish m told (steps_left (step (repeat zero body) ss) ∷ fs) here st (done_at t) ≡ finish m told (steps_left ss ∷ fs) here st (done_at t)
+unfolding finish and_then walk
+finish_no_pass fs m told body ss here st t = refl
+
+-- the first pass of a `repeat` is entered
+pub finish_first_pass : (fs : List Frame) (m : Mode) (told : Telling) (k : ℕ) (body ss : Steps) (here : Here) (st : Stack) (t : ℕ) →
+    finish m told (steps_left (step (repeat (suc k) body) ss) ∷ fs) here st (done_at t)
+    ≡ finish m told (steps_left body ∷ in_repeat 0 k body ∷ steps_left ss ∷ fs) here st (done_at t)
+unfolding finish and_then walk
+finish_first_pass fs m told k body ss here st t = refl
+
+-- a pass has ended, and the next one is entered
+pub finish_next_pass : (fs : List Frame) (m : Mode) (told : Telling) (pass k : ℕ) (body : Steps) (here : Here) (st : Stack) (t : ℕ) →
+    finish m told (in_repeat pass (suc k) body ∷ fs) here st (done_at t)
+    ≡ finish m told (steps_left body ∷ in_repeat (suc pass) k body ∷ fs) here st (done_at t)
+unfolding finish and_then
+finish_next_pass fs m told pass k body here st t = refl
+
+-- the last pass has ended
+pub finish_last_pass : (fs : List Frame) (m : Mode) (told : Telling) (pass : ℕ) (body : Steps) (here : Here) (st : Stack) (t : ℕ) →
+    finish m told (in_repeat pass zero body ∷ fs) here st (done_at t) ≡ finish m told fs here st (done_at t)
+unfolding finish and_then
+finish_last_pass fs m told pass body here st t = refl
+
+-- no pass comes behind an exception
+pub finish_raised_pass : (fs : List Frame) (m : Mode) (told : Telling) (pass left : ℕ) (body : Steps) (here : Here) (st : Stack)
+    (r : Result) (e : Exc) →
+    finish m told (in_repeat pass left body ∷ fs) here st (record r { exc = Some e }) ≡ finish m told fs here st (record r { exc = Some e })
+unfolding finish and_then
+finish_raised_pass fs m told pass left body here st r e = refl
 
 -- a handler has ended: the rest of the split goes with what it raised
 pub finish_handled : (fs : List Frame) (m : Mode) (told : Telling) (rest : Option Exc) (cleanup : Cleaned) (here : Here) (st : Stack)

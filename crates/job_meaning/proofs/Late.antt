@@ -1,13 +1,13 @@
 -- A walk ends no earlier than it starts, and all that it notes has a tick from its start on.
 use Rattle.std.proofs.Common.{◌≡◌, ℕ, zero, suc, ◌+◌, ◌≤◌, max, Bool, true, false, Option, Some, None, List, [], ◌∷◌, refl, sym, subst, arith, nat_le, if◌then◌else◌}
 use Rattle.std.proofs.lemmas.Bool.Decides.{nat_tests}
-use Rattle.job_tree.specs.Tree.{Step, sleep, checkpoint, forever, pace, find, head, longest, need, raise, cancel, scope, nursery, start, attempt, Steps, stop, step, Handled, unhandled, except, Cleaned, uncleaned, finally}
+use Rattle.job_tree.specs.Tree.{Step, sleep, checkpoint, forever, pace, find, head, longest, need, raise, cancel, scope, nursery, start, repeat, attempt, Steps, stop, step, Handled, unhandled, except, Cleaned, uncleaned, finally}
 use Rattle.buffer_parts.specs.Lines.{Span}
 use Rattle.exc_groups.specs.Exceptions.{Label, Exc, cancelled}
 use Rattle.exc_groups.specs.Split.{Wanted, keep, drop}
 use Rattle.cancel_scopes.specs.Sight.{Tick, sight}
 use Rattle.job_meaning.specs.Log.{Log, nil, entry, sign, entered, task, followed_by, Member, Result}
-use Rattle.job_meaning.specs.Walk.{Stack, Mode, Here, walk, walk_step, walk_handler, walk_cleanup, done_at, raised_at, joined, and_then, then_if, slept, sleeping, log_of_lines, showing, needing, cancelling, Kind, from_of, block, signed, sign_if, home_of, latest, gathered, child, each, handled, handled_exc, handled_if, cleaned}
+use Rattle.job_meaning.specs.Walk.{Stack, Mode, Here, walk, walk_step, walk_handler, walk_cleanup, done_at, raised_at, joined, and_then, then_if, slept, sleeping, log_of_lines, showing, needing, cancelling, Kind, from_of, block, signed, sign_if, home_of, latest, gathered, child, each, passes, handled, handled_exc, handled_if, cleaned}
 
 -- all that a log tells of is at tick t or later
 abbrev pub Timed : ℕ → Log → Type 0
@@ -181,6 +181,11 @@ late_each (suc k) go t ends h =
     late_joined t (each k go t) (go k) (late_each k go t ends h)
     (subst (λ (u : ℕ). Late u (go k)) (sym (each_ends k go t ends)) (h k))
 
+-- passes of a `repeat`, each from where the one before it ended
+pub late_passes : (k first : ℕ) (go : ℕ → ℕ → Result) (t : ℕ) → ((i u : ℕ) → Late u (go i u)) → Late t (passes first k go t)
+late_passes zero first go t h = late_done t t (omega arith)
+late_passes (suc k) first go t h = late_and_then t (go first t) _ (h first t) (λ u. late_passes k (suc first) go u h)
+
 -- a late body and its handler are late
 pub late_handled : (t : ℕ) (wanted : Wanted) (r : Result) (go : ℕ → Result) → Late t r → ((u : ℕ) → Late u (go u)) →
     Late t (handled wanted r go)
@@ -231,6 +236,7 @@ mutual
       late_child _ t _ (late_signed t st _ (late m body _ st t))
   late_step m (start name (Some k) body) here st t =
       late_each k _ t (λ i. child_ends _ t _) (λ i. late_child _ t _ (late_signed t st _ (late m body _ st t)))
+  late_step m (repeat count body) here st t = late_passes count 0 _ t (λ i u. late m body _ st u)
   late_step m (attempt body handler cleanup) here st t =
       late_cleanup m cleanup here st _ t (late_handler m handler here st _ t (late m body here st t))
 

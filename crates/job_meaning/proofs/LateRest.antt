@@ -1,11 +1,11 @@
 -- What is left of a task ends no earlier than the present tick, and notes, enters and signs nothing earlier.
-use Rattle.std.proofs.Common.{ℕ, ◌≤◌, Option, List, [], ◌∷◌}
+use Rattle.std.proofs.Common.{ℕ, suc, ◌≤◌, Option, List, [], ◌∷◌}
 use Rattle.exc_groups.specs.Exceptions.{Label, Exc}
 use Rattle.cancel_scopes.specs.Sight.{Level, catches}
 use Rattle.job_meaning.specs.Log.{entry, nil, Member, Result}
-use Rattle.job_meaning.specs.Walk.{Stack, Mode, Here, walk, Kind, a_scope, a_nursery, left_as, left_with, latest, gathered, signed, with_outcome, handler_exc, outcome_after}
-use Rattle.job_meaning.specs.Rest.{Telling, told_members, Frame, steps_left, in_scope, in_nursery, in_try, in_handler, in_cleanup, inside, block_left, with_children, waited, finish}
-use Rattle.job_meaning.proofs.Late.{Late, late, late_and_then, late_handler, late_cleanup, late_signed, late_gathered, timed_followed}
+use Rattle.job_meaning.specs.Walk.{Stack, Mode, Here, walk, in_pass, passes, Kind, a_scope, a_nursery, left_as, left_with, latest, gathered, signed, with_outcome, handler_exc, outcome_after}
+use Rattle.job_meaning.specs.Rest.{Telling, told_members, Frame, steps_left, in_scope, in_nursery, in_repeat, in_try, in_handler, in_cleanup, inside, block_left, with_children, waited, finish}
+use Rattle.job_meaning.proofs.Late.{Late, late, late_and_then, late_passes, late_handler, late_cleanup, late_signed, late_gathered, timed_followed}
 
 -- a block that is left ends with what was in it
 pub late_left : (t : ℕ) (kind : Kind) (l : Level Label) (outer : Stack) (r : Result) → Late t r → Late t (block_left kind l outer r)
@@ -37,6 +37,9 @@ late_finish (in_nursery children ∷ fs) t m told here (l ∷ outer) r h =
   where
     late_children : Late t (signed (l ∷ outer) r) → Late t (with_children (told_members told children) (signed (l ∷ outer) r))
     late_children k = record { ends = k.ends; timed = k.timed }
+late_finish (in_repeat pass left body ∷ fs) t m told here st r h =
+    late_finish fs t m told here st _ (late_and_then t r _ h
+    (λ u. late_passes left (suc pass) (λ i v. walk m body (in_pass i (inside fs here)) st v) u (λ i v. late m body _ st v)))
 late_finish (in_try handler cleanup ∷ fs) t m told here st r h =
     late_finish fs t m told here st _ (late_cleanup m cleanup (inside fs here) st _ t (late_handler m handler (inside fs here) st r t h))
 late_finish (in_handler rest cleanup ∷ fs) t m told here st r h =

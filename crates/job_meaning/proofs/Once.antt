@@ -1,7 +1,7 @@
 -- Where names are given once, no label of a scope, nursery or task is given twice. It holds in both modes.
 use Rattle.std.proofs.Common.{◌≡◌, ℕ, zero, suc, ◌+◌, ◌<◌, ◌≤◌, Bool, true, false, Option, Some, None, List, [], ◌∷◌, ◌++◌, refl, subst, ◌⊎◌, inl, inr, arith, nat_le, if◌then◌else◌}
 use Rattle.std.proofs.lemmas.Bool.{cases_lt}
-use Rattle.job_tree.specs.Tree.{Step, sleep, checkpoint, forever, pace, find, head, longest, need, raise, cancel, scope, nursery, start, attempt, Steps, stop, step, Handled, unhandled, except, Cleaned, uncleaned, finally, Tree}
+use Rattle.job_tree.specs.Tree.{Step, sleep, checkpoint, forever, pace, find, head, longest, need, raise, cancel, scope, nursery, start, repeat, attempt, Steps, stop, step, Handled, unhandled, except, Cleaned, uncleaned, finally, Tree}
 use Rattle.job_tree.specs.Names.{names_of, names_in, handled_names, cleaned_names, GivesNamesOnce}
 use Rattle.buffer_parts.specs.Lines.{Span}
 use Rattle.buffer_parts.specs.Cuts.{cut_of}
@@ -9,11 +9,11 @@ use Rattle.exc_groups.specs.Exceptions.{Label, Exc, cancelled}
 use Rattle.exc_groups.specs.Split.{Wanted, keep, drop}
 use Rattle.cancel_scopes.specs.Sight.{Tick, sight}
 use Rattle.job_meaning.specs.Log.{Log, nil, entry, sign, entered, task, followed_by, Result, same_label, times_entered, times_given}
-use Rattle.job_meaning.specs.Walk.{Stack, Mode, Here, walk, walk_step, walk_handler, walk_cleanup, done_at, raised_at, joined, and_then, then_if, slept, sleeping, log_of_lines, showing, needing, sign_of, cancelling, Kind, from_of, block, left_from, within, signed, sign_if, home_of, gathered, child, each, handled, handled_exc, handled_if, cleaned, label_here, label_over, here_in}
+use Rattle.job_meaning.specs.Walk.{Stack, Mode, Here, walk, walk_step, walk_handler, walk_cleanup, done_at, raised_at, joined, and_then, then_if, slept, sleeping, log_of_lines, showing, needing, sign_of, cancelling, Kind, from_of, block, left_from, within, signed, sign_if, home_of, gathered, child, each, passes, handled, handled_exc, handled_if, cleaned, label_here, label_over, here_in, in_pass}
 use Rattle.job_meaning.specs.Meaning.{root_walk, root_here, root_label, root_log}
 use Rattle.job_meaning.proofs.Distinct.{Distinct, distinct_left, distinct_right, distinct_apart, distinct_by_bytes, same_label_equal, Belongs, behind_other}
 use Rattle.job_meaning.proofs.Touched.{Gives, gives_followed}
-use Rattle.job_meaning.proofs.Tidy.{Tidy, tidy, tidy_step, tidy_handler, tidy_in, tidy_each, tidy_signed, tidy_gathered, tidy_over, gives_home}
+use Rattle.job_meaning.proofs.Tidy.{Tidy, tidy, tidy_step, tidy_handler, tidy_in, tidy_each, tidy_passes, tidy_signed, tidy_gathered, tidy_over, gives_home}
 
 -- no label is given twice in a log
 abbrev pub GivesOnce : Log → Type 0
@@ -165,6 +165,29 @@ unique_each st names path (suc n) go t h k = unique_joined (each n go t) (go n) 
         apart : Before l → Belongs names (path ++ n ∷ []) l → ⊥
         apart b c = behind_other names names path b.0 n l b.1 b.2 c
 
+-- labels given in a pass, and in those behind it
+unique_passes : (st : Stack) (names : List (List ℕ)) (path : List ℕ) (k first : ℕ) (go : ℕ → ℕ → Result) (t : ℕ) →
+    ((i u : ℕ) → Tidy st (Belongs names (path ++ i ∷ [])) (go i u)) → ((i u : ℕ) → Unique (go i u)) → Unique (passes first k go t)
+unique_passes st names path zero first go t h k = unique_done t
+unique_passes st names path (suc n) first go t h k =
+    unique_and_then (go first t) _ (k first t) (λ u. unique_passes st names path n (suc first) go u h k) differ
+  where
+    Behind : Label → Type 0
+    Behind l = (i : ℕ) × (first < i) × Belongs names (path ++ i ∷ []) l
+
+    behind : (i : ℕ) → suc first ≤ i → (l : Label) → Belongs names (path ++ i ∷ []) l → Behind l
+    behind i le l b = (i, omega arith, b)
+
+    later_ones : (u : ℕ) → Tidy st Behind (passes (suc first) n go u)
+    later_ones u =
+        tidy_passes st Behind n (suc first) go u (λ i v le. tidy_in st (Belongs names (path ++ i ∷ [])) Behind (go i v) (behind i le) (h i v))
+
+    apart : (l : Label) → Belongs names (path ++ first ∷ []) l → Behind l → ⊥
+    apart l b c = behind_other names names path first c.0 l c.1 b c.2
+
+    differ : (u : ℕ) (l : Label) → Gives l (go first t).log → Gives l (passes (suc first) n go u).log → ⊥
+    differ u l i j = apart l ((h first t).gives l i) ((later_ones u).gives l j)
+
 unique_handled : (wanted : Wanted) (r : Result) (go : ℕ → Result) → Unique r → ((u : ℕ) → Unique (go u)) →
     ((u : ℕ) (l : Label) → Gives l r.log → Gives l (go u).log → ⊥) → Unique (handled wanted r go)
 unfolding handled
@@ -242,6 +265,9 @@ mutual
       (λ j. distinct.0 ((tidy_signed st _ _ (tidy m body (here_in (label_over name here i) (cut_of here.input here.part k i) here) st
       t)).gives _ j).named)
       (unique_signed st _ (unique m body _ st t distinct.1)))
+  unique_step m (repeat count body) here st t distinct =
+      unique_passes st (names_of body) here.path count 0 _ t (λ i u. tidy m body (in_pass i here) st u)
+      (λ i u. unique m body (in_pass i here) st u distinct)
   unique_step m (attempt body handler cleanup) here st t distinct =
       unique_cleanup m cleanup here st _ (names_of body ++ handled_names handler)
       (tidy_handler m handler here st _ (names_of body) (tidy m body here st t)) distinct

@@ -2,13 +2,13 @@
 use Rattle.std.proofs.Common.{◌≡◌, ℕ, zero, suc, ◌+◌, ◌≤◌, max, Bool, true, false, ◌||◌, ◌&&◌, not, Option, Some, None, List, [], ◌∷◌, ◌++◌, refl, sym, ◌∙◌, IsTrue, ◌⊎◌, inl, inr, arith, nat_le, if◌then◌else◌}
 use Rattle.std.proofs.lemmas.Bool.{false≢true, or_cases}
 use Rattle.std.proofs.lemmas.Bool.Decides.{nat_tests}
-use Rattle.job_tree.specs.Tree.{Step, sleep, checkpoint, forever, pace, find, head, longest, need, raise, cancel, scope, nursery, start, attempt, Steps, stop, step, Handled, unhandled, except, Cleaned, uncleaned, finally}
+use Rattle.job_tree.specs.Tree.{Step, sleep, checkpoint, forever, pace, find, head, longest, need, raise, cancel, scope, nursery, start, repeat, attempt, Steps, stop, step, Handled, unhandled, except, Cleaned, uncleaned, finally}
 use Rattle.buffer_parts.specs.Lines.{Span}
 use Rattle.exc_groups.specs.Exceptions.{Label, Exc, cancelled, hold_cancelled, parts_of, holds_cancelled, by_nursery}
 use Rattle.exc_groups.specs.Split.{Wanted, keep, drop}
 use Rattle.cancel_scopes.specs.Sight.{Tick, sight, seen, reached, catches}
 use Rattle.job_meaning.specs.Log.{Member, Result}
-use Rattle.job_meaning.specs.Walk.{Stack, Mode, Here, walk, walk_step, walk_handler, walk_cleanup, done_at, raised_at, joined, and_then, then_if, slept, sleeping, showing, needing, cancelling, Kind, from_of, block, within, left_with, exc_after, signed, latest, with_exc, excs_of, gathered, child, each, handled, handled_exc, handled_if, handler_exc, cleaned, outcome_after}
+use Rattle.job_meaning.specs.Walk.{Stack, Mode, Here, walk, walk_step, walk_handler, walk_cleanup, done_at, raised_at, joined, and_then, then_if, slept, sleeping, showing, needing, cancelling, Kind, from_of, block, within, left_with, exc_after, signed, latest, with_exc, excs_of, gathered, child, each, passes, handled, handled_exc, handled_if, handler_exc, cleaned, outcome_after}
 use Rattle.job_meaning.specs.Meaning.{root_walk, root_here}
 use Rattle.job_meaning.specs.Laws.{some_cancelled, CancelledIsSeen, NoneReachesTheRoot}
 use Rattle.job_meaning.proofs.Ticks.{seen_cons, stays_seen}
@@ -152,6 +152,12 @@ pub root_each : (st : Stack) (k : ℕ) (go : ℕ → Result) (t : ℕ) → ((i :
 root_each st zero go t h = root_done st t
 root_each st (suc k) go t h = root_joined st (each k go t) (go k) (root_each st k go t h) (h k)
 
+-- passes of a `repeat`
+pub root_passes : (st : Stack) (k first : ℕ) (go : ℕ → ℕ → Result) (t : ℕ) → ((i u : ℕ) → Rooted st (go i u)) →
+    Rooted st (passes first k go t)
+root_passes st zero first go t h = root_done st t
+root_passes st (suc k) first go t h = root_and_then st (go first t) _ (h first t) (λ u. root_passes st k (suc first) go u h)
+
 -- a handler ends no earlier than the body, so what the body's rest holds is still seen
 pub root_handled : (st : Stack) (wanted : Wanted) (r : Result) (go : ℕ → Result) → Rooted st r → ((u : ℕ) → Rooted st (go u)) →
     ((u : ℕ) → Late u (go u)) → Rooted st (handled wanted r go)
@@ -232,6 +238,7 @@ mutual
       root_child st _ t _ (root_signed st _ (root m body _ st t))
   root_step m (start name (Some k) body) here st t =
       root_each st k _ t (λ i. root_child st _ t _ (root_signed st _ (root m body _ st t)))
+  root_step m (repeat count body) here st t = root_passes st count 0 _ t (λ i u. root m body _ st u)
   root_step m (attempt body handler cleanup) here st t =
       root_cleanup m cleanup here st _ (root_handler m handler here st _ (root m body here st t))
 

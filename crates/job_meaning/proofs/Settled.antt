@@ -1,13 +1,13 @@
 -- Following the table of the meaning is the meaning.
-use Rattle.std.proofs.Common.{◌≡◌, ℕ, zero, suc, ◌<◌, Bool, true, false, Option, Some, None, List, [], ◌∷◌, ◌++◌, refl, ap, sym, ◌∙◌, subst, ◌⊎◌, inl, inr}
-use Rattle.job_tree.specs.Tree.{Step, sleep, checkpoint, forever, pace, find, head, longest, need, raise, cancel, scope, nursery, start, attempt, Steps, stop, step, Handled, unhandled, except, Cleaned, uncleaned, finally}
+use Rattle.std.proofs.Common.{◌≡◌, ℕ, zero, suc, ◌<◌, ◌≤◌, Bool, true, false, Option, Some, None, List, [], ◌∷◌, ◌++◌, refl, ap, sym, ◌∙◌, subst, ◌⊎◌, inl, inr, arith}
+use Rattle.job_tree.specs.Tree.{Step, sleep, checkpoint, forever, pace, find, head, longest, need, raise, cancel, scope, nursery, start, repeat, attempt, Steps, stop, step, Handled, unhandled, except, Cleaned, uncleaned, finally}
 use Rattle.job_tree.specs.Names.{names_of, names_in, handled_names, cleaned_names}
 use Rattle.buffer_parts.specs.Cuts.{cut_of}
 use Rattle.exc_groups.specs.Exceptions.{Label, Exc}
 use Rattle.exc_groups.specs.Split.{Wanted, keep, drop}
 use Rattle.cancel_scopes.specs.Sight.{Tick, catches}
 use Rattle.job_meaning.specs.Log.{Log, nil, entry, followed_by, Result, least_sign, deadline_of, deadline_if, either, same_label, from_by, Table, table_of}
-use Rattle.job_meaning.specs.Walk.{Stack, Mode, two_walks, by_table, Here, walk, walk_step, walk_handler, walk_cleanup, joined, and_then, then_if, Kind, block, left_from, left_as, left_with, within, signed, sign_if, home_of, gathered, child, each, handled, handled_exc, handled_if, handled_by, cleaned, cleaned_by, label_here, label_over, here_in}
+use Rattle.job_meaning.specs.Walk.{Stack, Mode, two_walks, by_table, Here, walk, walk_step, walk_handler, walk_cleanup, joined, and_then, then_if, Kind, block, left_from, left_as, left_with, within, signed, sign_if, home_of, gathered, child, each, passes, handled, handled_exc, handled_if, handled_by, cleaned, cleaned_by, label_here, label_over, here_in, in_pass}
 use Rattle.job_meaning.specs.Meaning.{meaning, meaning_table, root_walk, root_here}
 use Rattle.job_meaning.specs.Follow.{follow}
 use Rattle.job_meaning.specs.Before.{upto, clipped, Near}
@@ -17,7 +17,7 @@ use Rattle.job_meaning.proofs.Clips.{least_near}
 use Rattle.job_meaning.proofs.Causality.{agree, agree_logs, agree_signed, agree_gathered, near_within}
 use Rattle.job_meaning.proofs.Distinct.{Among, among_left, among_right, Distinct, distinct_left, distinct_right, distinct_apart, distinct_by_bytes, same_label_itself, same_label_equal, Belongs, behind_other, OnStack, Fresh, fresh_in}
 use Rattle.job_meaning.proofs.Touched.{Gives, least_followed, deadline_followed, deadline_entered, either_nothing, earlier_never}
-use Rattle.job_meaning.proofs.Tidy.{Tidy, tidy, tidy_step, tidy_handler, tidy_in, tidy_each, tidy_signed, tidy_gathered, tidy_over, signs_home, gives_home}
+use Rattle.job_meaning.proofs.Tidy.{Tidy, tidy, tidy_step, tidy_handler, tidy_in, tidy_each, tidy_passes, tidy_signed, tidy_gathered, tidy_over, signs_home, gives_home}
 use Rattle.job_meaning.proofs.Fits.{Fits, fits_own, fits_first, fits_second, Apart, apart_tidy, same_first_sign}
 
 -- one after another: the first walk is the same, and then the second
@@ -144,6 +144,31 @@ settled_each table st names path (suc k) go go' t fresh h same f =
 
     both : each k go' t ≡ each k go t → go' k ≡ go k → joined (each k go' t) (go' k) ≡ joined (each k go t) (go k)
     both e i = ap (λ (x : Result). joined x (go' k)) e ∙ ap (λ (x : Result). joined (each k go t) x) i
+
+-- the passes of one `repeat` enter different labels
+settled_passes : (table : Table) (st : Stack) (names : List (List ℕ)) (path : List ℕ) (k first : ℕ) (go go' : ℕ → ℕ → Result) (t : ℕ) →
+    Fresh st names → ((i u : ℕ) → Tidy st (Belongs names (path ++ i ∷ [])) (go i u)) →
+    ((i u : ℕ) → Fits table (go i u).log → go' i u ≡ go i u) →
+    Fits table (passes first k go t).log → passes first k go' t ≡ passes first k go t
+settled_passes table st names path zero first go go' t fresh h same f = refl
+settled_passes table st names path (suc k) first go go' t fresh h same f =
+    settled_and_then table (go first t) (go' first t) (λ u. passes (suc first) k go u) (λ u. passes (suc first) k go' u) (same first t)
+    (λ u g. settled_passes table st names path k (suc first) go go' u fresh h same g) apart f
+  where
+    Behind : Label → Type 0
+    Behind l = (i : ℕ) × (first < i) × Belongs names (path ++ i ∷ []) l
+
+    behind : (i : ℕ) → suc first ≤ i → (l : Label) → Belongs names (path ++ i ∷ []) l → Behind l
+    behind i le l b = (i, omega arith, b)
+
+    apart : (u : ℕ) → Apart (go first t).log (passes (suc first) k go u).log
+    apart u =
+        apart_tidy st (Belongs names (path ++ first ∷ [])) Behind (go first t) (passes (suc first) k go u) (h first t)
+        (tidy_passes st Behind k (suc first) go u
+        (λ i v le. tidy_in st (Belongs names (path ++ i ∷ [])) Behind (go i v) (behind i le) (h i v)))
+        (λ l b c. behind_other names names path first c.0 l c.1 b c.2)
+        (λ l o b. fresh.none l o b.named)
+        (λ l o b. fresh.none l o b.2.named)
 
 -- a handler or a cleanup behind a body that is the same
 fits_handled : (table : Table) (wanted : Wanted) (r : Result) (go : ℕ → Result) → ((u : ℕ) → Apart r.log (go u).log) → (o : Option Exc) →
@@ -302,6 +327,9 @@ mutual
       (fresh_in st (names_of body) (name ∷ names_of body) (λ n j. inr j) fresh) h))
       g)
       f
+  settled_step table (repeat count body) here st t distinct fresh f =
+      settled_passes table st (names_of body) here.path count 0 _ _ t fresh (λ i u. tidy two_walks body (in_pass i here) st u)
+      (λ i u g. settled table body (in_pass i here) st u distinct fresh g) f
   settled_step table (attempt body handler cleanup) here st t distinct fresh f =
       let names : List (List ℕ) = names_of body ++ handled_names handler in
       let first : Result = walk two_walks body here st t in

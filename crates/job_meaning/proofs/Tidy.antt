@@ -1,16 +1,16 @@
 -- A walk enters only labels of its own block, and signs only labels that it entered or that stand on its stack. It
 -- holds in both modes.
-use Rattle.std.proofs.Common.{◌≡◌, ℕ, zero, suc, ◌+◌, ◌<◌, Bool, true, false, Option, Some, None, List, [], ◌∷◌, ◌++◌, refl, sym, subst, ◌⊎◌, inl, inr, arith, nat_le, if◌then◌else◌}
+use Rattle.std.proofs.Common.{◌≡◌, ℕ, zero, suc, ◌+◌, ◌<◌, ◌≤◌, Bool, true, false, Option, Some, None, List, [], ◌∷◌, ◌++◌, refl, sym, subst, ◌⊎◌, inl, inr, arith, nat_le, if◌then◌else◌}
 use Rattle.std.proofs.lemmas.List.{append-nil}
 use Rattle.std.specs.Str.{bytes_eq}
-use Rattle.job_tree.specs.Tree.{Step, sleep, checkpoint, forever, pace, find, head, longest, need, raise, cancel, scope, nursery, start, attempt, Steps, stop, step, Handled, unhandled, except, Cleaned, uncleaned, finally}
+use Rattle.job_tree.specs.Tree.{Step, sleep, checkpoint, forever, pace, find, head, longest, need, raise, cancel, scope, nursery, start, repeat, attempt, Steps, stop, step, Handled, unhandled, except, Cleaned, uncleaned, finally}
 use Rattle.job_tree.specs.Names.{names_of, names_in, handled_names, cleaned_names}
 use Rattle.buffer_parts.specs.Lines.{Range, Span}
 use Rattle.exc_groups.specs.Exceptions.{Label, Exc, cancelled}
 use Rattle.exc_groups.specs.Split.{Wanted, keep, drop}
 use Rattle.cancel_scopes.specs.Sight.{Tick, sight, catches}
 use Rattle.job_meaning.specs.Log.{Log, nil, entry, followed_by, Result}
-use Rattle.job_meaning.specs.Walk.{Stack, Mode, Here, walk, walk_step, walk_handler, walk_cleanup, done_at, raised_at, joined, and_then, then_if, slept, sleeping, log_of_lines, showing, needing, label_on, label_if, sign_of, cancelling, Kind, from_of, block, left_from, left_as, left_with, within, signed, sign_if, home_of, gathered, child, each, handled, handled_exc, handled_if, cleaned, label_here, label_over, here_in}
+use Rattle.job_meaning.specs.Walk.{Stack, Mode, Here, walk, walk_step, walk_handler, walk_cleanup, done_at, raised_at, joined, and_then, then_if, slept, sleeping, log_of_lines, showing, needing, label_on, label_if, sign_of, cancelling, Kind, from_of, block, left_from, left_as, left_with, within, signed, sign_if, home_of, gathered, child, each, passes, handled, handled_exc, handled_if, cleaned, label_here, label_over, here_in, in_pass}
 use Rattle.job_meaning.proofs.Distinct.{among_left, among_right, Belongs, belongs_in, belongs_behind, OnStack}
 use Rattle.job_meaning.proofs.Touched.{Gives, Signs, gives_followed, gives_first, gives_second, signs_followed}
 
@@ -246,6 +246,16 @@ tidy_each st P (suc k) go t h = tidy_joined st P (each k go t) (go k) (tidy_each
     below : (i : ℕ) → i < k → i < suc k
     below i lt = omega arith
 
+-- passes of a `repeat` from one on
+pub tidy_passes : (st : Stack) (P : Label → Type 0) (k first : ℕ) (go : ℕ → ℕ → Result) (t : ℕ) →
+    ((i u : ℕ) → first ≤ i → Tidy st P (go i u)) → Tidy st P (passes first k go t)
+tidy_passes st P zero first go t h = tidy_done st P t
+tidy_passes st P (suc k) first go t h =
+    tidy_and_then st P (go first t) _ (h first t (omega arith)) (λ u. tidy_passes st P k (suc first) go u (λ i v le. h i v (later i le)))
+  where
+    later : (i : ℕ) → suc first ≤ i → first ≤ i
+    later i le = omega arith
+
 -- a tidy body and its tidy handler are tidy
 pub tidy_handled : (st : Stack) (P : Label → Type 0) (wanted : Wanted) (r : Result) (go : ℕ → Result) → Tidy st P r →
     ((u : ℕ) → Tidy st P (go u)) → Tidy st P (handled wanted r go)
@@ -328,6 +338,9 @@ mutual
       tidy_each st _ k _ t (λ i lt. tidy_in st _ _ _ (belongs_behind (name ∷ names_of body) here.path i)
       (tidy_child st _ _ t _ (belongs_over name (names_of body) here i)
       (tidy_in st _ _ _ (in_body name (names_of body) (here.path ++ i ∷ [])) (tidy_signed st _ _ (tidy m body _ st t)))))
+  tidy_step m (repeat count body) here st t =
+      tidy_passes st _ count 0 _ t (λ i u le. tidy_in st _ _ _ (belongs_behind (names_of body) here.path i)
+      (tidy m body (in_pass i here) st u))
   tidy_step m (attempt body handler cleanup) here st t =
       tidy_cleanup m cleanup here st _ (names_of body ++ handled_names handler)
       (tidy_handler m handler here st _ (names_of body) (tidy m body here st t))

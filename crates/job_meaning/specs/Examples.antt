@@ -1,6 +1,7 @@
 -- The words in which the worked examples are written: short names for jobs and for records.
 use Rattle.std.specs.Prelude.{ℕ, true, false, Option, None, Some, List, [], ◌∷◌, codes}
 use Rattle.job_tree.specs.declared.deadline.Deadline.TheVariants.{Never, After, At}
+use Rattle.job_tree.specs.declared.format.Format.TheVariants.{Two}
 use Rattle.job_tree.specs.Tree.{Step, scope, nursery, start, attempt, Steps, stop, step, unhandled, except, uncleaned, finally, Tree}
 use Rattle.exc_groups.specs.Exceptions.{Label, by_nursery, by_handler, Exc, raised, group, parts_of}
 use Rattle.job_meaning.specs.Log.{line, scope_left, nursery_left}
@@ -14,7 +15,7 @@ block_of [] = stop
 block_of (s ∷ ss) = step s (block_of ss)
 
 abbrev pub job_of : List Step → Tree
-job_of ss = record { name = codes "main"; steps = block_of ss }
+job_of ss = record { format = Two; name = codes "main"; steps = block_of ss }
 
 -- scope NAME { .. }
 abbrev pub scope_of : List ℕ → List Step → Step

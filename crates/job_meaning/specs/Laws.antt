@@ -1,12 +1,13 @@
 -- The laws of the definitions. Each is the contract of a function that does nothing.
 use Rattle.std.specs.Prelude.{◌≡◌, ℕ, ◌≤◌, Bool, false, IsTrue, Option, Some, None, List, [], ◌∷◌}
+use Rattle.job_tree.specs.declared.format.Format.TheVariants.{Two}
 use Rattle.job_tree.specs.Tree.{Steps, Tree}
 use Rattle.job_tree.specs.Names.{GivesNamesOnce}
 use Rattle.exc_groups.specs.Exceptions.{Label, Exc, holds_cancelled}
 use Rattle.cancel_scopes.specs.Sight.{Tick, seen}
 use Rattle.job_meaning.specs.Walk.{Stack, Mode, Here, walk}
 use Rattle.job_meaning.specs.Log.{times_given}
-use Rattle.job_meaning.specs.Meaning.{root_walk, root_log, meaning, meaning_table}
+use Rattle.job_meaning.specs.Meaning.{root_walk, root_log, meaning, meaning_table, meaning_records, meaning_end, meaning_froms}
 use Rattle.job_meaning.specs.Follow.{follow, IsSettled}
 use Rattle.job_meaning.specs.Before.{Near, Agree}
 
@@ -68,3 +69,14 @@ abbrev pub LabelsAreGivenOnce : Type 0
 LabelsAreGivenOnce =
     (mode : Mode) (job : Tree) (input : List ℕ) → GivesNamesOnce job → (l : Label) →
     times_given l (root_log job (root_walk mode job input)) ≤ 1
+
+-- the same steps under format 2
+abbrev pub in_format_2 : Tree → Tree
+in_format_2 job = record job { format = Two }
+
+-- a job and its upgrade mean the same: their records, their end and their froms, over every input
+abbrev pub UpgradingKeepsTheMeaning : Type 0
+UpgradingKeepsTheMeaning =
+    (job : Tree) (input : List ℕ) →
+    (meaning (in_format_2 job) input ≡ meaning job input) × (meaning_records (in_format_2 job) input ≡ meaning_records job input)
+    × (meaning_end (in_format_2 job) input ≡ meaning_end job input) × (meaning_froms (in_format_2 job) input ≡ meaning_froms job input)

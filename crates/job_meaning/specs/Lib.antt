@@ -7,6 +7,7 @@ pub mod Examples
 pub mod ExamplesScopes
 pub mod ExamplesNurseries
 pub mod ExamplesLines
+pub mod ExamplesPasses
 pub mod Before
 pub mod Laws
 pub mod Asking

@@ -5,7 +5,7 @@ use Rattle.job_tree.specs.Names.{size_of, handled_size, cleaned_size}
 use Rattle.exc_groups.specs.Exceptions.{Label, Exc}
 use Rattle.cancel_scopes.specs.Sight.{Tick, Level, catches}
 use Rattle.job_meaning.specs.Log.{Entry, Log, nil, entry, sign, entered, task, followed_by, Member, Result}
-use Rattle.job_meaning.specs.Walk.{label_over, Stack, Mode, Here, walk, walk_handler, walk_cleanup, done_at, and_then, sleeping, Kind, a_scope, a_nursery, left_as, Left, left_with, exc_after, signed, gathered, handler_exc, outcome_after, with_outcome}
+use Rattle.job_meaning.specs.Walk.{label_over, in_pass, passes, Stack, Mode, Here, walk, walk_handler, walk_cleanup, done_at, and_then, sleeping, Kind, a_scope, a_nursery, left_as, Left, left_with, exc_after, signed, gathered, handler_exc, outcome_after, with_outcome}
 use Rattle.job_meaning.specs.Asking.{Kernel, answer_of, Purpose, shows, needs, paces, answered}
 
 -- What a task made so far, in order. The children that it started are numbered 0, 1, .. within it, and what they come
@@ -52,6 +52,8 @@ pub data Frame : Type 0 where
   in_scope : (fail : Bool) → Frame
   -- the body of a nursery, with the children started so far
   in_nursery : (children : List ℕ) → Frame
+  -- a pass of a `repeat`, with its number, how many come after it, and its block
+  in_repeat : (pass left : ℕ) → (body : Steps) → Frame
   -- the body of a `try`
   in_try : (handler : Handled) → (cleanup : Cleaned) → Frame
   -- a handler, with the rest of the split
@@ -59,13 +61,14 @@ pub data Frame : Type 0 where
   -- a cleanup, with the earlier outcome
   in_cleanup : (outcome : Option Exc) → Frame
 
--- The path of indices inside these frames, on the path of their task. It is read from the frames, so that a frame that is
--- left gives back the path of what is round it; no kind of frame adds an index yet.
+-- The path of indices inside these frames, on the path of their task: a pass adds its number. It is read from the frames, so
+-- that a frame that is left gives back the path of what is round it.
 abbrev pub path_in : List Frame → List ℕ → List ℕ
 path_in [] path = path
 path_in (steps_left ss ∷ fs) path = path_in fs path
 path_in (in_scope fail ∷ fs) path = path_in fs path
 path_in (in_nursery children ∷ fs) path = path_in fs path
+path_in (in_repeat pass left body ∷ fs) path = path_in fs path ++ pass ∷ []
 path_in (in_try handler cleanup ∷ fs) path = path_in fs path
 path_in (in_handler rest cleanup ∷ fs) path = path_in fs path
 path_in (in_cleanup outcome ∷ fs) path = path_in fs path
@@ -120,6 +123,8 @@ finish m told (in_nursery children ∷ fs) here [] r = finish m told fs here [] 
 finish m told (in_nursery children ∷ fs) here (l ∷ outer) r =
     finish m told fs here outer
     (block_left a_nursery l outer (gathered l.label (with_children (told_members told children) (signed (l ∷ outer) r))))
+finish m told (in_repeat pass left body ∷ fs) here st r =
+    finish m told fs here st (and_then r (λ u. passes (suc pass) left (λ i v. walk m body (in_pass i (inside fs here)) st v) u))
 finish m told (in_try handler cleanup ∷ fs) here st r =
     finish m told fs here st (walk_cleanup m cleanup (inside fs here) st (walk_handler m handler (inside fs here) st r))
 finish m told (in_handler rest cleanup ∷ fs) here st r =
@@ -158,11 +163,12 @@ abbrev pub rest_at_start : Steps → Rest
 rest_at_start steps = record { stopped = to_begin; frames = steps_left steps ∷ [] }
 
 -- How much is left of a task: each turn makes it less. A step that was not begun counts 2, those of children still to
--- be started too, and an open nursery 1.
+-- be started and of passes to come too, and an open nursery 1.
 abbrev pub frame_weight : Frame → ℕ
 frame_weight (steps_left ss) = 2 * size_of ss
 frame_weight (in_scope fail) = 0
 frame_weight (in_nursery children) = 1
+frame_weight (in_repeat pass left body) = 2 * (left * (1 + size_of body))
 frame_weight (in_try handler cleanup) = 2 * (handled_size handler + cleaned_size cleanup)
 frame_weight (in_handler rest cleanup) = 2 * cleaned_size cleanup
 frame_weight (in_cleanup outcome) = 0

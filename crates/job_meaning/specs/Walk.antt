@@ -3,7 +3,7 @@ use Rattle.std.specs.Prelude.{ℕ, zero, suc, ◌+◌, ◌-◌, ◌/◌, Bool, t
 use Rattle.std.specs.Str.{bytes_eq}
 use Rattle.job_tree.specs.declared.deadline.Deadline.{Deadline}
 use Rattle.job_tree.specs.declared.deadline.Deadline.TheVariants.{Never, After, At}
-use Rattle.job_tree.specs.Tree.{Step, sleep, checkpoint, forever, pace, find, head, longest, need, raise, cancel, scope, nursery, start, attempt, Steps, stop, step, Handled, unhandled, except, Cleaned, uncleaned, finally}
+use Rattle.job_tree.specs.Tree.{Step, sleep, checkpoint, forever, pace, find, head, longest, need, raise, cancel, scope, nursery, start, repeat, attempt, Steps, stop, step, Handled, unhandled, except, Cleaned, uncleaned, finally}
 use Rattle.buffer_parts.specs.Lines.{Range, Span}
 use Rattle.buffer_parts.specs.Cuts.{cut_of}
 use Rattle.line_kernels.specs.Kernels.{found_in, head_of, longest_in, needed_in, count_in}
@@ -226,6 +226,15 @@ abbrev pub each : ℕ → (ℕ → Result) → ℕ → Result
 each zero go t = done_at t
 each (suc k) go t = joined (each k go t) (go k)
 
+-- where a pass of a `repeat` is: its number is one index more
+abbrev pub in_pass : ℕ → Here → Here
+in_pass i here = record here { path = here.path ++ i ∷ [] }
+
+-- so many passes, numbered from one on, each from where the one before it ended well
+abbrev pub passes : ℕ → ℕ → (ℕ → ℕ → Result) → ℕ → Result
+passes first zero go t = done_at t
+passes first (suc k) go t = and_then (go first t) (λ u. passes (suc first) k go u)
+
 -- where a child is: with its label, on its part
 abbrev pub here_in : Label → Range → Here → Here
 here_in label lent here = record { input = here.input; part = lent; task = label; path = label.indices }
@@ -300,6 +309,7 @@ unfoldable mutual
   walk_step m (start name (Some k) body) here st t =
       each k (λ i. child (label_over name here i) t
       (signed st (walk m body (here_in (label_over name here i) (cut_of here.input here.part k i) here) st t))) t
+  walk_step m (repeat count body) here st t = passes 0 count (λ i u. walk m body (in_pass i here) st u) t
   walk_step m (attempt body handler cleanup) here st t =
       walk_cleanup m cleanup here st (walk_handler m handler here st (walk m body here st t))
 

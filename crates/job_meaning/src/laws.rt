@@ -9,6 +9,7 @@ ghost use Rattle.job_meaning.specs.Laws.{
   NothingBeforeItsCause,
   StaysSeen,
   TableIsSettled,
+  UpgradingKeepsTheMeaning,
 };
 
 /// A cancellation that is seen at a tick is seen at every later tick, and where the tick from which a scope is
@@ -44,4 +45,10 @@ pub fn law_settled_table()
 /// meaning and of following any table, where names are given once.
 pub fn law_labels()
     ensures { LabelsAreGivenOnce }
+{}
+
+/// A job and the same job in format 2 mean the same over every input: the format says how a text is read, and nothing of what
+/// the job does.
+pub fn law_upgrade()
+    ensures { UpgradingKeepsTheMeaning }
 {}

@@ -1,12 +1,14 @@
 //! What a job means: the definitions that every contract above cites, and the laws that hold of them. It does nothing
 //! at run time.
 //!
-//! The layer promises five laws of these definitions: monotone sight, the root, causality, the settled table, and that labels
-//! are given once. It stands on the definitions of the tree, the input's parts, the kernels, the exceptions and the sight.
+//! The layer promises six laws of these definitions: monotone sight, the root, causality, the settled table, that labels
+//! are given once, and that a job means the same in format 2. It stands on the definitions of the tree, the input's parts, the kernels, the exceptions and the sight.
 #![tactic(auto)]
 
 mod laws;
 mod limits;
 
-pub use laws::{law_causality, law_labels, law_monotone_sight, law_root, law_settled_table};
+pub use laws::{
+    law_causality, law_labels, law_monotone_sight, law_root, law_settled_table, law_upgrade,
+};
 pub use limits::MOST_INPUT;

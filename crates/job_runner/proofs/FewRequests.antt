@@ -25,6 +25,7 @@ use Rattle.job_runner.proofs.Places.{times_cons}
 use Rattle.job_runner.proofs.Shelving.{one_same}
 use Rattle.job_runner.proofs.Stopped.{some_is}
 use Rattle.job_runner.proofs.Waking.{running_most}
+use Rattle.job_tree.proofs.Sizes.{few_steps}
 
 -- ---- the rows of entries
 
@@ -108,8 +109,8 @@ requests_fewer : (es : List Entry) → length (requests_of es) ≤ length es
 requests_fewer [] = omega arith
 requests_fewer (e ∷ es) = let one = one_request e.task e.call e.answer es in let fewer = requests_fewer es in omega (arith, one, fewer)
 
--- a batch of a run makes at most 2,000,000 requests
-pub few_requests : (r : Runner) → IsUnderway r → length (requests_of r.batch.current) ≤ 2000000
+-- a batch of a run makes at most 4,000,000 requests
+pub few_requests : (r : Runner) → IsUnderway r → length (requests_of r.batch.current) ≤ 4000000
 few_requests r h =
     let distinct = rows_differ r.roster shelved.agree r.batch.current all once in
     let crew = h.going.course k (table_is_settled r.job.now r.input.now h.going.sound.names) in
@@ -118,7 +119,8 @@ few_requests r h =
     let long = rows_long r.roster r.batch.current in
     let fewer = requests_fewer r.batch.current in
     let size = h.going.sound.modest.size in
-    omega (arith, few, long, fewer, size)
+    let most = few_steps r.job.now.format in
+    omega (arith, few, long, fewer, size, most)
   where
     k : Table
     k = meaning_table r.job.now r.input.now

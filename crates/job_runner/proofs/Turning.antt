@@ -65,6 +65,8 @@ use Rattle.job_runner.proofs.Starting.{got_once}
 use Rattle.job_runner.proofs.Known.{sleeps_in}
 use Rattle.job_runner.proofs.Stopped.{some_is, some_has, no_timer}
 use Rattle.job_runner.proofs.Lived.{task_at, row_below, rows_apart}
+use Rattle.job_tree.proofs.Sizes.{few_steps}
+use Rattle.job_tree.specs.Modest.{most_steps}
 
 -- ---- a world from which the started tasks were taken
 
@@ -138,16 +140,17 @@ may_turn id r wake going goes sound x lives =
       wake = may.fits;
     }
 
--- a run had at most 200,001 turns
-pub turns_few : (away : Option ℕ) (r : Runner) → IsGoing away r → r.turns ≤ 200001
+-- a run had at most 2,000,001 turns
+pub turns_few : (away : Option ℕ) (r : Runner) → IsGoing away r → r.turns ≤ 2000001
 turns_few away r going =
     let k = meaning_table r.job.now r.input.now in
     let c : IsCrew k r.job.now r.input.now r.world.tick (many r.roster) None (crew_in r) =
     going.course k (table_is_settled r.job.now r.input.now going.sound.names) in
     let few : r.turns ≤ 2 * size_of r.job.now.steps + 1 =
     crew_turns k r.job.now r.input.now r.world.tick (many r.roster) None (crew_in r) c in
-    let size : size_of r.job.now.steps ≤ 100000 = going.sound.modest.size in
-    omega (arith, few, size)
+    let size : size_of r.job.now.steps ≤ most_steps r.job.now.format = going.sound.modest.size in
+    let most : most_steps r.job.now.format ≤ 1000000 = few_steps r.job.now.format in
+    omega (arith, few, size, most)
 
 -- ---- the turn
 

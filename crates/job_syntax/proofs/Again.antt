@@ -1,8 +1,9 @@
 -- Blocks are read again from their tokens.
 use Rattle.std.proofs.Common.{◌≡◌, ℕ, zero, suc, ◌+◌, ◌-◌, ◌<◌, ◌≤◌, Bool, true, false, List, [], ◌∷◌, length, Option, Some, None, refl, sym, subst, arith}
+use Rattle.job_tree.specs.declared.format.Format.{Format}
 use Rattle.job_tree.specs.declared.deadline.Deadline.{Deadline}
 use Rattle.job_tree.specs.declared.deadline.Deadline.TheVariants.{Never, After, At}
-use Rattle.job_tree.specs.Tree.{Step, sleep, checkpoint, forever, pace, find, head, longest, need, raise, cancel, scope, nursery, start, attempt, Steps, stop, step, Handled, unhandled, except, Cleaned, uncleaned, finally, Tree}
+use Rattle.job_tree.specs.Tree.{Step, sleep, checkpoint, forever, pace, find, head, longest, need, raise, cancel, scope, nursery, start, repeat, attempt, Steps, stop, step, Handled, unhandled, except, Cleaned, uncleaned, finally, Tree}
 use Rattle.job_tokens.specs.declared.token.Mark.TheVariants as mark
 use Rattle.job_tokens.specs.declared.token.Shape.{Shape}
 use Rattle.job_syntax.specs.declared.keyword.Keyword.{Keyword}
@@ -54,8 +55,14 @@ mutual
     long_flag word.Shield s (flag_pieces word.Fail f (opens ∷ steps_pieces body rest)),
     long_flag word.Fail f (opens ∷ steps_pieces body rest),
   )
-  long_step (nursery n d s body) rest = omega (arith, long_steps body rest)
+  long_step (nursery n d s body) rest = omega (
+    arith,
+    long_steps body rest,
+    long_deadline d (flag_pieces word.Shield s (opens ∷ steps_pieces body rest)),
+    long_flag word.Shield s (opens ∷ steps_pieces body rest),
+  )
   long_step (start n o body) rest = omega (arith, long_steps body rest, long_over o (opens ∷ steps_pieces body rest))
+  long_step (repeat n body) rest = omega (arith, long_steps body rest)
   long_step (attempt body h c) rest =
       omega (arith, long_steps body (handler_pieces h (cleanup_pieces c rest)), long_handler h (cleanup_pieces c rest), long_cleanup c rest)
 
@@ -98,18 +105,20 @@ unfolding keyword_of
 start_again blocks n None body rest reads = rw (reads rest) refl
 start_again blocks n (Some k) body rest reads = rw (reads rest) refl
 
-nursery_again : (blocks : Blocks) (n : List ℕ) (body : Steps) (rest : List Piece) → ReadsAgain blocks body →
-    step_at blocks (shapes_in (step_pieces (nursery n Never false body) rest)) ≡ step_read (nursery n Never false body) rest
+nursery_again : (blocks : Blocks) (n : List ℕ) (d : Deadline) (s : Bool) (body : Steps) (rest : List Piece) → ReadsAgain blocks body →
+    step_at blocks (shapes_in (step_pieces (nursery n d s body) rest)) ≡ step_read (nursery n d s body) rest
 unfolding keyword_of
-nursery_again blocks n body rest reads = rw (reads rest) refl
+nursery_again blocks n Never false body rest reads = rw (reads rest) refl
+nursery_again blocks n Never true body rest reads = rw (reads rest) refl
+nursery_again blocks n (After t) false body rest reads = rw (reads rest) refl
+nursery_again blocks n (After t) true body rest reads = rw (reads rest) refl
+nursery_again blocks n (At t) false body rest reads = rw (reads rest) refl
+nursery_again blocks n (At t) true body rest reads = rw (reads rest) refl
 
-nursery_with : (blocks : Blocks) (n : List ℕ) (d : Deadline) (s : Bool) (body : Steps) (rest : List Piece) → d ≡ Never → s ≡ false →
-    ReadsAgain blocks body → step_at blocks (shapes_in (step_pieces (nursery n d s body) rest)) ≡ step_read (nursery n d s body) rest
-nursery_with blocks n d s body rest never unshielded reads =
-    subst (λ (x : Deadline). step_at blocks (shapes_in (step_pieces (nursery n x s body) rest)) ≡ step_read (nursery n x s body) rest)
-    (sym never)
-    (subst (λ (b : Bool). step_at blocks (shapes_in (step_pieces (nursery n Never b body) rest)) ≡ step_read (nursery n Never b body) rest)
-    (sym unshielded) (nursery_again blocks n body rest reads))
+repeat_again : (blocks : Blocks) (n : ℕ) (body : Steps) (rest : List Piece) → ReadsAgain blocks body →
+    step_at blocks (shapes_in (step_pieces (repeat n body) rest)) ≡ step_read (repeat n body) rest
+unfolding keyword_of
+repeat_again blocks n body rest reads = rw (reads rest) refl
 
 try_both : (blocks : Blocks) (body : Steps) (n : List ℕ) (handler clean : Steps) (rest : List Piece) → ReadsAgain blocks body →
     ReadsAgain blocks handler → ReadsAgain blocks clean → step_at blocks
@@ -148,6 +157,7 @@ no_finally (step (cancel n) ss) rest = refl
 no_finally (step (scope n d s f body) ss) rest = refl
 no_finally (step (nursery n d s body) ss) rest = refl
 no_finally (step (start n o body) ss) rest = refl
+no_finally (step (repeat n body) ss) rest = refl
 no_finally (step (attempt body h c) ss) rest = refl
 
 -- a step is no closing mark
@@ -165,22 +175,23 @@ no_close (cancel n) rest = refl
 no_close (scope n d s f body) rest = refl
 no_close (nursery n d s body) rest = refl
 no_close (start n o body) rest = refl
+no_close (repeat n body) rest = refl
 no_close (attempt body h c) rest = refl
 
 -- ---- blocks in blocks
 
 -- steps are read again where blocks are at most so deep, with room for so many steps
-abbrev StepsAgain : Steps → Type 0
-StepsAgain steps =
-    (inside : Bool) (depth n : ℕ) (rest : List Piece) → AreSteps inside steps → AreWithin depth steps →
+abbrev StepsAgain : (format : Format) → Steps → Type 0
+StepsAgain format steps =
+    (inside : Bool) (depth n : ℕ) (rest : List Piece) → AreSteps format inside steps → AreWithin depth steps →
     length (steps_pieces steps rest) ≤ n + length rest
     → steps_with (blocks_at depth) n (shapes_in (steps_pieces steps rest)) ≡ Some (steps, shapes_in rest)
 
-block_again : (inside : Bool) (body : Steps) (depth : ℕ) → StepsAgain body → AreSteps inside body → 0 < depth → AreWithin (depth - 1) body →
+block_again : (format : Format) (inside : Bool) (body : Steps) (depth : ℕ) → StepsAgain format body → AreSteps format inside body → 0 < depth → AreWithin (depth - 1) body →
     ReadsAgain (blocks_at depth) body
 unfolding blocks_at
-block_again inside body zero again are some within rest = absurd (omega arith)
-block_again inside body (suc depth) again are some within rest =
+block_again format inside body zero again are some within rest = absurd (omega arith)
+block_again format inside body (suc depth) again are some within rest =
     let e : suc depth - 1 ≡ depth = omega arith in
     again inside depth (length (shapes_in (steps_pieces body rest))) rest are (subst (λ (d : ℕ). AreWithin d body) e within)
     (omega (arith, length_shapes (steps_pieces body rest)))
@@ -194,66 +205,69 @@ one_step blocks n s ss shapes after rest going found others = rw (going, found, 
 mutual
   unfolding steps_with keyword_of
 
-  pub steps_again : (steps : Steps) (inside : Bool) (depth n : ℕ) (rest : List Piece) → AreSteps inside steps → AreWithin depth steps →
+  pub steps_again : (format : Format) (steps : Steps) (inside : Bool) (depth n : ℕ) (rest : List Piece) → AreSteps format inside steps → AreWithin depth steps →
       length (steps_pieces steps rest) ≤ n + length rest
       → steps_with (blocks_at depth) n (shapes_in (steps_pieces steps rest)) ≡ Some (steps, shapes_in rest)
-  steps_again stop inside depth zero rest are within le = absurd (omega arith)
-  steps_again stop inside depth (suc n) rest are within le = refl
-  steps_again (step s ss) inside depth zero rest are within le =
+  steps_again format stop inside depth zero rest are within le = absurd (omega arith)
+  steps_again format stop inside depth (suc n) rest are within le = refl
+  steps_again format (step s ss) inside depth zero rest are within le =
       absurd (omega (arith, long_step s (steps_pieces ss rest), long_steps ss rest))
-  steps_again (step s ss) inside depth (suc n) rest are within le =
+  steps_again format (step s ss) inside depth (suc n) rest are within le =
       one_step (blocks_at depth) n s ss (shapes_in (step_pieces s (steps_pieces ss rest))) (shapes_in (steps_pieces ss rest))
       (shapes_in rest) (no_close s (steps_pieces ss rest))
-      (step_again s inside depth (steps_pieces ss rest) are.0 within.0 (no_finally ss rest))
-      (steps_again ss inside depth n rest are.1 within.1 (omega (arith, le, long_step s (steps_pieces ss rest))))
+      (step_again format s inside depth (steps_pieces ss rest) are.0 within.0 (no_finally ss rest))
+      (steps_again format ss inside depth n rest are.1 within.1 (omega (arith, le, long_step s (steps_pieces ss rest))))
 
-  step_again : (s : Step) (inside : Bool) (depth : ℕ) (rest : List Piece) → IsStep inside s → IsWithin depth s →
+  step_again : (format : Format) (s : Step) (inside : Bool) (depth : ℕ) (rest : List Piece) → IsStep format inside s → IsWithin depth s →
       behind_word word.Finally (shapes_in rest) ≡ None
       → step_at (blocks_at depth) (shapes_in (step_pieces s rest)) ≡ Some (s, shapes_in rest)
-  step_again (sleep n) inside depth rest is within none = refl
-  step_again checkpoint inside depth rest is within none = refl
-  step_again forever inside depth rest is within none = refl
-  step_again (pace n) inside depth rest is within none = refl
-  step_again (find t) inside depth rest is within none = refl
-  step_again (head n) inside depth rest is within none = refl
-  step_again longest inside depth rest is within none = refl
-  step_again (need t n) inside depth rest is within none = refl
-  step_again (raise n) inside depth rest is within none = refl
-  step_again (cancel n) inside depth rest is within none = refl
-  step_again (scope n d s f body) inside depth rest is within none =
-      scope_again (blocks_at depth) n d s f body rest (block_again false body depth
-      (λ inside' depth' n' rest'. steps_again body inside' depth' n' rest') is within.0 within.1)
-  step_again (nursery n d s body) inside depth rest is within none =
-      nursery_with (blocks_at depth) n d s body rest is.0 is.1 (block_again true body depth
-      (λ inside' depth' n' rest'. steps_again body inside' depth' n' rest') is.2 within.0 within.1)
-  step_again (start n o body) inside depth rest is within none =
-      start_again (blocks_at depth) n o body rest (block_again false body depth
-      (λ inside' depth' n' rest'. steps_again body inside' depth' n' rest') is.1 within.0 within.1)
-  step_again (attempt body (except n handler) (finally clean)) inside depth rest is within none =
+  step_again format (sleep n) inside depth rest is within none = refl
+  step_again format checkpoint inside depth rest is within none = refl
+  step_again format forever inside depth rest is within none = refl
+  step_again format (pace n) inside depth rest is within none = refl
+  step_again format (find t) inside depth rest is within none = refl
+  step_again format (head n) inside depth rest is within none = refl
+  step_again format longest inside depth rest is within none = refl
+  step_again format (need t n) inside depth rest is within none = refl
+  step_again format (raise n) inside depth rest is within none = refl
+  step_again format (cancel n) inside depth rest is within none = refl
+  step_again format (scope n d s f body) inside depth rest is within none =
+      scope_again (blocks_at depth) n d s f body rest (block_again format false body depth
+      (λ inside' depth' n' rest'. steps_again format body inside' depth' n' rest') is within.0 within.1)
+  step_again format (nursery n d s body) inside depth rest is within none =
+      nursery_again (blocks_at depth) n d s body rest (block_again format true body depth
+      (λ inside' depth' n' rest'. steps_again format body inside' depth' n' rest') is.1 within.0 within.1)
+  step_again format (start n o body) inside depth rest is within none =
+      start_again (blocks_at depth) n o body rest (block_again format false body depth
+      (λ inside' depth' n' rest'. steps_again format body inside' depth' n' rest') is.1 within.0 within.1)
+  step_again format (repeat n body) inside depth rest is within none =
+      repeat_again (blocks_at depth) n body rest (block_again format false body depth
+      (λ inside' depth' n' rest'. steps_again format body inside' depth' n' rest') is.1 within.0 within.1)
+  step_again format (attempt body (except n handler) (finally clean)) inside depth rest is within none =
       try_both (blocks_at depth) body n handler clean rest
-      (block_again false body depth (λ inside' depth' n' rest'. steps_again body inside' depth' n' rest') is.1 within.0.0 within.0.1)
-      (block_again false handler depth (λ inside' depth' n' rest'. steps_again handler inside' depth' n' rest') is.2 within.1.0 within.1.1)
-      (block_again false clean depth (λ inside' depth' n' rest'. steps_again clean inside' depth' n' rest') is.3 within.2.0 within.2.1)
-  step_again (attempt body (except n handler) uncleaned) inside depth rest is within none =
+      (block_again format false body depth (λ inside' depth' n' rest'. steps_again format body inside' depth' n' rest') is.1 within.0.0 within.0.1)
+      (block_again format false handler depth (λ inside' depth' n' rest'. steps_again format handler inside' depth' n' rest') is.2 within.1.0 within.1.1)
+      (block_again format false clean depth (λ inside' depth' n' rest'. steps_again format clean inside' depth' n' rest') is.3 within.2.0 within.2.1)
+  step_again format (attempt body (except n handler) uncleaned) inside depth rest is within none =
       try_handler (blocks_at depth) body n handler rest
-      (block_again false body depth (λ inside' depth' n' rest'. steps_again body inside' depth' n' rest') is.1 within.0.0 within.0.1)
-      (block_again false handler depth (λ inside' depth' n' rest'. steps_again handler inside' depth' n' rest') is.2 within.1.0 within.1.1)
+      (block_again format false body depth (λ inside' depth' n' rest'. steps_again format body inside' depth' n' rest') is.1 within.0.0 within.0.1)
+      (block_again format false handler depth (λ inside' depth' n' rest'. steps_again format handler inside' depth' n' rest') is.2 within.1.0 within.1.1)
       none
-  step_again (attempt body unhandled (finally clean)) inside depth rest is within none =
+  step_again format (attempt body unhandled (finally clean)) inside depth rest is within none =
       try_cleanup (blocks_at depth) body clean rest
-      (block_again false body depth (λ inside' depth' n' rest'. steps_again body inside' depth' n' rest') is.1 within.0.0 within.0.1)
-      (block_again false clean depth (λ inside' depth' n' rest'. steps_again clean inside' depth' n' rest') is.3 within.2.0 within.2.1)
-  step_again (attempt body unhandled uncleaned) inside depth rest is within none = absurd is.0
+      (block_again format false body depth (λ inside' depth' n' rest'. steps_again format body inside' depth' n' rest') is.1 within.0.0 within.0.1)
+      (block_again format false clean depth (λ inside' depth' n' rest'. steps_again format clean inside' depth' n' rest') is.3 within.2.0 within.2.1)
+  step_again format (attempt body unhandled uncleaned) inside depth rest is within none = absurd is.0
 
 -- ---- a whole job
 
-one_job : (name : List ℕ) (body : Steps) → blocks_at 32 (shapes_in (steps_pieces body [])) ≡ Some (body, []) →
-    job_at (shapes_in (job_pieces (record { name = name; steps = body }))) ≡ Some (record { name = name; steps = body })
+one_job : (format : Format) (name : List ℕ) (body : Steps) → blocks_at 32 (shapes_in (steps_pieces body [])) ≡ Some (body, []) →
+    job_at format (shapes_in (job_pieces (record { format = format; name = name; steps = body }))) ≡ Some (record { format = format; name = name; steps = body })
 unfolding keyword_of
-one_job name body reads = rw reads refl
+one_job format name body reads = rw reads refl
 
 -- a job is read again from its tokens
-pub job_again : (job : Tree) → AreSteps false job.steps → AreWithin 31 job.steps → job_at (shapes_in (job_pieces job)) ≡ Some job
+pub job_again : (job : Tree) → AreSteps job.format false job.steps → AreWithin 31 job.steps → job_at job.format (shapes_in (job_pieces job)) ≡ Some job
 job_again job are within =
-    one_job job.name job.steps (block_again false job.steps 32 (λ inside depth n rest. steps_again job.steps inside depth n rest) are
+    one_job job.format job.name job.steps (block_again job.format false job.steps 32 (λ inside depth n rest. steps_again job.format job.steps inside depth n rest) are
     (omega arith) within [])

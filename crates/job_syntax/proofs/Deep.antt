@@ -3,7 +3,7 @@ use Rattle.std.proofs.Common.{◌≡◌, ℕ, suc, ◌+◌, ◌-◌, ◌<◌, �
 use Rattle.std.proofs.lemmas.Bool.{leb-true, le-leb}
 use Rattle.job_tree.specs.declared.deadline.Deadline.{Deadline}
 use Rattle.job_tree.specs.declared.deadline.Deadline.TheVariants.{Never, After, At}
-use Rattle.job_tree.specs.Tree.{Step, sleep, checkpoint, forever, pace, find, head, longest, need, raise, cancel, scope, nursery, start, attempt, Steps, stop, step, Handled, unhandled, except, Cleaned, uncleaned, finally, Tree}
+use Rattle.job_tree.specs.Tree.{Step, sleep, checkpoint, forever, pace, find, head, longest, need, raise, cancel, scope, nursery, start, repeat, attempt, Steps, stop, step, Handled, unhandled, except, Cleaned, uncleaned, finally, Tree}
 use Rattle.job_tokens.specs.declared.token.Shape.{Shape}
 use Rattle.job_tokens.specs.declared.token.Token.{Token}
 use Rattle.job_tokens.specs.Shapes.{shapes_of, mark_in}
@@ -102,10 +102,15 @@ mutual
       block_within depth more body rest (λ depth' more'. steps_within body rest depth' more') e
       (past_flag depth word.Fail f block (past_flag depth word.Shield s flagged (past_deadline depth d shielded none.1.1)))
   step_within (nursery n d s body) rest depth more e none =
-      block_within depth more body rest (λ depth' more'. steps_within body rest depth' more') e none.1.1
+      let block = opens ∷ steps_pieces body rest in
+      let shielded = flag_pieces word.Shield s block in
+      block_within depth more body rest (λ depth' more'. steps_within body rest depth' more') e
+      (past_flag depth word.Shield s block (past_deadline depth d shielded none.1.1))
   step_within (start n o body) rest depth more e none =
       block_within depth more body rest (λ depth' more'. steps_within body rest depth' more') e
       (past_over depth o (opens ∷ steps_pieces body rest) none.1.1)
+  step_within (repeat n body) rest depth more e none =
+      block_within depth more body rest (λ depth' more'. steps_within body rest depth' more') e none.1.1
   step_within (attempt body h c) rest depth more e none =
       let after = handler_pieces h (cleanup_pieces c rest) in
       let one = block_within depth more body after (λ depth' more'. steps_within body after depth' more') e none.1 in

@@ -7,3 +7,4 @@ pub mod Names
 pub mod Deep
 pub mod Modest
 pub mod Starting
+pub mod Upgraded

@@ -4,7 +4,7 @@ use Rattle.job_tokens.specs.declared.token.Mark.{Mark}
 use Rattle.job_tokens.specs.declared.token.Mark.TheVariants as mark
 use Rattle.job_tokens.specs.declared.token.Token.{Token}
 use Rattle.job_tokens.specs.Shapes.{mark_in}
-use Rattle.job_tree.specs.Tree.{Step, sleep, checkpoint, forever, pace, find, head, longest, need, raise, cancel, scope, nursery, start, attempt, Steps, stop, step, Handled, unhandled, except, Cleaned, uncleaned, finally}
+use Rattle.job_tree.specs.Tree.{Step, sleep, checkpoint, forever, pace, find, head, longest, need, raise, cancel, scope, nursery, start, repeat, attempt, Steps, stop, step, Handled, unhandled, except, Cleaned, uncleaned, finally}
 
 abbrev mutual
   -- at most so many blocks stand in one another inside a block
@@ -26,6 +26,7 @@ abbrev mutual
   IsWithin depth (scope name deadline shield fail body) = (0 < depth) × AreWithin (depth - 1) body
   IsWithin depth (nursery name deadline shield body) = (0 < depth) × AreWithin (depth - 1) body
   IsWithin depth (start name over body) = (0 < depth) × AreWithin (depth - 1) body
+  IsWithin depth (repeat count body) = (0 < depth) × AreWithin (depth - 1) body
   IsWithin depth (attempt body handler cleanup) = ((0 < depth) × AreWithin (depth - 1) body) × IsHandlerWithin depth handler
       × IsCleanupWithin depth cleanup
 

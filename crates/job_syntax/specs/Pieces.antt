@@ -3,7 +3,9 @@
 use Rattle.std.specs.Prelude.{◌≡◌, ℕ, List, [], ◌∷◌, map, Bool, true, false, Option, Some, None}
 use Rattle.job_tree.specs.declared.deadline.Deadline.{Deadline}
 use Rattle.job_tree.specs.declared.deadline.Deadline.TheVariants.{Never, After, At}
-use Rattle.job_tree.specs.Tree.{Step, sleep, checkpoint, forever, pace, find, head, longest, need, raise, cancel, scope, nursery, start, attempt, Steps, stop, step, Handled, unhandled, except, Cleaned, uncleaned, finally, Tree}
+use Rattle.job_tree.specs.declared.format.Format.{Format}
+use Rattle.job_tree.specs.declared.format.Format.TheVariants.{One, Two}
+use Rattle.job_tree.specs.Tree.{Step, sleep, checkpoint, forever, pace, find, head, longest, need, raise, cancel, scope, nursery, start, repeat, attempt, Steps, stop, step, Handled, unhandled, except, Cleaned, uncleaned, finally, Tree}
 use Rattle.job_tokens.specs.declared.token.Mark.{Mark}
 use Rattle.job_tokens.specs.declared.token.Mark.TheVariants as mark
 use Rattle.job_tokens.specs.declared.token.Shape.{Shape}
@@ -88,8 +90,11 @@ abbrev mutual
   step_pieces (scope name deadline shield fail body) rest =
       keyword word.Scope ∷ named role.Given name ∷ deadline_pieces deadline
       (flag_pieces word.Shield shield (flag_pieces word.Fail fail (opens ∷ steps_pieces body rest)))
-  step_pieces (nursery name deadline shield body) rest = keyword word.Nursery ∷ named role.Given name ∷ opens ∷ steps_pieces body rest
+  step_pieces (nursery name deadline shield body) rest =
+      keyword word.Nursery ∷ named role.Given name ∷ deadline_pieces deadline
+      (flag_pieces word.Shield shield (opens ∷ steps_pieces body rest))
   step_pieces (start name over body) rest = keyword word.Start ∷ named role.Given name ∷ over_pieces over (opens ∷ steps_pieces body rest)
+  step_pieces (repeat count body) rest = keyword word.Repeat ∷ number count ∷ opens ∷ steps_pieces body rest
   step_pieces (attempt body handler cleanup) rest =
       keyword word.Try ∷ opens ∷ steps_pieces body (handler_pieces handler (cleanup_pieces cleanup rest))
 
@@ -114,32 +119,40 @@ HasTail (except name body) cleanup = Unit {0}
 HasTail unhandled (finally body) = Unit {0}
 HasTail unhandled uncleaned = ⊥
 
+-- what may stand behind a nursery's name: nothing in format 1, in format 2 no `at`
+abbrev pub IsNurseryHead : Format → Deadline → Bool → Type 0
+IsNurseryHead One deadline shield = (deadline ≡ Never) × (shield ≡ false)
+IsNurseryHead Two Never shield = Unit {0}
+IsNurseryHead Two (After n) shield = Unit {0}
+IsNurseryHead Two (At n) shield = ⊥
+
 abbrev mutual
-  -- what stands in a block: a `start` only right inside a nursery
-  pub AreSteps : Bool → Steps → Type 0
-  AreSteps inside stop = Unit {0}
-  AreSteps inside (step s ss) = IsStep inside s × AreSteps inside ss
+  -- what stands in a block: a `start` only right inside a nursery, and a `repeat` only in format 2
+  pub AreSteps : Format → Bool → Steps → Type 0
+  AreSteps format inside stop = Unit {0}
+  AreSteps format inside (step s ss) = IsStep format inside s × AreSteps format inside ss
 
-  pub IsStep : Bool → Step → Type 0
-  IsStep inside (sleep ticks) = Unit {0}
-  IsStep inside checkpoint = Unit {0}
-  IsStep inside forever = Unit {0}
-  IsStep inside (pace per_tick) = Unit {0}
-  IsStep inside (find text) = Unit {0}
-  IsStep inside (head count) = Unit {0}
-  IsStep inside longest = Unit {0}
-  IsStep inside (need text name) = Unit {0}
-  IsStep inside (raise name) = Unit {0}
-  IsStep inside (cancel name) = Unit {0}
-  IsStep inside (scope name deadline shield fail body) = AreSteps false body
-  IsStep inside (nursery name deadline shield body) = (deadline ≡ Never) × (shield ≡ false) × AreSteps true body
-  IsStep inside (start name over body) = (inside ≡ true) × AreSteps false body
-  IsStep inside (attempt body handler cleanup) = HasTail handler cleanup × AreSteps false body × IsHandler handler × IsCleanup cleanup
+  pub IsStep : Format → Bool → Step → Type 0
+  IsStep format inside (sleep ticks) = Unit {0}
+  IsStep format inside checkpoint = Unit {0}
+  IsStep format inside forever = Unit {0}
+  IsStep format inside (pace per_tick) = Unit {0}
+  IsStep format inside (find text) = Unit {0}
+  IsStep format inside (head count) = Unit {0}
+  IsStep format inside longest = Unit {0}
+  IsStep format inside (need text name) = Unit {0}
+  IsStep format inside (raise name) = Unit {0}
+  IsStep format inside (cancel name) = Unit {0}
+  IsStep format inside (scope name deadline shield fail body) = AreSteps format false body
+  IsStep format inside (nursery name deadline shield body) = IsNurseryHead format deadline shield × AreSteps format true body
+  IsStep format inside (start name over body) = (inside ≡ true) × AreSteps format false body
+  IsStep format inside (repeat count body) = (format ≡ Two) × AreSteps format false body
+  IsStep format inside (attempt body handler cleanup) = HasTail handler cleanup × AreSteps format false body × IsHandler format handler × IsCleanup format cleanup
 
-  pub IsHandler : Handled → Type 0
-  IsHandler unhandled = Unit {0}
-  IsHandler (except name body) = AreSteps false body
+  pub IsHandler : Format → Handled → Type 0
+  IsHandler format unhandled = Unit {0}
+  IsHandler format (except name body) = AreSteps format false body
 
-  pub IsCleanup : Cleaned → Type 0
-  IsCleanup uncleaned = Unit {0}
-  IsCleanup (finally body) = AreSteps false body
+  pub IsCleanup : Format → Cleaned → Type 0
+  IsCleanup format uncleaned = Unit {0}
+  IsCleanup format (finally body) = AreSteps format false body

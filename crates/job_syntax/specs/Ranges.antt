@@ -1,6 +1,8 @@
 -- The ranges of the numbers of a job text.
 use Rattle.std.specs.Prelude.{ℕ, List, [], ◌∷◌, Bool, true, false, ◌&&◌, nat_le, Option, Some, None, if◌then◌else◌}
-use Rattle.job_tree.specs.declared.limits.TheConstants.{GREATEST_NUMBER, GREATEST_PACE, MOST_COPIES}
+use Rattle.job_tree.specs.declared.limits.TheConstants.{GREATEST_NUMBER, GREATEST_PACE, MOST_COPIES, MOST_PASSES}
+use Rattle.job_tree.specs.declared.format.Format.{Format}
+use Rattle.job_tree.specs.declared.format.Format.TheVariants.{One, Two}
 use Rattle.job_tokens.specs.declared.token.Shape.{Shape}
 use Rattle.job_tokens.specs.declared.token.Shape.TheVariants as shape
 use Rattle.job_tokens.specs.declared.token.Token.{Token}
@@ -15,25 +17,31 @@ keyword_in (shape.Number n) = None
 keyword_in (shape.Text text) = None
 keyword_in (shape.Mark mark) = None
 
--- the least and the greatest number behind a keyword
-abbrev pub range_of : Option Keyword → ℕ × ℕ
-range_of (Some word.Over) = (1, MOST_COPIES)
-range_of (Some word.Pace) = (1, GREATEST_PACE)
-range_of _ = (0, GREATEST_NUMBER)
+-- the greatest number behind `repeat`, which begins no step in format 1
+abbrev pub most_passes : Format → ℕ
+most_passes One = GREATEST_NUMBER
+most_passes Two = MOST_PASSES
+
+-- the least and the greatest number behind a keyword; `repeat` has a range of its own in format 2
+abbrev pub range_of : Format → Option Keyword → ℕ × ℕ
+range_of format (Some word.Over) = (1, MOST_COPIES)
+range_of format (Some word.Pace) = (1, GREATEST_PACE)
+range_of format (Some word.Repeat) = (0, most_passes format)
+range_of format _ = (0, GREATEST_NUMBER)
 
 -- a number in its range: none is one that the number rule refuses
-abbrev pub fits : Option Keyword → Option ℕ → Bool
-fits before None = false
-fits before (Some n) = nat_le (range_of before).0 n && nat_le n (range_of before).1
+abbrev pub fits : Format → Option Keyword → Option ℕ → Bool
+fits format before None = false
+fits format before (Some n) = nat_le (range_of format before).0 n && nat_le n (range_of format before).1
 
 -- no number, or one in its range
-abbrev pub is_in_range : Option Keyword → Shape → Bool
-is_in_range before (shape.Word word) = true
-is_in_range before (shape.Number n) = fits before n
-is_in_range before (shape.Text text) = true
-is_in_range before (shape.Mark mark) = true
+abbrev pub is_in_range : Format → Option Keyword → Shape → Bool
+is_in_range format before (shape.Word word) = true
+is_in_range format before (shape.Number n) = fits format before n
+is_in_range format before (shape.Text text) = true
+is_in_range format before (shape.Mark mark) = true
 
 -- the place of the first number out of its range, behind a token that may be a keyword
-abbrev pub number_fault : Option Keyword → List Token → Option ℕ
-number_fault before [] = None
-number_fault before (t ∷ ts) = if is_in_range before t.shape then number_fault (keyword_in t.shape) ts else Some t.at
+abbrev pub number_fault : Format → Option Keyword → List Token → Option ℕ
+number_fault format before [] = None
+number_fault format before (t ∷ ts) = if is_in_range format before t.shape then number_fault format (keyword_in t.shape) ts else Some t.at

@@ -3,7 +3,8 @@ use Rattle.std.specs.Prelude.{ℕ, zero, suc, List, [], ◌∷◌, length, Bool,
 use Rattle.std.specs.Str.{bytes_eq}
 use Rattle.job_tree.specs.declared.deadline.Deadline.{Deadline}
 use Rattle.job_tree.specs.declared.deadline.Deadline.TheVariants.{Never, After, At}
-use Rattle.job_tree.specs.Tree.{Step, sleep, checkpoint, forever, pace, find, head, longest, need, raise, cancel, scope, nursery, start, attempt, Steps, stop, step, Handled, unhandled, except, Cleaned, uncleaned, finally, Tree}
+use Rattle.job_tree.specs.declared.format.Format.{Format}
+use Rattle.job_tree.specs.Tree.{Step, sleep, checkpoint, forever, pace, find, head, longest, need, raise, cancel, scope, nursery, start, repeat, attempt, Steps, stop, step, Handled, unhandled, except, Cleaned, uncleaned, finally, Tree}
 use Rattle.job_tokens.specs.declared.token.Mark.{Mark}
 use Rattle.job_tokens.specs.declared.token.Mark.TheVariants as mark
 use Rattle.job_tokens.specs.declared.token.Shape.{Shape}
@@ -104,10 +105,15 @@ abbrev pub ended : Step → List Shape → Read Step
 ended s shapes = mark_at mark.Semicolon shapes >>= λ rest. Some (s, rest)
 
 abbrev pub nursery_at : Blocks → List Shape → Read Step
-nursery_at blocks shapes = word_at shapes >>= λ n. body_at blocks n.1 >>= λ b. Some (nursery n.0 Never false b.0, b.1)
+nursery_at blocks shapes =
+    word_at shapes >>= λ n. deadline_at n.1 >>= λ d. body_at blocks (flag_at word.Shield d.1).1 >>= λ b.
+    Some (nursery n.0 d.0 (flag_at word.Shield d.1).0 b.0, b.1)
 
 abbrev pub start_at : Blocks → List Shape → Read Step
 start_at blocks shapes = word_at shapes >>= λ n. over_at n.1 >>= λ o. body_at blocks o.1 >>= λ b. Some (start n.0 o.0 b.0, b.1)
+
+abbrev pub repeat_at : Blocks → List Shape → Read Step
+repeat_at blocks shapes = number_at shapes >>= λ n. body_at blocks n.1 >>= λ b. Some (repeat n.0 b.0, b.1)
 
 -- a step that holds no block, behind its keyword
 abbrev pub plain_step : Keyword → List Shape → Read Step
@@ -128,6 +134,7 @@ abbrev pub step_behind : Blocks → Keyword → List Shape → Read Step
 step_behind blocks word.Scope shapes = scope_at blocks shapes
 step_behind blocks word.Nursery shapes = nursery_at blocks shapes
 step_behind blocks word.Start shapes = start_at blocks shapes
+step_behind blocks word.Repeat shapes = repeat_at blocks shapes
 step_behind blocks word.Try shapes = try_at blocks shapes
 step_behind blocks k shapes = plain_step k shapes
 
@@ -158,7 +165,7 @@ abbrev pub head_at : List Shape → Read (List ℕ)
 head_at shapes = keyword_at shapes >>= λ k. (if is_job k.0 then word_at k.1 else None) >>= λ w. mark_at mark.Open w.1 >>= λ rest.
     Some (w.0, rest)
 
--- a whole job, whose blocks stand at most 32 deep
-abbrev pub job_at : List Shape → Option Tree
-job_at shapes = head_at shapes >>= λ name. blocks_at most_deep name.1 >>= λ steps.
-    if length steps.1 == 0 then Some (record { name = name.0; steps = steps.0 }) else None
+-- a whole job of a format, whose blocks stand at most 32 deep
+abbrev pub job_at : Format → List Shape → Option Tree
+job_at format shapes = head_at shapes >>= λ name. blocks_at most_deep name.1 >>= λ steps.
+    if length steps.1 == 0 then Some (record { format = format; name = name.0; steps = steps.0 }) else None

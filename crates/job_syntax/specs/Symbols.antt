@@ -1,5 +1,7 @@
 -- What may stand behind a token, symbol by symbol.
 use Rattle.std.specs.Prelude.{List, [], ◌∷◌, Bool, true, false, Option, Some, None}
+use Rattle.job_tree.specs.declared.format.Format.{Format}
+use Rattle.job_tree.specs.declared.format.Format.TheVariants.{One, Two}
 use Rattle.job_tokens.specs.declared.token.Mark.{Mark}
 use Rattle.job_tokens.specs.declared.token.Mark.TheVariants as mark
 use Rattle.job_tokens.specs.declared.token.Shape.{Shape}
@@ -7,7 +9,7 @@ use Rattle.job_tokens.specs.Shapes.{word_in, number_in, text_in, mark_in}
 use Rattle.job_syntax.specs.declared.keyword.Keyword.{Keyword}
 use Rattle.job_syntax.specs.declared.keyword.Keyword.TheVariants as word
 use Rattle.job_syntax.specs.declared.symbol.Symbol.{Symbol}
-use Rattle.job_syntax.specs.declared.symbol.Symbol.TheVariants.{Job, Steps, Items, StepsTail, ItemsTail, StepsCleanup, ItemsCleanup, Scope, Shield, Fail, Over, Given, Raised, Handled, Target, Number, Text, Open, Semicolon}
+use Rattle.job_syntax.specs.declared.symbol.Symbol.TheVariants.{Job, Steps, Items, StepsTail, ItemsTail, StepsCleanup, ItemsCleanup, Scope, Shield, Fail, Nursery, NurseryShield, Over, Given, Raised, Handled, Target, Number, Text, Open, Semicolon}
 use Rattle.job_syntax.specs.Keywords.{keyword_of}
 
 -- what comes of a value, where there is one
@@ -43,28 +45,34 @@ abbrev pub start_rest : Bool → Rest
 start_rest true = Some (Given ∷ Over ∷ Items ∷ [])
 start_rest false = None
 
+-- behind `repeat`, which begins a step in format 2 alone
+abbrev pub repeat_rest : Format → Bool → Rest
+repeat_rest One inside = None
+repeat_rest Two inside = Some (Number ∷ Open ∷ Steps ∷ outer inside ∷ [])
+
 -- behind the first word of a step
-abbrev pub step_rest : Bool → Keyword → Rest
-step_rest inside word.Sleep = Some (Number ∷ Semicolon ∷ outer inside ∷ [])
-step_rest inside word.Checkpoint = Some (Semicolon ∷ outer inside ∷ [])
-step_rest inside word.Forever = Some (Semicolon ∷ outer inside ∷ [])
-step_rest inside word.Pace = Some (Number ∷ Semicolon ∷ outer inside ∷ [])
-step_rest inside word.Find = Some (Text ∷ Semicolon ∷ outer inside ∷ [])
-step_rest inside word.Head = Some (Number ∷ Semicolon ∷ outer inside ∷ [])
-step_rest inside word.Longest = Some (Semicolon ∷ outer inside ∷ [])
-step_rest inside word.Need = Some (Text ∷ Raised ∷ Semicolon ∷ outer inside ∷ [])
-step_rest inside word.Raise = Some (Raised ∷ Semicolon ∷ outer inside ∷ [])
-step_rest inside word.Cancel = Some (Target ∷ Semicolon ∷ outer inside ∷ [])
-step_rest inside word.Scope = Some (Given ∷ Scope ∷ outer inside ∷ [])
-step_rest inside word.Nursery = Some (Given ∷ Open ∷ Items ∷ outer inside ∷ [])
-step_rest inside word.Start = start_rest inside
-step_rest inside word.Try = Some (Open ∷ Steps ∷ tail inside ∷ [])
-step_rest inside _ = None
+abbrev pub step_rest : Format → Bool → Keyword → Rest
+step_rest format inside word.Sleep = Some (Number ∷ Semicolon ∷ outer inside ∷ [])
+step_rest format inside word.Checkpoint = Some (Semicolon ∷ outer inside ∷ [])
+step_rest format inside word.Forever = Some (Semicolon ∷ outer inside ∷ [])
+step_rest format inside word.Pace = Some (Number ∷ Semicolon ∷ outer inside ∷ [])
+step_rest format inside word.Find = Some (Text ∷ Semicolon ∷ outer inside ∷ [])
+step_rest format inside word.Head = Some (Number ∷ Semicolon ∷ outer inside ∷ [])
+step_rest format inside word.Longest = Some (Semicolon ∷ outer inside ∷ [])
+step_rest format inside word.Need = Some (Text ∷ Raised ∷ Semicolon ∷ outer inside ∷ [])
+step_rest format inside word.Raise = Some (Raised ∷ Semicolon ∷ outer inside ∷ [])
+step_rest format inside word.Cancel = Some (Target ∷ Semicolon ∷ outer inside ∷ [])
+step_rest format inside word.Scope = Some (Given ∷ Scope ∷ outer inside ∷ [])
+step_rest format inside word.Nursery = Some (Given ∷ Nursery ∷ outer inside ∷ [])
+step_rest format inside word.Start = start_rest inside
+step_rest format inside word.Repeat = repeat_rest format inside
+step_rest format inside word.Try = Some (Open ∷ Steps ∷ tail inside ∷ [])
+step_rest format inside _ = None
 
 -- behind the first word of what may stand behind a handler, where it is no step
-abbrev pub cleanup_rest : Bool → Keyword → Rest
-cleanup_rest inside word.Finally = Some (Open ∷ Steps ∷ outer inside ∷ [])
-cleanup_rest inside k = step_rest inside k
+abbrev pub cleanup_rest : Format → Bool → Keyword → Rest
+cleanup_rest format inside word.Finally = Some (Open ∷ Steps ∷ outer inside ∷ [])
+cleanup_rest format inside k = step_rest format inside k
 
 -- behind the word that follows the block of a `try`
 abbrev pub tail_rest : Bool → Keyword → Rest
@@ -85,6 +93,15 @@ abbrev pub scope_rest : Keyword → Rest
 scope_rest word.After = Some (Number ∷ Shield ∷ [])
 scope_rest word.At = Some (Number ∷ Shield ∷ [])
 scope_rest k = shield_rest k
+
+-- behind a word in the head of a nursery, which has one in format 2 alone
+abbrev pub nursery_shield_rest : Format → Keyword → Rest
+nursery_shield_rest Two word.Shield = Some (Open ∷ Items ∷ [])
+nursery_shield_rest format _ = None
+
+abbrev pub nursery_rest : Format → Keyword → Rest
+nursery_rest Two word.After = Some (Number ∷ NurseryShield ∷ [])
+nursery_rest format k = nursery_shield_rest format k
 
 abbrev pub over_rest : Keyword → Rest
 over_rest word.Over = Some (Number ∷ Open ∷ Steps ∷ [])
@@ -117,23 +134,25 @@ abbrev pub any_name : Shape → Rest
 any_name shape = word_in shape >>= λ w. Some []
 
 -- behind a token that stands for a symbol
-abbrev pub next : Symbol → Shape → Rest
-next Job shape = word_in shape >>= λ w. keyword_of w >>= text_rest
-next Steps shape = either close_rest (step_rest false) shape
-next Items shape = either close_rest (step_rest true) shape
-next StepsTail shape = word_in shape >>= λ w. keyword_of w >>= tail_rest false
-next ItemsTail shape = word_in shape >>= λ w. keyword_of w >>= tail_rest true
-next StepsCleanup shape = either close_rest (cleanup_rest false) shape
-next ItemsCleanup shape = either close_rest (cleanup_rest true) shape
-next Scope shape = either (open_rest (Some (Steps ∷ []))) scope_rest shape
-next Shield shape = either (open_rest (Some (Steps ∷ []))) shield_rest shape
-next Fail shape = either (open_rest (Some (Steps ∷ []))) fail_rest shape
-next Over shape = either (open_rest (Some (Steps ∷ []))) over_rest shape
-next Given shape = any_name shape
-next Raised shape = any_name shape
-next Handled shape = any_name shape
-next Target shape = any_name shape
-next Number shape = number_in shape >>= λ n. Some []
-next Text shape = text_in shape >>= λ t. Some []
-next Open shape = mark_in shape >>= open_rest (Some [])
-next Semicolon shape = mark_in shape >>= semicolon_rest
+abbrev pub next : Format → Symbol → Shape → Rest
+next format Job shape = word_in shape >>= λ w. keyword_of w >>= text_rest
+next format Steps shape = either close_rest (step_rest format false) shape
+next format Items shape = either close_rest (step_rest format true) shape
+next format StepsTail shape = word_in shape >>= λ w. keyword_of w >>= tail_rest false
+next format ItemsTail shape = word_in shape >>= λ w. keyword_of w >>= tail_rest true
+next format StepsCleanup shape = either close_rest (cleanup_rest format false) shape
+next format ItemsCleanup shape = either close_rest (cleanup_rest format true) shape
+next format Scope shape = either (open_rest (Some (Steps ∷ []))) scope_rest shape
+next format Shield shape = either (open_rest (Some (Steps ∷ []))) shield_rest shape
+next format Fail shape = either (open_rest (Some (Steps ∷ []))) fail_rest shape
+next format Nursery shape = either (open_rest (Some (Items ∷ []))) (nursery_rest format) shape
+next format NurseryShield shape = either (open_rest (Some (Items ∷ []))) (nursery_shield_rest format) shape
+next format Over shape = either (open_rest (Some (Steps ∷ []))) over_rest shape
+next format Given shape = any_name shape
+next format Raised shape = any_name shape
+next format Handled shape = any_name shape
+next format Target shape = any_name shape
+next format Number shape = number_in shape >>= λ n. Some []
+next format Text shape = text_in shape >>= λ t. Some []
+next format Open shape = mark_in shape >>= open_rest (Some [])
+next format Semicolon shape = mark_in shape >>= semicolon_rest

@@ -4,6 +4,7 @@ ghost use Rattle.job_syntax.specs.Syntax.{fault_at, role_of, roles_at, whole_job
 use crate::role::Role;
 use crate::symbol::Symbol;
 use job_tokens::Token;
+use job_tree::Format;
 use std::alloc::{AllocError, Global};
 
 /// What was found along the tokens of a text.
@@ -15,10 +16,15 @@ pub struct Course {
     pub roles: Vec<Role>,
 }
 
-/// Goes along the tokens of a text that ends at `end`.
-pub fn follow(alloc: Global, tokens: &[Token], end: usize) -> Result<Course, AllocError>
-    ensures fault { IfOk result (λ c. c.fault ≡ fault_at end whole_job tokens.now) }
-    ensures roles { IfOk result (λ c. c.fault ≡ None → c.roles.items ≡ roles_at whole_job tokens.now) }
+/// Goes along the tokens of a text of that format that ends at `end`.
+pub fn follow(
+    alloc: Global,
+    format: Format,
+    tokens: &[Token],
+    end: usize,
+) -> Result<Course, AllocError>
+    ensures fault { IfOk result (λ c. c.fault ≡ fault_at format end whole_job tokens.now) }
+    ensures roles { IfOk result (λ c. c.fault ≡ None → c.roles.items ≡ roles_at format whole_job tokens.now) }
 {
     let mut stack = Vec::new(alloc);
     stack.push(Symbol::Job)?;
@@ -27,7 +33,7 @@ pub fn follow(alloc: Global, tokens: &[Token], end: usize) -> Result<Course, All
         let Some(symbol) = stack.pop() else {
             return Ok(stopped_at(token.at, roles));
         };
-        let Some(rest) = symbol.next(token.shape) else {
+        let Some(rest) = symbol.next(format, token.shape) else {
             return Ok(stopped_at(token.at, roles));
         };
         roles.push(symbol.role())?;

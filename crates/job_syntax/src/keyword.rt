@@ -50,7 +50,7 @@ pub enum Keyword {
     Except,
     /// `finally`. A cleanup.
     Finally,
-    /// `repeat`. Kept for a later format: it begins no step.
+    /// `repeat`. Runs a block several times; in format 1 it begins no step.
     Repeat,
 }
 

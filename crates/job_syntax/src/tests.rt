@@ -1,5 +1,6 @@
 use crate::{depth_fault, follow, job_at, number_fault};
 use job_tokens::lex;
+use job_tree::Format;
 use std::test::Fail;
 
 #[test]
@@ -7,10 +8,10 @@ fn a_job_is_followed_to_its_end(rt: HostRuntime) -> Result<(), Fail> {
     let text = b"job main { sleep 3; }".as_slice();
     let lexed = lex(rt.alloc(), text, text.len())?;
     let tokens = lexed.tokens.as_slice();
-    let course = follow(rt.alloc(), tokens, text.len())?;
+    let course = follow(rt.alloc(), Format::One, tokens, text.len())?;
     assert_eq!(rt; course.fault, None);
     assert_eq!(rt; course.roles.len(), tokens.len());
-    assert_eq!(rt; number_fault(tokens), None);
+    assert_eq!(rt; number_fault(Format::One, tokens), None);
     assert_eq!(rt; depth_fault(tokens), None);
     let job = job_at(rt.alloc(), tokens)?;
     assert!(rt; job.is_some());
@@ -26,7 +27,7 @@ fn tokens_leave_the_grammar(rt: HostRuntime) -> Result<(), Fail> {
         (b"", Some(0)),
     ] {
         let lexed = lex(rt.alloc(), text, text.len())?;
-        let course = follow(rt.alloc(), lexed.tokens.as_slice(), text.len())?;
+        let course = follow(rt.alloc(), Format::One, lexed.tokens.as_slice(), text.len())?;
         assert_eq!(rt; course.fault, fault);
     }
     Ok(())

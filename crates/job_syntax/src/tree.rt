@@ -3,7 +3,8 @@ ghost use Rattle.job_tree.specs.Blocks.{step_of, steps_of, handled_of, cleaned_o
 ghost use Rattle.job_tokens.specs.Shapes.{shapes_of};
 ghost use Rattle.job_tokens.specs.Lexing.{Gives};
 ghost use Rattle.job_syntax.specs.declared.keyword.Keyword.TheVariants as word;
-ghost use Rattle.job_syntax.specs.Reading.{word_at, keyword_at, number_at, text_at, mark_at, behind_word, flag_at, deadline_at, over_at, body_at, handler_at, cleanup_at, scope_at, nursery_at, start_at, try_at, ended, plain_step, step_at, steps_with, blocks_at, head_at, job_at};
+ghost use Rattle.job_tree.specs.declared.format.Format.{Format};
+ghost use Rattle.job_syntax.specs.Reading.{word_at, keyword_at, number_at, text_at, mark_at, behind_word, flag_at, deadline_at, over_at, body_at, handler_at, cleanup_at, scope_at, nursery_at, start_at, repeat_at, try_at, ended, plain_step, step_at, steps_with, blocks_at, head_at, job_at};
 
 use crate::depth::MOST_DEEP;
 use crate::keyword::Keyword;
@@ -11,10 +12,10 @@ use job_tokens::{Mark, Token};
 use job_tree::{Body, Deadline, Handler, Name, Step, Text};
 use std::alloc::{AllocError, Global};
 
-/// The name and the steps of the job whose tokens these are, where at most 32 of its blocks stand in one another. It is
+/// The name and the steps of the job, of any format, whose tokens these are, where at most 32 of its blocks stand in one another. It is
 /// for tokens in which `follow` finds no fault: it asks neither where a `start` stands nor what follows a `try`.
 pub fn job_at(alloc: Global, tokens: &[Token]) -> Result<Option<(Name, Body)>, AllocError>
-    ensures { IfOk result (λ x. Gives (λ j. record { name = j.0; steps = j.1 }) x (job_at (shapes_of tokens.now))) }
+    ensures { (format : Format) → IfOk result (λ x. Gives (λ j. record { format = format; name = j.0; steps = j.1 }) x (job_at format (shapes_of tokens.now))) }
 {
     let Some((name, rest)) = head_at(tokens) else {
         return Ok(None);
@@ -197,6 +198,7 @@ fn step_at(
         Keyword::Scope => scope_at(alloc, depth, rest),
         Keyword::Nursery => nursery_at(alloc, depth, rest),
         Keyword::Start => start_at(alloc, depth, rest),
+        Keyword::Repeat => repeat_at(alloc, depth, rest),
         Keyword::Try => try_at(alloc, depth, rest),
         _ => Ok(plain_step(keyword, rest)),
     }
@@ -257,10 +259,37 @@ fn nursery_at(
     let Some((name, rest)) = word_at(tokens) else {
         return Ok(None);
     };
+    let Some((deadline, rest)) = deadline_at(rest) else {
+        return Ok(None);
+    };
+    let (shield, rest) = flag_at(rest, Keyword::Shield);
     let Some((body, rest)) = body_at(alloc, depth, rest)? else {
         return Ok(None);
     };
-    Ok(Some((Step::Nursery { name, body }, rest)))
+    let nursery = Step::Nursery {
+        name,
+        deadline,
+        shield,
+        body,
+    };
+    Ok(Some((nursery, rest)))
+}
+
+#[cycle(tree)]
+fn repeat_at(
+    alloc: Global,
+    depth: usize,
+    tokens: &[Token],
+) -> Result<Option<(Step, &[Token])>, AllocError>
+    ensures { IfOk result (λ x. Gives (λ s. (step_of s.0, shapes_of s.1.now)) x (repeat_at (blocks_at depth) (shapes_of tokens.now))) }
+{
+    let Some((count, rest)) = number_at(tokens) else {
+        return Ok(None);
+    };
+    let Some((body, rest)) = body_at(alloc, depth, rest)? else {
+        return Ok(None);
+    };
+    Ok(Some((Step::Repeat { count, body }, rest)))
 }
 
 #[cycle(tree)]

@@ -1,9 +1,11 @@
 -- The numbers of a job that was read.
 use Rattle.std.specs.Prelude.{ℕ, ◌≤◌, Option, Some, None}
-use Rattle.job_tree.specs.declared.limits.TheConstants.{GREATEST_NUMBER, GREATEST_PACE, MOST_COPIES}
+use Rattle.job_tree.specs.declared.limits.TheConstants.{GREATEST_NUMBER, GREATEST_PACE, MOST_COPIES, MOST_PASSES, MOST_STEPS, MOST_STEPS_OF_FORMAT_1}
 use Rattle.job_tree.specs.declared.deadline.Deadline.{Deadline}
+use Rattle.job_tree.specs.declared.format.Format.{Format}
+use Rattle.job_tree.specs.declared.format.Format.TheVariants.{One, Two}
 use Rattle.job_tree.specs.declared.deadline.Deadline.TheVariants.{Never, After, At}
-use Rattle.job_tree.specs.Tree.{Step, sleep, checkpoint, forever, pace, find, head, longest, need, raise, cancel, scope, nursery, start, attempt, Steps, stop, step, Handled, unhandled, except, Cleaned, uncleaned, finally, Tree}
+use Rattle.job_tree.specs.Tree.{Step, sleep, checkpoint, forever, pace, find, head, longest, need, raise, cancel, scope, nursery, start, repeat, attempt, Steps, stop, step, Handled, unhandled, except, Cleaned, uncleaned, finally, Tree}
 use Rattle.job_tree.specs.Names.{size_of}
 
 -- a deadline's number is at most the greatest
@@ -37,6 +39,7 @@ abbrev mutual
   IsModestStep (scope name deadline shield fail body) = IsModestDeadline deadline × AreModest body
   IsModestStep (nursery name deadline shield body) = IsModestDeadline deadline × AreModest body
   IsModestStep (start name over body) = IsModestOver over × AreModest body
+  IsModestStep (repeat count body) = (count ≤ MOST_PASSES) × AreModest body
   IsModestStep (attempt body handler cleanup) = AreModest body × IsModestHandler handler × IsModestCleanup cleanup
 
   pub IsModestHandler : Handled → Type 0
@@ -47,7 +50,17 @@ abbrev mutual
   IsModestCleanup uncleaned = Unit {0}
   IsModestCleanup (finally body) = AreModest body
 
--- a job whose numbers are in their ranges, with at most 100,000 step instances
+-- the number in the first line of a text of a format
+abbrev pub number_of : Format → ℕ
+number_of One = 1
+number_of Two = 2
+
+-- how many step instances a job of a format may have
+abbrev pub most_steps : Format → ℕ
+most_steps One = MOST_STEPS_OF_FORMAT_1
+most_steps Two = MOST_STEPS
+
+-- a job whose numbers are in their ranges, with no more step instances than its format allows
 pub record IsModest (job : Tree) : Type 0 where
   pub numbers : AreModest job.steps
-  pub size : size_of job.steps ≤ 100000
+  pub size : size_of job.steps ≤ most_steps job.format

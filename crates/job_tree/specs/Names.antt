@@ -2,7 +2,7 @@
 use Rattle.std.specs.Prelude.{ℕ, ◌+◌, ◌*◌, Option, Some, None, List, [], ◌∷◌, ◌++◌}
 use Rattle.std.specs.List.{IsDistinct}
 use Rattle.std.specs.Str.{bytes_eq}
-use Rattle.job_tree.specs.Tree.{Step, sleep, checkpoint, forever, pace, find, head, longest, need, raise, cancel, scope, nursery, start, attempt, Steps, stop, step, Handled, unhandled, except, Cleaned, uncleaned, finally, Tree}
+use Rattle.job_tree.specs.Tree.{Step, sleep, checkpoint, forever, pace, find, head, longest, need, raise, cancel, scope, nursery, start, repeat, attempt, Steps, stop, step, Handled, unhandled, except, Cleaned, uncleaned, finally, Tree}
 
 -- the names given to scopes, nurseries and started tasks, in the order of the text
 abbrev mutual
@@ -24,6 +24,7 @@ abbrev mutual
   names_in (scope name deadline shield fail body) = name ∷ names_of body
   names_in (nursery name deadline shield body) = name ∷ names_of body
   names_in (start name over body) = name ∷ names_of body
+  names_in (repeat count body) = names_of body
   names_in (attempt body handler cleanup) = (names_of body ++ handled_names handler) ++ cleaned_names cleanup
 
   pub handled_names : Handled → List (List ℕ)
@@ -43,7 +44,8 @@ abbrev pub copies_of : Option ℕ → ℕ
 copies_of None = 1
 copies_of (Some k) = k
 
--- how many step instances a block has: each step counts, and a `start .. over K` counts its body K times
+-- how many step instances a block has: each step counts, a `start .. over K` and its body K times, and a `repeat N` once, and
+-- then N passes, each of which counts beside its body
 abbrev mutual
   pub size_of : Steps → ℕ
   size_of stop = 0
@@ -63,6 +65,7 @@ abbrev mutual
   size_in (scope name deadline shield fail body) = 1 + size_of body
   size_in (nursery name deadline shield body) = 1 + size_of body
   size_in (start name over body) = copies_of over * (1 + size_of body)
+  size_in (repeat count body) = 1 + count * (1 + size_of body)
   size_in (attempt body handler cleanup) = 1 + size_of body + handled_size handler + cleaned_size cleanup
 
   pub handled_size : Handled → ℕ

@@ -1,6 +1,6 @@
 -- Where a `start` may stand: directly in the body of a nursery.
 use Rattle.std.specs.Prelude.{Bool, true, false, IsTrue}
-use Rattle.job_tree.specs.Tree.{Step, sleep, checkpoint, forever, pace, find, head, longest, need, raise, cancel, scope, nursery, start, attempt, Steps, stop, step, Handled, unhandled, except, Cleaned, uncleaned, finally, Tree}
+use Rattle.job_tree.specs.Tree.{Step, sleep, checkpoint, forever, pace, find, head, longest, need, raise, cancel, scope, nursery, start, repeat, attempt, Steps, stop, step, Handled, unhandled, except, Cleaned, uncleaned, finally, Tree}
 
 -- each `start` of a block stands directly in a nursery's body: whether the block is one is said first
 abbrev mutual
@@ -22,6 +22,7 @@ abbrev mutual
   StartsAt body (scope name deadline shield fail ss) = StartsIn false ss
   StartsAt body (nursery name deadline shield ss) = StartsIn true ss
   StartsAt body (start name over ss) = IsTrue body × StartsIn false ss
+  StartsAt body (repeat count ss) = StartsIn false ss
   StartsAt body (attempt ss handler cleanup) = StartsIn false ss × HandlerStarts handler × CleanupStarts cleanup
 
   pub HandlerStarts : Handled → Type 0

@@ -1,6 +1,7 @@
 -- The tree of a job: what its text says, step by step. Names and strings are their bytes.
 use Rattle.std.specs.Prelude.{ℕ, Bool, Option, List}
 use Rattle.job_tree.specs.declared.deadline.Deadline.{Deadline}
+use Rattle.job_tree.specs.declared.format.Format.{Format}
 
 mutual
   -- one step of a block
@@ -18,6 +19,7 @@ mutual
     scope : (name : List ℕ) → (deadline : Deadline) → (shield fail : Bool) → (body : Steps) → Step
     nursery : (name : List ℕ) → (deadline : Deadline) → (shield : Bool) → (body : Steps) → Step
     start : (name : List ℕ) → (over : Option ℕ) → (body : Steps) → Step
+    repeat : (count : ℕ) → (body : Steps) → Step
     attempt : (body : Steps) → (handler : Handled) → (cleanup : Cleaned) → Step
 
   -- the steps of a block, in order
@@ -35,7 +37,8 @@ mutual
     uncleaned : Cleaned
     finally : (body : Steps) → Cleaned
 
--- a job: its name, which is also its root task's, and its steps
+-- a job: the format of its text, its name, which is also its root task's, and its steps
 pub record Tree : Type 0 where
+  pub format : Format
   pub name : List ℕ
   pub steps : Steps

@@ -4,7 +4,9 @@ use Rattle.std.specs.Coded.{Coded, code_by, coded×, coded_ℕ, coded_bool, code
 use Rattle.std.proofs.Common.{ap, ◌∙◌}
 use Rattle.job_tree.specs.declared.deadline.Deadline.{Deadline}
 use Rattle.job_tree.specs.declared.deadline.Deadline.TheVariants.{Never, After, At}
-use Rattle.job_tree.specs.Tree.{Step, sleep, checkpoint, forever, pace, find, head, longest, need, raise, cancel, scope, nursery, start, attempt, Steps, stop, step, Handled, unhandled, except, Cleaned, uncleaned, finally, Tree}
+use Rattle.job_tree.specs.declared.format.Format.{Format}
+use Rattle.job_tree.specs.declared.format.Format.TheVariants.{One, Two}
+use Rattle.job_tree.specs.Tree.{Step, sleep, checkpoint, forever, pace, find, head, longest, need, raise, cancel, scope, nursery, start, repeat, attempt, Steps, stop, step, Handled, unhandled, except, Cleaned, uncleaned, finally, Tree}
 
 abbrev to_pair : Deadline → ℕ × ℕ
 to_pair Never = (0, 0)
@@ -98,9 +100,10 @@ abbrev mutual
   marks_in (start name over body) rest =
       record { kind = 13; number = 0; first = name; second = []; deadline = Never; flag = false; other = false; over = over }
       ∷ marks_of body rest
+  marks_in (repeat count body) rest = plain 14 count [] [] ∷ marks_of body rest
   marks_in (attempt body handler cleanup) rest =
       record {
-        kind = 14;
+        kind = 15;
         number = 0;
         first = handler_name handler;
         second = [];
@@ -163,7 +166,8 @@ read_kind (suc (suc (suc (suc (suc (suc (suc (suc (suc (suc zero)))))))))) m b =
 read_kind (suc (suc (suc (suc (suc (suc (suc (suc (suc (suc (suc zero))))))))))) m b = put_block (scope m.first m.deadline m.flag m.other) b
 read_kind (suc (suc (suc (suc (suc (suc (suc (suc (suc (suc (suc (suc zero)))))))))))) m b = put_block (nursery m.first m.deadline m.flag) b
 read_kind (suc (suc (suc (suc (suc (suc (suc (suc (suc (suc (suc (suc (suc zero))))))))))))) m b = put_block (start m.first m.over) b
-read_kind (suc (suc (suc (suc (suc (suc (suc (suc (suc (suc (suc (suc (suc (suc k)))))))))))))) m b = put_attempt m.first m.flag m.other b
+read_kind (suc (suc (suc (suc (suc (suc (suc (suc (suc (suc (suc (suc (suc (suc zero)))))))))))))) m b = put_block (repeat m.number) b
+read_kind (suc (suc (suc (suc (suc (suc (suc (suc (suc (suc (suc (suc (suc (suc (suc k))))))))))))))) m b = put_attempt m.first m.flag m.other b
 
 abbrev read_marks : List Mark → Blocks
 read_marks [] = []
@@ -189,6 +193,7 @@ mutual
   read_step (scope name deadline shield fail body) rest = ap (put_block (scope name deadline shield fail)) (read_block body rest)
   read_step (nursery name deadline shield body) rest = ap (put_block (nursery name deadline shield)) (read_block body rest)
   read_step (start name over body) rest = ap (put_block (start name over)) (read_block body rest)
+  read_step (repeat count body) rest = ap (put_block (repeat count)) (read_block body rest)
   read_step (attempt body handler cleanup) rest =
       ap (put_attempt (handler_name handler) (has_handler handler) (has_cleanup cleanup))
       (read_block body (handler_marks handler (cleanup_marks cleanup rest)))
@@ -216,8 +221,24 @@ steps_code =
     code_by (List Mark) (coded_list mark_code) (λ ss. marks_of ss []) (λ ms. first_block (read_marks ms))
     (λ ss. ap first_block (read_block ss []))
 
+abbrev is_two : Format → Bool
+is_two One = false
+is_two Two = true
+
+abbrev format_if : Bool → Format
+format_if false = One
+format_if true = Two
+
+pub format_again : (f : Format) → format_if (is_two f) ≡ f
+format_again One = refl
+format_again Two = refl
+
+-- the code of a format
+abbrev pub format_code : Coded Format
+format_code = code_by Bool coded_bool is_two format_if format_again
+
 -- the code of a job
 abbrev pub tree_code : Coded Tree
 tree_code =
-    code_by (List ℕ × Steps) (coded× (coded_list coded_ℕ) steps_code)
-    (λ j. (j.name, j.steps)) (λ p. record { name = p.0; steps = p.1 }) (λ _. refl)
+    code_by (Format × (List ℕ × Steps)) (coded× format_code (coded× (coded_list coded_ℕ) steps_code))
+    (λ j. (j.format, (j.name, j.steps))) (λ p. record { format = p.0; name = p.1.0; steps = p.1.1 }) (λ _. refl)

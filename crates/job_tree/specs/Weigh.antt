@@ -1,6 +1,6 @@
 -- How deep and long a block is: more than each block inside it.
 use Rattle.std.specs.Prelude.{ℕ, ◌+◌}
-use Rattle.job_tree.specs.Tree.{Step, sleep, checkpoint, forever, pace, find, head, longest, need, raise, cancel, scope, nursery, start, attempt, Steps, stop, step, Handled, unhandled, except, Cleaned, uncleaned, finally}
+use Rattle.job_tree.specs.Tree.{Step, sleep, checkpoint, forever, pace, find, head, longest, need, raise, cancel, scope, nursery, start, repeat, attempt, Steps, stop, step, Handled, unhandled, except, Cleaned, uncleaned, finally}
 
 abbrev mutual
   pub weight_of : Steps → ℕ
@@ -11,6 +11,7 @@ abbrev mutual
   weight_in (scope name deadline shield fail body) = 8 + weight_of body
   weight_in (nursery name deadline shield body) = 8 + weight_of body
   weight_in (start name over body) = 8 + weight_of body
+  weight_in (repeat count body) = 8 + weight_of body
   weight_in (attempt body handler cleanup) = 8 + weight_of body + handled_weight handler + cleaned_weight cleanup
   weight_in (sleep n) = 8
   weight_in checkpoint = 8

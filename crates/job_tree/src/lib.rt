@@ -5,6 +5,7 @@
 #![tactic(auto)]
 
 mod deadline;
+mod format;
 mod limits;
 mod name;
 mod room;
@@ -15,7 +16,10 @@ mod text;
 mod word;
 
 pub use deadline::Deadline;
-pub use limits::{GREATEST_NUMBER, GREATEST_PACE, MOST_COPIES};
+pub use format::Format;
+pub use limits::{
+    GREATEST_NUMBER, GREATEST_PACE, MOST_COPIES, MOST_PASSES, MOST_STEPS, MOST_STEPS_OF_FORMAT_1,
+};
 pub use name::Name;
 pub use step::{Body, Handler, Step};
 pub use text::Text;

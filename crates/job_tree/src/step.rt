@@ -61,6 +61,10 @@ pub enum Step {
     Nursery {
         /// Its name.
         name: Name,
+        /// When it is cancelled by itself: never, in a job of format 1.
+        deadline: Deadline,
+        /// Whether it hides cancellations of the scopes round it: not in a job of format 1.
+        shield: bool,
         /// What runs in it; its own `start` steps start the children.
         body: Body,
     },
@@ -71,6 +75,14 @@ pub enum Step {
         /// How many cuts of the part, each for a child; none for one child with the whole part.
         over: Option<u64>,
         /// What the child runs.
+        body: Body,
+    },
+    /// Runs its block so many times, one pass behind the other, and stops at the first exception. It takes no tick and is no
+    /// checkpoint.
+    Repeat {
+        /// How many passes.
+        count: u64,
+        /// What runs in each pass.
         body: Body,
     },
     /// A `try` with a handler, a cleanup, or both.

@@ -1,4 +1,4 @@
-use crate::{Body, Name, Step, Text, is_digit, is_letter, is_word_byte};
+use crate::{Body, Format, Name, Step, Text, is_digit, is_letter, is_word_byte};
 use std::test::Fail;
 
 #[test]
@@ -64,4 +64,16 @@ fn blocks_keep_their_steps(rt: HostRuntime) -> Result<(), Fail> {
     assert_eq!(rt; body.as_slice().len(), 2);
     assert_eq!(rt; body.into_vec().len(), 2);
     Ok(())
+}
+
+#[test]
+fn formats(rt: HostRuntime) {
+    assert_eq!(rt;
+        (Format::One.number(), Format::One.most_steps()),
+        (1, 100_000)
+    );
+    assert_eq!(rt;
+        (Format::Two.number(), Format::Two.most_steps()),
+        (2, 1_000_000)
+    );
 }

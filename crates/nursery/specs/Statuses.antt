@@ -5,7 +5,8 @@ use Rattle.nursery_app.specs.declared.verdict.CheckVerdict.{CheckVerdict}
 use Rattle.nursery_app.specs.declared.verdict.ServeFault.{ServeFault}
 use Rattle.nursery_app.specs.declared.verdict.ServeFault.TheVariants as faults
 use Rattle.nursery_app.specs.Verdict.{IsVerdict}
-use Rattle.nursery_app.specs.Checking.{IsCheck}
+use Rattle.nursery_app.specs.Checking.{IsAnswer}
+use Rattle.job_tree.specs.Tree.{Tree}
 use Rattle.nursery_app.specs.Statuses as verdicts
 use Rattle.nursery.specs.declared.stop.Stop.{Stop}
 use Rattle.nursery.specs.declared.stop.Stop.TheVariants.{Words, NoText, JobFile, InputFile, TooLong, Write, NoMemory}
@@ -31,6 +32,6 @@ TellsVerdict text input limit status =
     (verdict : Verdict) × (bytes : List ℕ) × IsVerdict text input limit verdict bytes × (status ≡ verdicts.status_of verdict)
 
 -- the status is 0 where the text spells a job, and that of a refusal where it is refused
-abbrev pub TellsCheck : List ℕ → ℕ → Type 0
-TellsCheck text status =
-    (verdict : CheckVerdict) × (bytes : List ℕ) × IsCheck text verdict bytes × (status ≡ verdicts.check_status_of verdict)
+abbrev pub TellsAnswer : (Tree → Tree) → List ℕ → ℕ → Type 0
+TellsAnswer shown text status =
+    (verdict : CheckVerdict) × (bytes : List ℕ) × IsAnswer shown text verdict bytes × (status ≡ verdicts.check_status_of verdict)

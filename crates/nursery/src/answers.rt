@@ -1,13 +1,15 @@
 ghost use Rattle.std.specs.Prelude.{◌≤◌, length, IfOk};
 ghost use Rattle.job_meaning.specs.declared.limits.TheConstants.{MOST_INPUT};
-ghost use Rattle.nursery.specs.Statuses.{TellsVerdict, TellsCheck};
+ghost use Rattle.job_meaning.specs.Laws.{in_format_2};
+ghost use Rattle.nursery_app.specs.Checking.{as_it_is};
+ghost use Rattle.nursery.specs.Statuses.{TellsVerdict, TellsAnswer};
 
 use crate::sources::{read_feed, read_input, read_job_text};
 use crate::stop::Stop;
 use job_grammar::JobFault;
 use nursery_app::{
     CheckVerdict, DEFAULT_LIMIT, Forward, MOST_INPUT, NoGate, Order, Pick, Reverse, Settings, Turn,
-    Verdict, WriteOut, check, explain, send, serve, split_feed,
+    Verdict, WriteOut, check, explain, send, serve, split_feed, upgrade,
 };
 use std::alloc::{AllocError, Global};
 use std::io::{self, IsTerminal};
@@ -112,12 +114,34 @@ pub(crate) fn check_job<R: Files + Input + Print + Eprint + AllocGlobal>(
 
 // Writes the canonical text of a job text, and gives the status.
 fn check_text<R: Print + Eprint + AllocGlobal>(rt: &R, job: &str, text: &[u8]) -> Result<u8, Stop>
-    ensures { IfOk result (TellsCheck text.now) }
+    ensures { IfOk result (TellsAnswer as_it_is text.now) }
 {
     let mut out = WriteOut::new(io::writer(rt));
     let verdict = check(rt.alloc(), text, &mut out)?;
     if let CheckVerdict::JobRefused(fault) = verdict {
         tell_refusal(rt, job, text, fault);
+    }
+    Ok(verdict.status())
+}
+
+/// Writes the canonical text of the same job in format 2, and gives the status.
+pub(crate) fn upgrade_job<R: Files + Input + Print + Eprint + AllocGlobal>(
+    rt: &R,
+    job: &str,
+) -> Result<u8, Stop> {
+    let text = read_job_text(rt, job)?;
+    upgrade_text(rt, job, text.as_slice())
+}
+
+// Writes the canonical text in format 2 of a job text, and gives the status.
+fn upgrade_text<R: Print + Eprint + AllocGlobal>(rt: &R, job: &str, text: &[u8]) -> Result<u8, Stop>
+    ensures { IfOk result (TellsAnswer in_format_2 text.now) }
+{
+    let mut out = WriteOut::new(io::writer(rt));
+    let verdict = upgrade(rt.alloc(), text, &mut out)?;
+    match verdict {
+        CheckVerdict::JobRefused(fault) => tell_refusal(rt, job, text, fault),
+        CheckVerdict::Fine => {}
     }
     Ok(verdict.status())
 }

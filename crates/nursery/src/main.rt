@@ -1,13 +1,13 @@
-//! The program `nursery`: `run` runs a job file over an input file, `check` writes a job's canonical text, and with no
-//! words it serves standard input: a job text, a line that is exactly `%input`, and the input. Its answer goes to
-//! standard output, and what went wrong to standard error. The work is in `nursery_app`.
+//! The program `nursery`: `run` runs a job file over an input file, `check` writes a job's canonical text, `upgrade` that
+//! of the same job in format 2, and with no words it serves standard input: a job text, a line that is exactly `%input`,
+//! and the input. Its answer goes to standard output, and what went wrong to standard error. The work is in `nursery_app`.
 #![tactic(auto)]
 
 mod answers;
 mod sources;
 mod stop;
 
-use crate::answers::{check_job, run_feed, run_job, show_help};
+use crate::answers::{check_job, run_feed, run_job, show_help, upgrade_job};
 use crate::stop::Stop;
 use nursery_app::{Command, CommandFault, read_command};
 use std::env;
@@ -50,6 +50,7 @@ where
             },
         ) => run_job(rt, job.as_str(), input.as_str(), workers, limit, order),
         Ok(Command::Check { job }) => check_job(rt, job.as_str()),
+        Ok(Command::Upgrade { job }) => upgrade_job(rt, job.as_str()),
         Ok(Command::Help { text }) => show_help(rt, text.as_str()),
         Err(CommandFault::Refused { text }) => Err(Stop::Words { text }),
         Err(CommandFault::NoMemory) => Err(Stop::NoMemory),

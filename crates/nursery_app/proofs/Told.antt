@@ -4,12 +4,14 @@ use Rattle.std.specs.Prelude.{IfOk, Option, None, Result, Ok, Err, slice_get}
 use Rattle.std.specs.List.{before_first}
 use Rattle.std.proofs.lemmas.List.{take_min, drop_min}
 use Rattle.std.specs.declared.alloc.AllocError.{AllocError}
+use Rattle.job_tree.specs.declared.format.Format.{Format}
 use Rattle.job_tokens.specs.declared.token.Token.{Token}
 use Rattle.job_tokens.specs.Lexing.{Lexes}
 use Rattle.job_tokens.specs.declared.token.Shape.{Shape}
 use Rattle.job_syntax.specs.declared.role.Role.{Role}
 use Rattle.job_syntax.specs.Syntax.{fault_at, roles_at, whole_job}
 use Rattle.job_syntax.specs.declared.symbol.Symbol.{Symbol}
+use Rattle.job_grammar.specs.Refusals.{format_of}
 use Rattle.nursery_app.specs.Places.{column_of}
 use Rattle.nursery_app.specs.declared.hinting.Hint.{Hint}
 use Rattle.nursery_app.specs.Expecting.{expected_in, IsExpected}
@@ -18,12 +20,16 @@ use Rattle.nursery_app.specs.Hinting.{syntax_hint, twice_hint, IsSyntaxHint, IsT
 use Rattle.nursery_app.specs.Explaining.{headed, shown_byte, is_newline, last_of, width_before, before, behind, most_before, most_behind}
 
 -- what the grammar asks for behind the tokens is what it asks for in the text
-pub expects : (text body : List ℕ) (tokens given : List Token) (fault : Option ℕ) (r : Result (Option Symbol) AllocError) →
-    body ≡ drop 11 text → Lexes (length text) body tokens fault → given ≡ tokens
-    → IfOk r (λ symbol. symbol ≡ expected_in whole_job given) → IfOk r (IsExpected text)
-expects text body tokens given fault (Ok s) is lexes same found =
-    (tokens, fault, subst (λ (b : List ℕ). Lexes (length text) b tokens fault) is lexes, found ∙ ap (expected_in whole_job) same)
-expects text body tokens given fault (Err e) is lexes same found = found
+pub expects : (format : Format) (text body : List ℕ) (tokens given : List Token) (fault : Option ℕ) (r : Result (Option Symbol) AllocError) →
+    format ≡ format_of text → body ≡ drop 11 text → Lexes (length text) body tokens fault → given ≡ tokens
+    → IfOk r (λ symbol. symbol ≡ expected_in format whole_job given) → IfOk r (IsExpected text)
+expects format text body tokens given fault (Ok s) of is lexes same found = (
+  tokens,
+  fault,
+  subst (λ (b : List ℕ). Lexes (length text) b tokens fault) is lexes,
+  found ∙ ap (expected_in format whole_job) same ∙ ap (λ (f : Format). expected_in f whole_job tokens) of,
+)
+expects format text body tokens given fault (Err e) of is lexes same found = found
 
 -- the first bytes, cut at a place that may lie behind the end
 pub cut_front : (bytes front : List ℕ) (n m : ℕ) → front ≡ take m bytes → m ≡ min n (length bytes) → front ≡ take n bytes
@@ -87,27 +93,31 @@ pieces head front back newline spaces caret h0 h1 h2 h3 h4 h5 is0 is1 is2 is3 is
     is5 ∙ ap (λ (x : List ℕ). x ++ caret) four ∙ append_assoc head (((front ++ back) ++ newline) ++ spaces) caret
 
 -- what helps where a text goes on wrongly, or gives a name twice
-pub helps : (text body : List ℕ) (tokens given : List Token) (fault : Option ℕ) (at : ℕ) (shape : Option Shape) (h : Option Hint) →
-    body ≡ drop 11 text → Lexes (length text) body tokens fault
-    → given ≡ tokens → shape ≡ shape_at at given → h ≡ syntax_hint given shape → IsSyntaxHint text at h
-helps text body tokens given fault at shape h is lexes same shape_is h_is = (
+pub helps : (format : Format) (text body : List ℕ) (tokens given : List Token) (fault : Option ℕ) (at : ℕ) (shape : Option Shape) (h : Option Hint) →
+    format ≡ format_of text → body ≡ drop 11 text → Lexes (length text) body tokens fault
+    → given ≡ tokens → shape ≡ shape_at at given → h ≡ syntax_hint format given shape → IsSyntaxHint text at h
+helps format text body tokens given fault at shape h of is lexes same shape_is h_is = (
   tokens,
   fault,
   subst (λ (b : List ℕ). Lexes (length text) b tokens fault) is lexes,
-  h_is ∙ ap (syntax_hint given) shape_is ∙ ap (λ (ts : List Token). syntax_hint ts (shape_at at ts)) same,
+  h_is ∙ ap (syntax_hint format given) shape_is ∙ ap (λ (ts : List Token). syntax_hint format ts (shape_at at ts)) same
+      ∙ ap (λ (f : Format). syntax_hint f tokens (shape_at at tokens)) of,
 )
 
 -- what helps where a name is given twice, found by the tokens of the text and what they are for
-pub helps_twice : (text body : List ℕ) (tokens given : List Token) (roles shown : List Role) (fault stop : Option ℕ) (at : ℕ)
-    (shape : Option Shape) (h : Option Hint) → body ≡ drop 11 text → Lexes (length text) body tokens fault
-    → given ≡ tokens → shown ≡ roles → stop ≡ fault_at (length text) whole_job given → (stop ≡ None → roles ≡ roles_at whole_job given)
+pub helps_twice : (format : Format) (text body : List ℕ) (tokens given : List Token) (roles shown : List Role) (fault stop : Option ℕ) (at : ℕ)
+    (shape : Option Shape) (h : Option Hint) → format ≡ format_of text → body ≡ drop 11 text → Lexes (length text) body tokens fault
+    → given ≡ tokens → shown ≡ roles → stop ≡ fault_at format (length text) whole_job given →
+    (stop ≡ None → roles ≡ roles_at format whole_job given)
     → shape ≡ shape_at at given → h ≡ twice_hint given shown shape → IsTwiceHint text at h
-helps_twice text body tokens given roles shown fault stop at shape h is lexes same shown_is stop_is roles_are shape_is h_is = (
+helps_twice format text body tokens given roles shown fault stop at shape h of is lexes same shown_is stop_is roles_are shape_is h_is = (
   tokens,
   fault,
   roles,
   subst (λ (b : List ℕ). Lexes (length text) b tokens fault) is lexes,
-  (λ whole. roles_are (stop_is ∙ ap (fault_at (length text) whole_job) same ∙ whole) ∙ ap (roles_at whole_job) same),
+  (λ whole. roles_are (stop_is ∙ ap (fault_at format (length text) whole_job) same
+      ∙ ap (λ (f : Format). fault_at f (length text) whole_job tokens) of ∙ whole)
+      ∙ ap (roles_at format whole_job) same ∙ ap (λ (f : Format). roles_at f whole_job tokens) of),
   h_is ∙ ap (twice_hint given shown) shape_is ∙ ap (λ (ts : List Token). twice_hint ts shown (shape_at at ts)) same
       ∙ ap (λ (rs : List Role). twice_hint tokens rs (shape_at at tokens)) shown_is,
 )

@@ -60,6 +60,7 @@ place_line what job text at = what ++ job ++ codes ":" ++ decimal (line_of text 
 abbrev pub hint_line : List ℕ → List ℕ → Hint → List ℕ
 hint_line job text hint.CarriageReturn = codes "its line ends are carriage returns and newlines: save it with newlines alone\n"
 hint_line job text hint.NoComments = codes "a job text has no comments\n"
+hint_line job text hint.NewerFormat = codes "format 2 has this: begin the job text with the line `trio-job 2`\n"
 hint_line job text (hint.Meant keyword) = meant_line (spelling keyword)
 hint_line job text (hint.OpenSince at) = place_line (codes "the innermost block that is not closed begins at ") job text at
 hint_line job text (hint.GivenAt at) = place_line (codes "it was first given at ") job text at

@@ -27,6 +27,8 @@ expected_sentence (Some symbol.ItemsCleanup) = codes "expected `finally { .. }`,
 expected_sentence (Some symbol.Scope) = codes "expected `after N`, `at N`, `shield`, `fail` or `{`"
 expected_sentence (Some symbol.Shield) = codes "expected `shield`, `fail` or `{`"
 expected_sentence (Some symbol.Fail) = codes "expected `fail` or `{`"
+expected_sentence (Some symbol.Nursery) = codes "expected `{`, or in format 2 `after N` or `shield`"
+expected_sentence (Some symbol.NurseryShield) = codes "expected `shield` or `{`"
 expected_sentence (Some symbol.Over) = codes "expected `over N` or `{`"
 expected_sentence (Some symbol.Given) = codes "expected a name"
 expected_sentence (Some symbol.Raised) = codes "expected the name of an exception"
@@ -41,14 +43,14 @@ expected_sentence (Some symbol.Semicolon) = codes "expected `;`"
 abbrev pub sentence_of : JobKind → Option ℕ → Option Symbol → List ℕ
 sentence_of TooLong byte asked = codes "the job text has more than 65536 bytes"
 sentence_of NotAscii byte asked = codes "this byte is not ASCII"
-sentence_of Version byte asked = codes "a job text begins with the line `trio-job 1`, ended by a newline alone"
+sentence_of Version byte asked = codes "a job text begins with the line `trio-job 1` or `trio-job 2`, ended by a newline alone"
 sentence_of Token byte asked = token_sentence byte
 sentence_of Number byte asked =
-    codes "a number out of its range: `over` takes 1 to 64, `pace` 1 to 1000000, others 0 to 1000000000; no leading zero"
+    codes "a number out of its range: `over` takes 1 to 64, `pace` 1 to 1000000, `repeat` 0 to 1000, others 0 to 1000000000; no leading zero"
 sentence_of Syntax byte asked = expected_sentence asked
 sentence_of Depth byte asked = codes "more than 32 blocks stand in one another"
 sentence_of Twice byte asked = codes "this name was given before: jobs, scopes, nurseries and starts need names of their own"
 sentence_of NotEnclosing byte asked = codes "no scope or nursery round this `cancel` has this name"
 sentence_of Reserved byte asked = codes "this name is reserved: no keyword, not `Cancelled`, and `TooSlow` only behind `except`"
-sentence_of TooLarge byte asked = codes "the job has more than 100000 steps, the copies that `over` makes counted"
+sentence_of TooLarge byte asked = codes "the job has more than 100000 steps, in format 2 more than 1000000, the copies that `over` makes and the passes of `repeat` counted"
 sentence_of NoMemory byte asked = codes "no memory"

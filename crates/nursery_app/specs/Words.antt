@@ -2,13 +2,14 @@
 use Rattle.std.specs.Prelude.{◌≤◌}
 use Rattle.job_runner.specs.declared.limits.TheConstants.{MOST_WORKERS, GREATEST_LIMIT}
 use Rattle.nursery_app.specs.declared.words.Command.{Command}
-use Rattle.nursery_app.specs.declared.words.Command.TheVariants.{Feed, Run, Check, Help}
+use Rattle.nursery_app.specs.declared.words.Command.TheVariants.{Feed, Run, Check, Upgrade, Help}
 
 -- the settings of a run lie in their ranges
 abbrev pub IsFit : Command → Type 0
 IsFit Feed = Unit {0}
 IsFit (Run job input workers order limit) = (1 ≤ workers) × (workers ≤ MOST_WORKERS) × (limit ≤ GREATEST_LIMIT)
 IsFit (Check job) = Unit {0}
+IsFit (Upgrade job) = Unit {0}
 IsFit (Help text) = Unit {0}
 
 -- some words asked for it: no feed, and settings in their ranges

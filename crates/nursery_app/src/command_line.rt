@@ -28,7 +28,7 @@ Example: `first.job` shows each line of its input that holds \"er\".
     task main 0 0 done
       line 0+5 error
 
-Exit status: 0 the job ended well, or `check` found a job; 1 it ended with an exception;
+Exit status: 0 the job ended well, or `check` or `upgrade` found a job; 1 it ended with an exception;
 2 the job or the command line was refused; 3 it ends later than the limit; 4 a file could not
 be read or written, or the input is too long; 5 no memory.";
 
@@ -57,6 +57,17 @@ const CHECK_EXAMPLE: &str = "Example:
     job main { sleep }
                      ^";
 
+const UPGRADE_EXAMPLE: &str = "Example:
+
+    $ cat first.job
+    trio-job 1
+    job main {
+      find \"er\";
+    }
+    $ nursery upgrade first.job
+    trio-job 2
+    job main{find\"er\";}";
+
 // The program's version, as `--version` tells it.
 const VERSION: &str = "0.1.0";
 
@@ -70,7 +81,8 @@ pub(crate) fn parser<'a>(alloc: Global) -> Result<Command<'a>, AllocError> {
         .after_help(EXAMPLE)
         .subcommand_required(true)
         .subcommand(run_parser(alloc)?)?
-        .subcommand(check_parser(alloc)?)
+        .subcommand(check_parser(alloc)?)?
+        .subcommand(upgrade_parser(alloc)?)
 }
 
 // What reads the words behind `run`.
@@ -94,6 +106,16 @@ fn check_parser<'a>(alloc: Global) -> Result<Command<'a>, AllocError> {
     Command::new(alloc, "check")
         .about("Writes the canonical text of a job, or says where it is refused and why")
         .after_help(CHECK_EXAMPLE)
+        .arg(job_argument(alloc))
+}
+
+// What reads the words behind `upgrade`.
+fn upgrade_parser<'a>(alloc: Global) -> Result<Command<'a>, AllocError> {
+    Command::new(alloc, "upgrade")
+        .about(
+            "Writes the canonical text of the same job in format 2, which has loops and larger jobs",
+        )
+        .after_help(UPGRADE_EXAMPLE)
         .arg(job_argument(alloc))
 }
 

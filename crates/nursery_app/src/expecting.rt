@@ -2,7 +2,7 @@ ghost use Rattle.std.specs.Prelude.{◌≡◌, IfOk};
 ghost use Rattle.job_syntax.specs.Syntax.{whole_job};
 ghost use Rattle.nursery_app.specs.Expecting.{expected_in, IsExpected, IsAsked};
 
-use job_grammar::{FIRST_LINE, JobKind};
+use job_grammar::{FIRST_LINE_LENGTH, Format, JobKind, format_of};
 use job_syntax::Symbol;
 use job_tokens::{Token, lex};
 use std::alloc::{AllocError, Global};
@@ -31,14 +31,18 @@ pub(crate) fn asked(alloc: Global, text: &[u8], kind: JobKind) -> Result<Option<
 fn expected(alloc: Global, text: &[u8]) -> Result<Option<Symbol>, AllocError>
     ensures { IfOk result (IsExpected text.now) }
 {
-    let (_, body) = text.split_at(FIRST_LINE.len().min(text.len()));
+    let (_, body) = text.split_at(FIRST_LINE_LENGTH.min(text.len()));
     let lexed = lex(alloc, body, text.len())?;
-    expected_at(alloc, lexed.tokens.as_slice())
+    expected_at(alloc, format_of(text), lexed.tokens.as_slice())
 }
 
-// The same of tokens.
-pub(crate) fn expected_at(alloc: Global, tokens: &[Token]) -> Result<Option<Symbol>, AllocError>
-    ensures { IfOk result (λ symbol. symbol ≡ expected_in whole_job tokens.now) }
+// The same of tokens, in a format.
+pub(crate) fn expected_at(
+    alloc: Global,
+    format: Format,
+    tokens: &[Token],
+) -> Result<Option<Symbol>, AllocError>
+    ensures { IfOk result (λ symbol. symbol ≡ expected_in format whole_job tokens.now) }
 {
     let mut stack = Vec::new(alloc);
     stack.push(Symbol::Job)?;
@@ -46,7 +50,7 @@ pub(crate) fn expected_at(alloc: Global, tokens: &[Token]) -> Result<Option<Symb
         let Some(symbol) = stack.pop() else {
             return Ok(None);
         };
-        let Some(rest) = symbol.next(token.shape) else {
+        let Some(rest) = symbol.next(format, token.shape) else {
             return Ok(Some(symbol));
         };
         stack.extend_from_slice(rest)?;

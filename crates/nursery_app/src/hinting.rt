@@ -1,10 +1,10 @@
 ghost use Rattle.std.specs.Prelude.{◌≡◌, IfOk};
-ghost use Rattle.nursery_app.specs.Hinting.{IsHint, IsSyntaxHint, IsTwiceHint, version_hint, token_hint, meant_by, syntax_hint, twice_hint};
+ghost use Rattle.nursery_app.specs.Hinting.{IsHint, IsSyntaxHint, IsTwiceHint, version_hint, token_hint, nearly, meant_by, syntax_hint, twice_hint};
 
 use crate::expecting::expected_at;
 use crate::nearness::meant;
 use crate::scanning::{first_given, innermost_open, shape_at};
-use job_grammar::{FIRST_LINE, JobFault, JobKind};
+use job_grammar::{FIRST_LINE_LENGTH, Format, JobFault, JobKind, format_of};
 use job_syntax::{Keyword, Role, Symbol, follow};
 use job_tokens::{Shape, Token, lex};
 use std::alloc::{AllocError, Global};
@@ -16,6 +16,8 @@ pub(crate) enum Hint {
     CarriageReturn,
     /// What stands there begins a comment in other languages.
     NoComments,
+    /// What stands there may stand there in format 2.
+    NewerFormat,
     /// A keyword that may stand there is spelled nearly so.
     Meant(Keyword),
     /// The innermost block that is not closed begins at this place.
@@ -51,7 +53,7 @@ pub(crate) fn hint_for(
 fn version_hint(text: &[u8]) -> Option<Hint>
     ensures { result ≡ version_hint text.now }
 {
-    if text.starts_with(b"trio-job 1\r\n") {
+    if text.starts_with(b"trio-job 1\r\n") || text.starts_with(b"trio-job 2\r\n") {
         return Some(Hint::CarriageReturn);
     }
     None
@@ -66,37 +68,49 @@ fn token_hint(byte: Option<u8>) -> Option<Hint>
     }
 }
 
-// A word that is nearly one of those which may stand there, or at the text's end the block that is not closed.
+// What may stand there in format 2, a word that is nearly one of those which may stand there, or at the text's end the block
+// that is not closed.
 fn syntax_hint(alloc: Global, text: &[u8], at: usize) -> Result<Option<Hint>, AllocError>
     ensures { IfOk result (IsSyntaxHint text.now at) }
 {
-    let (_, body) = text.split_at(FIRST_LINE.len().min(text.len()));
+    let (_, body) = text.split_at(FIRST_LINE_LENGTH.min(text.len()));
     let lexed = lex(alloc, body, text.len())?;
     let tokens = lexed.tokens.as_slice();
-    let hint = hint_at(alloc, tokens, shape_at(tokens, at))?;
+    let hint = hint_at(alloc, format_of(text), tokens, shape_at(tokens, at))?;
     Ok(hint)
 }
 
 // The same of tokens, with the one at the place where they leave the grammar.
 fn hint_at(
     alloc: Global,
+    format: Format,
     tokens: &[Token],
     shape: Option<Shape>,
 ) -> Result<Option<Hint>, AllocError>
-    ensures { IfOk result (λ hint. hint ≡ syntax_hint tokens.now shape) }
+    ensures { IfOk result (λ hint. hint ≡ syntax_hint format tokens.now shape) }
 {
     match shape {
-        Some(shape) => Ok(meant_by(expected_at(alloc, tokens)?, shape)),
+        Some(shape) => Ok(meant_by(format, expected_at(alloc, format, tokens)?, shape)),
         None => Ok(innermost_open(alloc, tokens)?.map(Hint::OpenSince)),
     }
 }
 
-fn meant_by(symbol: Option<Symbol>, shape: Shape) -> Option<Hint>
-    ensures { result ≡ meant_by symbol shape }
+fn meant_by(format: Format, symbol: Option<Symbol>, shape: Shape) -> Option<Hint>
+    ensures { result ≡ meant_by format symbol shape }
 {
     let symbol = symbol?;
+    match (format, symbol.next(Format::Two, shape)) {
+        (Format::One, Some(_)) => Some(Hint::NewerFormat),
+        _ => nearly(format, symbol, shape),
+    }
+}
+
+// The keyword that a token nearly is, of those that may stand for the symbol.
+fn nearly(format: Format, symbol: Symbol, shape: Shape) -> Option<Hint>
+    ensures { result ≡ nearly format symbol shape }
+{
     let word = shape.word()?;
-    let keyword = meant(symbol, word.bytes())?;
+    let keyword = meant(format, symbol, word.bytes())?;
     Some(Hint::Meant(keyword))
 }
 
@@ -104,10 +118,10 @@ fn meant_by(symbol: Option<Symbol>, shape: Shape) -> Option<Hint>
 fn twice_hint(alloc: Global, text: &[u8], at: usize) -> Result<Option<Hint>, AllocError>
     ensures { IfOk result (IsTwiceHint text.now at) }
 {
-    let (_, body) = text.split_at(FIRST_LINE.len().min(text.len()));
+    let (_, body) = text.split_at(FIRST_LINE_LENGTH.min(text.len()));
     let lexed = lex(alloc, body, text.len())?;
     let tokens = lexed.tokens.as_slice();
-    let course = follow(alloc, tokens, text.len())?;
+    let course = follow(alloc, format_of(text), tokens, text.len())?;
     Ok(given_first(tokens, course.roles.as_slice(), shape_at(tokens, at)))
 }
 

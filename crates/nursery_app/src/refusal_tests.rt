@@ -27,7 +27,7 @@ fn orders_pick_their_places(rt: HostRuntime) {
 // A job text, and what its refusal shows.
 type Row = (&'static [u8], &'static str);
 
-const EXPECTED: [Row; 12] = [
+const EXPECTED: [Row; 13] = [
     (
         b"trio-job 1\njob main { sleep }\n",
         "f:2:18: expected a number\njob main { sleep }\n                 ^\n",
@@ -76,6 +76,10 @@ const EXPECTED: [Row; 12] = [
         b"trio-job 1\njob a { nursery n { 5 } }",
         "f:2:21: expected a step, as `sleep 1;`, a `start NAME { .. }` or `}`\njob a { nursery n { 5 } }\n                    ^\n",
     ),
+    (
+        b"trio-job 2\njob a { nursery n; }",
+        "f:2:18: expected `{`, or in format 2 `after N` or `shield`\njob a { nursery n; }\n                 ^\n",
+    ),
 ];
 
 const WRONG: [Row; 13] = [
@@ -85,11 +89,11 @@ const WRONG: [Row; 13] = [
     ),
     (
         b"job a { }",
-        "f:1:1: a job text begins with the line `trio-job 1`, ended by a newline alone\njob a { }\n^\n",
+        "f:1:1: a job text begins with the line `trio-job 1` or `trio-job 2`, ended by a newline alone\njob a { }\n^\n",
     ),
     (
         b"",
-        "f:1:1: a job text begins with the line `trio-job 1`, ended by a newline alone\n\n^\n",
+        "f:1:1: a job text begins with the line `trio-job 1` or `trio-job 2`, ended by a newline alone\n\n^\n",
     ),
     (
         b"trio-job 1\njob a { sleep 1s; }",
@@ -113,7 +117,7 @@ const WRONG: [Row; 13] = [
     ),
     (
         b"trio-job 1\njob a { sleep 01; }\r\n",
-        "f:2:15: a number out of its range: `over` takes 1 to 64, `pace` 1 to 1000000, others 0 to 1000000000; no leading zero\njob a { sleep 01; } \n              ^\n",
+        "f:2:15: a number out of its range: `over` takes 1 to 64, `pace` 1 to 1000000, `repeat` 0 to 1000, others 0 to 1000000000; no leading zero\njob a { sleep 01; } \n              ^\n",
     ),
     (
         b"trio-job 1\njob a { scope a { } }",
@@ -129,12 +133,12 @@ const WRONG: [Row; 13] = [
     ),
     (
         b"trio-job 1\njob a { nursery n { start b over 64 { nursery m { start c over 64 { nursery q { start d over 64 { } } } } } } }",
-        "f:1:1: the job has more than 100000 steps, the copies that `over` makes counted\ntrio-job 1\n^\n",
+        "f:1:1: the job has more than 100000 steps, in format 2 more than 1000000, the copies that `over` makes and the passes of `repeat` counted\ntrio-job 1\n^\n",
     ),
 ];
 
 // A job text, and the last line of what its refusal shows.
-const HELPED: [Row; 13] = [
+const HELPED: [Row; 16] = [
     (b"trio-job 1\njob a { slep 1; }", "did you mean `sleep`?"),
     (b"trio-job 1\njob a { sleeep 1; }", "did you mean `sleep`?"),
     (b"trio-job 1\njob a { Sleep 1; }", "did you mean `sleep`?"),
@@ -166,6 +170,18 @@ const HELPED: [Row; 13] = [
     (
         b"trio-job 1\njob a { // no\n}",
         "a job text has no comments",
+    ),
+    (
+        b"trio-job 1\njob a { repeat 2 { } }",
+        "format 2 has this: begin the job text with the line `trio-job 2`",
+    ),
+    (
+        b"trio-job 1\njob a { nursery n shield { } }",
+        "format 2 has this: begin the job text with the line `trio-job 2`",
+    ),
+    (
+        b"trio-job 2\njob a { repaet 2 { } }",
+        "did you mean `repeat`?",
     ),
 ];
 

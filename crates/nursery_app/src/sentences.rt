@@ -12,10 +12,10 @@ pub(crate) fn sentence_of(kind: JobKind, byte: Option<u8>, asked: Option<Symbol>
         JobKind::TooLong => "the job text has more than 65536 bytes",
         JobKind::NotAscii => "this byte is not ASCII",
         JobKind::Version =>
-            "a job text begins with the line `trio-job 1`, ended by a newline alone",
+            "a job text begins with the line `trio-job 1` or `trio-job 2`, ended by a newline alone",
         JobKind::Token => token_sentence(byte),
         JobKind::Number => {
-            "a number out of its range: `over` takes 1 to 64, `pace` 1 to 1000000, others 0 to 1000000000; no leading zero"
+            "a number out of its range: `over` takes 1 to 64, `pace` 1 to 1000000, `repeat` 0 to 1000, others 0 to 1000000000; no leading zero"
         }
         JobKind::Syntax => expected_sentence(asked),
         JobKind::Depth => "more than 32 blocks stand in one another",
@@ -25,7 +25,7 @@ pub(crate) fn sentence_of(kind: JobKind, byte: Option<u8>, asked: Option<Symbol>
         JobKind::Reserved =>
             "this name is reserved: no keyword, not `Cancelled`, and `TooSlow` only behind `except`",
         JobKind::TooLarge =>
-            "the job has more than 100000 steps, the copies that `over` makes counted",
+            "the job has more than 100000 steps, in format 2 more than 1000000, the copies that `over` makes and the passes of `repeat` counted",
         JobKind::NoMemory => "no memory",
     }
 }
@@ -63,6 +63,8 @@ fn expected_sentence(symbol: Option<Symbol>) -> &'static str
         Some(Symbol::Scope) => "expected `after N`, `at N`, `shield`, `fail` or `{`",
         Some(Symbol::Shield) => "expected `shield`, `fail` or `{`",
         Some(Symbol::Fail) => "expected `fail` or `{`",
+        Some(Symbol::Nursery) => "expected `{`, or in format 2 `after N` or `shield`",
+        Some(Symbol::NurseryShield) => "expected `shield` or `{`",
         Some(Symbol::Over) => "expected `over N` or `{`",
         Some(Symbol::Given) => "expected a name",
         Some(Symbol::Raised | Symbol::Handled) => "expected the name of an exception",

@@ -1,6 +1,6 @@
 use crate::{
     CheckVerdict, ReadFault, Reverse, ServeFault, Turn, Verdict, check, read_whole, serve,
-    split_feed,
+    split_feed, upgrade,
 };
 use job_grammar::{JobFault, JobKind};
 use job_report::{MemOut, Out};
@@ -38,7 +38,7 @@ pub fn serve_again<R: Abort + Threads + Sync + AllocGlobal, P: Pick>(
     serve(rt, rt.alloc(), text, input, settings, picker, &NoGate, out)
 }
 
-// What `serve` writes for the job `main` of these steps, with the limit 100, by 1 and 64 workers in each order of picks.
+// What `serve` writes for the job `main` of these steps, which both formats have.
 pub fn assert_serves<R: Abort + Threads + Sync + AllocGlobal>(
     rt: &R,
     steps: &str,
@@ -46,7 +46,20 @@ pub fn assert_serves<R: Abort + Threads + Sync + AllocGlobal>(
     expected: &str,
 ) -> Result<(), Fail> {
     assert!(rt; input.len() <= MOST_INPUT);
-    let text = format!(in rt.alloc(); "trio-job 1\njob main {{ {steps} }}")?;
+    assert_serves_in(rt, 1, steps, input, expected)?;
+    assert_serves_in(rt, 2, steps, input, expected)
+}
+
+// What `serve` writes for the job `main` of these steps in a format, with the limit 100, by 1 and 64 workers in each order of picks.
+pub fn assert_serves_in<R: Abort + Threads + Sync + AllocGlobal>(
+    rt: &R,
+    format: u64,
+    steps: &str,
+    input: &[u8],
+    expected: &str,
+) -> Result<(), Fail> {
+    assert!(rt; input.len() <= MOST_INPUT);
+    let text = format!(in rt.alloc(); "trio-job {format}\njob main {{ {steps} }}")?;
     for workers in [1, 64] {
         let settings = Settings::new(workers, 100).expect(rt, "settings");
         assert_writes(rt, &text, input, settings, &mut Forward, expected)?;
@@ -128,6 +141,18 @@ fn refusals_are_told_by_a_line(rt: HostRuntime) -> Result<(), Fail> {
             "trio-job 1\njob main { nursery n { start a over 64 { nursery m { start b over 64 { nursery q { start c over 64 { } } } } } } }",
             "refused J11 TooLarge at 0\n",
         ),
+        (
+            "trio-job 1\njob main { repeat 2 { } }",
+            "refused J6 Syntax at 22\n",
+        ),
+        (
+            "trio-job 2\njob main { repeat 1001 { } }",
+            "refused J5 Number at 29\n",
+        ),
+        (
+            "trio-job 2\njob main { repeat 1000 { repeat 1000 { } } }",
+            "refused J11 TooLarge at 0\n",
+        ),
         ("trio-job 3\njob main { }", "refused J3 Version at 0\n"),
         ("", "refused J3 Version at 0\n"),
     ] {
@@ -182,6 +207,27 @@ fn check_writes_the_canonical_text(rt: HostRuntime) -> Result<(), Fail> {
         )
     );
     assert_eq!(rt; out.taken(), b"refused J6 Syntax at 27\n".as_slice());
+    Ok(())
+}
+
+#[test]
+fn upgrade_writes_the_job_in_format_2(rt: HostRuntime) -> Result<(), Fail> {
+    let of_format_2 = b"trio-job 2\njob main{find\"er\";}\n".as_slice();
+    let refused = b"refused J6 Syntax at 27\n".as_slice();
+    for (text, expected, status) in [
+        (
+            b"trio-job 1\njob main {\n  find \"er\" ;\n}\n".as_slice(),
+            of_format_2,
+            0,
+        ),
+        (of_format_2, of_format_2, 0),
+        (b"trio-job 1\njob main { sleep", refused, 2),
+    ] {
+        let mut out = MemOut::new(rt.alloc(), 100, 100, None)?;
+        let verdict = upgrade(rt.alloc(), text, &mut out)?;
+        assert_eq!(rt; verdict.status(), status);
+        assert_eq!(rt; out.taken(), expected);
+    }
     Ok(())
 }
 

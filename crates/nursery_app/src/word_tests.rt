@@ -39,6 +39,17 @@ fn no_words_are_a_feed(rt: HostRuntime) -> Result<(), Fail> {
 }
 
 #[test]
+fn a_job_is_upgraded(rt: HostRuntime) -> Result<(), Fail> {
+    let words = words_of(rt.alloc(), "upgrade j")?;
+    let job = String::from_str(rt.alloc(), "j")?;
+    assert_eq!(rt;
+        read_command(rt.alloc(), words.as_slice())?,
+        Command::Upgrade { job }
+    );
+    Ok(())
+}
+
+#[test]
 fn runs_with_their_settings(rt: HostRuntime) -> Result<(), Fail> {
     for (line, workers, order, limit) in [
         ("run j i", 1, Order::Forward, 1_000_000),
@@ -115,8 +126,9 @@ fn a_refusal_says_what_is_wrong(rt: HostRuntime) -> Result<(), Fail> {
 #[test]
 fn help_shows_a_whole_example(rt: HostRuntime) -> Result<(), Fail> {
     for (line, told) in [
-        ("--help", "  run    Runs a job"),
-        ("--help", "  check  Writes the canonical text"),
+        ("--help", "  run      Runs a job"),
+        ("--help", "  check    Writes the canonical text"),
+        ("--help", "  upgrade  Writes the canonical text"),
         ("-h", "$ nursery run first.job log.txt\n    job main 0\n"),
         ("help", "  line 0+5 error\n"),
         ("run --help", "Usage: nursery run [OPTIONS] <JOB> <INPUT>"),
@@ -126,6 +138,7 @@ fn help_shows_a_whole_example(rt: HostRuntime) -> Result<(), Fail> {
         ("run --help", "  line 6+10 ERROR disk\n"),
         ("help run", "--workers <N>"),
         ("check --help", "wait.job:2:18: expected a number\n"),
+        ("upgrade --help", "job main{find\"er\";}"),
     ] {
         let text = help_of(rt.alloc(), line)?;
         assert!(rt; text.as_str().contains(told), "{line}: {text}");

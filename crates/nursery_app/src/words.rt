@@ -44,6 +44,11 @@ pub enum Command {
         /// The job file, or `-` for standard input.
         job: String,
     },
+    /// The canonical text of the same job in format 2.
+    Upgrade {
+        /// The job file, or `-` for standard input.
+        job: String,
+    },
     /// A text that was asked for: help, or the version.
     Help {
         /// The text, with its last newline.
@@ -115,7 +120,7 @@ fn chosen(alloc: Global, matches: &ArgMatches<'_>) -> Result<Command, CommandFau
     ensures { IfOk result IsAsked }
 {
     let Some((name, inner)) = matches.subcommand() else {
-        return refused(alloc, "error: name `run` or `check`\n");
+        return refused(alloc, "error: name `run`, `check` or `upgrade`\n");
     };
     let Some(job) = inner.get_str("job") else {
         return refused(alloc, "error: name the job file\n");
@@ -123,9 +128,11 @@ fn chosen(alloc: Global, matches: &ArgMatches<'_>) -> Result<Command, CommandFau
     if name == "run" {
         return run_command(alloc, job, inner);
     }
-    Ok(Command::Check {
-        job: String::from_str(alloc, job)?,
-    })
+    let job = String::from_str(alloc, job)?;
+    if name == "upgrade" {
+        return Ok(Command::Upgrade { job });
+    }
+    Ok(Command::Check { job })
 }
 
 // The command `run` with its settings.

@@ -1,4 +1,4 @@
-use crate::tests::assert_serves;
+use crate::tests::{assert_serves, assert_serves_in};
 use std::alloc::{AllocError, Global};
 use std::test::Fail;
 
@@ -324,6 +324,80 @@ const PARTS: [Row; 8] = [
         ],
     ),
 ];
+
+// Jobs that format 2 alone has.
+const OF_FORMAT_2: [Row; 7] = [
+    (
+        "repeat 3 { scope s after 2 { sleep 5; } }",
+        b"",
+        &[
+            "job main 6",
+            "task main 0 6 done",
+            "  scope s.0 2 caught",
+            "  scope s.1 4 caught",
+            "  scope s.2 6 caught",
+        ],
+    ),
+    (
+        "scope o after 1 { nursery n after 2 shield { start a { forever; } } }",
+        b"",
+        &[
+            "job main 2",
+            "task main 0 2 done",
+            "  nursery n 2 caught",
+            "  scope o 2 passed",
+            "task a 0 2 cancelled",
+        ],
+    ),
+    (
+        "scope o after 1 { nursery n shield { start a { sleep 3; } } checkpoint; }",
+        b"",
+        &[
+            "job main 3",
+            "task main 0 3 done",
+            "  nursery n 3 passed",
+            "  scope o 3 caught",
+            "task a 0 3 done",
+        ],
+    ),
+    (
+        "repeat 2 { nursery n { start p over 2 { sleep 1; } } }",
+        b"",
+        &[
+            "job main 2",
+            "task main 0 2 done",
+            "  nursery n.0 1 passed",
+            "  nursery n.1 2 passed",
+            "task p.0.0 0 1 done",
+            "task p.0.1 0 1 done",
+            "task p.1.0 1 2 done",
+            "task p.1.1 1 2 done",
+        ],
+    ),
+    (
+        "repeat 0 { raise A; }",
+        b"",
+        &["job main 0", "task main 0 0 done"],
+    ),
+    (
+        "repeat 5 { sleep 1; raise A; }",
+        b"",
+        &["job main 1", "task main 0 1 raised A(main@1)"],
+    ),
+    (
+        "repeat 1000 { repeat 100 { } }",
+        b"",
+        &["job main 0", "task main 0 0 done"],
+    ),
+];
+
+#[test]
+fn passes_and_nurseries_of_format_2(rt: HostRuntime) -> Result<(), Fail> {
+    for (steps, input, lines) in OF_FORMAT_2 {
+        assert_serves_in(&rt, 2, steps, input, &joined(rt.alloc(), lines)?)?;
+    }
+    Ok(())
+}
 
 #[test]
 fn scopes_and_deadlines(rt: HostRuntime) -> Result<(), Fail> {

@@ -1,14 +1,14 @@
 -- Where `start` stands in nurseries alone, a task ends no earlier than those that it started.
 use Rattle.std.proofs.Common.{◌≡◌, ℕ, zero, suc, ◌+◌, ◌≤◌, max, Bool, true, false, Option, Some, None, List, [], ◌∷◌, ◌++◌, refl, subst, arith, nat_le, if◌then◌else◌}
-use Rattle.job_tree.specs.Tree.{Step, sleep, checkpoint, forever, pace, find, head, longest, need, raise, cancel, scope, nursery, start, attempt, Steps, stop, step, Handled, unhandled, except, Cleaned, uncleaned, finally}
+use Rattle.job_tree.specs.Tree.{Step, sleep, checkpoint, forever, pace, find, head, longest, need, raise, cancel, scope, nursery, start, repeat, attempt, Steps, stop, step, Handled, unhandled, except, Cleaned, uncleaned, finally}
 use Rattle.job_tree.specs.Starting.{StartsIn, StartsAt, HandlerStarts, CleanupStarts}
 use Rattle.buffer_parts.specs.Lines.{Span}
 use Rattle.exc_groups.specs.Exceptions.{Label, Exc, cancelled}
 use Rattle.exc_groups.specs.Split.{Wanted, keep, drop}
 use Rattle.cancel_scopes.specs.Sight.{Tick, sight}
 use Rattle.job_meaning.specs.Log.{Log, nil, entry, sign, entered, task, followed_by, Member, Result}
-use Rattle.job_meaning.specs.Walk.{Stack, Mode, Here, walk, walk_step, walk_handler, walk_cleanup, done_at, raised_at, joined, and_then, then_if, slept, sleeping, log_of_lines, showing, needing, cancelling, sign_of, Kind, from_of, block, signed, sign_if, home_of, latest, gathered, child, each, handled, handled_exc, handled_if, cleaned}
-use Rattle.job_meaning.proofs.Late.{Late, late, latest_ends, child_ends, each_ends}
+use Rattle.job_meaning.specs.Walk.{Stack, Mode, Here, walk, walk_step, walk_handler, walk_cleanup, done_at, raised_at, joined, and_then, then_if, slept, sleeping, log_of_lines, showing, needing, cancelling, sign_of, Kind, from_of, block, signed, sign_if, home_of, latest, gathered, child, each, handled, handled_exc, handled_if, cleaned, passes}
+use Rattle.job_meaning.proofs.Late.{Late, late, latest_ends, child_ends, each_ends, late_passes}
 
 -- each task of a log ends by e, and those that it started by its end
 abbrev pub Inside : ℕ → Log → Type 0
@@ -165,6 +165,12 @@ ends_each (suc k) go t e h =
     let b : (go k).end ≡ t = e k in
     ends_joined true (each k go t) (go k) (ends_each k go t e h) (h k) (omega arith)
 
+ends_passes : (body : Bool) (k first : ℕ) (go : ℕ → ℕ → Result) (t : ℕ) → ((i u : ℕ) → Ends body (go i u)) → ((i u : ℕ) → Late u (go i u)) →
+    Ends body (passes first k go t)
+ends_passes body zero first go t h l = ends_done body t
+ends_passes body (suc k) first go t h l =
+    ends_then body (go first t) _ (h first t) (λ u. ends_passes body k (suc first) go u h l) (λ u. late_passes k (suc first) go u l)
+
 ends_handled : (body : Bool) (wanted : Wanted) (r : Result) (go : ℕ → Result) → Ends body r → ((u : ℕ) → Ends body (go u)) →
     ((u : ℕ) → Late u (go u)) → Ends body (handled wanted r go)
 unfolding handled
@@ -218,6 +224,8 @@ mutual
   ends_step m true (start name (Some k) b) here st t p =
       ends_each k _ t (λ i. child_ends _ t _) (λ i. ends_child _ t _ (ends_signed false st _ (ends m false b _ st t p.1)))
   ends_step m false (start name over b) here st t p = cc
+  ends_step m body (repeat count b) here st t p =
+      ends_passes body count 0 _ t (λ i u. ends_in body _ (ends m false b _ st u p)) (λ i u. late m b _ st u)
   ends_step m body (attempt b handler cleanup) here st t p =
       ends_cleanup m body cleanup here st _ p.2 (ends_handler m body handler here st _ p.1 (ends_in body _ (ends m false b here st t p.0)))
 

@@ -6,7 +6,7 @@ use Rattle.job_tree.specs.Tree.{Tree}
 use Rattle.job_tree.specs.Starting.{StartsInNurseries}
 use Rattle.exc_groups.specs.Exceptions.{Label}
 use Rattle.job_meaning.specs.Log.{Table}
-use Rattle.job_meaning.specs.Rest.{Event, noted, signs, enters, starts, Frame, steps_left, in_scope, in_nursery, in_try, in_handler, in_cleanup, Stopped, to_begin, asking, asleep, awaiting, at_end}
+use Rattle.job_meaning.specs.Rest.{Event, noted, signs, enters, starts, Frame, steps_left, in_scope, in_nursery, in_repeat, in_try, in_handler, in_cleanup, Stopped, to_begin, asking, asleep, awaiting, at_end}
 use Rattle.task_turns.specs.Midway.{Place, Begun, Move}
 use Rattle.task_turns.specs.Steps.{froms_after}
 use Rattle.task_turns.specs.Placed.{PlacedStop, PlacedAfter, places_behind, home_after, AllBelow, KidsBelow, KidsAfter, IsAmong, HasChild, WaitsFor, HasChildAfter, AllHoused}
@@ -38,6 +38,7 @@ child_below n i home (in_scope fail ∷ fs) (p ∷ ps) b h = child_below n i hom
 child_below n i home (in_nursery children ∷ fs) [] b h = absurd h
 child_below n i home (in_nursery children ∷ fs) (p ∷ ps) b (inl a) = among_below n i children b.0 a.0
 child_below n i home (in_nursery children ∷ fs) (p ∷ ps) b (inr h) = child_below n i home fs ps b.1 h
+child_below n i home (in_repeat pass left body ∷ fs) ps b h = child_below n i home fs ps b h
 child_below n i home (in_try handler cleanup ∷ fs) ps b h = child_below n i home fs ps b h
 child_below n i home (in_handler rest cleanup ∷ fs) ps b h = child_below n i home fs ps b h
 child_below n i home (in_cleanup outcome ∷ fs) ps b h = child_below n i home fs ps b h
@@ -330,6 +331,7 @@ home_among i l home (in_scope fail ∷ fs) (p ∷ ps) h k = inr (home_among i l 
 home_among i l home (in_nursery children ∷ fs) [] h k = absurd h
 home_among i l home (in_nursery children ∷ fs) (p ∷ ps) (inl a) k = subst (λ (rs : List Place). Known l (labels_of rs)) a.1 k
 home_among i l home (in_nursery children ∷ fs) (p ∷ ps) (inr h) k = inr (home_among i l home fs ps h k)
+home_among i l home (in_repeat pass left body ∷ fs) ps h k = home_among i l home fs ps h k
 home_among i l home (in_try handler cleanup ∷ fs) ps h k = home_among i l home fs ps h k
 home_among i l home (in_handler rest cleanup ∷ fs) ps h k = home_among i l home fs ps h k
 home_among i l home (in_cleanup outcome ∷ fs) ps h k = home_among i l home fs ps h k

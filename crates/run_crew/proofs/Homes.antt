@@ -4,7 +4,7 @@ use Rattle.std.specs.Option.{unwrap_or}
 use Rattle.cancel_scopes.specs.Sight.{Level}
 use Rattle.cancel_scopes.specs.Tree.{Stack, Tree, stack_of, outer_of, IsChain}
 use Rattle.job_meaning.specs.Log.{Table}
-use Rattle.job_meaning.specs.Rest.{Frame, steps_left, in_scope, in_nursery, in_try, in_handler, in_cleanup, Stopped, to_begin, asking, asleep, awaiting, at_end}
+use Rattle.job_meaning.specs.Rest.{Frame, steps_left, in_scope, in_nursery, in_repeat, in_try, in_handler, in_cleanup, Stopped, to_begin, asking, asleep, awaiting, at_end}
 use Rattle.task_turns.specs.Midway.{Place}
 use Rattle.task_turns.specs.Placed.{IsAmong, HasChild, HasChildAfter}
 use Rattle.task_machine.specs.Labels.{Labels}
@@ -72,6 +72,7 @@ home_in P now labels froms number home (in_nursery children ∷ fs) (l ∷ st) (
     home_first k.0.0 l st p ps (subst (IsAmong number) k.0.1 h.0) k.0.2 a h.1
 home_in P now labels froms number home (in_nursery children ∷ fs) (l ∷ st) (p ∷ ps) k a (inr h) =
     home_further l (home_in P now labels froms number home fs st ps k.1 a.3 h)
+home_in P now labels froms number home (in_repeat pass left body ∷ fs) st ps k a h = home_in P now labels froms number home fs st ps k a h
 home_in P now labels froms number home (in_try handler cleanup ∷ fs) st ps k a h = home_in P now labels froms number home fs st ps k a h
 home_in P now labels froms number home (in_handler rest cleanup ∷ fs) st ps k a h = home_in P now labels froms number home fs st ps k a h
 home_in P now labels froms number home (in_cleanup outcome ∷ fs) st ps k a h = home_in P now labels froms number home fs st ps k a h

@@ -4,13 +4,13 @@ use Rattle.std.specs.Prelude.{slice_get}
 use Rattle.exc_groups.specs.Exceptions.{Exc}
 use Rattle.exc_groups.specs.Split.{named, keep, drop}
 use Rattle.cancel_scopes.specs.Sight.{seen}
-use Rattle.job_tree.specs.Tree.{Step, sleep, checkpoint, forever, pace, find, head, longest, need, raise, cancel, scope, nursery, start, attempt, Steps, stop, step, Handled, unhandled, except, Cleaned, uncleaned, finally}
+use Rattle.job_tree.specs.Tree.{Step, sleep, checkpoint, forever, pace, find, head, longest, need, raise, cancel, scope, nursery, start, repeat, attempt, Steps, stop, step, Handled, unhandled, except, Cleaned, uncleaned, finally}
 use Rattle.job_meaning.specs.Asking.{Answer, lines, missing, counted, shows, needs, paces}
 use Rattle.job_meaning.specs.Log.{Table}
 use Rattle.job_meaning.specs.Walk.{Here, far, paced}
-use Rattle.job_meaning.specs.Rest.{Frame, steps_left, in_scope, in_nursery, in_try, in_handler, in_cleanup, Stopped, to_begin, asking, asleep, awaiting, at_end, inside}
+use Rattle.job_meaning.specs.Rest.{Frame, steps_left, in_scope, in_nursery, in_repeat, in_try, in_handler, in_cleanup, Stopped, to_begin, asking, asleep, awaiting, at_end, inside}
 use Rattle.task_turns.specs.Midway.{Place, stack_at, Midway, Begun, Move, moved, then_move}
-use Rattle.task_turns.specs.Steps.{froms_after, falls_asleep, begun_over, step_on, step_steps, handler_if, step_try, step_frames, step_of, turn_of}
+use Rattle.task_turns.specs.Steps.{froms_after, falls_asleep, begun_over, begins_passes, step_on, step_steps, handler_if, step_try, step_pass, step_frames, step_of, turn_of}
 use Rattle.task_turns.specs.Wakes.{Wake, begins, sees, is_due, has_answer, settles, with_answer, wake_of, turn_from}
 use Rattle.run_crew.proofs.ActsKeep.{not_both}
 use Rattle.task_machine.proofs.Stacked.{one_of}
@@ -41,6 +41,10 @@ asleep_on input true n t fs ps = tt
 asleep_on input false zero t fs ps = tt
 asleep_on input false (suc n) t fs ps = tt
 
+passes_on : (input : List ℕ) (n : ℕ) (body : Steps) (fs : List Frame) (ps : List Place) → AllOn input (begins_passes n body fs ps).begun
+passes_on input zero body fs ps = tt
+passes_on input (suc k) body fs ps = tt
+
 one_on : (input : List ℕ) (froms : Table) (t : ℕ) (here : Here) (s : Step) (ss : Steps) (fs : List Frame) (ps : List Place) (count : ℕ) →
     here.input ≡ input →
     AllOn input (step_on froms t here s ss fs ps count).begun
@@ -59,6 +63,7 @@ one_on input froms t here (nursery name d shield body) ss fs ps count e = tt
 one_on input froms t here (start name None body) ss fs ps count e = (e, tt)
 one_on input froms t here (start name (Some k) body) ss fs ps count e =
     subst (λ (xs : List ℕ). AllOn xs (begun_over name here k body ps count k)) e (over_on name here k body ps count k)
+one_on input froms t here (repeat n body) ss fs ps count e = passes_on input n body (steps_left ss ∷ fs) ps
 one_on input froms t here (attempt body handler cleanup) ss fs ps count e = tt
 
 block_on : (froms : Table) (t : ℕ) (here : Here) (ss : Steps) (fs : List Frame) (ps : List Place) (exc : Option Exc) (count : ℕ) →
@@ -66,6 +71,12 @@ block_on : (froms : Table) (t : ℕ) (here : Here) (ss : Steps) (fs : List Frame
 block_on froms t here ss fs ps (Some e) count = tt
 block_on froms t here stop fs ps None count = tt
 block_on froms t here (step s ss) fs ps None count = one_on here.input froms t (inside fs here) s ss fs ps count refl
+
+pass_on : (input : List ℕ) (pass left : ℕ) (body : Steps) (fs : List Frame) (ps : List Place) (exc : Option Exc) →
+    AllOn input (step_pass pass left body fs ps exc).begun
+pass_on input pass left body fs ps (Some e) = tt
+pass_on input pass zero body fs ps None = tt
+pass_on input pass (suc k) body fs ps None = tt
 
 try_on : (input : List ℕ) (handler : Handled) (cleanup : Cleaned) (fs : List Frame) (ps : List Place) (exc : Option Exc) →
     AllOn input (step_try handler cleanup fs ps exc).begun
@@ -86,6 +97,7 @@ frame_on froms t here (in_scope fail ∷ fs) [] exc count = tt
 frame_on froms t here (in_scope fail ∷ fs) (p ∷ ps) exc count = tt
 frame_on froms t here (in_nursery children ∷ fs) [] exc count = tt
 frame_on froms t here (in_nursery children ∷ fs) (p ∷ ps) exc count = tt
+frame_on froms t here (in_repeat pass left body ∷ fs) ps exc count = pass_on here.input pass left body fs ps exc
 frame_on froms t here (in_try handler cleanup ∷ fs) ps exc count = try_on here.input handler cleanup fs ps exc
 frame_on froms t here (in_handler rest cleanup ∷ fs) ps exc count = tt
 frame_on froms t here (in_cleanup outcome ∷ fs) ps exc count = tt

@@ -12,7 +12,7 @@ use Rattle.job_meaning.specs.Rest as rest
 use Rattle.task_turns.specs.Midway.{Place}
 use Rattle.task_turns.specs.Placed.{places_behind, IsAmong, HasChild, WaitsFor, HasChildAfter}
 use Rattle.task_machine.specs.declared.frame.Frame.{Frame}
-use Rattle.task_machine.specs.declared.frame.Frame.TheVariants.{Steps, Scope, Nursery, Try, Handler, Cleanup}
+use Rattle.task_machine.specs.declared.frame.Frame.TheVariants.{Steps, Scope, Nursery, Repeat, Try, Handler, Cleanup}
 use Rattle.task_machine.specs.declared.stop.Halt.{Halt}
 use Rattle.task_machine.specs.declared.stop.Halt.TheVariants.{ToBegin, Asked, Asleep, Awaits, Over}
 use Rattle.task_machine.specs.declared.task.Own.{Own}
@@ -320,6 +320,9 @@ carry labels book f numbers [] (o ∷ own) (Some id) stopped keys outer st ps op
 carry labels book f numbers (Steps steps ∷ fs) own waits stopped keys outer st ps opened stop at e =
     outer_plain (λ i home qs c. c) (λ i home qs c. c) (carry labels book f numbers fs own waits stopped keys
     (frame_of numbers (Steps steps) ∷ outer) st ps opened stop at e)
+carry labels book f numbers (Repeat pass left body ∷ fs) own waits stopped keys outer st ps opened stop at e =
+    outer_plain (λ i home qs c. c) (λ i home qs c. c) (carry labels book f numbers fs own waits stopped keys
+    (frame_of numbers (Repeat pass left body) ∷ outer) st ps opened stop at e)
 carry labels book f numbers (Try handler cleanup ∷ fs) own waits stopped keys outer st ps opened stop at e =
     outer_plain (λ i home qs c. c) (λ i home qs c. c) (carry labels book f numbers fs own waits stopped keys
     (frame_of numbers (Try handler cleanup) ∷ outer) st ps opened stop at e)
@@ -393,6 +396,9 @@ housed_onto labels book f numbers [] own waits stopped keys outer st ps opened s
 housed_onto labels book f numbers (Steps steps ∷ fs) own waits stopped keys outer st ps opened stop at e id i has among =
     housed_onto labels book f numbers fs own waits stopped keys (frame_of numbers (Steps steps) ∷ outer) st ps opened stop at e id i has
     among
+housed_onto labels book f numbers (Repeat pass left body ∷ fs) own waits stopped keys outer st ps opened stop at e id i has among =
+    housed_onto labels book f numbers fs own waits stopped keys (frame_of numbers (Repeat pass left body) ∷ outer) st ps opened stop at e id
+    i has among
 housed_onto labels book f numbers (Try handler cleanup ∷ fs) own waits stopped keys outer st ps opened stop at e id i has among =
     housed_onto labels book f numbers fs own waits stopped keys (frame_of numbers (Try handler cleanup) ∷ outer) st ps opened stop at e id i
     has among

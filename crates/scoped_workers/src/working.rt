@@ -17,7 +17,7 @@ use std::thread::Threads;
 /// worker that computes it.
 ///
 /// A request for which memory is refused makes the whole answer that, after all workers were joined. Where a thread
-/// cannot be started another does its work. The caller sees to it that there are 1 to 64 workers and at most 2,000,000
+/// cannot be started another does its work. The caller sees to it that there are 1 to 64 workers and at most 4,000,000
 /// requests.
 pub fn work<'a, R: Threads + Sync, G: Gate + Sync>(
     rt: &R,
@@ -28,7 +28,7 @@ pub fn work<'a, R: Threads + Sync, G: Gate + Sync>(
 ) -> Result<Vec<Answer<'a>>, AllocError>
     requires some_workers { 1 ≤ workers }
     requires few_workers { workers ≤ 64 }
-    requires few_requests { length requests.now ≤ 2000000 }
+    requires few_requests { length requests.now ≤ 4000000 }
     ensures { IfOk result (λ answers. AreAnswers requests.now answers.items) }
 {
     if requests.is_empty() {
@@ -51,7 +51,7 @@ fn draw_all<'a, R: Threads + Sync, G: Gate + Sync>(
 ) -> Result<Vec<Numbered<'a>>, AllocError>
     requires some_workers { 1 ≤ workers }
     requires few_workers { workers ≤ 64 }
-    requires few_requests { length requests.now ≤ 2000000 }
+    requires few_requests { length requests.now ≤ 4000000 }
     ensures { IfOk result (λ answered. HaveAnswers requests.now answered.items) }
 {
     let (claims, passes) = Claims::new(alloc, requests.len(), workers)?;

@@ -1,5 +1,5 @@
 -- A step of the code by the innermost frame of a task, as the definitions' step: one lemma for each kind of frame.
-use Rattle.std.proofs.Common.{◌≡◌, ℕ, ◌<◌, Bool, true, false, Option, Some, None, List, [], ◌∷◌, ◌++◌, length, refl, ap, sym, ◌∙◌, subst, arith, Bor}
+use Rattle.std.proofs.Common.{◌≡◌, ℕ, zero, suc, ◌<◌, Bool, true, false, Option, Some, None, List, [], ◌∷◌, ◌++◌, length, refl, ap, sym, ◌∙◌, subst, arith, Bor}
 use Rattle.std.proofs.lemmas.List.{append-nil}
 use Rattle.std.specs.Option.{option_map, option_copied}
 use Rattle.buffer_parts.specs.Part.{buffer_of}
@@ -21,9 +21,9 @@ use Rattle.nursery_book.specs.Nursery.{with_body}
 use Rattle.nursery_book.specs.Book.{Changes}
 use Rattle.task_machine.specs.declared.entry.Entry.{Entry}
 use Rattle.task_turns.specs.Midway.{Place, Move}
-use Rattle.task_turns.specs.Steps.{onward, handler_if, step_try, step_frames, step_of}
+use Rattle.task_turns.specs.Steps.{onward, step_pass, handler_if, step_try, step_frames, step_of}
 use Rattle.task_machine.specs.declared.frame.Frame.{Frame}
-use Rattle.task_machine.specs.declared.frame.Frame.TheVariants.{Steps, Scope, Nursery, Try, Handler, Cleanup}
+use Rattle.task_machine.specs.declared.frame.Frame.TheVariants.{Steps, Scope, Nursery, Repeat, Try, Handler, Cleanup}
 use Rattle.task_machine.specs.declared.outcome.Kind.TheVariants as kind
 use Rattle.task_machine.specs.declared.stop.Halt.TheVariants.{Awaits, Over}
 use Rattle.task_machine.specs.declared.stop.Moved.{Moved}
@@ -134,6 +134,7 @@ blocks_onto [] bs = bs
 blocks_onto (rest.steps_left ss ∷ fs) bs = blocks_onto fs bs
 blocks_onto (rest.in_scope fail ∷ fs) bs = blocks_onto fs (a_scope ∷ bs)
 blocks_onto (rest.in_nursery ns ∷ fs) bs = blocks_onto fs (key_in ns ++ bs)
+blocks_onto (rest.in_repeat pass left body ∷ fs) bs = blocks_onto fs bs
 blocks_onto (rest.in_try handler cleanup ∷ fs) bs = blocks_onto fs bs
 blocks_onto (rest.in_handler others cleanup ∷ fs) bs = blocks_onto fs bs
 blocks_onto (rest.in_cleanup outcome ∷ fs) bs = blocks_onto fs bs
@@ -147,6 +148,7 @@ onto_keys [] outer bs = refl
 onto_keys (Steps steps ∷ fs) outer bs = onto_keys fs (frame_of own_keys (Steps steps) ∷ outer) bs
 onto_keys (Scope fail ∷ fs) outer bs = onto_keys fs (rest.in_scope fail ∷ outer) bs
 onto_keys (Nursery id ∷ fs) outer bs = onto_keys fs (rest.in_nursery (id ∷ []) ∷ outer) bs
+onto_keys (Repeat pass left body ∷ fs) outer bs = onto_keys fs (frame_of own_keys (Repeat pass left body) ∷ outer) bs
 onto_keys (Try handler cleanup ∷ fs) outer bs = onto_keys fs (frame_of own_keys (Try handler cleanup) ∷ outer) bs
 onto_keys (Handler others cleanup ∷ fs) outer bs = onto_keys fs (frame_of own_keys (Handler others cleanup) ∷ outer) bs
 onto_keys (Cleanup outcome ∷ fs) outer bs = onto_keys fs (frame_of own_keys (Cleanup outcome) ∷ outer) bs
@@ -216,6 +218,33 @@ takes_body frames id task before after old new exc goes popped same goes_is stay
     takes_step frames before.frames.items (Nursery id) task before after old new goes (option_map exc_of exc) popped same
     (λ froms numbers ps count stands. took_body frames id before after old new exc goes froms numbers ps (here_of before) count stands
     popped goes_is stays world changes fails)
+
+-- ---- a task in a pass of a `repeat`
+
+pass_blocks : (pass left : ℕ) (body : tree.Steps) (fs : List rest.Frame) (ps : List Place) (exc : Option Exc) →
+    blocks_onto (step_pass pass left body fs ps exc).frames [] ≡ blocks_onto fs []
+pass_blocks pass left body fs ps (Some e) = refl
+pass_blocks pass zero body fs ps None = refl
+pass_blocks pass (suc k) body fs ps None = refl
+
+-- a pass of the code that has ended is one step of the definitions: the next one begins, or none
+pub takes_pass : (frames : List Frame) (pass left : ℕ) (body : Bor tree.Steps) (task before after : Task) (world : World)
+    (exc goes : Option held.Exc) →
+    frames ≡ before.frames.items ++ Repeat pass left body ∷ [] → before ≡ record task { frames = before.frames } →
+    after ≡ record before { frames = after.frames } →
+    ((numbers : Numbers) (ps : List Place) → step_pass pass left body.now (frames_of numbers before.frames.items) ps (option_map exc_of exc)
+    ≡ onward (frames_of numbers after.frames.items) ps (option_map exc_of goes)) →
+    Takes frames task after world world (On goes) (step_at task world frames (option_map exc_of exc))
+takes_pass frames pass left body task before after world exc goes popped same stays step =
+    takes_step frames before.frames.items (Repeat pass left body) task before after world world (On goes) (option_map exc_of exc) popped
+    same
+    (λ froms numbers ps count stands.
+    took_onward frames before after world goes froms numbers None ps
+    (step_pass pass left body.now (frames_of numbers before.frames.items) ps (option_map exc_of exc)) stands stays
+    (blocks_same before.frames.items after.frames.items (sym (ap (λ (o : Move). blocks_onto o.frames []) (step own_keys ps))
+    ∙ pass_blocks pass left body.now (frames_of own_keys before.frames.items) ps (option_map exc_of exc))
+    ∙ blocks_off before.frames.items frames (Repeat pass left body) popped refl)
+    (step numbers ps))
 
 -- ---- a task in a `try`
 

@@ -1,5 +1,5 @@
 -- A step of the code that is one of the steps of a block, as the definitions' step: one lemma for each kind.
-use Rattle.std.proofs.Common.{◌≡◌, ℕ, zero, suc, ◌+◌, ◌-◌, Bool, false, Option, Some, None, List, [], ◌∷◌, ◌++◌, length, refl, ap, sym, ◌∙◌, subst, append_assoc, arith, Bor}
+use Rattle.std.proofs.Common.{◌≡◌, ℕ, zero, suc, ◌+◌, ◌-◌, Bool, Option, Some, None, List, [], ◌∷◌, ◌++◌, length, refl, ap, sym, ◌∙◌, subst, append_assoc, arith, Bor}
 use Rattle.std.specs.List.{slice_get}
 use Rattle.cancel_scopes.specs.Tree.{outer_of}
 use Rattle.exc_groups.specs.Exceptions.{raised}
@@ -18,7 +18,7 @@ use Rattle.job_meaning.specs.Asking as ask
 use Rattle.nursery_book.specs.declared.book.NurseryBook.{NurseryBook}
 use Rattle.task_turns.specs.Midway.{Place, Move}
 use Rattle.task_turns.specs.Names.{names_at, AreNew, IsNew, NewIn}
-use Rattle.task_turns.specs.Steps.{onward, halts, making, sleeps, label_among, signs_to, step_on, step_frames}
+use Rattle.task_turns.specs.Steps.{onward, halts, making, sleeps, label_among, signs_to, begins_passes, step_on, step_frames}
 use Rattle.task_machine.specs.declared.frame.Frame.{Frame}
 use Rattle.task_machine.specs.declared.frame.Frame.TheVariants.{Steps, Scope, Nursery}
 use Rattle.task_machine.specs.declared.stop.Moved.{Moved}
@@ -34,25 +34,11 @@ use Rattle.task_machine.specs.Started.{StartsOne, StartsOver}
 use Rattle.task_machine.specs.Stops.{Numbers, MovesAs}
 use Rattle.task_machine.specs.Tasks.{scope_of}
 use Rattle.task_machine.specs.Worlds.{label_at}
-use Rattle.task_machine.proofs.FrameLemmas.{frames_pushed}
+use Rattle.task_machine.proofs.FrameLemmas.{frames_pushed, path_inside}
 use Rattle.task_machine.proofs.Tooks.{took_onward, took_halts, took_sleep, took_cancel}
 use Rattle.task_machine.proofs.TooksEntered.{took_scope, took_nursery}
-use Rattle.task_machine.proofs.TooksStarted.{took_start, took_start_over}
+use Rattle.task_machine.proofs.TooksStarted.{here_inside, took_start, took_start_over}
 use Rattle.task_machine.proofs.Advances.{takes_step, blocks_onto, own_keys, blocks_same, blocks_off}
-
--- no frame adds to the path
-path_same : (fs : List rest.Frame) (path : List ℕ) → path_in fs path ≡ path
-path_same [] path = refl
-path_same (rest.steps_left ss ∷ fs) path = path_same fs path
-path_same (rest.in_scope fail ∷ fs) path = path_same fs path
-path_same (rest.in_nursery kids ∷ fs) path = path_same fs path
-path_same (rest.in_try handler cleanup ∷ fs) path = path_same fs path
-path_same (rest.in_handler others cleanup ∷ fs) path = path_same fs path
-path_same (rest.in_cleanup outcome ∷ fs) path = path_same fs path
-
--- inside any frames of a task the place in the job is the same
-pub inside_same : (fs : List rest.Frame) (here : Here) → inside fs here ≡ here
-inside_same fs here = ap (λ (path : List ℕ). record here { path = path }) (path_same fs here.path)
 
 -- a task has the same blocks once the first of its steps is taken
 pub blocks_put : (frames : List Frame) (task before : Task) (first : Step) → AtStep frames task before first →
@@ -65,12 +51,20 @@ pub frames_put : (frames : List Frame) (task before : Task) (first : Step) (a : 
     frames_of numbers before.frames.items ≡ rest.steps_left (steps_of a.left.now) ∷ frames_of numbers a.outer
 frames_put frames task before first a numbers = frames_pushed numbers a.outer before.frames.items (Steps a.left) a.held
 
+-- where the task is inside the frames round its steps, as the definitions read it from them, is where it is inside its passes
+pub inside_is : (frames : List Frame) (task before : Task) (first : Step) (a : AtStep frames task before first) (numbers : Numbers) →
+    inside (frames_of numbers a.outer) (here_of before) ≡ here_inside before
+inside_is frames task before first a numbers =
+    ap (λ (path : List ℕ). record (here_of before) { path = path })
+    (ap (λ (gs : List rest.Frame). path_in gs before.label.indices) (sym (frames_put frames task before first a numbers))
+    ∙ path_inside numbers before.frames.items before.label.indices)
+
 -- what the definitions do by the step is their step; its scope, if it enters one, has a name that is none of those round it
 pub takes_on : (frames : List Frame) (first : Step) (task before after : Task) (old new : World) (goes : Moved) →
     (a : AtStep frames task before first) →
     ((froms : Table) (numbers : Numbers) (ps : List Place) (count : ℕ) → Stands frames before old froms numbers None ps →
     IsNew (names_at ps) (step_in first) →
-    Took frames before after old new goes froms numbers (step_on froms old.tick (here_of before) (step_in first) (steps_of a.left.now)
+    Took frames before after old new goes froms numbers (step_on froms old.tick (here_inside before) (step_in first) (steps_of a.left.now)
     (frames_of numbers a.outer) ps count)) →
     Takes frames task after old new goes (step_at task old frames None)
 takes_on frames first task before after old new goes a takes =
@@ -82,7 +76,7 @@ takes_on frames first task before after old new goes a takes =
     (sym a.first_is)
     (subst (λ (h : Here). Took frames before after old new goes froms numbers
     (step_on froms old.tick h (step_in first) (steps_of a.left.now) (frames_of numbers a.outer) ps count))
-    (sym (inside_same (frames_of numbers a.outer) (here_of before)))
+    (sym (inside_is frames task before first a numbers))
     (takes froms numbers ps count stands
     (subst (λ (ss : List Step). AreNew (names_at ps) (steps_of ss)) a.first_is
     (subst (λ (gs : List rest.Frame). NewIn gs ps) (frames_pushed numbers a.outer frames (Steps a.steps) a.popped) stands.new).0).0)))
@@ -103,7 +97,7 @@ takes_sleeps frames first task before after world goes ticks a is stays sleep =
     (λ froms numbers ps count stands new.
     subst (λ (o : Move). Took frames before after world world goes froms numbers o)
     (ap (λ (gs : List rest.Frame). sleeps froms ticks world.tick gs ps) (frames_put frames task before first a numbers)
-    ∙ sym (is froms (here_of before) (steps_of a.left.now) (frames_of numbers a.outer) ps count))
+    ∙ sym (is froms (here_inside before) (steps_of a.left.now) (frames_of numbers a.outer) ps count))
     (took_sleep frames before after world goes froms numbers None ps ticks stands stays (blocks_put frames task before first a)
     (λ at. sleep froms numbers world.book (frames_of numbers before.frames.items) ps at)))
 
@@ -163,7 +157,7 @@ takes_asks frames first task before after world goes kernel purpose a is stays a
     takes_on frames first task before after world world goes a
     (λ froms numbers ps count stands new.
     subst (λ (o : Move). Took frames before after world world goes froms numbers o)
-    (sym (is froms (here_of before) (steps_of a.left.now) (frames_of numbers a.outer) ps count))
+    (sym (is froms (here_inside before) (steps_of a.left.now) (frames_of numbers a.outer) ps count))
     (took_halts frames before after world goes froms numbers None ps
     (halts (asking kernel purpose) (rest.steps_left (steps_of a.left.now) ∷ frames_of numbers a.outer) ps) stands
     (stays ∙ ap (λ (t : Task). record before { frames = t.frames; halt = after.halt }) (sym stays))
@@ -249,7 +243,7 @@ takes_raise frames first task before world goes name a is raises =
     takes_on frames first task before before world world goes a
     (λ froms numbers ps count stands new.
     subst (λ (o : Move). Took frames before before world world goes froms numbers o)
-    (sym (ap (λ (s : Step). step_on froms world.tick (here_of before) (step_in s) (steps_of a.left.now) (frames_of numbers a.outer) ps
+    (sym (ap (λ (s : Step). step_on froms world.tick (here_inside before) (step_in s) (steps_of a.left.now) (frames_of numbers a.outer) ps
     count) is))
     (took_halts frames before before world goes froms numbers None ps
     (onward (rest.steps_left (steps_of a.left.now) ∷ frames_of numbers a.outer) ps (Some
@@ -267,8 +261,8 @@ takes_cancel frames first task before old new name a is world cancels =
     (λ froms numbers ps count stands new_name.
     subst (λ (o : Move). Took frames before before old new (On None) froms numbers o)
     (ap (λ (gs : List rest.Frame). making (signs_to (label_among name ps) old.tick) gs ps) (frames_put frames task before first a numbers)
-    ∙ sym (ap (λ (s : Step). step_on froms old.tick (here_of before) (step_in s) (steps_of a.left.now) (frames_of numbers a.outer) ps count)
-    is))
+    ∙ sym (ap (λ (s : Step). step_on froms old.tick (here_inside before) (step_in s) (steps_of a.left.now)
+    (frames_of numbers a.outer) ps count) is))
     (took_cancel frames before before old new froms numbers None ps name stands refl (blocks_put frames task before first a) world cancels))
 
 -- ---- a scope or nursery is entered
@@ -286,8 +280,8 @@ takes_scope frames first task before after old new name deadline shield fail bod
     takes_on frames first task before after old new (On None) a
     (λ froms numbers ps count stands fresh.
     subst (λ (o : Move). Took frames before after old new (On None) froms numbers o)
-    (sym (ap (λ (s : Step). step_on froms old.tick (here_of before) (step_in s) (steps_of a.left.now) (frames_of numbers a.outer) ps count)
-    is))
+    (sym (ap (λ (s : Step). step_on froms old.tick (here_inside before) (step_in s) (steps_of a.left.now)
+    (frames_of numbers a.outer) ps count) is))
     (subst
     (λ (gs : List rest.Frame). Took frames before after old new (On None) froms numbers
     (making (rest.enters (label_in before name) old.tick (due deadline old.tick) ∷ []) (rest.steps_left body ∷ rest.in_scope fail ∷ gs)
@@ -297,27 +291,27 @@ takes_scope frames first task before after old new name deadline shield fail bod
     (blocks_put frames task before first a)
     (subst (λ (s : Step). IsNew (names_at ps) (step_in s)) is fresh).0 stays block world enters one)))
 
--- a `nursery`, where the code enters one with its label, no shield and no deadline, is the definitions' step
+-- a `nursery`, where the code enters one with its label, shield and deadline, is the definitions' step
 pub takes_nursery : (me : ℕ) (frames : List Frame) (first : Step) (task before after : Task) (old new : World) (name : List ℕ)
-    (body : tree.Steps) → AtStep frames task before first →
-    first ≡ code.Nursery name body → after ≡ record before { frames = after.frames; own = after.own; froms = after.froms } →
+    (deadline : Deadline) (shield : Bool) (body : tree.Steps) → AtStep frames task before first →
+    first ≡ code.Nursery name deadline shield body → after ≡ record before { frames = after.frames; own = after.own; froms = after.froms } →
     EntersNursery me before after old new (label_in before name) body →
     new ≡ record old { scopes = new.scopes; labels = new.labels; book = new.book } →
-    EntersAt old new (scope_of before) (scope_of after) (label_in before name) false None →
-    EntersOne before after old new (label_in before name) None →
+    EntersAt old new (scope_of before) (scope_of after) (label_in before name) shield (due deadline old.tick) →
+    EntersOne before after old new (label_in before name) (due deadline old.tick) →
     Takes frames task after old new (On None) (step_at task old frames None)
-takes_nursery me frames first task before after old new name body a is stays block world enters one =
+takes_nursery me frames first task before after old new name deadline shield body a is stays block world enters one =
     takes_on frames first task before after old new (On None) a
     (λ froms numbers ps count stands fresh.
     subst (λ (o : Move). Took frames before after old new (On None) froms numbers o)
-    (sym (ap (λ (s : Step). step_on froms old.tick (here_of before) (step_in s) (steps_of a.left.now) (frames_of numbers a.outer) ps count)
-    is))
+    (sym (ap (λ (s : Step). step_on froms old.tick (here_inside before) (step_in s) (steps_of a.left.now)
+    (frames_of numbers a.outer) ps count) is))
     (subst
     (λ (gs : List rest.Frame). Took frames before after old new (On None) froms numbers
-    (making (rest.enters (label_in before name) old.tick None ∷ []) (rest.steps_left body ∷ rest.in_nursery [] ∷ gs)
-    (record { label = label_in before name; shield = false } ∷ ps)))
+    (making (rest.enters (label_in before name) old.tick (due deadline old.tick) ∷ [])
+    (rest.steps_left body ∷ rest.in_nursery [] ∷ gs) (record { label = label_in before name; shield = shield } ∷ ps)))
     (frames_put frames task before first a numbers)
-    (took_nursery me frames before after old new froms numbers None ps (label_in before name) body stands
+    (took_nursery me frames before after old new froms numbers None ps (label_in before name) shield (due deadline old.tick) body stands
     (blocks_put frames task before first a)
     (subst (λ (s : Step). IsNew (names_at ps) (step_in s)) is fresh).0 stays block world enters one)))
 
@@ -361,11 +355,11 @@ takes_start frames fs id first task before old new name body a is within apart w
     takes_on frames first task before before old new (On None) a
     (λ froms numbers ps count stands new_name.
     subst (λ (o : Move). Took frames before before old new (On None) froms numbers o)
-    (ap (λ (gs : List rest.Frame). step_on froms old.tick (here_of before) (tree.start name None body) (steps_of a.left.now) gs ps count)
-    (sym (frames_pushed numbers fs a.outer
+    (ap (λ (gs : List rest.Frame). step_on froms old.tick (here_inside before) (tree.start name None body) (steps_of a.left.now) gs
+    ps count) (sym (frames_pushed numbers fs a.outer
     (Nursery id) within))
-    ∙ sym (ap (λ (s : Step). step_on froms old.tick (here_of before) (step_in s) (steps_of a.left.now) (frames_of numbers a.outer) ps count)
-    is))
+    ∙ sym (ap (λ (s : Step). step_on froms old.tick (here_inside before) (step_in s) (steps_of a.left.now)
+    (frames_of numbers a.outer) ps count) is))
     (took_start frames fs id a.left before old new froms numbers None ps name body count stands
     (in_body fs a.outer before.frames.items id a.left a.held within)
     (blocks_put frames task before first a) apart world starts modest))
@@ -381,11 +375,11 @@ takes_start_over frames fs id first task before old new name k body a is within 
     takes_on frames first task before before old new (On None) a
     (λ froms numbers ps count stands new_name.
     subst (λ (o : Move). Took frames before before old new (On None) froms numbers o)
-    (ap (λ (gs : List rest.Frame). step_on froms old.tick (here_of before) (tree.start name (Some k) body) (steps_of a.left.now) gs ps
+    (ap (λ (gs : List rest.Frame). step_on froms old.tick (here_inside before) (tree.start name (Some k) body) (steps_of a.left.now) gs ps
     count) (sym
     (frames_pushed numbers fs a.outer (Nursery id) within))
-    ∙ sym (ap (λ (s : Step). step_on froms old.tick (here_of before) (step_in s) (steps_of a.left.now) (frames_of numbers a.outer) ps count)
-    is))
+    ∙ sym (ap (λ (s : Step). step_on froms old.tick (here_inside before) (step_in s) (steps_of a.left.now)
+    (frames_of numbers a.outer) ps count) is))
     (took_start_over frames fs id a.left before old new froms numbers None ps name k body count stands
     (in_body fs a.outer before.frames.items id a.left a.held within)
     (blocks_put frames task before first a) apart world starts modest))
@@ -403,10 +397,31 @@ takes_attempt frames first task before after world body handler cleanup a is sta
     takes_on frames first task before after world world (On None) a
     (λ froms numbers ps count stands new.
     took_onward frames before after world None froms numbers None ps
-    (step_on froms world.tick (here_of before) (step_in first) (steps_of a.left.now) (frames_of numbers a.outer) ps count) stands stays
+    (step_on froms world.tick (here_inside before) (step_in first) (steps_of a.left.now) (frames_of numbers a.outer) ps count) stands stays
     (blocks_same before.frames.items after.frames.items (ap (λ (fs : List rest.Frame). blocks_onto fs []) (held own_keys))
     ∙ blocks_put frames task before first a)
-    (ap (λ (s : Step). step_on froms world.tick (here_of before) (step_in s) (steps_of a.left.now) (frames_of numbers a.outer) ps count) is
+    (ap (λ (s : Step). step_on froms world.tick (here_inside before) (step_in s) (steps_of a.left.now)
+    (frames_of numbers a.outer) ps count) is
     ∙ ap (λ (gs : List rest.Frame). onward (rest.steps_left body ∷ rest.in_try (handled_of handler) (cleaned_of cleanup) ∷ gs) ps None) (sym
     (frames_put frames task before first a numbers))
     ∙ ap (λ (gs : List rest.Frame). onward gs ps None) (sym (held numbers))))
+
+-- ---- a `repeat` begins
+
+-- a `repeat` of the code that begins is one step of the definitions, whether it has a pass or not
+pub takes_repeat : (frames : List Frame) (first : Step) (task before after : Task) (world : World) (count : ℕ) (body : tree.Steps) →
+    AtStep frames task before first → first ≡ code.Repeat count body → after ≡ record before { frames = after.frames } →
+    blocks_of after.frames.items ≡ blocks_of before.frames.items →
+    ((numbers : Numbers) (ps : List Place) → begins_passes count body (frames_of numbers before.frames.items) ps
+    ≡ onward (frames_of numbers after.frames.items) ps None) →
+    Takes frames task after world world (On None) (step_at task world frames None)
+takes_repeat frames first task before after world times body a is stays blocks begins =
+    takes_on frames first task before after world world (On None) a
+    (λ froms numbers ps count stands new.
+    took_onward frames before after world None froms numbers None ps
+    (step_on froms world.tick (here_inside before) (step_in first) (steps_of a.left.now) (frames_of numbers a.outer) ps count) stands stays
+    (blocks ∙ blocks_put frames task before first a)
+    (ap (λ (s : Step). step_on froms world.tick (here_inside before) (step_in s) (steps_of a.left.now) (frames_of numbers a.outer) ps
+    count) is
+    ∙ ap (λ (gs : List rest.Frame). begins_passes times body gs ps) (sym (frames_put frames task before first a numbers))
+    ∙ begins numbers ps))

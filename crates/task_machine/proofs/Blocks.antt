@@ -7,7 +7,7 @@ use Rattle.nursery_book.specs.Nursery.{Nursery as Members}
 use Rattle.nursery_book.specs.Book.{nursery_at, HasNursery}
 use Rattle.nursery_book.specs.declared.book.NurseryBook.{NurseryBook}
 use Rattle.task_machine.specs.declared.frame.Frame.{Frame}
-use Rattle.task_machine.specs.declared.frame.Frame.TheVariants.{Steps, Scope, Nursery, Try, Handler, Cleanup}
+use Rattle.task_machine.specs.declared.frame.Frame.TheVariants.{Steps, Scope, Nursery, Repeat, Try, Handler, Cleanup}
 use Rattle.task_machine.specs.declared.task.Own.{Own}
 use Rattle.task_machine.specs.Fitting.{Block, a_scope, a_nursery, blocks_of, AreOthers, IsMine, IsBlockOf, Opened, HasRunning, RunsIn}
 use Rattle.task_machine.specs.Labels.{Labels}
@@ -18,6 +18,7 @@ blocks_append [] gs = refl
 blocks_append (Steps steps ∷ fs) gs = blocks_append fs gs
 blocks_append (Scope fail ∷ fs) gs = ap (λ (bs : List Block). a_scope ∷ bs) (blocks_append fs gs)
 blocks_append (Nursery id ∷ fs) gs = ap (λ (bs : List Block). a_nursery id ∷ bs) (blocks_append fs gs)
+blocks_append (Repeat pass left body ∷ fs) gs = blocks_append fs gs
 blocks_append (Try handler cleanup ∷ fs) gs = blocks_append fs gs
 blocks_append (Handler others cleanup ∷ fs) gs = blocks_append fs gs
 blocks_append (Cleanup outcome ∷ fs) gs = blocks_append fs gs

@@ -9,7 +9,7 @@ use Rattle.nursery_book.specs.declared.book.NurseryBook.{NurseryBook}
 use Rattle.job_meaning.specs.Rest as rest
 use Rattle.task_turns.specs.Placed.{in_body}
 use Rattle.task_machine.specs.declared.frame.Frame.{Frame}
-use Rattle.task_machine.specs.declared.frame.Frame.TheVariants.{Steps, Scope, Nursery, Try, Handler, Cleanup}
+use Rattle.task_machine.specs.declared.frame.Frame.TheVariants.{Steps, Scope, Nursery, Repeat, Try, Handler, Cleanup}
 use Rattle.task_machine.specs.declared.task.Own.{Own}
 use Rattle.task_machine.specs.Fitting.{Block, a_nursery, blocks_of, frames_behind, InBody, IsMine, Opened}
 use Rattle.task_machine.specs.Frames.{frame_of, frames_of}
@@ -55,6 +55,7 @@ is_body (f ∷ g ∷ fs) b =
     by_round (Steps steps) e b = absurd (let e : false ≡ true = b in cc)
     by_round (Scope fail) e b = absurd (let e : false ≡ true = b in cc)
     by_round (Nursery id) e b = record { id = id; at = record { outer = (last2 f g fs).outer; top = (last2 f g fs).top; is = e } }
+    by_round (Repeat pass left body) e b = absurd (let e : false ≡ true = b in cc)
     by_round (Try handler cleanup) e b = absurd (let e : false ≡ true = b in cc)
     by_round (Handler others cleanup) e b = absurd (let e : false ≡ true = b in cc)
     by_round (Cleanup outcome) e b = absurd (let e : false ≡ true = b in cc)

@@ -11,7 +11,7 @@ use Rattle.nursery_book.specs.declared.book.NurseryBook.{NurseryBook}
 use Rattle.job_meaning.specs.Rest as rest
 use Rattle.job_meaning.specs.Rest.{Stopped, to_begin, asking, asleep, awaiting, at_end}
 use Rattle.task_machine.specs.declared.frame.Frame.{Frame}
-use Rattle.task_machine.specs.declared.frame.Frame.TheVariants.{Steps, Scope, Nursery, Try, Handler, Cleanup}
+use Rattle.task_machine.specs.declared.frame.Frame.TheVariants.{Steps, Scope, Nursery, Repeat, Try, Handler, Cleanup}
 use Rattle.task_machine.specs.declared.stop.Halt.{Halt}
 use Rattle.task_machine.specs.declared.stop.Halt.TheVariants.{ToBegin, Asked, Asleep, Awaits, Over}
 use Rattle.task_machine.specs.declared.stop.Stop.{Stop}
@@ -36,6 +36,7 @@ Keyed P now (rest.in_scope fail ∷ fs) [] = ⊥
 Keyed P now (rest.in_scope fail ∷ fs) (k ∷ ks) = Keyed P now fs ks
 Keyed P now (rest.in_nursery children ∷ fs) [] = ⊥
 Keyed P now (rest.in_nursery children ∷ fs) (k ∷ ks) = ((id : ℕ) × (children ≡ now id) × P id k) × Keyed P now fs ks
+Keyed P now (rest.in_repeat pass left body ∷ fs) ks = Keyed P now fs ks
 Keyed P now (rest.in_try handler cleanup ∷ fs) ks = Keyed P now fs ks
 Keyed P now (rest.in_handler others cleanup ∷ fs) ks = Keyed P now fs ks
 Keyed P now (rest.in_cleanup outcome ∷ fs) ks = Keyed P now fs ks
@@ -83,6 +84,8 @@ keyed_onto P now labels book (Nursery id ∷ fs) (o ∷ own) waits outer ks has 
     (keyed_onto P now labels book fs own waits (rest.in_nursery (now id) ∷ outer) (o.id ∷ ks)
     (λ key x i n. has key x (one_behind key id (blocks_of fs) waits i) n) h.2
     ((id, refl, has id o (inl (inl refl)) (is_scope labels (λ n. n.body ≡ None) (nursery_at book id) o h.0)), k))
+keyed_onto P now labels book (Repeat pass left body ∷ fs) own waits outer ks has h k =
+    keyed_onto P now labels book fs own waits (frame_of now (Repeat pass left body) ∷ outer) ks has h k
 keyed_onto P now labels book (Try handler cleanup ∷ fs) own waits outer ks has h k =
     keyed_onto P now labels book fs own waits (frame_of now (Try handler cleanup) ∷ outer) ks has h k
 keyed_onto P now labels book (Handler others cleanup ∷ fs) own waits outer ks has h k =

@@ -1,10 +1,11 @@
 -- Frames that the code holds, the innermost last.
 use Rattle.std.proofs.Common.{◌≡◌, ℕ, List, [], ◌∷◌, ◌++◌, refl, ap, ◌∙◌}
 use Rattle.job_meaning.specs.Rest as rest
+use Rattle.job_meaning.specs.Rest.{path_in}
 use Rattle.task_machine.specs.declared.frame.Frame.{Frame}
-use Rattle.task_machine.specs.declared.frame.Frame.TheVariants.{Steps, Scope, Nursery, Try, Handler, Cleanup}
+use Rattle.task_machine.specs.declared.frame.Frame.TheVariants.{Steps, Scope, Nursery, Repeat, Try, Handler, Cleanup}
 use Rattle.task_machine.specs.Fitting.{Block, a_scope, a_nursery, blocks_of, block_in}
-use Rattle.task_machine.specs.Frames.{frame_of, frames_onto, frames_of}
+use Rattle.task_machine.specs.Frames.{frame_of, frames_onto, frames_of, passes_onto}
 
 onto_push : (children : ℕ → List ℕ) (fs : List Frame) (f : Frame) (outer : List rest.Frame) →
     frames_onto children (fs ++ f ∷ []) outer ≡ frame_of children f ∷ frames_onto children fs outer
@@ -29,6 +30,7 @@ blocks_pushed fs gs f e = ap blocks_of e ∙ by_frames fs
     by_frame (Steps steps) = refl
     by_frame (Scope fail) = refl
     by_frame (Nursery id) = refl
+    by_frame (Repeat pass left body) = refl
     by_frame (Try handler cleanup) = refl
     by_frame (Handler others cleanup) = refl
     by_frame (Cleanup outcome) = refl
@@ -37,6 +39,7 @@ blocks_pushed fs gs f e = ap blocks_of e ∙ by_frames fs
     block_behind b (Steps steps) bs = refl
     block_behind b (Scope fail) bs = refl
     block_behind b (Nursery id) bs = refl
+    block_behind b (Repeat pass left body) bs = refl
     block_behind b (Try handler cleanup) bs = refl
     block_behind b (Handler others cleanup) bs = refl
     block_behind b (Cleanup outcome) bs = refl
@@ -46,6 +49,35 @@ blocks_pushed fs gs f e = ap blocks_of e ∙ by_frames fs
     by_frames (Steps steps ∷ hs) = by_frames hs
     by_frames (Scope fail ∷ hs) = ap (λ (bs : List Block). a_scope ∷ bs) (by_frames hs) ∙ block_behind a_scope f (blocks_of hs)
     by_frames (Nursery id ∷ hs) = ap (λ (bs : List Block). a_nursery id ∷ bs) (by_frames hs) ∙ block_behind (a_nursery id) f (blocks_of hs)
+    by_frames (Repeat pass left body ∷ hs) = by_frames hs
     by_frames (Try handler cleanup ∷ hs) = by_frames hs
     by_frames (Handler others cleanup ∷ hs) = by_frames hs
     by_frames (Cleanup outcome ∷ hs) = by_frames hs
+
+path_onto : (numbers : ℕ → List ℕ) (fs : List Frame) (outer : List rest.Frame) (path : List ℕ) →
+    path_in (frames_onto numbers fs outer) path ≡ passes_onto fs (path_in outer path)
+path_onto numbers [] outer path = refl
+path_onto numbers (Steps steps ∷ fs) outer path = path_onto numbers fs (frame_of numbers (Steps steps) ∷ outer) path
+path_onto numbers (Scope fail ∷ fs) outer path = path_onto numbers fs (frame_of numbers (Scope fail) ∷ outer) path
+path_onto numbers (Nursery id ∷ fs) outer path = path_onto numbers fs (frame_of numbers (Nursery id) ∷ outer) path
+path_onto numbers (Repeat pass left body ∷ fs) outer path =
+    path_onto numbers fs (frame_of numbers (Repeat pass left body) ∷ outer) path
+path_onto numbers (Try handler cleanup ∷ fs) outer path = path_onto numbers fs (frame_of numbers (Try handler cleanup) ∷ outer) path
+path_onto numbers (Handler others cleanup ∷ fs) outer path =
+    path_onto numbers fs (frame_of numbers (Handler others cleanup) ∷ outer) path
+path_onto numbers (Cleanup outcome ∷ fs) outer path = path_onto numbers fs (frame_of numbers (Cleanup outcome) ∷ outer) path
+
+-- the path inside frames that the code holds is that inside the definitions' frames, however children are numbered
+pub path_inside : (numbers : ℕ → List ℕ) (fs : List Frame) (path : List ℕ) → path_in (frames_of numbers fs) path ≡ passes_onto fs path
+path_inside numbers fs path = path_onto numbers fs [] path
+
+-- the path inside frames that are behind others is their path on that of the others
+pub path_append : (fs gs : List Frame) (path : List ℕ) → passes_onto (fs ++ gs) path ≡ passes_onto gs (passes_onto fs path)
+path_append [] gs path = refl
+path_append (Steps steps ∷ fs) gs path = path_append fs gs path
+path_append (Scope fail ∷ fs) gs path = path_append fs gs path
+path_append (Nursery id ∷ fs) gs path = path_append fs gs path
+path_append (Repeat pass left body ∷ fs) gs path = path_append fs gs (path ++ pass ∷ [])
+path_append (Try handler cleanup ∷ fs) gs path = path_append fs gs path
+path_append (Handler others cleanup ∷ fs) gs path = path_append fs gs path
+path_append (Cleanup outcome ∷ fs) gs path = path_append fs gs path

@@ -12,6 +12,7 @@ use Rattle.nursery_book.specs.Book.{nursery_at, HasNursery, Updates, Changes}
 use Rattle.task_machine.specs.declared.task.Home.{Home}
 use Rattle.task_machine.specs.declared.task.Task.{Task}
 use Rattle.task_machine.specs.declared.world.World.{World}
+use Rattle.task_machine.specs.Tasks.{path_of}
 use Rattle.task_machine.specs.Started.{IsChild, running, home_at, StartsOne, StartsOver}
 use Rattle.task_machine.proofs.Stacked.{one_of}
 
@@ -89,7 +90,7 @@ starts_none self world id k name body P has = by_nursery (nursery_at world.book 
 -- with one child more, on the next cut, one more of the children over cuts is started
 pub starts_more : (self : Task) (old mid new : World) (id k i : ℕ) (name : List ℕ) (label : Label) (part : Part) (body : Steps) →
     StartsOver self old mid id name k body i →
-    StartsOne mid new id label part body → label ≡ record { name = name; indices = self.label.indices ++ i ∷ [] } →
+    StartsOne mid new id label part body → label ≡ record { name = name; indices = path_of self ++ i ∷ [] } →
     buffer_of part ≡ buffer_of self.part →
     range_of part ≡ cut_of (buffer_of self.part) (range_of self.part) k i → StartsOver self old new id name k body (suc i)
 starts_more self old mid new id k i name label part body h g named input cut =

@@ -69,6 +69,7 @@ no_blocks_begun children (f ∷ []) body e = by_frame f e
     by_frame (frames.Steps steps) e = refl
     by_frame (frames.Scope fail) e = absurd (let g : rest.in_scope fail ≡ rest.steps_left body = cc in cc)
     by_frame (frames.Nursery id) e = absurd (let g : rest.in_nursery (children id) ≡ rest.steps_left body = cc in cc)
+    by_frame (frames.Repeat pass left body) e = refl
     by_frame (frames.Try handler cleanup) e = refl
     by_frame (frames.Handler others cleanup) e = refl
     by_frame (frames.Cleanup outcome) e = refl

@@ -1,5 +1,6 @@
 -- What holds of a task and its world between moves, by what each step says.
-use Rattle.std.proofs.Common.{◌≡◌, ◌≢◌, ◌<◌, ℕ, suc, ◌+◌, Bool, true, false, Option, Some, None, List, [], ◌∷◌, ◌++◌, length, length-append, append_assoc, append-nil, refl, ap, sym, ◌∙◌, subst, arith}
+use Rattle.std.proofs.Common.{◌≡◌, ◌≢◌, ◌<◌, ℕ, zero, suc, ◌+◌, ◌*◌, ◌≤◌, Bool, true, false, Option, Some, None, List, [], ◌∷◌, ◌++◌, length, length-append, append_assoc, append-nil, refl, ap, sym, ◌∙◌, subst, arith}
+use Rattle.std.proofs.Math.Nat.{suc-mul}
 use Rattle.std.proofs.lemmas.List.{length-set}
 use Rattle.std.specs.Prelude.{IsSome}
 use Rattle.std.specs.Option.{IsSomeAnd}
@@ -7,13 +8,14 @@ use Rattle.std.specs.List.{last_or}
 use Rattle.cancel_scopes.specs.Sight.{Tick}
 use Rattle.cancel_scopes.specs.Tree.{IsChain, IsOwn, IsApart}
 use Rattle.job_meaning.specs.Rest as rest
+use Rattle.job_tree.specs.declared.limits.TheConstants.{MOST_PASSES}
 use Rattle.job_tree.specs.Modest.{AreModest, IsModestHandler, IsModestCleanup}
 use Rattle.job_tree.specs.Starting.{StartsIn, HandlerStarts, CleanupStarts}
 use Rattle.job_tree.specs.Tree.{Steps}
 use Rattle.job_tree.specs.Tree as tree
 use Rattle.exc_groups.specs.Split.{named, keep, drop}
 use Rattle.task_turns.specs.Midway.{Place, Move}
-use Rattle.task_turns.specs.Steps.{onward, handler_if, step_try}
+use Rattle.task_turns.specs.Steps.{onward, begins_passes, step_pass, handler_if, step_try}
 use Rattle.task_turns.specs.Bound.{turn_length, frames_length}
 use Rattle.exc_groups.specs.Exceptions.{Label, Exc}
 use Rattle.nursery_book.specs.Nursery.{End, Nursery as Members, with_body}
@@ -225,6 +227,7 @@ block_frames before after exit body e =
     by_top (frames.Steps steps) i = ap rest.steps_left i
     by_top (frames.Scope fail) i = absurd i
     by_top (frames.Nursery id) i = absurd i
+    by_top (frames.Repeat pass left body) i = absurd i
     by_top (frames.Try handler cleanup) i = absurd i
     by_top (frames.Handler others cleanup) i = absurd i
     by_top (frames.Cleanup outcome) i = absurd i
@@ -241,6 +244,7 @@ block_blocks before after exit body e =
     by_top (frames.Steps steps) i = refl
     by_top (frames.Scope fail) i = absurd i
     by_top (frames.Nursery id) i = absurd i
+    by_top (frames.Repeat pass left body) i = absurd i
     by_top (frames.Try handler cleanup) i = absurd i
     by_top (frames.Handler others cleanup) i = absurd i
     by_top (frames.Cleanup outcome) i = absurd i
@@ -359,6 +363,86 @@ pub popped_body : (labels : Labels) (book : NurseryBook) (fs : List Frame) (id :
 popped_body labels book fs id own h =
     body_block labels book (blocks_of fs) [] id own None (subst (λ (bs : List Block). Opened labels book bs own None)
     (blocks_append fs (Nursery id ∷ [])) h)
+
+-- ---- a `repeat`
+
+passes_modest : (count : ℕ) (body : Steps) (fs : List rest.Frame) (ps : List Place) → count ≤ MOST_PASSES → AreModest body →
+    AreModestFrames fs → AreModestFrames (begins_passes count body fs ps).frames
+passes_modest zero body fs ps few b m = m
+passes_modest (suc k) body fs ps few b m = (b, (b, (let e : 0 + k ≤ MOST_PASSES = omega (arith, few) in e), m))
+
+passes_starts : (count : ℕ) (body : Steps) (fs : List rest.Frame) (ps : List Place) → StartsIn false body → StartsFit fs →
+    StartsFit (begins_passes count body fs ps).frames
+passes_starts zero body fs ps b m = m
+passes_starts (suc k) body fs ps b m = (b, (b, m))
+
+passes_shorter : (count : ℕ) (body : Steps) (fs : List rest.Frame) (ps : List Place) →
+    frames_length (begins_passes count body fs ps).frames < 1 + count * (1 + turn_length body) + frames_length fs
+passes_shorter zero body fs ps = omega arith
+passes_shorter (suc k) body fs ps = let e = suc-mul k (1 + turn_length body) in omega (arith, e)
+
+-- a `repeat` has begun: the task still fits
+pub repeat_fits : (count : ℕ) (body : Steps) (before after : Task) (world : World) → Fits before.frames.items before world None →
+    count ≤ MOST_PASSES → AreModest body → StartsIn false body → blocks_of after.frames.items ≡ blocks_of before.frames.items →
+    begins_passes count body (frames_of (λ id. []) before.frames.items) [] ≡ onward (frames_of (λ id. []) after.frames.items) [] None →
+    after ≡ record before { frames = after.frames } → Fits after.frames.items after world None
+repeat_fits count body before after world fits few b s blocks step stays =
+    frames_fit before.frames.items before after world fits blocks
+    (subst AreModestFrames (ap (λ (o : Move). o.frames) step)
+    (passes_modest count body (frames_of (λ id. []) before.frames.items) [] few b fits.modest))
+    (subst StartsFit (ap (λ (o : Move). o.frames) step)
+    (passes_starts count body (frames_of (λ id. []) before.frames.items) [] s fits.starts))
+    (stays ∙ ap (λ (t : Task). record before { frames = after.frames; halt = t.halt }) (sym stays))
+
+-- a `repeat` that has begun has fewer steps left than its step had
+pub repeat_length : (count : ℕ) (body : Steps) (before after : Task) →
+    begins_passes count body (frames_of (λ id. []) before.frames.items) [] ≡ onward (frames_of (λ id. []) after.frames.items) [] None →
+    frames_length (frames_of (λ id. []) after.frames.items)
+    < 1 + count * (1 + turn_length body) + frames_length (frames_of (λ id. []) before.frames.items)
+repeat_length count body before after step =
+    let e = passes_shorter count body (frames_of (λ id. []) before.frames.items) [] in
+    let f = ap (λ (o : Move). frames_length o.frames) step in
+    omega (arith, e, f)
+
+pass_modest : (pass left : ℕ) (body : Steps) (fs : List rest.Frame) (ps : List Place) (exc : Option Exc) → AreModest body →
+    pass + left ≤ MOST_PASSES → AreModestFrames fs → AreModestFrames (step_pass pass left body fs ps exc).frames
+pass_modest pass left body fs ps (Some e) b few m = m
+pass_modest pass zero body fs ps None b few m = m
+pass_modest pass (suc k) body fs ps None b few m = (b, (b, (let e : suc pass + k ≤ MOST_PASSES = omega (arith, few) in e), m))
+
+pass_starts : (pass left : ℕ) (body : Steps) (fs : List rest.Frame) (ps : List Place) (exc : Option Exc) → StartsIn false body →
+    StartsFit fs → StartsFit (step_pass pass left body fs ps exc).frames
+pass_starts pass left body fs ps (Some e) b m = m
+pass_starts pass zero body fs ps None b m = m
+pass_starts pass (suc k) body fs ps None b m = (b, (b, m))
+
+-- a pass that has ended leaves fewer steps
+pub pass_shorter : (pass left : ℕ) (body : Steps) (fs : List rest.Frame) (ps : List Place) (exc : Option Exc) →
+    frames_length (step_pass pass left body fs ps exc).frames < frames_length (rest.in_repeat pass left body ∷ fs)
+pass_shorter pass left body fs ps (Some e) = omega arith
+pass_shorter pass zero body fs ps None = omega arith
+pass_shorter pass (suc k) body fs ps None = let e = suc-mul k (1 + turn_length body) in omega (arith, e)
+
+-- a pass of a `repeat` has ended: the task still fits
+pub passed_fits : (pass left : ℕ) (body : Steps) (fs : List Frame) (f : Frame) (exc after_exc : Option Exc) (before after : Task)
+    (world : World) → blocks_of (f ∷ []) ≡ [] →
+    frame_of (λ id. []) f ≡ rest.in_repeat pass left body → Fits (fs ++ f ∷ []) before world None →
+    step_pass pass left body (frames_of (λ id. []) fs) [] exc ≡ onward (frames_of (λ id. []) after.frames.items) [] after_exc →
+    blocks_of after.frames.items ≡ blocks_of fs → after ≡ record before { frames = after.frames } → Fits after.frames.items after world None
+passed_fits pass left body fs f exc after_exc before after world none is fits step blocks stays =
+    frames_fit (fs ++ f ∷ []) before after world fits
+    (blocks ∙ sym (blocks_append fs (f ∷ []) ∙ ap (λ (bs : List Block). blocks_of fs ++ bs) none ∙ append-nil (blocks_of fs)))
+    (subst AreModestFrames (ap (λ (o : Move). o.frames) step)
+    (pass_modest pass left body (frames_of (λ id. []) fs) [] exc modest.0 modest.1 modest.2))
+    (subst StartsFit (ap (λ (o : Move). o.frames) step)
+    (pass_starts pass left body (frames_of (λ id. []) fs) [] exc starts.0 starts.1))
+    (stays ∙ ap (λ (t : Task). record before { frames = after.frames; halt = t.halt }) (sym stays))
+  where
+    modest : AreModestFrames (rest.in_repeat pass left body ∷ frames_of (λ id. []) fs)
+    modest = subst (λ (x : rest.Frame). AreModestFrames (x ∷ frames_of (λ id. []) fs)) is (modest_with fs f before world fits)
+
+    starts : StartsFit (rest.in_repeat pass left body ∷ frames_of (λ id. []) fs)
+    starts = subst (λ (x : rest.Frame). StartsFit (x ∷ frames_of (λ id. []) fs)) is (starts_with fs f before world fits)
 
 -- ---- a `try`
 

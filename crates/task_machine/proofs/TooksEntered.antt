@@ -19,7 +19,7 @@ use Rattle.task_turns.specs.Midway.{Place}
 use Rattle.task_turns.specs.Names.{IsName, names_at}
 use Rattle.task_turns.specs.Steps.{enters_block}
 use Rattle.task_machine.specs.declared.frame.Frame.{Frame}
-use Rattle.task_machine.specs.declared.frame.Frame.TheVariants.{Steps, Scope, Nursery, Try, Handler, Cleanup}
+use Rattle.task_machine.specs.declared.frame.Frame.TheVariants.{Steps, Scope, Nursery, Repeat, Try, Handler, Cleanup}
 use Rattle.task_machine.specs.declared.stop.Moved.TheVariants.{On}
 use Rattle.task_machine.specs.declared.task.Task.{Task}
 use Rattle.task_machine.specs.declared.world.World.{World}
@@ -41,6 +41,7 @@ block_frame : (numbers : Numbers) (top : Frame) (body : tree.Steps) → IsBlock 
 block_frame numbers (Steps steps) body e = ap (λ (ss : tree.Steps). rest.steps_left ss) e
 block_frame numbers (Scope fail) body e = absurd e
 block_frame numbers (Nursery id) body e = absurd e
+block_frame numbers (Repeat pass left block) body e = absurd e
 block_frame numbers (Try handler cleanup) body e = absurd e
 block_frame numbers (Handler others cleanup) body e = absurd e
 block_frame numbers (Cleanup outcome) body e = absurd e
@@ -49,6 +50,7 @@ no_block : (top : Frame) (body : tree.Steps) → IsBlock top body → blocks_of 
 no_block (Steps steps) body e = refl
 no_block (Scope fail) body e = absurd e
 no_block (Nursery id) body e = absurd e
+no_block (Repeat pass left block) body e = absurd e
 no_block (Try handler cleanup) body e = absurd e
 no_block (Handler others cleanup) body e = absurd e
 no_block (Cleanup outcome) body e = absurd e
@@ -141,6 +143,8 @@ onto_others numbers more (Nursery id ∷ fs) outer same =
     ap (λ (ns : List ℕ). frames_onto more fs (rest.in_nursery ns ∷ outer)) (same id (inl refl))
     ∙ onto_others numbers more fs (rest.in_nursery (numbers id) ∷ outer)
     (λ key h. same key (inr h))
+onto_others numbers more (Repeat pass left body ∷ fs) outer same =
+    onto_others numbers more fs (frame_of numbers (Repeat pass left body) ∷ outer) same
 onto_others numbers more (Try handler cleanup ∷ fs) outer same =
     onto_others numbers more fs (frame_of numbers (Try handler cleanup) ∷ outer) same
 onto_others numbers more (Handler others cleanup ∷ fs) outer same =
@@ -156,15 +160,15 @@ frames_others numbers more fs same = onto_others numbers more fs [] same
 pub took_nursery : (me : ℕ) (frames : List Frame) (before after : Task) (old new : World) (froms : Table) (numbers : Numbers)
     (stopped : Option Stopped) (ps : List Place)
     (label : Label)
-    (body : tree.Steps) → Stands frames before old froms numbers stopped ps → blocks_of before.frames.items ≡ blocks_of frames →
-    (IsName label.name (names_at ps) → ⊥) →
+    (shield : Bool) (deadline : Tick) (body : tree.Steps) → Stands frames before old froms numbers stopped ps →
+    blocks_of before.frames.items ≡ blocks_of frames → (IsName label.name (names_at ps) → ⊥) →
     after ≡ record before { frames = after.frames; own = after.own; froms = after.froms } →
     EntersNursery me before after old new label body →
     new ≡ record old { scopes = new.scopes; labels = new.labels; book = new.book } →
-    EntersAt old new (scope_of before) (scope_of after) label false None →
-    EntersOne before after old new label None → Took frames before after old new (On None) froms numbers
-    (enters_block label false None old.tick body (rest.in_nursery []) (frames_of numbers before.frames.items) ps)
-took_nursery me frames before after old new froms numbers stopped ps label body stands same fresh stays n world enters one =
+    EntersAt old new (scope_of before) (scope_of after) label shield deadline →
+    EntersOne before after old new label deadline → Took frames before after old new (On None) froms numbers
+    (enters_block label shield deadline old.tick body (rest.in_nursery []) (frames_of numbers before.frames.items) ps)
+took_nursery me frames before after old new froms numbers stopped ps label shield deadline body stands same fresh stays n world enters one =
     record {
       numbers_after = more;
       frames_after =
@@ -197,7 +201,7 @@ took_nursery me frames before after old new froms numbers stopped ps label body 
       owned = λ key has. by_owned key (old_or_new key has);
       covered = λ key place number has at. by_covered key place number (old_or_new key has) at;
       others = λ key m at apart other. n.stands.others key (λ is. absurd (closed key m is at)) ∙ at;
-      acts = entered_acts before after old new label None one;
+      acts = entered_acts before after old new label deadline one;
     }
   where
     more : Numbers

@@ -41,13 +41,17 @@ use Rattle.task_machine.specs.Stacked.{AreAt}
 use Rattle.task_machine.specs.Standing.{here_of, HasBlock, HasNurseryOf, Stands, shown_made, IsBegun, AreBegun, BeginsAt, Grown, Took}
 use Rattle.task_machine.specs.Started.{IsChild, running, home_at, StartsOne, AreChildren, StartsOver}
 use Rattle.task_machine.specs.Stops.{Numbers}
-use Rattle.task_machine.specs.Tasks.{scope_of}
+use Rattle.task_machine.specs.Tasks.{scope_of, path_of}
 use Rattle.task_machine.specs.Worlds.{label_at}
 use Rattle.task_machine.proofs.Acting.{block_of, start_acts, starts_acts}
 use Rattle.task_machine.proofs.Begins.{begins_more}
 use Rattle.task_machine.proofs.Taking.{shown_append}
 use Rattle.task_machine.proofs.Tooks.{has_last, not_grown, updated_has, is_at}
 use Rattle.task_machine.proofs.TooksEntered.{entered_frames, entered_blocks, with_numbers, numbers_put, numbers_else, frames_others}
+
+-- where a task is inside its passes, as its steps see it
+abbrev pub here_inside : Task → Here
+here_inside task = record (here_of task) { path = path_of task }
 
 -- ---- places in lists
 
@@ -314,23 +318,23 @@ pub took_start : (frames fs : List Frame) (id : ℕ) (left : Bor (List Step)) (t
     task.frames.items ≡ fs ++ Nursery id ∷ Steps left ∷ [] →
     blocks_of task.frames.items ≡ blocks_of frames → (HasBlock id (blocks_of fs) → ⊥) →
     new ≡ record old { book = new.book; started = new.started } →
-    StartsOne old new id (record { name = name; indices = task.label.indices }) task.part body → AreModest body →
+    StartsOne old new id (record { name = name; indices = path_of task }) task.part body → AreModest body →
     Took frames task task old new (On None) froms numbers
-    (step_on froms old.tick (here_of task) (tree.start name None body) (steps_of left.now)
+    (step_on froms old.tick (here_inside task) (tree.start name None body) (steps_of left.now)
     (rest.in_nursery (numbers id) ∷ frames_of numbers fs) ps count)
 took_start frames fs id left task old new froms numbers stopped ps name body count stands held same apart world s modest =
     took_starts frames fs id left task old new froms numbers stopped ps s.nursery (None ∷ []) (count ∷ []) (s.task ∷ [])
-    (begun_one count (here_in (label_here name (here_of task)) (range_of task.part) (here_of task)) body ps ∷ [])
-    (starts count (label_here name (here_of task)) old.tick ∷ [])
+    (begun_one count (here_in (label_here name (here_inside task)) (range_of task.part) (here_inside task)) body ps ∷ [])
+    (starts count (label_here name (here_inside task)) old.tick ∷ [])
     stands held same apart world s.was s.book (All-cons (λ (e : End). e ≡ None) None [] refl (All-nil (λ (e : End). e ≡ None))) refl
     s.started (
-      begun_child more new.book (blocks_of task.frames.items) None s.task (label_here name (here_of task)) (buffer_of task.part)
+      begun_child more new.book (blocks_of task.frames.items) None s.task (label_here name (here_inside task)) (buffer_of task.part)
           (range_of task.part) body id 0 s.nursery ps count s.child got
           (subst (λ (o : Option Members). IsSomeAnd o (λ m. (m.scope ≡ s.nursery.scope)
           × (slice_get m.children (length s.nursery.children + 0) ≡ Some None)))
           (sym s.book.changed) (refl, got_behind s.nursery.children (None ∷ []) 0 (length s.nursery.children + 0) refl)) has modest,
       tt,
-    ) refl refl (start_acts old.tick count (label_here name (here_of task)) old.tick (scoping_of task old) (scoping_of task new)
+    ) refl refl (start_acts old.tick count (label_here name (here_inside task)) old.tick (scoping_of task old) (scoping_of task new)
     (ap (λ (w : World). scoping_of task w) world)) begins
   where
     more : Numbers
@@ -345,7 +349,7 @@ took_start frames fs id left task old new froms numbers stopped ps name body cou
 
     begins : (i number : ℕ) → slice_get (count ∷ []) i ≡ Some number →
         BeginsAt id (length s.nursery.children + i) number (s.task ∷ [])
-        (begun_one count (here_in (label_here name (here_of task)) (range_of task.part) (here_of task)) body ps ∷ [])
+        (begun_one count (here_in (label_here name (here_inside task)) (range_of task.part) (here_inside task)) body ps ∷ [])
     begins zero number e = inl (
       ap (λ (h : Option Home). home_in h) s.child.home_is,
       (let f : Some count ≡ Some number = e in one_number count number f),
@@ -393,11 +397,11 @@ long_more t b (u ∷ ts) (c ∷ bs) a = long_more t b ts bs a
 
 children_long : (self : Task) (id : ℕ) (n : Members) (name : List ℕ) (k : ℕ) (body : tree.Steps) (ps : List Place) (first i : ℕ)
     (tasks : List Task) →
-    AreChildren self id n name k body tasks i → AreAsMany tasks (begun_over name (here_of self) k body ps first i)
+    AreChildren self id n name k body tasks i → AreAsMany tasks (begun_over name (here_inside self) k body ps first i)
 children_long self id n name k body ps first zero tasks c = subst (λ (ts : List Task). AreAsMany ts []) (sym c) tt
 children_long self id n name k body ps first (suc i) tasks c =
-    subst (λ (ts : List Task). AreAsMany ts (begun_over name (here_of self) k body ps first (suc i))) (sym c.2)
-    (long_more c.1 _ c.0 (begun_over name (here_of self) k body ps first i) (children_long self id n name k body ps first i c.0 c.3))
+    subst (λ (ts : List Task). AreAsMany ts (begun_over name (here_inside self) k body ps first (suc i))) (sym c.2)
+    (long_more c.1 _ c.0 (begun_over name (here_inside self) k body ps first i) (children_long self id n name k body ps first i c.0 c.3))
 
 begun_more : (numbers : Numbers) (book : NurseryBook) (blocks : List Block) (waits : Option ℕ) (ts us : List Task) (bs cs : List Begun) →
     AreBegun numbers book blocks waits ts bs →
@@ -415,16 +419,16 @@ begun_first : (more : Numbers) (book : NurseryBook) (blocks : List Block) (waits
     ((i : ℕ) → i < k → HasNursery book id (λ m. (m.scope ≡ n.scope) × (slice_get m.children (length n.children + i) ≡ Some None))) →
     HasBlock id blocks →
     AreModest body → (i : ℕ) → i ≤ k → (tasks : List Task) → AreChildren self id n name k body tasks i →
-    AreBegun more book blocks waits tasks (begun_over name (here_of self) k body ps first i)
+    AreBegun more book blocks waits tasks (begun_over name (here_inside self) k body ps first i)
 begun_first more book blocks waits self id n name k body ps first got scope has modest zero few tasks c =
     subst (λ (ts : List Task). AreBegun more book blocks waits ts []) (sym c) tt
 begun_first more book blocks waits self id n name k body ps first got scope has modest (suc i) few tasks c =
-    subst (λ (ts : List Task). AreBegun more book blocks waits ts (begun_over name (here_of self) k body ps first (suc i))) (sym c.2)
-    (begun_more more book blocks waits c.0 (c.1 ∷ []) (begun_over name (here_of self) k body ps first i)
-    (begun_one (first + i) (here_in (label_over name (here_of self) i) (cut_of (buffer_of self.part) (range_of self.part) k i)
-    (here_of self)) body ps ∷ [])
+    subst (λ (ts : List Task). AreBegun more book blocks waits ts (begun_over name (here_inside self) k body ps first (suc i))) (sym c.2)
+    (begun_more more book blocks waits c.0 (c.1 ∷ []) (begun_over name (here_inside self) k body ps first i)
+    (begun_one (first + i) (here_in (label_over name (here_inside self) i) (cut_of (buffer_of self.part) (range_of self.part) k i)
+    (here_inside self)) body ps ∷ [])
     (begun_first more book blocks waits self id n name k body ps first got scope has modest i (omega (arith, few)) c.0 c.3) (
-      begun_child more book blocks waits c.1 (label_over name (here_of self) i) (buffer_of self.part)
+      begun_child more book blocks waits c.1 (label_over name (here_inside self) i) (buffer_of self.part)
           (cut_of (buffer_of self.part) (range_of self.part) k i) body id i n ps
           (first + i) c.4
           (got i (omega (arith, few))) (scope i (omega (arith, few))) has modest,
@@ -435,31 +439,32 @@ begun_first more book blocks waits self id n name k body ps first got scope has 
 begins_over : (self : Task) (id : ℕ) (n : Members) (name : List ℕ) (k : ℕ) (body : tree.Steps) (ps : List Place) (first i : ℕ)
     (tasks : List Task) →
     AreChildren self id n name k body tasks i → (at number : ℕ) → slice_get (numbered first i) at ≡ Some number →
-    BeginsAt id (length n.children + at) number tasks (begun_over name (here_of self) k body ps first i)
+    BeginsAt id (length n.children + at) number tasks (begun_over name (here_inside self) k body ps first i)
 begins_over self id n name k body ps first zero tasks c at number e = absurd (let f : None ≡ Some number = e in cc)
 begins_over self id n name k body ps first (suc i) tasks c at number e =
-    subst (λ (ts : List Task). BeginsAt id (length n.children + at) number ts (begun_over name (here_of self) k body ps first (suc i)))
+    subst (λ (ts : List Task). BeginsAt id (length n.children + at) number ts (begun_over name (here_inside self) k body ps first (suc i)))
     (sym c.2)
     (by_part (λ got. begins_over self id n name k body ps first i c.0 c.3 at number got)
     (got_either (numbered first i) ((first + i) ∷ []) at number e))
   where
     last : Begun
-    last = begun_one (first + i) (here_in (label_over name (here_of self) i) (cut_of (buffer_of self.part) (range_of self.part) k i)
-        (here_of self)) body ps
+    last = begun_one (first + i) (here_in (label_over name (here_inside self) i) (cut_of (buffer_of self.part) (range_of self.part) k i)
+        (here_inside self)) body ps
 
     by_part : (slice_get (numbered first i) at ≡ Some number → BeginsAt id (length n.children + at) number c.0
-        (begun_over name (here_of self) k body ps first i)) →
+        (begun_over name (here_inside self) k body ps first i)) →
         (slice_get (numbered first i) at ≡ Some number) ⊎ GotBehind (length (numbered first i)) ((first + i) ∷ []) at number →
-        BeginsAt id (length n.children + at) number (c.0 ++ c.1 ∷ []) (begun_over name (here_of self) k body ps first i ++ last ∷ [])
+        BeginsAt id (length n.children + at) number (c.0 ++ c.1 ∷ []) (begun_over name (here_inside self) k body ps first i ++ last ∷ [])
     by_part before (inl got) =
-        begins_more id (length n.children + at) number c.0 (c.1 ∷ []) (begun_over name (here_of self) k body ps first i) (last ∷ [])
+        begins_more id (length n.children + at) number c.0 (c.1 ∷ []) (begun_over name (here_inside self) k body ps first i) (last ∷ [])
         (before got)
     by_part before (inr got) = by_place got.place got.behind got.got
       where
         by_place : (j : ℕ) → at ≡ length (numbered first i) + j → slice_get ((first + i) ∷ []) j ≡ Some number →
-            BeginsAt id (length n.children + at) number (c.0 ++ c.1 ∷ []) (begun_over name (here_of self) k body ps first i ++ last ∷ [])
+            BeginsAt id (length n.children + at) number (c.0 ++ c.1 ∷ [])
+            (begun_over name (here_inside self) k body ps first i ++ last ∷ [])
         by_place zero behind at_first =
-            same_long id (length n.children + at) number c.0 (c.1 ∷ []) (begun_over name (here_of self) k body ps first i) (last ∷ [])
+            same_long id (length n.children + at) number c.0 (c.1 ∷ []) (begun_over name (here_inside self) k body ps first i) (last ∷ [])
             (children_long self id n name k body ps first i c.0 c.3)
             (inl (
               ap (λ (h : Option Home). home_in h) c.4.home_is ∙ ap (λ (x : ℕ). Some (id, length n.children + x))
@@ -478,12 +483,12 @@ pub took_start_over : (frames fs : List Frame) (id : ℕ) (left : Bor (List Step
     new ≡ record old { book = new.book; started = new.started } →
     StartsOver task old new id name k body k → AreModest body →
     Took frames task task old new (On None) froms numbers
-    (step_on froms old.tick (here_of task) (tree.start name (Some k) body) (steps_of left.now)
+    (step_on froms old.tick (here_inside task) (tree.start name (Some k) body) (steps_of left.now)
     (rest.in_nursery (numbers id) ∷ frames_of numbers fs) ps count)
 took_start_over frames fs id left task old new froms numbers stopped ps name k body count stands held same apart world s modest =
     took_starts frames fs id left task old new froms numbers stopped ps s.nursery (running k) (numbered count k) s.tasks
-    (begun_over name (here_of task) k body ps count k)
-    (starts_over name (here_of task) old.tick count k) stands held same apart world s.was s.book (all_running k)
+    (begun_over name (here_inside task) k body ps count k)
+    (starts_over name (here_inside task) old.tick count k) stands held same apart world s.was s.book (all_running k)
     (numbered_length count k ∙ sym (running_length k)) s.started
     (begun_first more new.book (blocks_of task.frames.items) None task id s.nursery name k body ps count got
     (λ i less.
@@ -491,8 +496,9 @@ took_start_over frames fs id left task old new froms numbers stopped ps name k b
     × (slice_get m.children (length s.nursery.children + i) ≡ Some None)))
     (sym s.book.changed) (refl, got_behind s.nursery.children (running k) i (length s.nursery.children + i) refl ∙ running_at k i less))
     has modest k (omega arith) s.tasks s.children)
-    (over_froms name (here_of task) old.tick count k froms) (over_unshown (buffer_of task.part) name (here_of task) old.tick count k)
-    (starts_acts old.tick name (here_of task) old.tick count k (scoping_of task old) (scoping_of task new)
+    (over_froms name (here_inside task) old.tick count k froms)
+    (over_unshown (buffer_of task.part) name (here_inside task) old.tick count k)
+    (starts_acts old.tick name (here_inside task) old.tick count k (scoping_of task old) (scoping_of task new)
     (ap (λ (w : World). scoping_of task w) world))
     (begins_over task id s.nursery name k body ps count k s.tasks s.children)
   where

@@ -19,7 +19,7 @@ use Rattle.task_machine.specs.declared.task.Task.{Task}
 use Rattle.task_machine.specs.declared.world.World.{World}
 use Rattle.task_machine.specs.Labels.{Updates, scope_named}
 use Rattle.task_machine.specs.Acts.{Signed}
-use Rattle.task_machine.specs.Tasks.{scope_of}
+use Rattle.task_machine.specs.Tasks.{scope_of, path_of}
 use Rattle.task_machine.specs.Worlds.{label_at}
 use Rattle.task_machine.specs.Stacked.{AreAt}
 
@@ -31,9 +31,9 @@ EntersAt before after outer inner label shield deadline =
     AreAt (label_at before) froms (outer_of before.scopes outer) ps →
     AreAt (label_at after) (opened froms label deadline) (outer_of after.scopes inner) (record { label = label; shield = shield } ∷ ps)
 
--- the label of a scope that a task enters
+-- the label of a scope that a task enters: behind its own indices come the numbers of the passes that it is in
 abbrev pub label_in : Task → List ℕ → Label
-label_in task name = record { name = name; indices = task.label.indices }
+label_in task name = record { name = name; indices = path_of task }
 
 -- A scope was opened that was not open, inside those round the task: the last of its own, with a place behind its froms. Every
 -- other scope stays, and keeps its label.

@@ -1,9 +1,10 @@
 -- What holds of a task and its world between moves: what is left can run, and its scopes and nurseries are open.
-use Rattle.std.specs.Prelude.{◌≡◌, ◌≢◌, ◌⊎◌, ℕ, zero, suc, ◌<◌, ◌≤◌, List, [], ◌∷◌, ◌++◌, Option, Some, None, IsSome, All, length, map, slice_get}
+use Rattle.std.specs.Prelude.{◌≡◌, ◌≢◌, ◌⊎◌, ℕ, zero, suc, ◌+◌, ◌<◌, ◌≤◌, false, List, [], ◌∷◌, ◌++◌, Option, Some, None, IsSome, All, length, map, slice_get}
 use Rattle.std.specs.Option.{ForSome, option_map}
 use Rattle.std.specs.List.{last_or}
 use Rattle.job_tree.specs.Starting.{StartsIn, HandlerStarts, CleanupStarts}
 use Rattle.task_turns.specs.Placed.{in_body}
+use Rattle.job_tree.specs.declared.limits.TheConstants.{MOST_PASSES}
 use Rattle.job_tree.specs.Modest.{AreModest, IsModestHandler, IsModestCleanup}
 use Rattle.buffer_parts.specs.Lines.{bytes_of}
 use Rattle.buffer_parts.specs.Part.{buffer_of, range_of}
@@ -15,7 +16,7 @@ use Rattle.nursery_book.specs.declared.book.NurseryBook.{NurseryBook}
 use Rattle.job_meaning.specs.Rest as rest
 use Rattle.job_meaning.specs.declared.limits.TheConstants.{MOST_INPUT}
 use Rattle.task_machine.specs.declared.frame.Frame.{Frame}
-use Rattle.task_machine.specs.declared.frame.Frame.TheVariants.{Steps, Scope, Nursery, Try, Handler, Cleanup}
+use Rattle.task_machine.specs.declared.frame.Frame.TheVariants.{Steps, Scope, Nursery, Repeat, Try, Handler, Cleanup}
 use Rattle.task_machine.specs.declared.stop.Halt.{Halt}
 use Rattle.task_machine.specs.declared.stop.Halt.TheVariants.{ToBegin, Asked, Asleep, Awaits, Over}
 use Rattle.task_machine.specs.declared.task.Own.{Own}
@@ -28,12 +29,13 @@ use Rattle.task_machine.specs.Labels.{Labels}
 use Rattle.task_machine.specs.Tasks.{home_scope}
 use Rattle.task_machine.specs.Worlds.{label_at}
 
--- all numbers of the steps left are in their ranges
+-- all numbers of the steps and of the passes left are in their ranges
 abbrev pub AreModestFrames : List rest.Frame → Type 0
 AreModestFrames [] = Unit {0}
 AreModestFrames (rest.steps_left ss ∷ fs) = AreModest ss × AreModestFrames fs
 AreModestFrames (rest.in_scope fail ∷ fs) = AreModestFrames fs
 AreModestFrames (rest.in_nursery children ∷ fs) = AreModestFrames fs
+AreModestFrames (rest.in_repeat pass left body ∷ fs) = AreModest body × (pass + left ≤ MOST_PASSES) × AreModestFrames fs
 AreModestFrames (rest.in_try handler cleanup ∷ fs) = IsModestHandler handler × IsModestCleanup cleanup × AreModestFrames fs
 AreModestFrames (rest.in_handler others cleanup ∷ fs) = IsModestCleanup cleanup × AreModestFrames fs
 AreModestFrames (rest.in_cleanup outcome ∷ fs) = AreModestFrames fs
@@ -44,6 +46,7 @@ StartsFit [] = Unit {0}
 StartsFit (rest.steps_left ss ∷ fs) = StartsIn (in_body fs) ss × StartsFit fs
 StartsFit (rest.in_scope fail ∷ fs) = StartsFit fs
 StartsFit (rest.in_nursery children ∷ fs) = StartsFit fs
+StartsFit (rest.in_repeat pass left body ∷ fs) = StartsIn false body × StartsFit fs
 StartsFit (rest.in_try handler cleanup ∷ fs) = HandlerStarts handler × CleanupStarts cleanup × StartsFit fs
 StartsFit (rest.in_handler others cleanup ∷ fs) = CleanupStarts cleanup × StartsFit fs
 StartsFit (rest.in_cleanup outcome ∷ fs) = StartsFit fs
@@ -64,6 +67,7 @@ blocks_of [] = []
 blocks_of (Steps steps ∷ fs) = blocks_of fs
 blocks_of (Scope fail ∷ fs) = a_scope ∷ blocks_of fs
 blocks_of (Nursery id ∷ fs) = a_nursery id ∷ blocks_of fs
+blocks_of (Repeat pass left body ∷ fs) = blocks_of fs
 blocks_of (Try handler cleanup ∷ fs) = blocks_of fs
 blocks_of (Handler others cleanup ∷ fs) = blocks_of fs
 blocks_of (Cleanup outcome ∷ fs) = blocks_of fs
@@ -79,6 +83,7 @@ abbrev pub block_in : Frame → List Block → List Block
 block_in (Steps steps) bs = bs
 block_in (Scope fail) bs = bs ++ a_scope ∷ []
 block_in (Nursery id) bs = bs ++ a_nursery id ∷ []
+block_in (Repeat pass left body) bs = bs
 block_in (Try handler cleanup) bs = bs
 block_in (Handler others cleanup) bs = bs
 block_in (Cleanup outcome) bs = bs

@@ -1,17 +1,18 @@
 -- What the code holds of what a task has not finished, the innermost last, as frames, the innermost first.
-use Rattle.std.specs.Prelude.{ℕ, List, [], ◌∷◌}
+use Rattle.std.specs.Prelude.{ℕ, List, [], ◌∷◌, ◌++◌}
 use Rattle.std.specs.Option.{option_map, option_copied}
 use Rattle.job_tree.specs.Blocks.{steps_of, handled_of, cleaned_of}
 use Rattle.exc_groups.specs.Held.{exc_of}
 use Rattle.job_meaning.specs.Rest as rest
 use Rattle.task_machine.specs.declared.frame.Frame.{Frame}
-use Rattle.task_machine.specs.declared.frame.Frame.TheVariants.{Steps, Scope, Nursery, Try, Handler, Cleanup}
+use Rattle.task_machine.specs.declared.frame.Frame.TheVariants.{Steps, Scope, Nursery, Repeat, Try, Handler, Cleanup}
 
 -- one frame, where the children that were started in each nursery have these numbers
 abbrev pub frame_of : (ℕ → List ℕ) → Frame → rest.Frame
 frame_of children (Steps steps) = rest.steps_left (steps_of steps.now)
 frame_of children (Scope fail) = rest.in_scope fail
 frame_of children (Nursery id) = rest.in_nursery (children id)
+frame_of children (Repeat pass left body) = rest.in_repeat pass left body.now
 frame_of children (Try handler cleanup) = rest.in_try (handled_of (option_copied handler)) (cleaned_of cleanup.now)
 frame_of children (Handler others cleanup) = rest.in_handler (option_map exc_of others) (cleaned_of cleanup.now)
 frame_of children (Cleanup outcome) = rest.in_cleanup (option_map exc_of outcome)
@@ -23,3 +24,14 @@ frames_onto children (f ∷ fs) outer = frames_onto children fs (frame_of childr
 
 abbrev pub frames_of : (ℕ → List ℕ) → List Frame → List rest.Frame
 frames_of children fs = frames_onto children fs []
+
+-- the path of indices inside these frames, outermost first: each pass of a `repeat` adds its number
+abbrev pub passes_onto : List Frame → List ℕ → List ℕ
+passes_onto [] path = path
+passes_onto (Steps steps ∷ fs) path = passes_onto fs path
+passes_onto (Scope fail ∷ fs) path = passes_onto fs path
+passes_onto (Nursery id ∷ fs) path = passes_onto fs path
+passes_onto (Repeat pass left body ∷ fs) path = passes_onto fs (path ++ pass ∷ [])
+passes_onto (Try handler cleanup ∷ fs) path = passes_onto fs path
+passes_onto (Handler others cleanup ∷ fs) path = passes_onto fs path
+passes_onto (Cleanup outcome ∷ fs) path = passes_onto fs path

@@ -16,6 +16,7 @@ use Rattle.task_machine.specs.declared.world.World.{World}
 use Rattle.task_machine.specs.Fitting.{InBody}
 use Rattle.task_machine.specs.Frames.{frames_of}
 use Rattle.task_machine.specs.Stops.{Numbers}
+use Rattle.task_machine.specs.Tasks.{path_of}
 
 -- a task that was started with this label on this range of an input: it has to begin with these steps, at this home
 pub record IsChild (task : Task) (label : Label) (input : List ℕ) (range : Range) (body : Steps) (home : Home) : Type 0 where
@@ -52,7 +53,7 @@ abbrev pub AreChildren : Task → ℕ → Nursery → List ℕ → ℕ → Steps
 AreChildren self id n name k body tasks zero = tasks ≡ []
 AreChildren self id n name k body tasks (suc i) =
     (before : List Task) × (last : Task) × (tasks ≡ before ++ last ∷ []) × AreChildren self id n name k body before i
-    × IsChild last (record { name = name; indices = self.label.indices ++ i ∷ [] }) (buffer_of self.part)
+    × IsChild last (record { name = name; indices = path_of self ++ i ∷ [] }) (buffer_of self.part)
     (cut_of (buffer_of self.part) (range_of self.part) k i) body
     (home_at id n i)
 
@@ -67,7 +68,7 @@ pub record StartsOver (self : Task) (old new : World) (id : ℕ) (name : List �
 
 -- the children of a `start`, in the nursery in whose body the task is
 abbrev pub StartsAll : Task → World → World → ℕ → List ℕ → Option ℕ → Steps → Type 0
-StartsAll self old new id name None body = StartsOne old new id (record { name = name; indices = self.label.indices }) self.part body
+StartsAll self old new id name None body = StartsOne old new id (record { name = name; indices = path_of self }) self.part body
 StartsAll self old new id name (Some k) body = StartsOver self old new id name k body k
 
 pub record StartsChildren (self : Task) (old new : World) (name : List ℕ) (over : Option ℕ) (body : Steps) : Type 0 where

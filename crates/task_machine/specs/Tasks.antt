@@ -1,10 +1,11 @@
 -- What clauses see of a task.
-use Rattle.std.specs.Prelude.{ℕ, Option, map}
+use Rattle.std.specs.Prelude.{ℕ, Option, List, map}
 use Rattle.std.specs.Option.{option_map}
 use Rattle.std.specs.List.{last_or}
 use Rattle.task_machine.specs.declared.task.Own.{Own}
 use Rattle.task_machine.specs.declared.task.Home.{Home}
 use Rattle.task_machine.specs.declared.task.Task.{Task}
+use Rattle.task_machine.specs.Frames.{passes_onto}
 
 -- the scope of the nursery in which a task was started
 abbrev pub home_scope : Task → Option ℕ
@@ -17,3 +18,7 @@ scope_of task = last_or (home_scope task) (map (λ (o : Own). o.id) task.own.ite
 -- the nursery in which it was started, and its place there
 abbrev pub home_of : Task → Option (ℕ × ℕ)
 home_of task = option_map (λ (h : Home). (h.nursery, h.place)) task.home
+
+-- the path of indices of what it enters or starts: its own, and behind them the numbers of the passes that it is in
+abbrev pub path_of : Task → List ℕ
+path_of task = passes_onto task.frames.items task.label.indices

@@ -23,7 +23,7 @@ use cancel_scopes::{ScopeId, stacks_are_chains};
 use job_tree::{Body, Deadline, Name};
 use std::alloc::AllocError;
 
-// A cancel scope that is to be entered.
+// A cancel scope or a nursery that is to be entered.
 #[derive(Clone, Copy)]
 pub(crate) struct Block<'a> {
     pub(crate) name: Name,
@@ -51,11 +51,12 @@ impl<'a> Task<'a> {
             (label_in self.old name) shield deadline) }
     {
         stacks_are_chains(&world.scopes);
-        let label = self.label.named(self.alloc, name)?;
+        let label = self.label_here(name)?;
         let id = world.enter(self.scope(), label, shield, deadline)?;
         let at = self.froms.len();
+        let kept = self.label_here(name)?;
         self.froms.push(ScopeFrom {
-            label: self.label.named(self.alloc, name)?,
+            label: kept,
             seen: None,
         })?;
         self.own.push(Own { id, at })?;
@@ -92,25 +93,29 @@ impl<'a> Task<'a> {
     pub(crate) fn enter_nursery(
         &mut self,
         me: TaskId,
-        name: Name,
-        body: &'a Body,
+        block: Block<'a>,
         world: &mut World<'a>,
     ) -> Result<(), AllocError>
         requires scope { ForSome (scope_of self.old) (IsOpen world.old.scopes) }
+        requires modest { IsModestDeadline block.deadline }
+        requires tick { world.old.tick ≤ 2 ^ 40 }
         ensures stays { OnOk result (self.new
             ≡ record self.old { frames = self.new.frames; own = self.new.own; froms = self.new.froms }) }
-        ensures nursery { OnOk result (EntersNursery me self.old self.new world.old world.new (label_in self.old name) body.now) }
-        ensures own { OnOk result (EntersOne self.old self.new world.old world.new (label_in self.old name) None) }
+        ensures nursery { OnOk result (EntersNursery me self.old self.new world.old world.new
+            (label_in self.old block.entry.name) block.entry.body.now) }
+        ensures own { OnOk result (EntersOne self.old self.new world.old world.new (label_in self.old block.entry.name)
+            (due block.entry.deadline world.old.tick)) }
         ensures world { OnOk result (world.new
             ≡ record world.old { scopes = world.new.scopes; labels = world.new.labels; book = world.new.book }) }
         ensures at { OnOk result (EntersAt world.old world.new (scope_of self.old) (scope_of self.new)
-            (label_in self.old name) false None) }
+            (label_in self.old block.entry.name) block.entry.shield (due block.entry.deadline world.old.tick)) }
     {
-        let scope = self.enter(name, false, None, world)?;
-        let label = self.label.named(self.alloc, name)?;
+        let deadline = due(block.deadline, world.now());
+        let scope = self.enter(block.name, block.shield, deadline, world)?;
+        let label = self.label_here(block.name)?;
         let id = world.book.open(scope, me, label)?;
         self.push(Frame::Nursery { id })?;
-        self.push(Frame::Steps(body.as_slice()))?;
+        self.push(Frame::Steps(block.body.as_slice()))?;
         Ok(())
     }
 }

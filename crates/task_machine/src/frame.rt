@@ -17,6 +17,15 @@ pub(crate) enum Frame<'a> {
         /// The nursery.
         id: NurseryId,
     },
+    /// The passes of a `repeat`.
+    Repeat {
+        /// The number of the one that runs.
+        pass: u64,
+        /// How many come after it.
+        left: u64,
+        /// Its block.
+        body: &'a Body,
+    },
     /// The body of a `try`.
     Try {
         /// Its handler, if it has one that was not asked.

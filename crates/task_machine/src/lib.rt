@@ -20,6 +20,7 @@ mod laws;
 mod leaving;
 mod outcome;
 mod pausing;
+mod repeating;
 mod starting;
 mod stop;
 mod task;

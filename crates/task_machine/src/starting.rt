@@ -99,7 +99,7 @@ impl<'a> Task<'a> {
         let mut cuts = self.part.cuts(copies as usize);
         'copies: for i in 0..copies {
             let part = cuts.next_cut();
-            let label = self.label.named(self.alloc, name)?.indexed(i)?;
+            let label = self.label_here(name)?.indexed(i)?;
             self.start(nursery, label, part, body, world)?;
         }
         Ok(())
@@ -123,7 +123,7 @@ impl<'a> Task<'a> {
         let nursery = self.nursery();
         match over {
             None => {
-                let label = self.label.named(self.alloc, name)?;
+                let label = self.label_here(name)?;
                 self.start(nursery, label, self.part, body, world)?;
             }
             Some(copies) => self.start_over(nursery, name, copies, body, world)?,

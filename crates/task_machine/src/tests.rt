@@ -2,10 +2,10 @@ use crate::task::{Home, Own};
 use crate::{Task, World};
 use autojump_clock::TaskId;
 use buffer_parts::Part;
-use exc_groups::Label;
+use exc_groups::{Exc, Label};
 use job_grammar::{Job, read_job};
 use job_meaning::MOST_INPUT;
-use job_tree::Name;
+use job_tree::{Body, Name, Step};
 use std::alloc::Global;
 use std::test::Fail;
 
@@ -140,5 +140,66 @@ fn started_tasks_are_taken_in_order(rt: HostRuntime) -> Result<(), Fail> {
         assert!(rt; task.label().name() == name(text)?);
     }
     assert!(rt; world.take_started().is_none());
+    Ok(())
+}
+
+// The block of the first step of a job, which is a `repeat`.
+fn repeated(job: &Job) -> Result<&Body, Fail> {
+    let step = job.steps().first().ok_or("a step")?;
+    let Step::Repeat { body, .. } = step else {
+        return Err("a repeat")?;
+    };
+    Ok(body)
+}
+
+#[test]
+fn the_first_pass_is_numbered_0(rt: HostRuntime) -> Result<(), Fail> {
+    let alloc = rt.alloc();
+    let job = job(alloc, b"trio-job 2\njob main { repeat 2 { sleep 1; } }")?;
+    let part = Part::whole(b"one\ntwo\n");
+    assert!(rt; part.text().len() <= MOST_INPUT);
+    let mut task = Task::root(alloc, &job, part)?;
+    task.begin_passes(2, repeated(&job)?)?;
+    let label = task.label_here(name(b"s")?)?;
+    assert_eq!(rt; label.indices(), [0].as_slice());
+    Ok(())
+}
+
+#[test]
+fn the_next_pass_is_numbered_1(rt: HostRuntime) -> Result<(), Fail> {
+    let alloc = rt.alloc();
+    let job = job(alloc, b"trio-job 2\njob main { repeat 2 { sleep 1; } }")?;
+    let part = Part::whole(b"one\ntwo\n");
+    assert!(rt; part.text().len() <= MOST_INPUT);
+    let mut task = Task::root(alloc, &job, part)?;
+    let exc = task.next_pass(0, 1, repeated(&job)?, None)?;
+    assert!(rt; exc.is_none());
+    let label = task.label_here(name(b"s")?)?;
+    assert_eq!(rt; label.indices(), [1].as_slice());
+    Ok(())
+}
+
+#[test]
+fn an_exception_ends_the_passes(rt: HostRuntime) -> Result<(), Fail> {
+    let alloc = rt.alloc();
+    let job = job(alloc, b"trio-job 2\njob main { repeat 5 { raise A; } }")?;
+    let part = Part::whole(b"one\ntwo\n");
+    assert!(rt; part.text().len() <= MOST_INPUT);
+    let mut task = Task::root(alloc, &job, part)?;
+    let exc = task.next_pass(0, 4, repeated(&job)?, Some(Exc::Cancelled))?;
+    assert!(rt; exc.is_some());
+    assert_eq!(rt; task.frames.len(), 1);
+    Ok(())
+}
+
+#[test]
+fn a_repeat_of_no_pass_does_nothing(rt: HostRuntime) -> Result<(), Fail> {
+    let alloc = rt.alloc();
+    let job = job(alloc, b"trio-job 2\njob main { repeat 0 { raise A; } }")?;
+    let part = Part::whole(b"one\ntwo\n");
+    assert!(rt; part.text().len() <= MOST_INPUT);
+    let mut task = Task::root(alloc, &job, part)?;
+    task.begin_passes(0, repeated(&job)?)?;
+    assert_eq!(rt; task.frames.len(), 1);
     Ok(())
 }

@@ -151,6 +151,10 @@ impl<'a> Task<'a> {
                 Ok(Moved::On(exc))
             }
             Frame::Nursery { id } => Ok(self.end_body(id, exc, world)),
+            Frame::Repeat { pass, left, body } => {
+                let exc = self.next_pass(pass, left, body, exc)?;
+                Ok(Moved::On(exc))
+            }
             Frame::Try { handler, cleanup } => {
                 let exc = self.end_try(handler, cleanup, exc)?;
                 Ok(Moved::On(exc))
@@ -271,12 +275,27 @@ impl<'a> Task<'a> {
                 self.enter_scope(block, *fail, world)?;
                 Ok(Moved::On(None))
             }
-            Step::Nursery { name, body } => {
-                self.enter_nursery(me, *name, body, world)?;
+            Step::Nursery {
+                name,
+                deadline,
+                shield,
+                body,
+            } => {
+                let block = Block {
+                    name: *name,
+                    deadline: *deadline,
+                    shield: *shield,
+                    body,
+                };
+                self.enter_nursery(me, block, world)?;
                 Ok(Moved::On(None))
             }
             Step::Start { name, over, body } => {
                 self.begin_children(*name, *over, body, world)?;
+                Ok(Moved::On(None))
+            }
+            Step::Repeat { count, body } => {
+                self.begin_passes(*count, body)?;
                 Ok(Moved::On(None))
             }
             Step::Try {

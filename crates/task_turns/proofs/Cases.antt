@@ -1,7 +1,7 @@
 -- What each step of a turn makes, begins and leaves, case by case.
 use Rattle.std.proofs.Common.{◌≡◌, inl, inr, ℕ, zero, suc, ◌+◌, ◌-◌, ◌*◌, ◌≤◌, Bool, true, false, Option, Some, None, List, [], ◌∷◌, ◌++◌, length, refl, ap, sym, ◌∙◌, subst, arith}
 use Rattle.std.specs.Str.{bytes_eq}
-use Rattle.job_tree.specs.Tree.{Step, sleep, checkpoint, forever, pace, find, head, longest, need, raise, cancel, scope, nursery, start, attempt, Steps, stop, step, Handled, unhandled, except, Cleaned, uncleaned, finally}
+use Rattle.job_tree.specs.Tree.{Step, sleep, checkpoint, forever, pace, find, head, longest, need, raise, cancel, scope, nursery, start, repeat, attempt, Steps, stop, step, Handled, unhandled, except, Cleaned, uncleaned, finally}
 use Rattle.job_tree.specs.Names.{size_of}
 use Rattle.job_tree.specs.Starting.{StartsIn, StartsAt, HandlerStarts, CleanupStarts}
 use Rattle.buffer_parts.specs.Cuts.{cut_of}
@@ -10,14 +10,15 @@ use Rattle.exc_groups.specs.Split.{named, keep, drop}
 use Rattle.cancel_scopes.specs.Sight.{Tick, seen}
 use Rattle.job_meaning.specs.Log.{Table}
 use Rattle.job_meaning.specs.Walk.{Here, far, due, here_in, label_here, label_over, label_if, Kind, a_scope}
-use Rattle.job_meaning.specs.Rest.{Event, starts, starts_over, numbered, Frame, steps_left, in_scope, in_nursery, in_try, in_handler, in_cleanup, inside, asking, frames_weight}
+use Rattle.job_meaning.specs.Rest.{Event, starts, starts_over, numbered, Frame, steps_left, in_scope, in_nursery, in_repeat, in_try, in_handler, in_cleanup, inside, asking, frames_weight}
 use Rattle.job_meaning.specs.Asking.{Kernel, Purpose, Suits, shows, needs, paces}
 use Rattle.job_meaning.specs.Asking as ask
 use Rattle.task_turns.specs.Midway.{Place, stack_at, Midway, Begun, Move}
-use Rattle.task_turns.specs.Steps.{froms_after, onward, halts, falls_asleep, sleeps, label_among, signs_to, signs_home, with_started, begun_one, begun_over, enters_block, step_on, step_steps, leaves, handler_if, step_try, step_frames, step_of}
+use Rattle.task_turns.specs.Steps.{froms_after, onward, halts, falls_asleep, sleeps, label_among, signs_to, signs_home, with_started, begun_one, begun_over, enters_block, step_on, step_steps, leaves, handler_if, step_try, step_frames, step_of, begins_passes, step_pass}
 use Rattle.task_turns.specs.Placed.{in_body, Placed, PlacedAfter, home_places, home_after}
 use Rattle.task_turns.specs.Turned.{Known, labels_of, AllKnown, known_after, MadeAt, Starts, BegunIn, StopsAt, weight_of_stop, weight_of_begun}
 use Rattle.task_turns.proofs.Events.{all_own, all_grow, known_stays, begun_append, made_append, starts_append, weight_append}
+use Rattle.std.proofs.Math.Nat.{suc-mul}
 
 -- what a move from these places with this weight promises, but for what the task comes to
 pub record Case (t : ℕ) (froms : Table) (weight_before : ℕ) (home ps : List Place) (count : ℕ) (o : Move) : Type 0 where
@@ -172,6 +173,7 @@ placed_started more (in_nursery children ∷ fs) [] p = absurd p
 placed_started more (in_nursery children ∷ fs) (q ∷ ps) p = p
 placed_started more (steps_left ss ∷ fs) ps p = p
 placed_started more (in_scope fail ∷ fs) ps p = p
+placed_started more (in_repeat pass left again ∷ fs) ps p = p
 placed_started more (in_try handler cleanup ∷ fs) ps p = p
 placed_started more (in_handler rest cleanup ∷ fs) ps p = p
 placed_started more (in_cleanup outcome ∷ fs) ps p = p
@@ -181,6 +183,7 @@ body_started more [] = refl
 body_started more (in_nursery children ∷ fs) = refl
 body_started more (steps_left ss ∷ fs) = refl
 body_started more (in_scope fail ∷ fs) = refl
+body_started more (in_repeat pass left again ∷ fs) = refl
 body_started more (in_try handler cleanup ∷ fs) = refl
 body_started more (in_handler rest cleanup ∷ fs) = refl
 body_started more (in_cleanup outcome ∷ fs) = refl
@@ -191,6 +194,7 @@ home_started more (in_nursery children ∷ fs) [] = refl
 home_started more (in_nursery children ∷ fs) (p ∷ ps) = refl
 home_started more (steps_left ss ∷ fs) ps = refl
 home_started more (in_scope fail ∷ fs) ps = refl
+home_started more (in_repeat pass left again ∷ fs) ps = refl
 home_started more (in_try handler cleanup ∷ fs) ps = refl
 home_started more (in_handler rest cleanup ∷ fs) ps = refl
 home_started more (in_cleanup outcome ∷ fs) ps = refl
@@ -200,6 +204,7 @@ weight_started more [] = refl
 weight_started more (in_nursery children ∷ fs) = refl
 weight_started more (steps_left ss ∷ fs) = refl
 weight_started more (in_scope fail ∷ fs) = refl
+weight_started more (in_repeat pass left again ∷ fs) = refl
 weight_started more (in_try handler cleanup ∷ fs) = refl
 weight_started more (in_handler rest cleanup ∷ fs) = refl
 weight_started more (in_cleanup outcome ∷ fs) = refl
@@ -287,6 +292,27 @@ start_case t froms here name (Some k) body ss fs ps count i b p =
       weight = let e = weight_started (numbered count k) fs in let h = over_weight name here k body ps count k in omega arith;
     }
 
+-- ---- passes
+
+-- the first pass of a `repeat`
+passes_case : (t : ℕ) (froms : Table) (n : ℕ) (body : Steps) (w : ℕ) (home : List Place) (fs : List Frame) (ps : List Place) (count : ℕ) →
+    StartsIn false body → Placed fs ps → home_places fs ps ≡ home → 2 * (n * (1 + size_of body)) + frames_weight fs ≤ w →
+    Case t froms w home ps count (begins_passes n body fs ps)
+passes_case t froms zero body w home fs ps count b p h le = onward_case t froms _ _ fs ps None count p h (omega arith)
+passes_case t froms (suc k) body w home fs ps count b p h le =
+    let e = suc-mul k (1 + size_of body) in
+    onward_case t froms _ _ (steps_left body ∷ in_repeat 0 k body ∷ fs) ps None count (b, (b, p)) h (omega arith)
+
+-- a pass has ended
+pass_case : (t : ℕ) (froms : Table) (pass left : ℕ) (body : Steps) (fs : List Frame) (ps : List Place) (exc : Option Exc) (count : ℕ) →
+    StartsIn false body → Placed fs ps →
+    Case t froms (frames_weight (in_repeat pass left body ∷ fs)) (home_places fs ps) ps count (step_pass pass left body fs ps exc)
+pass_case t froms pass left body fs ps (Some e) count b p = onward_case t froms _ _ fs ps (Some e) count p refl (omega arith)
+pass_case t froms pass zero body fs ps None count b p = onward_case t froms _ _ fs ps None count p refl (omega arith)
+pass_case t froms pass (suc k) body fs ps None count b p =
+    let e = suc-mul k (1 + size_of body) in
+    onward_case t froms _ _ (steps_left body ∷ in_repeat (suc pass) k body ∷ fs) ps None count (b, (b, p)) refl (omega arith)
+
 -- ---- each kind of step, and of frame
 
 step_case : (t : ℕ) (froms : Table) (here : Here) (s : Step) (ss : Steps) (fs : List Frame) (ps : List Place) (count : ℕ) →
@@ -325,6 +351,8 @@ step_case t froms here (nursery name d shield body) ss fs ps count a b p =
     enter_case t froms (label_here name here) shield (due d t) body (in_nursery []) _ _ (steps_left ss ∷ fs) ps count (a, (b, p)) refl
     (omega arith)
 step_case t froms here (start name over body) ss fs ps count a b p = start_case t froms here name over body ss fs ps count a.1 b p
+step_case t froms here (repeat n body) ss fs ps count a b p =
+    passes_case t froms n body _ _ (steps_left ss ∷ fs) ps count a (b, p) refl (omega arith)
 step_case t froms here (attempt body handler cleanup) ss fs ps count a b p =
     onward_case t froms _ _ (steps_left body ∷ in_try handler cleanup ∷ steps_left ss ∷ fs) ps None count (a.0, (a.1, a.2, (b, p))) refl
     (omega arith)
@@ -382,6 +410,7 @@ frames_case t froms here (in_nursery children ∷ fs) (q ∷ ps) exc count p =
       stops = refl;
       weight = omega arith;
     }
+frames_case t froms here (in_repeat pass left body ∷ fs) ps exc count p = pass_case t froms pass left body fs ps exc count p.0 p.1
 frames_case t froms here (in_try handler cleanup ∷ fs) ps exc count p = try_case t froms handler cleanup fs ps exc count p.0 p.1 p.2
 frames_case t froms here (in_handler rest cleanup ∷ fs) ps exc count p =
     onward_case t froms _ _ (in_try unhandled cleanup ∷ fs) ps _ count (tt, p.0, p.1) refl (omega arith)

@@ -1,17 +1,18 @@
 -- Every turn comes to a stop.
-use Rattle.std.proofs.Common.{◌≡◌, ℕ, zero, suc, ◌+◌, ◌-◌, ◌<◌, ◌≤◌, Bool, true, false, Option, Some, None, List, [], ◌∷◌, length, refl, sym, subst, arith}
-use Rattle.job_tree.specs.Tree.{Step, sleep, checkpoint, forever, pace, find, head, longest, need, raise, cancel, scope, nursery, start, attempt, Steps, stop, step, Handled, unhandled, except, Cleaned, uncleaned, finally}
+use Rattle.std.proofs.Common.{◌≡◌, ℕ, zero, suc, ◌+◌, ◌-◌, ◌<◌, ◌≤◌, Bool, true, false, Option, Some, None, List, [], ◌∷◌, length, refl, sym, subst, arith, ◌*◌}
+use Rattle.job_tree.specs.Tree.{Step, sleep, checkpoint, forever, pace, find, head, longest, need, raise, cancel, scope, nursery, start, repeat, attempt, Steps, stop, step, Handled, unhandled, except, Cleaned, uncleaned, finally}
 use Rattle.exc_groups.specs.Exceptions.{Exc}
 use Rattle.exc_groups.specs.Split.{named, keep, drop}
 use Rattle.cancel_scopes.specs.Sight.{seen}
 use Rattle.job_meaning.specs.Log.{Table}
 use Rattle.job_meaning.specs.Walk.{Here, far}
-use Rattle.job_meaning.specs.Rest.{Frame, steps_left, in_scope, in_nursery, in_try, in_handler, in_cleanup, inside, numbered, Stopped}
+use Rattle.job_meaning.specs.Rest.{Frame, steps_left, in_scope, in_nursery, in_repeat, in_try, in_handler, in_cleanup, inside, numbered, Stopped}
 use Rattle.task_turns.specs.Midway.{Place, stack_at, Midway, Move, moved, then_move}
-use Rattle.task_turns.specs.Steps.{sleeps, falls_asleep, with_started, handler_if, step_try, step_on, step_steps, step_frames, step_of, froms_after, turn_of}
+use Rattle.task_turns.specs.Steps.{sleeps, falls_asleep, with_started, handler_if, step_try, step_on, step_steps, step_frames, step_of, froms_after, turn_of, begins_passes, step_pass}
 use Rattle.task_turns.specs.Wakes.{Wake, wake_of, turn_from}
 use Rattle.task_turns.specs.Turned.{IsSome}
 use Rattle.task_turns.specs.Bound.{turn_length, frames_length}
+use Rattle.std.proofs.Math.Nat.{suc-mul}
 
 -- a move that does not stop leaves fewer steps than there were
 abbrev pub Shrinks : Option Stopped → ℕ → ℕ → Type 0
@@ -31,6 +32,7 @@ length_started more [] = refl
 length_started more (in_nursery children ∷ fs) = refl
 length_started more (steps_left ss ∷ fs) = refl
 length_started more (in_scope fail ∷ fs) = refl
+length_started more (in_repeat pass left again ∷ fs) = refl
 length_started more (in_try handler cleanup ∷ fs) = refl
 length_started more (in_handler rest cleanup ∷ fs) = refl
 length_started more (in_cleanup outcome ∷ fs) = refl
@@ -44,6 +46,17 @@ module _ (t : ℕ) (froms : Table) (here : Here) where
       by_sight true n = lt
       by_sight false zero = lt
       by_sight false (suc n) = tt
+
+  shrinks_passes : (n before : ℕ) (body : Steps) (fs : List Frame) (ps : List Place) →
+      n * (1 + turn_length body) + frames_length fs < before → MoveShrinks before (begins_passes n body fs ps)
+  shrinks_passes zero before body fs ps lt = omega arith
+  shrinks_passes (suc k) before body fs ps lt = let e = suc-mul k (1 + turn_length body) in omega arith
+
+  shrinks_pass : (pass left : ℕ) (body : Steps) (fs : List Frame) (ps : List Place) (exc : Option Exc) →
+      MoveShrinks (frames_length (in_repeat pass left body ∷ fs)) (step_pass pass left body fs ps exc)
+  shrinks_pass pass left body fs ps (Some e) = omega arith
+  shrinks_pass pass zero body fs ps None = omega arith
+  shrinks_pass pass (suc k) body fs ps None = let e = suc-mul k (1 + turn_length body) in omega arith
 
   shrinks_step : (at : Here) (s : Step) (ss : Steps) (fs : List Frame) (ps : List Place) (count : ℕ) →
       MoveShrinks (frames_length (steps_left (step s ss) ∷ fs)) (step_on froms t at s ss fs ps count)
@@ -61,6 +74,7 @@ module _ (t : ℕ) (froms : Table) (here : Here) where
   shrinks_step at (nursery name d shield body) ss fs ps count = omega arith
   shrinks_step at (start name None body) ss fs ps count = let e = length_started (count ∷ []) fs in omega arith
   shrinks_step at (start name (Some k) body) ss fs ps count = let e = length_started (numbered count k) fs in omega arith
+  shrinks_step at (repeat n body) ss fs ps count = shrinks_passes n _ body (steps_left ss ∷ fs) ps (omega arith)
   shrinks_step at (attempt body handler cleanup) ss fs ps count = omega arith
 
   shrinks_steps : (ss : Steps) (fs : List Frame) (ps : List Place) (exc : Option Exc) (count : ℕ) →
@@ -89,6 +103,7 @@ module _ (t : ℕ) (froms : Table) (here : Here) where
   shrinks_frames (in_scope fail ∷ fs) (p ∷ ps) exc count = omega arith
   shrinks_frames (in_nursery children ∷ fs) [] exc count = omega arith
   shrinks_frames (in_nursery children ∷ fs) (p ∷ ps) exc count = tt
+  shrinks_frames (in_repeat pass left body ∷ fs) ps exc count = shrinks_pass pass left body fs ps exc
   shrinks_frames (in_try handler cleanup ∷ fs) ps exc count = shrinks_try handler cleanup fs ps exc
   shrinks_frames (in_handler rest cleanup ∷ fs) ps exc count = omega arith
   shrinks_frames (in_cleanup outcome ∷ fs) ps exc count = omega arith

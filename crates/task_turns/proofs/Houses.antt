@@ -1,16 +1,16 @@
 -- Each child that a task begins is in the places of a nursery of the task, which keeps it until it is settled.
 use Rattle.std.proofs.Common.{◌≡◌, ◌⊎◌, inl, inr, ℕ, zero, suc, ◌+◌, ◌-◌, ◌<◌, Bool, true, false, IsTrue, Option, Some, None, List, [], ◌∷◌, ◌++◌, refl, ap, arith}
-use Rattle.job_tree.specs.Tree.{Step, sleep, checkpoint, forever, pace, find, head, longest, need, raise, cancel, scope, nursery, start, attempt, Steps, stop, step, Handled, unhandled, except, Cleaned, uncleaned, finally}
+use Rattle.job_tree.specs.Tree.{Step, sleep, checkpoint, forever, pace, find, head, longest, need, raise, cancel, scope, nursery, start, repeat, attempt, Steps, stop, step, Handled, unhandled, except, Cleaned, uncleaned, finally}
 use Rattle.job_tree.specs.Starting.{StartsIn, StartsAt}
 use Rattle.exc_groups.specs.Exceptions.{Exc}
 use Rattle.exc_groups.specs.Split.{named, keep, drop}
 use Rattle.cancel_scopes.specs.Sight.{seen}
 use Rattle.job_meaning.specs.Log.{Table}
 use Rattle.job_meaning.specs.Walk.{Here, far, paced}
-use Rattle.job_meaning.specs.Rest.{numbered, Frame, steps_left, in_scope, in_nursery, in_try, in_handler, in_cleanup, inside, Stopped, to_begin, asking, asleep, awaiting, at_end}
+use Rattle.job_meaning.specs.Rest.{numbered, Frame, steps_left, in_scope, in_nursery, in_repeat, in_try, in_handler, in_cleanup, inside, Stopped, to_begin, asking, asleep, awaiting, at_end}
 use Rattle.job_meaning.specs.Asking.{Answer, lines, missing, counted, Purpose, shows, needs, paces}
 use Rattle.task_turns.specs.Midway.{Place, stack_at, Midway, Begun, Move}
-use Rattle.task_turns.specs.Steps.{sleeps, falls_asleep, with_started, begun_over, handler_if, step_try, step_on, step_steps, step_frames, step_of}
+use Rattle.task_turns.specs.Steps.{sleeps, falls_asleep, with_started, begun_over, handler_if, step_try, step_on, step_steps, step_frames, step_of, begins_passes, step_pass}
 use Rattle.task_turns.specs.Wakes.{Wake, begins, sees, is_due, has_answer, settles, goes_on_with, with_answer, settled, wake_of, CanWake, from_start, from_asking, from_sleep, from_due, from_wait}
 use Rattle.task_turns.specs.Placed.{in_body, Placed, places_behind, IsAmong, HasChild, HasChildAfter, AllHoused}
 use Rattle.task_turns.proofs.Keeps.{last_or_before}
@@ -73,9 +73,20 @@ module _ (t : ℕ) (froms : Table) (here : Here) (i : ℕ) (home : List Place) w
   stays_started more (in_nursery children ∷ fs) (p ∷ ps) (inr h) = inr h
   stays_started more (steps_left ss ∷ fs) ps h = h
   stays_started more (in_scope fail ∷ fs) ps h = h
+  stays_started more (in_repeat pass left again ∷ fs) ps h = h
   stays_started more (in_try handler cleanup ∷ fs) ps h = h
   stays_started more (in_handler rest cleanup ∷ fs) ps h = h
   stays_started more (in_cleanup outcome ∷ fs) ps h = h
+
+  stays_passes : (m : ℕ) (body : Steps) (fs : List Frame) (ps : List Place) → HasChild i home fs ps → Stays (begins_passes m body fs ps)
+  stays_passes zero body fs ps h = inr h
+  stays_passes (suc m) body fs ps h = inr h
+
+  stays_pass : (pass left : ℕ) (body : Steps) (fs : List Frame) (ps : List Place) (exc : Option Exc) → HasChild i home fs ps →
+      Stays (step_pass pass left body fs ps exc)
+  stays_pass pass left body fs ps (Some e) h = inr h
+  stays_pass pass zero body fs ps None h = inr h
+  stays_pass pass (suc m) body fs ps None h = inr h
 
   stays_step : (at : Here) (s : Step) (ss : Steps) (fs : List Frame) (ps : List Place) (n : ℕ) → HasChild i home fs ps →
       Stays (step_on froms t at s ss fs ps n)
@@ -93,6 +104,7 @@ module _ (t : ℕ) (froms : Table) (here : Here) (i : ℕ) (home : List Place) w
   stays_step at (nursery name d shield body) ss fs ps n h = inr (inr h)
   stays_step at (start name None body) ss fs ps n h = inr (stays_started (n ∷ []) fs ps h)
   stays_step at (start name (Some c) body) ss fs ps n h = inr (stays_started (numbered n c) fs ps h)
+  stays_step at (repeat m body) ss fs ps n h = stays_passes m body (steps_left ss ∷ fs) ps h
   stays_step at (attempt body handler cleanup) ss fs ps n h = inr h
 
   stays_steps : (ss : Steps) (fs : List Frame) (ps : List Place) (exc : Option Exc) (n : ℕ) → HasChild i home fs ps →
@@ -121,6 +133,7 @@ module _ (t : ℕ) (froms : Table) (here : Here) (i : ℕ) (home : List Place) w
   stays_frames (in_nursery children ∷ fs) [] exc n p h = absurd p
   stays_frames (in_nursery children ∷ fs) (q ∷ ps) exc n p (inl e) = inl e
   stays_frames (in_nursery children ∷ fs) (q ∷ ps) exc n p (inr h) = inr h
+  stays_frames (in_repeat pass left body ∷ fs) ps exc n p h = stays_pass pass left body fs ps exc h
   stays_frames (in_try handler cleanup ∷ fs) ps exc n p h = stays_try handler cleanup fs ps exc h
   stays_frames (in_handler rest cleanup ∷ fs) ps exc n p h = inr h
   stays_frames (in_cleanup outcome ∷ fs) ps exc n p h = inr h
@@ -188,9 +201,20 @@ module _ (t : ℕ) (froms : Table) (here : Here) where
   housed_start at name over body ss [] ps n b w = absurd (cc)
   housed_start at name over body ss (steps_left more ∷ fs) ps n b w = absurd (cc)
   housed_start at name over body ss (in_scope fail ∷ fs) ps n b w = absurd (cc)
+  housed_start at name over body ss (in_repeat pass left again ∷ fs) ps n b w = absurd (cc)
   housed_start at name over body ss (in_try handler cleanup ∷ fs) ps n b w = absurd (cc)
   housed_start at name over body ss (in_handler rest cleanup ∷ fs) ps n b w = absurd (cc)
   housed_start at name over body ss (in_cleanup outcome ∷ fs) ps n b w = absurd (cc)
+
+  housed_passes : (m : ℕ) (body : Steps) (fs : List Frame) (ps : List Place) → Housed (begins_passes m body fs ps)
+  housed_passes zero body fs ps = tt
+  housed_passes (suc m) body fs ps = tt
+
+  housed_pass : (pass left : ℕ) (body : Steps) (fs : List Frame) (ps : List Place) (exc : Option Exc) →
+      Housed (step_pass pass left body fs ps exc)
+  housed_pass pass left body fs ps (Some e) = tt
+  housed_pass pass zero body fs ps None = tt
+  housed_pass pass (suc m) body fs ps None = tt
 
   housed_step : (at : Here) (s : Step) (ss : Steps) (fs : List Frame) (ps : List Place) (n : ℕ) → StartsAt (in_body fs) s → Placed fs ps →
       Housed (step_on froms t at s ss fs ps n)
@@ -207,6 +231,7 @@ module _ (t : ℕ) (froms : Table) (here : Here) where
   housed_step at (scope name d shield fail body) ss fs ps n b p = tt
   housed_step at (nursery name d shield body) ss fs ps n b p = tt
   housed_step at (start name over body) ss fs ps n b p = housed_start at name over body ss fs ps n b.0 p
+  housed_step at (repeat m body) ss fs ps n b p = housed_passes m body (steps_left ss ∷ fs) ps
   housed_step at (attempt body handler cleanup) ss fs ps n b p = tt
 
   housed_steps : (ss : Steps) (fs : List Frame) (ps : List Place) (exc : Option Exc) (n : ℕ) → StartsIn (in_body fs) ss → Placed fs ps →
@@ -234,6 +259,7 @@ module _ (t : ℕ) (froms : Table) (here : Here) where
   housed_frames (in_scope fail ∷ fs) (q ∷ ps) exc n p = tt
   housed_frames (in_nursery children ∷ fs) [] exc n p = tt
   housed_frames (in_nursery children ∷ fs) (q ∷ ps) exc n p = tt
+  housed_frames (in_repeat pass left body ∷ fs) ps exc n p = housed_pass pass left body fs ps exc
   housed_frames (in_try handler cleanup ∷ fs) ps exc n p = housed_try handler cleanup fs ps exc
   housed_frames (in_handler rest cleanup ∷ fs) ps exc n p = tt
   housed_frames (in_cleanup outcome ∷ fs) ps exc n p = tt

@@ -1,7 +1,7 @@
 -- Each step of a turn leaves what the task comes to as it was.
 use Rattle.std.proofs.Common.{◌≡◌, ℕ, zero, suc, ◌+◌, ◌-◌, ◌<◌, Bool, true, false, IsTrue, ◌⊎◌, inl, inr, Option, Some, None, List, [], ◌∷◌, ◌++◌, refl, ap, sym, ◌∙◌, subst, nat_lt, arith}
 use Rattle.std.proofs.lemmas.Bool.Decides.{nat_tests}
-use Rattle.job_tree.specs.Tree.{Step, sleep, checkpoint, forever, pace, find, head, longest, need, raise, cancel, scope, nursery, start, attempt, Steps, stop, step, Handled, unhandled, except, Cleaned, uncleaned, finally}
+use Rattle.job_tree.specs.Tree.{Step, sleep, checkpoint, forever, pace, find, head, longest, need, raise, cancel, scope, nursery, start, repeat, attempt, Steps, stop, step, Handled, unhandled, except, Cleaned, uncleaned, finally}
 use Rattle.job_tree.specs.Starting.{StartsIn, StartsAt}
 use Rattle.buffer_parts.specs.Lines.{Span}
 use Rattle.buffer_parts.specs.Cuts.{cut_of}
@@ -11,12 +11,12 @@ use Rattle.exc_groups.specs.Split.{named, keep, drop}
 use Rattle.cancel_scopes.specs.Sight.{seen}
 use Rattle.job_meaning.specs.Log.{Log, Result, Table}
 use Rattle.job_meaning.specs.Walk.{by_table, Here, walk, walk_step, far, cancelling, sign_of, sign_if, home_of, signed, here_in, label_here, label_over, Kind, a_scope, left_with, done_at, sleeping, needing}
-use Rattle.job_meaning.specs.Rest.{fill, Telling, told_members, Frame, steps_left, in_scope, in_nursery, in_try, in_handler, in_cleanup, inside, leaving_log, block_left, waited, finish}
+use Rattle.job_meaning.specs.Rest.{fill, Telling, told_members, Frame, steps_left, in_scope, in_nursery, in_repeat, in_try, in_handler, in_cleanup, inside, leaving_log, block_left, waited, finish}
 use Rattle.job_meaning.specs.Asking.{one_line, needs, answered}
 use Rattle.job_meaning.proofs.Clips.{followed_nil}
-use Rattle.job_meaning.proofs.Finish.{after, finish_after, finish_begin, finish_stop, finish_step, finish_raised, finish_scope, finish_nursery, finish_try, finish_handler, finish_unhandled, finish_no_handler, finish_uncleaned, finish_cleanup, finish_handled, finish_cleaned, finish_leave, finish_wait, finish_start, finish_start_over}
+use Rattle.job_meaning.proofs.Finish.{after, finish_after, finish_begin, finish_stop, finish_step, finish_raised, finish_scope, finish_nursery, finish_try, finish_handler, finish_unhandled, finish_no_handler, finish_uncleaned, finish_cleanup, finish_handled, finish_cleaned, finish_leave, finish_wait, finish_start, finish_start_over, finish_no_pass, finish_first_pass, finish_next_pass, finish_last_pass, finish_raised_pass}
 use Rattle.task_turns.specs.Midway.{Place, stack_at, Midway, Begun, Move, so_far, behind, going_to, left_after, left_of, none_told, begun_comes_to}
-use Rattle.task_turns.specs.Steps.{making, falls_asleep, sleeps, label_among, signs_to, signs_home, begun_one, begun_over, step_on, step_steps, leaves, handler_if, step_try, step_frames, step_of}
+use Rattle.task_turns.specs.Steps.{making, falls_asleep, sleeps, label_among, signs_to, signs_home, begun_one, begun_over, step_on, step_steps, leaves, handler_if, step_try, step_frames, step_of, begins_passes, step_pass}
 use Rattle.task_turns.specs.Placed.{in_body, Placed}
 use Rattle.task_turns.specs.Turned.{AgreesOn, AllTold}
 use Rattle.task_turns.proofs.Agreeing.{seen_alike, catches_alike, label_at_places, sleep_seen, sleep_none}
@@ -150,6 +150,7 @@ module _ (table froms : Table) (told : Telling) (t : ℕ) (here : Here) where
   keeps_start name over body ss [] ps count b w h = absurd (cc)
   keeps_start name over body ss (steps_left more ∷ fs) ps count b w h = absurd (cc)
   keeps_start name over body ss (in_scope fail ∷ fs) ps count b w h = absurd (cc)
+  keeps_start name over body ss (in_repeat pass left again ∷ fs) ps count b w h = absurd (cc)
   keeps_start name over body ss (in_try handler cleanup ∷ fs) ps count b w h = absurd (cc)
   keeps_start name over body ss (in_handler rest cleanup ∷ fs) ps count b w h = absurd (cc)
   keeps_start name over body ss (in_cleanup outcome ∷ fs) ps count b w h = absurd (cc)
@@ -162,6 +163,20 @@ module _ (table froms : Table) (told : Telling) (t : ℕ) (here : Here) where
   unfolding needing
   keeps_need None name ss fs ps = refl
   keeps_need (Some l) name ss fs ps = refl
+
+  -- the first pass of a `repeat`
+  keeps_passes : (n : ℕ) (body ss : Steps) (fs : List Frame) (ps : List Place) →
+      Keeps (steps_left (step (repeat n body) ss) ∷ fs) ps None (begins_passes n body (steps_left ss ∷ fs) ps)
+  keeps_passes zero body ss fs ps = finish_no_pass fs (by_table table) told body ss here (stack_at table ps) t
+  keeps_passes (suc k) body ss fs ps = finish_first_pass fs (by_table table) told k body ss here (stack_at table ps) t
+
+  -- a pass has ended
+  keeps_pass : (pass left : ℕ) (body : Steps) (fs : List Frame) (ps : List Place) (exc : Option Exc) →
+      Keeps (in_repeat pass left body ∷ fs) ps exc (step_pass pass left body fs ps exc)
+  keeps_pass pass left body fs ps (Some e) =
+      finish_raised_pass fs (by_table table) told pass left body here (stack_at table ps) (so_far (Some e) t) e
+  keeps_pass pass zero body fs ps None = finish_last_pass fs (by_table table) told pass body here (stack_at table ps) t
+  keeps_pass pass (suc k) body fs ps None = finish_next_pass fs (by_table table) told pass k body here (stack_at table ps) t
 
   -- each kind of step
   keeps_step : (s : Step) (ss : Steps) (fs : List Frame) (ps : List Place) (count : ℕ) → AgreesOn t table froms ps →
@@ -186,6 +201,7 @@ module _ (table froms : Table) (told : Telling) (t : ℕ) (here : Here) where
   keeps_step (nursery name d shield body) ss fs ps count a b w h =
       finish_nursery fs table told name d shield body ss here (stack_at table ps) t
   keeps_step (start name over body) ss fs ps count a b w h = keeps_start name over body ss fs ps count b.0 w h
+  keeps_step (repeat n body) ss fs ps count a b w h = keeps_passes n body ss fs ps
   keeps_step (attempt body handler cleanup) ss fs ps count a b w h =
       finish_try fs (by_table table) told body handler cleanup ss here (stack_at table ps) t
 
@@ -256,6 +272,7 @@ module _ (table froms : Table) (told : Telling) (t : ℕ) (here : Here) where
       ∙ block_leaves (a_scope fail) fs p ps exc a
   keeps_frames (in_nursery children ∷ fs) [] exc count a w h = absurd w
   keeps_frames (in_nursery children ∷ fs) (p ∷ ps) exc count a w h = keeps_wait children fs p ps exc count
+  keeps_frames (in_repeat pass left body ∷ fs) ps exc count a w h = keeps_pass pass left body fs ps exc
   keeps_frames (in_try handler cleanup ∷ fs) ps exc count a w h = keeps_try handler cleanup fs ps exc
   keeps_frames (in_handler rest cleanup ∷ fs) ps exc count a w h =
       finish_handled fs (by_table table) told rest cleanup here (stack_at table ps) (so_far exc t)

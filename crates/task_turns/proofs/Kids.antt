@@ -1,15 +1,15 @@
 -- The children of a task's nurseries are numbered below its count.
 use Rattle.std.proofs.Common.{ℕ, zero, suc, ◌+◌, ◌-◌, ◌≤◌, Bool, true, false, Option, Some, None, List, [], ◌∷◌, ◌++◌, length, sym, subst, arith}
-use Rattle.job_tree.specs.Tree.{Step, sleep, checkpoint, forever, pace, find, head, longest, need, raise, cancel, scope, nursery, start, attempt, Steps, stop, step, Handled, unhandled, except, Cleaned, uncleaned, finally}
+use Rattle.job_tree.specs.Tree.{Step, sleep, checkpoint, forever, pace, find, head, longest, need, raise, cancel, scope, nursery, start, repeat, attempt, Steps, stop, step, Handled, unhandled, except, Cleaned, uncleaned, finally}
 use Rattle.exc_groups.specs.Exceptions.{Exc}
 use Rattle.exc_groups.specs.Split.{named, keep, drop}
 use Rattle.cancel_scopes.specs.Sight.{seen}
 use Rattle.job_meaning.specs.Log.{Table}
 use Rattle.job_meaning.specs.Walk.{Here, far, paced}
-use Rattle.job_meaning.specs.Rest.{numbered, Frame, steps_left, in_scope, in_nursery, in_try, in_handler, in_cleanup, inside, Stopped, to_begin, asking, asleep, awaiting, at_end}
+use Rattle.job_meaning.specs.Rest.{numbered, Frame, steps_left, in_scope, in_nursery, in_repeat, in_try, in_handler, in_cleanup, inside, Stopped, to_begin, asking, asleep, awaiting, at_end}
 use Rattle.job_meaning.specs.Asking.{Answer, lines, missing, counted, Purpose, shows, needs, paces}
 use Rattle.task_turns.specs.Midway.{Place, stack_at, Midway, Move}
-use Rattle.task_turns.specs.Steps.{sleeps, falls_asleep, with_started, handler_if, step_try, step_on, step_steps, step_frames, step_of}
+use Rattle.task_turns.specs.Steps.{sleeps, falls_asleep, with_started, handler_if, step_try, step_on, step_steps, step_frames, step_of, begins_passes, step_pass}
 use Rattle.task_turns.specs.Wakes.{Wake, begins, sees, is_due, has_answer, settles, goes_on_with, with_answer, settled, wake_of}
 use Rattle.task_turns.specs.Placed.{AllBelow, KidsBelow, KidsAfter}
 use Rattle.task_turns.proofs.Cases.{over_length}
@@ -24,6 +24,7 @@ kids_grow n m le [] k = tt
 kids_grow n m le (steps_left ss ∷ fs) k = kids_grow n m le fs k
 kids_grow n m le (in_scope fail ∷ fs) k = kids_grow n m le fs k
 kids_grow n m le (in_nursery children ∷ fs) k = (all_grow n m le children k.0, kids_grow n m le fs k.1)
+kids_grow n m le (in_repeat pass left again ∷ fs) k = kids_grow n m le fs k
 kids_grow n m le (in_try handler cleanup ∷ fs) k = kids_grow n m le fs k
 kids_grow n m le (in_handler rest cleanup ∷ fs) k = kids_grow n m le fs k
 kids_grow n m le (in_cleanup outcome ∷ fs) k = kids_grow n m le fs k
@@ -50,6 +51,7 @@ kids_started n m le more a (in_nursery children ∷ fs) k =
     (all_append m children more (all_grow n m le children k.0) a, kids_grow n m le fs k.1)
 kids_started n m le more a (steps_left ss ∷ fs) k = kids_grow n m le fs k
 kids_started n m le more a (in_scope fail ∷ fs) k = kids_grow n m le fs k
+kids_started n m le more a (in_repeat pass left again ∷ fs) k = kids_grow n m le fs k
 kids_started n m le more a (in_try handler cleanup ∷ fs) k = kids_grow n m le fs k
 kids_started n m le more a (in_handler rest cleanup ∷ fs) k = kids_grow n m le fs k
 kids_started n m le more a (in_cleanup outcome ∷ fs) k = kids_grow n m le fs k
@@ -76,6 +78,16 @@ module _ (t : ℕ) (froms : Table) (here : Here) (n : ℕ) where
       by_sight false zero = same_kids n fs k
       by_sight false (suc ticks) = same_kids n fs k
 
+  kids_passes : (m : ℕ) (body : Steps) (fs : List Frame) (ps : List Place) → KidsBelow n fs → Kept (begins_passes m body fs ps)
+  kids_passes zero body fs ps k = same_kids n fs k
+  kids_passes (suc m) body fs ps k = same_kids n fs k
+
+  kids_pass : (pass left : ℕ) (body : Steps) (fs : List Frame) (ps : List Place) (exc : Option Exc) → KidsBelow n fs →
+      Kept (step_pass pass left body fs ps exc)
+  kids_pass pass left body fs ps (Some e) k = same_kids n fs k
+  kids_pass pass zero body fs ps None k = same_kids n fs k
+  kids_pass pass (suc m) body fs ps None k = same_kids n fs k
+
   kids_step : (at : Here) (s : Step) (ss : Steps) (fs : List Frame) (ps : List Place) → KidsBelow n fs →
       Kept (step_on froms t at s ss fs ps n)
   kids_step at (sleep m) ss fs ps k = kids_sleeps m (steps_left ss ∷ fs) ps k
@@ -95,6 +107,7 @@ module _ (t : ℕ) (froms : Table) (here : Here) (n : ℕ) where
       let e = over_length name at c body ps n c in
       kids_started n (n + length (step_on froms t at (start name (Some c) body) ss fs ps n).begun) (omega arith) (numbered n c)
       (subst (λ (z : ℕ). AllBelow (n + z) (numbered n c)) (sym e) (numbered_below n c)) fs k
+  kids_step at (repeat m body) ss fs ps k = kids_passes m body (steps_left ss ∷ fs) ps k
   kids_step at (attempt body handler cleanup) ss fs ps k = same_kids n fs k
 
   kids_steps : (ss : Steps) (fs : List Frame) (ps : List Place) (exc : Option Exc) → KidsBelow n fs →
@@ -121,6 +134,7 @@ module _ (t : ℕ) (froms : Table) (here : Here) (n : ℕ) where
   kids_frames (in_scope fail ∷ fs) (p ∷ ps) exc k = same_kids n fs k
   kids_frames (in_nursery children ∷ fs) [] exc k = same_kids n fs k.1
   kids_frames (in_nursery children ∷ fs) (p ∷ ps) exc k = same_kids n (in_nursery children ∷ fs) k
+  kids_frames (in_repeat pass left body ∷ fs) ps exc k = kids_pass pass left body fs ps exc k
   kids_frames (in_try handler cleanup ∷ fs) ps exc k = kids_try handler cleanup fs ps exc k
   kids_frames (in_handler rest cleanup ∷ fs) ps exc k = same_kids n fs k
   kids_frames (in_cleanup outcome ∷ fs) ps exc k = same_kids n fs k

@@ -1,19 +1,19 @@
 -- No scope is entered that has the name of one round it: each step of a task keeps that.
 use Rattle.std.proofs.Common.{◌≡◌, ◌⊎◌, inl, inr, ℕ, zero, suc, ◌+◌, Bool, true, false, Option, Some, None, List, [], ◌∷◌, ◌++◌, length, refl, ap, sym, ◌∙◌, subst}
-use Rattle.job_tree.specs.Tree.{Step, sleep, checkpoint, forever, pace, find, head, longest, need, raise, cancel, scope, nursery, start, attempt, Steps, stop, step, Handled, unhandled, except, Cleaned, uncleaned, finally, Tree}
+use Rattle.job_tree.specs.Tree.{Step, sleep, checkpoint, forever, pace, find, head, longest, need, raise, cancel, scope, nursery, start, repeat, attempt, Steps, stop, step, Handled, unhandled, except, Cleaned, uncleaned, finally, Tree}
 use Rattle.job_tree.specs.Names.{names_of, names_in, handled_names, cleaned_names, GivesNamesOnce}
 use Rattle.exc_groups.specs.Exceptions.{Label, Exc}
 use Rattle.exc_groups.specs.Split.{named, keep, drop}
 use Rattle.cancel_scopes.specs.Sight.{Tick, seen}
 use Rattle.job_meaning.specs.Log.{Table}
 use Rattle.job_meaning.specs.Walk.{Here, far}
-use Rattle.job_meaning.specs.Rest.{Frame, steps_left, in_scope, in_nursery, in_try, in_handler, in_cleanup, inside, Stopped, to_begin, asking, asleep, awaiting, at_end, Rest}
+use Rattle.job_meaning.specs.Rest.{Frame, steps_left, in_scope, in_nursery, in_repeat, in_try, in_handler, in_cleanup, inside, Stopped, to_begin, asking, asleep, awaiting, at_end, Rest}
 use Rattle.job_meaning.specs.Asking.{Answer, lines, missing, counted, Purpose, shows, needs, paces}
 use Rattle.job_meaning.proofs.Distinct.{Among, among_left, among_right, Distinct, distinct_left, distinct_right, distinct_apart, distinct_by_bytes}
 use Rattle.task_turns.specs.Midway.{Place, stack_at, Midway, Begun, Move, moved, then_move}
 use Rattle.task_turns.specs.Wakes.{Wake, begins, sees, is_due, has_answer, settles, goes_on_with, settled, wake_of, turn_from, CanWake, from_start, from_sleep, from_due, from_asking, from_wait}
 use Rattle.task_turns.specs.Placed.{places_behind}
-use Rattle.task_turns.specs.Steps.{falls_asleep, sleeps, with_started, begun_over, step_on, step_steps, handler_if, step_try, step_frames, step_of, froms_after, turn_of}
+use Rattle.task_turns.specs.Steps.{falls_asleep, sleeps, with_started, begun_over, step_on, step_steps, handler_if, step_try, step_frames, step_of, froms_after, turn_of, begins_passes, step_pass}
 use Rattle.task_turns.specs.Names.{IsName, names_at, OwnNames, AreNew, IsNew, IsNewHandler, IsNewCleanup, NewIn, AllNew, StaysNew}
 
 -- ---- steps whose names are given once
@@ -50,6 +50,7 @@ mutual
   new_step (nursery name deadline shield body) round d h =
       (h name (inl refl), new_steps body (name ∷ round) d.1 (more_round name (names_of body) round d.0 (λ n i. h n (inr i))))
   new_step (start name over body) round d h = new_steps body round d.1 (λ n i. h n (inr i))
+  new_step (repeat count body) round d h = new_steps body round d h
   new_step (attempt body handler cleanup) round d h =
       let front = distinct_left (names_of body ++ handled_names handler) (cleaned_names cleanup) d in (
         new_steps body round (distinct_left (names_of body) (handled_names handler) front)
@@ -92,6 +93,7 @@ started_new more (steps_left ss ∷ fs) ps h = h
 started_new more (in_scope fail ∷ fs) ps h = h
 started_new more (in_nursery children ∷ fs) [] h = h
 started_new more (in_nursery children ∷ fs) (p ∷ ps) h = h
+started_new more (in_repeat pass left again ∷ fs) ps h = h
 started_new more (in_try handler cleanup ∷ fs) ps h = h
 started_new more (in_handler rest cleanup ∷ fs) ps h = h
 started_new more (in_cleanup outcome ∷ fs) ps h = h
@@ -106,6 +108,17 @@ over_new : (name : List ℕ) (here : Here) (of : ℕ) (body : Steps) (ps : List 
 over_new name here of body ps first zero h own = tt
 over_new name here of body ps first (suc k) h own =
     all_new_append (begun_over name here of body ps first k) _ (over_new name here of body ps first k h own) (h, own, tt)
+
+passes_new : (n : ℕ) (body : Steps) (fs : List Frame) (ps : List Place) → AreNew (names_at ps) body → NewIn fs ps →
+    OwnNames (names_at ps) → StaysNew (begins_passes n body fs ps)
+passes_new zero body fs ps a h own = record { frames = h; own = own; begun = tt }
+passes_new (suc n) body fs ps a h own = record { frames = (a, (a, h)); own = own; begun = tt }
+
+pass_new : (pass left : ℕ) (body : Steps) (fs : List Frame) (ps : List Place) (exc : Option Exc) → AreNew (names_at ps) body →
+    NewIn fs ps → OwnNames (names_at ps) → StaysNew (step_pass pass left body fs ps exc)
+pass_new pass left body fs ps (Some e) a h own = record { frames = h; own = own; begun = tt }
+pass_new pass zero body fs ps None a h own = record { frames = h; own = own; begun = tt }
+pass_new pass (suc n) body fs ps None a h own = record { frames = (a, (a, h)); own = own; begun = tt }
 
 step_new : (froms : Table) (t : ℕ) (here : Here) (s : Step) (ss : Steps) (fs : List Frame) (ps : List Place) (count : ℕ) →
     IsNew (names_at ps) s → AreNew (names_at ps) ss →
@@ -128,6 +141,7 @@ step_new froms t here (start name None body) ss fs ps count i a h own =
     record { frames = (a, started_new (count ∷ []) fs ps h); own = own; begun = (i, own, tt) }
 step_new froms t here (start name (Some k) body) ss fs ps count i a h own =
     record { frames = (a, started_new _ fs ps h); own = own; begun = over_new name here k body ps count k i own }
+step_new froms t here (repeat n body) ss fs ps count i a h own = passes_new n body (steps_left ss ∷ fs) ps i (a, h) own
 step_new froms t here (attempt body handler cleanup) ss fs ps count i a h own =
     record { frames = (i.0, (i.1, i.2, (a, h))); own = own; begun = tt }
 
@@ -162,6 +176,7 @@ frames_new froms t here (in_scope fail ∷ fs) [] exc count h own = record { fra
 frames_new froms t here (in_scope fail ∷ fs) (p ∷ ps) exc count h own = record { frames = h; own = own.1; begun = tt }
 frames_new froms t here (in_nursery children ∷ fs) [] exc count h own = record { frames = h; own = own; begun = tt }
 frames_new froms t here (in_nursery children ∷ fs) (p ∷ ps) exc count h own = record { frames = h; own = own; begun = tt }
+frames_new froms t here (in_repeat pass left body ∷ fs) ps exc count h own = pass_new pass left body fs ps exc h.0 h.1 own
 frames_new froms t here (in_try handler cleanup ∷ fs) ps exc count h own = try_new handler cleanup fs ps exc h.0 h.1 h.2 own
 frames_new froms t here (in_handler rest cleanup ∷ fs) ps exc count h own = record { frames = (tt, h.0, h.1); own = own; begun = tt }
 frames_new froms t here (in_cleanup outcome ∷ fs) ps exc count h own = record { frames = h; own = own; begun = tt }

@@ -1,8 +1,8 @@
 -- Names of scopes and nurseries that are round one another.
 use Rattle.std.specs.Prelude.{◌≡◌, ◌⊎◌, ℕ, Option, Some, None, List, [], ◌∷◌}
-use Rattle.job_tree.specs.Tree.{Step, sleep, checkpoint, forever, pace, find, head, longest, need, raise, cancel, scope, nursery, start, attempt, Steps, stop, step, Handled, unhandled, except, Cleaned, uncleaned, finally}
+use Rattle.job_tree.specs.Tree.{Step, sleep, checkpoint, forever, pace, find, head, longest, need, raise, cancel, scope, nursery, start, repeat, attempt, Steps, stop, step, Handled, unhandled, except, Cleaned, uncleaned, finally}
 use Rattle.exc_groups.specs.Exceptions.{Label}
-use Rattle.job_meaning.specs.Rest.{Frame, steps_left, in_scope, in_nursery, in_try, in_handler, in_cleanup}
+use Rattle.job_meaning.specs.Rest.{Frame, steps_left, in_scope, in_nursery, in_repeat, in_try, in_handler, in_cleanup}
 use Rattle.task_turns.specs.Midway.{Place, Begun, Move}
 use Rattle.task_turns.specs.Placed.{places_behind}
 
@@ -41,6 +41,7 @@ abbrev mutual
   IsNew round (scope name deadline shield fail body) = (IsName name round → ⊥) × AreNew (name ∷ round) body
   IsNew round (nursery name deadline shield body) = (IsName name round → ⊥) × AreNew (name ∷ round) body
   IsNew round (start name over body) = AreNew round body
+  IsNew round (repeat count body) = AreNew round body
   IsNew round (attempt body handler cleanup) = AreNew round body × IsNewHandler round handler × IsNewCleanup round cleanup
 
   pub IsNewHandler : List (List ℕ) → Handled → Type 0
@@ -59,6 +60,7 @@ NewIn (in_scope fail ∷ fs) [] = NewIn fs []
 NewIn (in_scope fail ∷ fs) (p ∷ ps) = NewIn fs ps
 NewIn (in_nursery children ∷ fs) [] = NewIn fs []
 NewIn (in_nursery children ∷ fs) (p ∷ ps) = NewIn fs ps
+NewIn (in_repeat pass left body ∷ fs) ps = AreNew (names_at ps) body × NewIn fs ps
 NewIn (in_try handler cleanup ∷ fs) ps = IsNewHandler (names_at ps) handler × IsNewCleanup (names_at ps) cleanup × NewIn fs ps
 NewIn (in_handler rest cleanup ∷ fs) ps = IsNewCleanup (names_at ps) cleanup × NewIn fs ps
 NewIn (in_cleanup outcome ∷ fs) ps = NewIn fs ps

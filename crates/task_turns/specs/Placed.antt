@@ -2,7 +2,7 @@
 use Rattle.std.specs.Prelude.{◌≡◌, ◌⊎◌, ℕ, ◌<◌, Bool, true, false, Option, Some, None, List, [], ◌∷◌}
 use Rattle.job_tree.specs.Starting.{StartsIn, HandlerStarts, CleanupStarts}
 use Rattle.job_meaning.specs.Asking.{Suits}
-use Rattle.job_meaning.specs.Rest.{Frame, steps_left, in_scope, in_nursery, in_try, in_handler, in_cleanup, Stopped, to_begin, asking, asleep, awaiting, at_end}
+use Rattle.job_meaning.specs.Rest.{Frame, steps_left, in_scope, in_nursery, in_repeat, in_try, in_handler, in_cleanup, Stopped, to_begin, asking, asleep, awaiting, at_end}
 use Rattle.task_turns.specs.Midway.{Place, Begun}
 
 -- whether the innermost frame is a nursery's body
@@ -11,6 +11,7 @@ in_body [] = false
 in_body (in_nursery children ∷ fs) = true
 in_body (steps_left ss ∷ fs) = false
 in_body (in_scope fail ∷ fs) = false
+in_body (in_repeat pass left body ∷ fs) = false
 in_body (in_try handler cleanup ∷ fs) = false
 in_body (in_handler rest cleanup ∷ fs) = false
 in_body (in_cleanup outcome ∷ fs) = false
@@ -24,6 +25,7 @@ Placed (in_scope fail ∷ fs) [] = ⊥
 Placed (in_scope fail ∷ fs) (p ∷ ps) = Placed fs ps
 Placed (in_nursery children ∷ fs) [] = ⊥
 Placed (in_nursery children ∷ fs) (p ∷ ps) = Placed fs ps
+Placed (in_repeat pass left body ∷ fs) ps = StartsIn false body × Placed fs ps
 Placed (in_try handler cleanup ∷ fs) ps = HandlerStarts handler × CleanupStarts cleanup × Placed fs ps
 Placed (in_handler rest cleanup ∷ fs) ps = CleanupStarts cleanup × Placed fs ps
 Placed (in_cleanup outcome ∷ fs) ps = Placed fs ps
@@ -61,6 +63,7 @@ home_places (in_scope fail ∷ fs) [] = []
 home_places (in_scope fail ∷ fs) (p ∷ ps) = home_places fs ps
 home_places (in_nursery children ∷ fs) [] = []
 home_places (in_nursery children ∷ fs) (p ∷ ps) = home_places fs ps
+home_places (in_repeat pass left body ∷ fs) ps = home_places fs ps
 home_places (in_try handler cleanup ∷ fs) ps = home_places fs ps
 home_places (in_handler rest cleanup ∷ fs) ps = home_places fs ps
 home_places (in_cleanup outcome ∷ fs) ps = home_places fs ps
@@ -80,6 +83,7 @@ KidsBelow n [] = Unit {0}
 KidsBelow n (steps_left ss ∷ fs) = KidsBelow n fs
 KidsBelow n (in_scope fail ∷ fs) = KidsBelow n fs
 KidsBelow n (in_nursery children ∷ fs) = AllBelow n children × KidsBelow n fs
+KidsBelow n (in_repeat pass left body ∷ fs) = KidsBelow n fs
 KidsBelow n (in_try handler cleanup ∷ fs) = KidsBelow n fs
 KidsBelow n (in_handler rest cleanup ∷ fs) = KidsBelow n fs
 KidsBelow n (in_cleanup outcome ∷ fs) = KidsBelow n fs
@@ -106,6 +110,7 @@ HasChild i home (in_scope fail ∷ fs) [] = ⊥
 HasChild i home (in_scope fail ∷ fs) (p ∷ ps) = HasChild i home fs ps
 HasChild i home (in_nursery children ∷ fs) [] = ⊥
 HasChild i home (in_nursery children ∷ fs) (p ∷ ps) = (IsAmong i children × (home ≡ p ∷ ps)) ⊎ HasChild i home fs ps
+HasChild i home (in_repeat pass left body ∷ fs) ps = HasChild i home fs ps
 HasChild i home (in_try handler cleanup ∷ fs) ps = HasChild i home fs ps
 HasChild i home (in_handler rest cleanup ∷ fs) ps = HasChild i home fs ps
 HasChild i home (in_cleanup outcome ∷ fs) ps = HasChild i home fs ps

@@ -1,14 +1,14 @@
 -- One step of a task in the middle of a turn, and a whole turn.
 use Rattle.std.specs.Prelude.{ℕ, zero, suc, ◌+◌, ◌-◌, Bool, true, false, Option, Some, None, List, [], ◌∷◌, ◌++◌}
 use Rattle.std.specs.Str.{bytes_eq}
-use Rattle.job_tree.specs.Tree.{Step, sleep, checkpoint, forever, pace, find, head, longest, need, raise, cancel, scope, nursery, start, attempt, Steps, stop, step, Handled, unhandled, except, Cleaned, uncleaned, finally}
+use Rattle.job_tree.specs.Tree.{Step, sleep, checkpoint, forever, pace, find, head, longest, need, raise, cancel, scope, nursery, start, repeat, attempt, Steps, stop, step, Handled, unhandled, except, Cleaned, uncleaned, finally}
 use Rattle.buffer_parts.specs.Cuts.{cut_of}
 use Rattle.exc_groups.specs.Exceptions.{Label, Exc, cancelled, raised}
 use Rattle.exc_groups.specs.Split.{named, keep, drop}
 use Rattle.cancel_scopes.specs.Sight.{Tick, earlier, next, seen, catches}
 use Rattle.job_meaning.specs.Log.{Table, same_label}
 use Rattle.job_meaning.specs.Walk.{Here, far, due, label_here, label_over, label_if, here_in, Kind, a_scope, left_as, left_with, exc_after, handler_exc, outcome_after}
-use Rattle.job_meaning.specs.Rest.{Event, noted, signs, enters, starts, starts_over, numbered, Frame, steps_left, in_scope, in_nursery, in_try, in_handler, in_cleanup, inside, Stopped, asking, asleep, awaiting, at_end}
+use Rattle.job_meaning.specs.Rest.{Event, noted, signs, enters, starts, starts_over, numbered, Frame, steps_left, in_scope, in_nursery, in_repeat, in_try, in_handler, in_cleanup, inside, Stopped, asking, asleep, awaiting, at_end}
 use Rattle.job_meaning.specs.Asking.{shows, needs, paces}
 use Rattle.job_meaning.specs.Asking as ask
 use Rattle.task_turns.specs.Midway.{Place, stack_at, Midway, Begun, Move, moved, unmoved, then_move}
@@ -99,6 +99,11 @@ abbrev pub enters_block : Label → Bool → Tick → ℕ → Steps → Frame �
 enters_block label shield deadline t body exit fs ps =
     making (enters label t deadline ∷ []) (steps_left body ∷ exit ∷ fs) (record { label = label; shield = shield } ∷ ps)
 
+-- the first pass of a `repeat`, if it has one, in front of what comes after it
+abbrev pub begins_passes : ℕ → Steps → List Frame → List Place → Move
+begins_passes zero body fs ps = onward fs ps None
+begins_passes (suc k) body fs ps = onward (steps_left body ∷ in_repeat 0 k body ∷ fs) ps None
+
 -- One step of a block, at this place of the job, with nothing raised; the steps ss of the block come after it, and the
 -- frames fs after them.
 abbrev pub step_on : Table → ℕ → Here → Step → Steps → List Frame → List Place → ℕ → Move
@@ -134,6 +139,7 @@ step_on froms t here (start name (Some k) body) ss fs ps count =
       begun = begun_over name here k body ps count k;
       stopped = None;
     }
+step_on froms t here (repeat n body) ss fs ps count = begins_passes n body (steps_left ss ∷ fs) ps
 step_on froms t here (attempt body handler cleanup) ss fs ps count =
     onward (steps_left body ∷ in_try handler cleanup ∷ steps_left ss ∷ fs) ps None
 
@@ -168,6 +174,12 @@ step_try unhandled (finally body) fs ps exc = onward (steps_left body ∷ in_cle
 step_try (except name body) cleanup fs ps None = onward (in_try unhandled cleanup ∷ fs) ps None
 step_try (except name body) cleanup fs ps (Some e) = handler_if (keep (named name) e) (drop (named name) e) e body cleanup fs ps
 
+-- a pass has ended: the next one begins, if it ended well and there is one
+abbrev pub step_pass : ℕ → ℕ → Steps → List Frame → List Place → Option Exc → Move
+step_pass pass left body fs ps (Some e) = onward fs ps (Some e)
+step_pass pass zero body fs ps None = onward fs ps None
+step_pass pass (suc k) body fs ps None = onward (steps_left body ∷ in_repeat (suc pass) k body ∷ fs) ps None
+
 -- who stops after this outcome, with the sign of one who failed as the last event
 abbrev pub ends_as : Stopped → Option Exc → ℕ → List Frame → List Place → Move
 ends_as s exc t fs ps = record { frames = fs; places = ps; exc = None; made = signs_home exc ps t; begun = []; stopped = Some s }
@@ -180,6 +192,7 @@ step_frames froms t here (in_scope fail ∷ fs) [] exc count = onward fs [] exc
 step_frames froms t here (in_scope fail ∷ fs) (p ∷ ps) exc count = leaves froms t (a_scope fail) fs p ps exc
 step_frames froms t here (in_nursery children ∷ fs) [] exc count = onward fs [] exc
 step_frames froms t here (in_nursery children ∷ fs) (p ∷ ps) exc count = ends_as (awaiting children t exc) exc t fs (p ∷ ps)
+step_frames froms t here (in_repeat pass left body ∷ fs) ps exc count = step_pass pass left body fs ps exc
 step_frames froms t here (in_try handler cleanup ∷ fs) ps exc count = step_try handler cleanup fs ps exc
 step_frames froms t here (in_handler rest cleanup ∷ fs) ps exc count = onward (in_try unhandled cleanup ∷ fs) ps (handler_exc exc rest)
 step_frames froms t here (in_cleanup outcome ∷ fs) ps exc count = onward fs ps (outcome_after outcome exc)

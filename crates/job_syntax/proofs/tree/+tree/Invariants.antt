@@ -22,6 +22,9 @@ decreases-nursery_at l = 8 * l.depth + 3
 abbrev pub decreases-start_at : goal.decreases-start_at
 decreases-start_at l = 8 * l.depth + 3
 
+abbrev pub decreases-repeat_at : goal.decreases-repeat_at
+decreases-repeat_at l = 8 * l.depth + 3
+
 abbrev pub decreases-try_at : goal.decreases-try_at
 decreases-try_at l = 8 * l.depth + 3
 

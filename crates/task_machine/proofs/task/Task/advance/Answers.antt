@@ -4,7 +4,7 @@ use Rattle.exc_groups.specs.Held.{exc_of}
 use Rattle.job_tree.specs.Blocks.{handled_of, cleaned_of}
 use Rattle.task_turns.specs.Bound.{frames_length}
 use Rattle.task_turns.specs.Midway.{Move}
-use Rattle.task_machine.specs.declared.frame.Frame.TheVariants.{Scope, Nursery, Try, Handler, Cleanup}
+use Rattle.task_machine.specs.declared.frame.Frame.TheVariants.{Scope, Nursery, Repeat, Try, Handler, Cleanup}
 use Rattle.task_machine.specs.declared.frame.Frame.{Frame}
 use Rattle.task_machine.specs.declared.stop.Halt.{Halt}
 use Rattle.task_machine.specs.declared.stop.Moved.{Moved}
@@ -15,8 +15,8 @@ use Rattle.task_machine.specs.Frames.{frames_of}
 use Rattle.task_machine.specs.Tasks.{home_scope}
 use Rattle.task_machine.specs.Worlds.{label_at}
 use Rattle.task_machine.proofs.Fits.{ready_scope}
-use Rattle.task_machine.proofs.TaskFits.{exited_fits, waits_fits, frame_off, modest_with, starts_with, popped_fits, popped_length, popped_body, try_shorter, tried_fits, handled_fits}
-use Rattle.task_machine.proofs.Advances.{takes_end, takes_exit, takes_body, takes_try, takes_handler, takes_cleanup}
+use Rattle.task_machine.proofs.TaskFits.{exited_fits, waits_fits, frame_off, modest_with, starts_with, popped_fits, popped_length, popped_body, pass_shorter, passed_fits, try_shorter, tried_fits, handled_fits}
+use Rattle.task_machine.proofs.Advances.{takes_end, takes_exit, takes_body, takes_pass, takes_try, takes_handler, takes_cleanup}
 use Rattle.task_machine.proofs.task.Task.advance.Goals as goal
 
 pub exit-requires-clause-some : goal.exit-requires-clause-some
@@ -194,3 +194,41 @@ returns-in-Cleanup-clause-step c =
 pub returns-in_ok-moved-in-Steps-clause-step : goal.returns-in_ok-moved-in-Steps-clause-step
 returns-in_ok-moved-in-Steps-clause-step c = c.in_ok-moved-in-Steps.ensures.step c.args.self.now.frames.items c.args.self.now
     (c.in-Some.ensures.items ∙ ap (λ (f : Frame). c.pop.new.self.items ++ f ∷ []) c.in-Steps.is) refl
+
+pub next_pass-requires : goal.next_pass-requires
+next_pass-requires c =
+    let self = c.args.self.now in
+    let f = Repeat c.in-Repeat.pass c.in-Repeat.left c.in-Repeat.body in
+    (modest_with c.pop.new.self.items f self c.args.world.now
+    (popped_fits self c.pop.new.self.items c.in-Some.frame f c.args.world.now c.in-Some.ensures.items c.in-Repeat.is
+    c.requires.fits)).1
+
+pub returns-in_ok-exc-in-Repeat-clause-fits : goal.returns-in_ok-exc-in-Repeat-clause-fits
+returns-in_ok-exc-in-Repeat-clause-fits c =
+    let self = c.args.self.now in
+    let e = c.in_ok-exc-in-Repeat.ensures in
+    let f = Repeat c.in-Repeat.pass c.in-Repeat.left c.in-Repeat.body in
+    passed_fits c.in-Repeat.pass c.in-Repeat.left c.in-Repeat.body.now c.pop.new.self.items f
+    (option_map exc_of c.args.exc) (option_map exc_of c.in_ok-exc-in-Repeat.exc)
+    (record self { frames = c.pop.new.self }) c.next_pass.new.self c.args.world.now refl refl
+    (popped_fits self c.pop.new.self.items c.in-Some.frame f c.args.world.now c.in-Some.ensures.items c.in-Repeat.is c.requires.fits)
+    (e.step (λ id. []) []) e.blocks e.stays
+
+pub returns-in_ok-exc-in-Repeat-clause-shorter : goal.returns-in_ok-exc-in-Repeat-clause-shorter
+returns-in_ok-exc-in-Repeat-clause-shorter c =
+    λ u.
+    let f = Repeat c.in-Repeat.pass c.in-Repeat.left c.in-Repeat.body in
+    let before = popped_length c.args.self.now.frames.items c.pop.new.self.items c.in-Some.frame f c.in-Some.ensures.items c.in-Repeat.is in
+    let after = ap (λ (o : Move). frames_length o.frames) (c.in_ok-exc-in-Repeat.ensures.step (λ id. []) []) in
+    let less = pass_shorter c.in-Repeat.pass c.in-Repeat.left c.in-Repeat.body.now (frames_of (λ id. []) c.pop.new.self.items) []
+    (option_map exc_of c.args.exc) in
+    omega (arith, before, after, less)
+
+pub returns-in_ok-exc-in-Repeat-clause-step : goal.returns-in_ok-exc-in-Repeat-clause-step
+returns-in_ok-exc-in-Repeat-clause-step c =
+    let self = c.args.self.now in
+    let e = c.in_ok-exc-in-Repeat.ensures in
+    takes_pass self.frames.items c.in-Repeat.pass c.in-Repeat.left c.in-Repeat.body self (record self { frames = c.pop.new.self })
+    c.next_pass.new.self c.args.world.now c.args.exc c.in_ok-exc-in-Repeat.exc (c.in-Some.ensures.items
+    ∙ ap (λ (f : Frame). c.pop.new.self.items ++ f ∷ []) c.in-Repeat.is)
+    refl e.stays e.step

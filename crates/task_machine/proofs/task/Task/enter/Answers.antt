@@ -32,7 +32,7 @@ returns-clause-own c =
       opened = c.in_ok-push-2.ensures.items;
       place = (let e = c.len-at.ensures in let f = c.args.self.now.froms.ok in cc);
       froms = c.in_ok-push.ensures.items ∙ ap (λ (l : Label). c.args.self.now.froms.items ++ record { label = l; seen = None } ∷ [])
-          c.in_ok-named.ensures;
+          c.in_ok-kept.ensures;
       fresh = entered.fresh;
       level = record { label = c.in_ok-id.id; shield = c.args.shield; from = c.args.deadline };
       stack = entered.opened ∙ ap (λ (s : Option ℕ). Some (record { label = c.in_ok-id.id; shield = c.args.shield; from = c.args.deadline }

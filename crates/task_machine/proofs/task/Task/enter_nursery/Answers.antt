@@ -1,29 +1,37 @@
-use Rattle.std.proofs.Common.{◌≡◌, Some, List, [], ◌∷◌, ◌++◌, append_assoc, ap, sym, ◌∙◌, subst}
+use Rattle.std.proofs.Common.{◌≡◌, ℕ, Option, Some, List, [], ◌∷◌, ◌++◌, append_assoc, ap, sym, ◌∙◌, subst}
 use Rattle.exc_groups.specs.Exceptions.{Label}
-use Rattle.nursery_book.specs.Nursery.{opened}
+use Rattle.cancel_scopes.specs.Sight.{Tick}
+use Rattle.cancel_scopes.specs.Tree.{outer_of}
+use Rattle.job_meaning.specs.Walk.{due}
+use Rattle.task_turns.specs.Midway.{Place}
+use Rattle.task_turns.specs.Steps.{opened}
+use Rattle.task_machine.specs.Stacked.{AreAt}
+use Rattle.task_machine.specs.Worlds.{label_at}
+use Rattle.nursery_book.specs.Nursery.{opened as opens}
 use Rattle.nursery_book.specs.Book.{nursery_at, Updates}
 use Rattle.nursery_book.specs.declared.book.NurseryBook.{NurseryBook}
 use Rattle.task_machine.specs.declared.frame.Frame.{Frame}
 use Rattle.task_machine.specs.declared.frame.Frame.TheVariants.{Nursery, Steps}
 use Rattle.task_machine.specs.declared.task.Task.{Task}
 use Rattle.task_machine.specs.declared.world.World.{World}
+use Rattle.task_machine.specs.Entered.{label_in}
 use Rattle.task_machine.specs.Tasks.{scope_of}
 use Rattle.task_machine.proofs.task.Task.enter_nursery.Goals as goal
 
 pub returns-clause-nursery : goal.returns-clause-nursery
 returns-clause-nursery c =
     let book : c.enter.new.world.book ≡ c.args.world.now.book = ap (λ (w : World). w.book) c.in_ok-scope.ensures.world in
-    let label : Label = record { name = c.args.name; indices = c.args.self.now.label.indices } in
+    let label : Label = label_in c.args.self.now c.args.block.name in
     record {
       id = c.in_ok-id.id;
       scope = c.in_ok-scope.scope;
       inner = ap scope_of c.in_ok-push-2.ensures.stays ∙ ap scope_of c.in_ok-push.ensures.stays ∙ c.in_ok-scope.ensures.inner;
       fresh = sym (ap (λ (b : NurseryBook). nursery_at b c.in_ok-id.id) book) ∙ c.in_ok-id.ensures.fresh;
       stands =
-          subst (λ (b : NurseryBook). Updates b c.open.new.self c.in_ok-id.id (Some (opened c.in_ok-scope.scope c.args.me label))) book
+          subst (λ (b : NurseryBook). Updates b c.open.new.self c.in_ok-id.id (Some (opens c.in_ok-scope.scope c.args.me label))) book
           (subst (λ (l : Label). Updates c.enter.new.world.book c.open.new.self c.in_ok-id.id
-          (Some (opened c.in_ok-scope.scope c.args.me l)))
-          (c.in_ok-label.ensures ∙ ap (λ (t : Task). record { name = c.args.name; indices = t.label.indices }) c.in_ok-scope.ensures.stays)
+          (Some (opens c.in_ok-scope.scope c.args.me l)))
+          (c.in_ok-label.ensures ∙ ap (λ (t : Task). label_in t c.args.block.name) c.in_ok-scope.ensures.stays)
           c.in_ok-id.ensures.opened);
       frames =
           record {
@@ -36,3 +44,19 @@ returns-clause-nursery c =
                 ∙ append_assoc c.args.self.now.frames.items (Nursery c.in_ok-id.id ∷ []) (Steps c.as_slice.result ∷ []);
           };
     }
+
+pub returns-clause-at : goal.returns-clause-at
+returns-clause-at c =
+    let scopes = c.enter.new.world.scopes in
+    let labels = label_at c.enter.new.world in
+    let label : Label = label_in c.args.self.now c.args.block.name in
+    let place : Place = record { label = label; shield = c.args.block.shield } in
+    let scope : scope_of c.push-2.new.self ≡ scope_of c.enter.new.self =
+    ap scope_of c.in_ok-push-2.ensures.stays ∙ ap scope_of c.in_ok-push.ensures.stays in
+    let deadline : c.due-deadline.result ≡ due c.args.block.deadline c.args.world.now.tick =
+    c.due-deadline.ensures.due ∙ ap (λ (t : ℕ). due c.args.block.deadline t) c.now.ensures in
+    λ froms ps new at.
+    subst (λ (s : Option ℕ). AreAt labels (opened froms label (due c.args.block.deadline c.args.world.now.tick)) (outer_of scopes s)
+    (place ∷ ps)) (sym scope)
+    (subst (λ (d : Tick). AreAt labels (opened froms label d) (outer_of scopes (scope_of c.enter.new.self)) (place ∷ ps)) deadline
+    (c.in_ok-scope.ensures.at froms ps new at))

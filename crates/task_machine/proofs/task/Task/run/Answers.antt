@@ -10,8 +10,8 @@ use Rattle.task_machine.specs.Entered.{label_in}
 use Rattle.task_machine.specs.Fitting.{frames_behind}
 use Rattle.task_machine.specs.Frames.{frames_of}
 use Rattle.task_machine.proofs.Children.{takes_children}
-use Rattle.task_machine.proofs.TaskFits.{signed_fits, scope_fits, nursery_fits, scope_length, nursery_length}
-use Rattle.task_machine.proofs.AdvancesSteps.{takes_sleep, takes_checkpoint, takes_forever, takes_pace, takes_find, takes_head, takes_longest, takes_need, takes_raise, takes_cancel, takes_scope, takes_nursery, takes_attempt}
+use Rattle.task_machine.proofs.TaskFits.{signed_fits, scope_fits, nursery_fits, scope_length, nursery_length, repeat_fits, repeat_length}
+use Rattle.task_machine.proofs.AdvancesSteps.{takes_sleep, takes_checkpoint, takes_forever, takes_pace, takes_find, takes_head, takes_longest, takes_need, takes_raise, takes_cancel, takes_scope, takes_nursery, takes_repeat, takes_attempt}
 use Rattle.task_machine.proofs.task.Task.run.Goals as goal
 
 pub returns-in-Cancel-clause-fits : goal.returns-in-Cancel-clause-fits
@@ -113,7 +113,7 @@ returns-in_ok-enter_nursery-in-Nursery-clause-step c =
     let e = c.in_ok-enter_nursery-in-Nursery.ensures in
     λ frames task a.
     takes_nursery c.args.me frames c.args.step.now task c.args.self.now c.enter_nursery.new.self c.args.world.now c.enter_nursery.new.world
-    c.in-Nursery.name c.in-Nursery.body a c.in-Nursery.is e.stays e.nursery
+    c.in-Nursery.name c.in-Nursery.deadline c.in-Nursery.shield c.in-Nursery.body a c.in-Nursery.is e.stays e.nursery
     e.world e.at e.own
 
 pub returns-in_ok-begin_try-in-Try-clause-step : goal.returns-in_ok-begin_try-in-Try-clause-step
@@ -130,3 +130,26 @@ returns-in_ok-begin_children-in-Start-clause-step c =
     takes_children frames c.args.step.now task c.args.self.now c.args.world.now c.begin_children.new.world c.in-Start.name c.in-Start.over
     c.in-Start.body c.requires.fits a c.in-Start.is e.rest e.children
     (subst (λ (s : Step). IsModestStep (step_of s)) c.in-Start.is c.requires.modest).1
+
+pub returns-in_ok-begin_passes-in-Repeat-clause-fits : goal.returns-in_ok-begin_passes-in-Repeat-clause-fits
+returns-in_ok-begin_passes-in-Repeat-clause-fits c =
+    let e = c.in_ok-begin_passes-in-Repeat.ensures in
+    let modest = subst (λ (s : Step). IsModestStep (step_of s)) c.in-Repeat.is c.requires.modest in
+    let starts = subst (λ (s : Step). StartsAt (in_body (frames_behind (frames_of (λ id. []) c.args.self.now.frames.items))) (step_of s))
+    c.in-Repeat.is c.requires.starts in
+    repeat_fits c.in-Repeat.count c.in-Repeat.body c.args.self.now c.begin_passes.new.self c.args.world.now c.requires.fits
+    modest.0 modest.1 starts e.blocks (e.step (λ id. []) []) e.stays
+
+pub returns-in_ok-begin_passes-in-Repeat-clause-length : goal.returns-in_ok-begin_passes-in-Repeat-clause-length
+returns-in_ok-begin_passes-in-Repeat-clause-length c =
+    let e = repeat_length c.in-Repeat.count c.in-Repeat.body c.args.self.now c.begin_passes.new.self
+    (c.in_ok-begin_passes-in-Repeat.ensures.step (λ id. []) []) in
+    let f = ap (λ (s : Step). step_length (step_of s)) c.in-Repeat.is in
+    omega (arith, e, f)
+
+pub returns-in_ok-begin_passes-in-Repeat-clause-step : goal.returns-in_ok-begin_passes-in-Repeat-clause-step
+returns-in_ok-begin_passes-in-Repeat-clause-step c =
+    let e = c.in_ok-begin_passes-in-Repeat.ensures in
+    λ frames task a.
+    takes_repeat frames c.args.step.now task c.args.self.now c.begin_passes.new.self c.args.world.now c.in-Repeat.count c.in-Repeat.body a
+    c.in-Repeat.is e.stays e.blocks e.step

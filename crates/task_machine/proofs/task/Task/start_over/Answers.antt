@@ -3,6 +3,7 @@ use Rattle.buffer_parts.specs.Part.{buffer_of}
 use Rattle.exc_groups.specs.Exceptions.{Label}
 use Rattle.task_machine.specs.declared.world.World.{World}
 use Rattle.task_machine.specs.Started.{StartsOver}
+use Rattle.task_machine.specs.Tasks.{path_of}
 use Rattle.task_machine.proofs.Starts.{starts_none, starts_more, runs_on}
 use Rattle.task_machine.proofs.task.Task.start_over.Goals as goal
 
@@ -10,8 +11,8 @@ pub copies-preserved : goal.copies-preserved
 copies-preserved c =
     let i = c.copies.i in
     let started = c.in_ok-start.ensures in
-    let name : c.in_ok-label.label ≡ record { name = c.args.name; indices = c.args.self.now.label.indices ++ i ∷ [] } =
-    c.in_ok-label.ensures ∙ ap (λ (l : Label). record { name = l.name; indices = l.indices ++ i ∷ [] }) c.in_ok-named.ensures in
+    let name : c.in_ok-label.label ≡ record { name = c.args.name; indices = path_of c.args.self.now ++ i ∷ [] } =
+    c.in_ok-label.ensures ∙ ap (λ (l : Label). record { name = l.name; indices = l.indices ++ i ∷ [] }) c.in_ok-label_here.ensures in
     let next : suc i ≡ i + 1 = omega arith in
     let gives = c.next_cut-part.ensures in
     let whole = c.copies.invariant.4 in

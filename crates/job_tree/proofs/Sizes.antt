@@ -1,0 +1,10 @@
+-- How many step instances a job of a format may have.
+use Rattle.std.proofs.Common.{◌≤◌, arith}
+use Rattle.job_tree.specs.declared.format.Format.{Format}
+use Rattle.job_tree.specs.declared.format.Format.TheVariants.{One, Two}
+use Rattle.job_tree.specs.Modest.{most_steps}
+
+-- a job of either format has at most a million
+pub few_steps : (format : Format) → most_steps format ≤ 1000000
+few_steps One = omega arith
+few_steps Two = omega arith

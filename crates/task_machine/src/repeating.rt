@@ -1,0 +1,100 @@
+ghost use Rattle.std.specs.Prelude.{◌≡◌, ◌+◌, ◌≤◌, List, [], ◌∷◌, None, OnOk, IfOk};
+ghost use Rattle.std.specs.Option.{option_map};
+ghost use Rattle.exc_groups.specs.Held.{exc_of};
+ghost use Rattle.job_tree.specs.declared.limits.TheConstants.{MOST_PASSES};
+ghost use Rattle.task_turns.specs.Midway.{Place};
+ghost use Rattle.task_turns.specs.Steps.{onward, begins_passes, step_pass};
+ghost use Rattle.task_machine.specs.Entered.{label_in};
+ghost use Rattle.task_machine.specs.Fitting.{blocks_of};
+ghost use Rattle.task_machine.specs.Frames.{frames_of, passes_onto};
+ghost use Rattle.task_machine.specs.Stops.{Numbers};
+
+use crate::frame::Frame;
+use crate::task::Task;
+use exc_groups::{Exc, Label};
+use job_tree::{Body, Name};
+use std::alloc::AllocError;
+
+impl<'a> Task<'a> {
+    // A `repeat` begins: its first pass, if it has one.
+    pub(crate) fn begin_passes(&mut self, count: u64, body: &'a Body) -> Result<(), AllocError>
+        ensures stays { OnOk result (self.new ≡ record self.old { frames = self.new.frames }) }
+        ensures blocks { OnOk result (blocks_of self.new.frames.items ≡ blocks_of self.old.frames.items) }
+        ensures step { OnOk result ((numbers : Numbers) (ps : List Place) →
+            begins_passes count body.now (frames_of numbers self.old.frames.items) ps
+            ≡ onward (frames_of numbers self.new.frames.items) ps None) }
+    {
+        if count == 0 {
+            return Ok(());
+        }
+        self.push(Frame::Repeat {
+            pass: 0,
+            left: count - 1,
+            body,
+        })?;
+        self.push(Frame::Steps(body.as_slice()))?;
+        Ok(())
+    }
+
+    // A pass has ended with that exception, or well: the next one begins, if it ended well and there is one. Gives the
+    // exception that the task goes on with.
+    pub(crate) fn next_pass(
+        &mut self,
+        pass: u64,
+        left: u64,
+        body: &'a Body,
+        exc: Option<Exc>,
+    ) -> Result<Option<Exc>, AllocError>
+        requires { pass + left ≤ MOST_PASSES }
+        ensures stays { OnOk result (self.new ≡ record self.old { frames = self.new.frames }) }
+        ensures blocks { OnOk result (blocks_of self.new.frames.items ≡ blocks_of self.old.frames.items) }
+        ensures step { IfOk result (λ after. (numbers : Numbers) (ps : List Place) →
+            step_pass pass left body.now (frames_of numbers self.old.frames.items) ps (option_map exc_of exc)
+            ≡ onward (frames_of numbers self.new.frames.items) ps (option_map exc_of after)) }
+    {
+        if let Some(exc) = exc {
+            return Ok(Some(exc));
+        }
+        if left == 0 {
+            return Ok(None);
+        }
+        self.push(Frame::Repeat {
+            pass: pass + 1,
+            left: left - 1,
+            body,
+        })?;
+        self.push(Frame::Steps(body.as_slice()))?;
+        Ok(None)
+    }
+
+    // The label of that name for what is entered or started where the task is: behind its own indices come the numbers of
+    // the passes that it is in, outermost first.
+    pub(crate) fn label_here(&self, name: Name) -> Result<Label, AllocError>
+        ensures { IfOk result (λ label. label ≡ label_in self.now name) }
+    {
+        let label = self.label.named(self.alloc, name)?;
+        label_inside(label, self.frames.as_slice())
+    }
+}
+
+// The label with the numbers of the passes among frames, outermost first.
+fn label_inside(label: Label, frames: &[Frame]) -> Result<Label, AllocError>
+    ensures { IfOk result (λ inner. inner ≡ record { name = label.name; indices = passes_onto frames.now label.indices }) }
+{
+    let mut inner = label;
+    'frames: for frame in frames {
+        inner = label_in_frame(inner, frame)?;
+    }
+    Ok(inner)
+}
+
+// The label with the number of the pass, if the frame is that of a `repeat`.
+fn label_in_frame(label: Label, frame: &Frame) -> Result<Label, AllocError>
+    ensures { IfOk result (λ inner. inner ≡ record { name = label.name; indices = passes_onto (frame.now ∷ []) label.indices }) }
+{
+    let Frame::Repeat { pass, .. } = frame else {
+        return Ok(label);
+    };
+    let inner = label.indexed(*pass)?;
+    Ok(inner)
+}
