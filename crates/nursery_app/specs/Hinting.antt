@@ -1,5 +1,5 @@
 -- What may help beside the sentence of a refusal.
-use Rattle.std.specs.Prelude.{◌≡◌, ℕ, ◌==◌, ◌||◌, if◌then◌else◌, List, [], ◌∷◌, length, take, Option, Some, None, codes, slice_get}
+use Rattle.std.specs.Prelude.{◌≡◌, ℕ, Bool, false, is_some, ◌==◌, ◌||◌, if◌then◌else◌, List, [], ◌∷◌, length, take, Option, Some, None, codes, slice_get}
 use Rattle.std.specs.Str.{bytes_eq}
 use Rattle.job_tree.specs.declared.format.Format.{Format}
 use Rattle.job_tree.specs.declared.format.Format.TheVariants.{One, Two}
@@ -30,19 +30,18 @@ abbrev pub token_hint : Option ℕ → Option Hint
 token_hint None = None
 token_hint (Some b) = if b == 35 || b == 47 then Some hint.NoComments else None
 
--- that a token of a text of format 1 may stand there in format 2, or else another hint
-abbrev pub newer_or : Format → Rest → Option Hint → Option Hint
-newer_or One (Some more) other = Some hint.NewerFormat
-newer_or One None other = other
-newer_or Two rest other = other
+-- that a text is of format 1, and in format 2 something would follow
+abbrev pub is_newer : Format → Rest → Bool
+is_newer One rest = is_some rest
+is_newer Two rest = false
 
 -- the keyword that a token nearly is, of those that may stand for the symbol
 abbrev pub nearly : Format → Symbol → Shape → Option Hint
 nearly format symbol shape = word_in shape >>= λ bytes. first_near (words_for format symbol) bytes >>= λ k. Some (hint.Meant k)
 
--- that a token may stand for the symbol in format 2, or the keyword that it nearly is, of those that may stand for the symbol
+-- that in format 2 a token may stand for the symbol, or the keyword that it nearly is, of those that may stand for the symbol
 abbrev pub meant_by : Format → Option Symbol → Shape → Option Hint
-meant_by format symbol shape = symbol >>= λ s. newer_or format (next Two s shape) (nearly format s shape)
+meant_by format symbol shape = symbol >>= λ s. if is_newer format (next Two s shape) then Some hint.NewerFormat else nearly format s shape
 
 -- where tokens leave the grammar: with a token at that place the keyword meant, and with none the block that is open
 abbrev pub syntax_hint : Format → List Token → Option Shape → Option Hint

@@ -1,5 +1,7 @@
 ghost use Rattle.std.specs.Prelude.{◌≡◌, IfOk};
-ghost use Rattle.nursery_app.specs.Hinting.{IsHint, IsSyntaxHint, IsTwiceHint, version_hint, token_hint, nearly, meant_by, syntax_hint, twice_hint};
+ghost use Rattle.nursery_app.specs.Hinting.{IsHint, IsSyntaxHint, IsTwiceHint, version_hint, token_hint, nearly, meant_by, is_newer, syntax_hint, twice_hint};
+ghost use Rattle.job_tree.specs.declared.format.Format.TheVariants.{Two};
+ghost use Rattle.job_syntax.specs.Symbols.{next};
 
 use crate::expecting::expected_at;
 use crate::nearness::meant;
@@ -90,24 +92,35 @@ fn hint_at(
     ensures { IfOk result (λ hint. hint ≡ syntax_hint format tokens.now shape) }
 {
     match shape {
-        Some(shape) => Ok(meant_by(format, expected_at(alloc, format, tokens)?, shape)),
+        Some(shape) => Ok(meant_by(format, expected_at(alloc, format, tokens)?, &shape)),
         None => Ok(innermost_open(alloc, tokens)?.map(Hint::OpenSince)),
     }
 }
 
-fn meant_by(format: Format, symbol: Option<Symbol>, shape: Shape) -> Option<Hint>
-    ensures { result ≡ meant_by format symbol shape }
+// What helps with a token where one for the symbol was to stand.
+fn meant_by(format: Format, symbol: Option<Symbol>, shape: &Shape) -> Option<Hint>
+    ensures { result ≡ meant_by format symbol shape.now }
 {
     let symbol = symbol?;
-    match (format, symbol.next(Format::Two, shape)) {
-        (Format::One, Some(_)) => Some(Hint::NewerFormat),
-        _ => nearly(format, symbol, shape),
+    if is_newer(format, symbol, shape) {
+        return Some(Hint::NewerFormat);
+    }
+    nearly(format, symbol, shape)
+}
+
+// Whether a text of format 1 has a token that may stand there in format 2.
+fn is_newer(format: Format, symbol: Symbol, shape: &Shape) -> bool
+    ensures { result ≡ is_newer format (next Two symbol shape.now) }
+{
+    match format {
+        Format::One => symbol.next(Format::Two, *shape).is_some(),
+        Format::Two => false,
     }
 }
 
 // The keyword that a token nearly is, of those that may stand for the symbol.
-fn nearly(format: Format, symbol: Symbol, shape: Shape) -> Option<Hint>
-    ensures { result ≡ nearly format symbol shape }
+fn nearly(format: Format, symbol: Symbol, shape: &Shape) -> Option<Hint>
+    ensures { result ≡ nearly format symbol shape.now }
 {
     let word = shape.word()?;
     let keyword = meant(format, symbol, word.bytes())?;
