@@ -6,6 +6,7 @@ use Rattle.batch_commit.specs.Halves.{numbers}
 use Rattle.batch_commit.specs.Slots.{held, places_from}
 
 module _ {T : Type 0} where
+  -- slots have as many places that are not empty as values that they hold
   pub length-places_from : (place : ℕ) (slots : List (Option T)) → length (places_from place slots) ≡ length (held slots)
   length-places_from place [] = refl
   length-places_from place (None ∷ slots) = length-places_from (place + 1) slots
@@ -22,6 +23,7 @@ module _ {T : Type 0} where
     pub rest : held (slice_set slots index None) ≡ remove (held slots) k
     pub places : places_from place (slice_set slots index None) ≡ remove (places_from place slots) k
 
+  -- whichever of the full slots is emptied, its value and its place are gone, and the others stay in their order
   pub taken : (place k : ℕ) (slots : List (Option T)) → k < length (places_from place slots) → Taken place k slots
   taken place k [] lt = absurd (omega (arith, lt))
   taken place k (None ∷ slots) lt =
@@ -61,6 +63,7 @@ module _ {T : Type 0} where
         places = ap (λ ps. place ∷ ps) t.places;
       }
 
+  -- a full slot at the end has its value behind those of the others
   pub held-append : (slots : List (Option T)) (value : T) → held (slots ++ Some value ∷ []) ≡ held slots ++ value ∷ []
   held-append [] value = refl
   held-append (None ∷ slots) value = held-append slots value
@@ -71,6 +74,7 @@ module _ {T : Type 0} where
   held-full f [] = refl
   held-full f (x ∷ xs) = ap (λ vs. f x ∷ vs) (held-full f xs)
 
+  -- the places of slots that are all full follow one another without a gap
   pub places_from-full : {A : Type 0} (f : A → T) (place : ℕ) (xs : List A) →
       places_from place (map (λ a. Some (f a)) xs) ≡ numbers place (length xs)
   places_from-full f place [] = refl

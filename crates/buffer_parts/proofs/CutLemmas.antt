@@ -102,10 +102,6 @@ step-ordered len k i j some le =
     let high : i * len ≤ j * len = mul-le-mul_right len le in
     le-div (i * len / k) (j * len) k some (omega arith)
 
--- cut point 0 is the range's start
-pub cut_point-first : (buffer : List ℕ) (r : Range) (k : ℕ) → cut_point buffer r k 0 ≡ r.from
-cut_point-first buffer r k = refl
-
 -- cut point k of k is the range's end
 pub cut_point-last : (buffer : List ℕ) (r : Range) (k : ℕ) → 0 < k → cut_point buffer r k k ≡ r.to
 cut_point-last buffer r k some =

@@ -80,7 +80,8 @@ impl Store {
 
     // Lowers the sights of the scopes right inside one that was lowered.
     fn lower_children(&mut self, parent: usize, tick: u64)
-        requires state { Lowering tick (or_child parent 0 self.old.lowered.items) self.old.scopes.slots self.old.changed.items self.old.lowered.items }
+        requires state { Lowering tick (or_child parent 0 self.old.lowered.items) self.old.scopes.slots self.old.changed.items
+            self.old.lowered.items }
         requires parent { own_sight (scope_in self.old.scopes.slots parent) ≡ Some tick }
         requires changed_room { length self.old.scopes.slots ≤ vec_capacity self.old.changed }
         requires lowered_room { length self.old.scopes.slots ≤ vec_capacity self.old.lowered }
@@ -97,12 +98,14 @@ impl Store {
 
     // Lowers the sight of the child at this place, if it has no shield and sees later.
     fn lower_child(&mut self, parent: usize, place: usize, tick: u64)
-        requires state { Lowering tick (or_child parent place self.old.lowered.items) self.old.scopes.slots self.old.changed.items self.old.lowered.items }
+        requires state { Lowering tick (or_child parent place self.old.lowered.items) self.old.scopes.slots self.old.changed.items
+            self.old.lowered.items }
         requires parent { own_sight (scope_in self.old.scopes.slots parent) ≡ Some tick }
         requires place { place < length (children_at (scope_in self.old.scopes.slots parent)) }
         requires changed_room { length self.old.scopes.slots ≤ vec_capacity self.old.changed }
         requires lowered_room { length self.old.scopes.slots ≤ vec_capacity self.old.lowered }
-        ensures state { Lowering tick (or_child parent (place + 1) self.new.lowered.items) self.new.scopes.slots self.new.changed.items self.new.lowered.items }
+        ensures state { Lowering tick (or_child parent (place + 1) self.new.lowered.items) self.new.scopes.slots self.new.changed.items
+            self.new.lowered.items }
         ensures along { Along tick self.old.scopes.slots self.new.scopes.slots }
         ensures work { work tick self.new.scopes.slots self.new.lowered.items ≤ work tick self.old.scopes.slots self.old.lowered.items }
         ensures changed_room { vec_capacity self.new.changed ≡ vec_capacity self.old.changed }

@@ -32,7 +32,8 @@ impl Model for ScopeTree {
 
     ghost view = { λ t. tree_of t.store.scopes.slots };
 
-    ghost invariant = { λ t. IsReady t.store.scopes.slots t.store.changed.items (vec_capacity t.store.changed) (vec_len t.store.lowered) (vec_capacity t.store.lowered) };
+    ghost invariant = { λ t. IsReady t.store.scopes.slots t.store.changed.items (vec_capacity t.store.changed) (vec_len t.store.lowered)
+        (vec_capacity t.store.lowered) };
 }
 
 impl ScopeTree {
@@ -192,7 +193,8 @@ fn scope_under(store: &Store, parent: Option<usize>, shield: bool, from: Option<
     ensures shield { result.shield ≡ shield }
     ensures from { result.from ≡ from }
     ensures under { IsUnder (find_in store.now.scopes.slots) result.depth result.parent }
-    ensures sight { result.sight ≡ sight (record { label = 0; shield = shield; from = from } ∷ upward (find_in store.now.scopes.slots) result.depth parent) }
+    ensures sight { result.sight ≡ sight (record { label = 0; shield = shield; from = from }
+        ∷ upward (find_in store.now.scopes.slots) result.depth parent) }
     ensures unmarked { result.listed ≡ None }
     ensures childless { result.children.items ≡ [] }
     ensures place { ForSome parent (λ p. result.place ≡ length (children_at (scope_in store.now.scopes.slots p))) }

@@ -29,7 +29,8 @@ impl Claims {
         requires few_passes { passes ≤ 64 }
         ensures requests { IfOk result (λ made. requests_of made.0 ≡ requests) }
         ensures passes { IfOk result (λ made. (passes_of made.0 ≡ passes) × (vec_len made.1 ≡ passes)) }
-        ensures fresh { IfOk result (λ made. All (λ pass. IsPassOf made.0 pass × (drawn_by pass ≡ []) × (was_told pass ≡ false)) made.1.items) }
+        ensures fresh { IfOk result (λ made. All (λ pass. IsPassOf made.0 pass × (drawn_by pass ≡ []) × (was_told pass ≡ false))
+            made.1.items) }
     {
         let counts = Counts {
             requests: requests as u64,

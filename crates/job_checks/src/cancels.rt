@@ -43,7 +43,8 @@ enum Search<'a> {
 // Goes on through the steps of a block.
 #[cycle(search)]
 fn search_steps<'a>(steps: &[Step], round: &Round, search: Search<'a>) -> Search<'a>
-    ensures { (more : List Cancel) → found_in result more ≡ found_in search.entry (cancels_of (names_round round.now) (steps_of steps.now) ++ more) }
+    ensures { (more : List Cancel) → found_in result more
+        ≡ found_in search.entry (cancels_of (names_round round.now) (steps_of steps.now) ++ more) }
 {
     let mut found = search;
     'steps: for step in steps {
@@ -57,7 +58,8 @@ fn search_steps<'a>(steps: &[Step], round: &Round, search: Search<'a>) -> Search
 
 #[cycle(search)]
 fn search_step<'a>(step: &Step, round: &Round, search: Search<'a>) -> Search<'a>
-    ensures { (more : List Cancel) → found_in result more ≡ found_in search.entry (cancels_in (names_round round.now) (step_of step.now) ++ more) }
+    ensures { (more : List Cancel) → found_in result more
+        ≡ found_in search.entry (cancels_in (names_round round.now) (step_of step.now) ++ more) }
 {
     match step {
         Step::Cancel(name) => search_cancel(name, round, search),
@@ -84,7 +86,8 @@ fn search_step<'a>(step: &Step, round: &Round, search: Search<'a>) -> Search<'a>
 
 #[cycle(search)]
 fn search_handler<'a>(handler: &Option<Handler>, round: &Round, search: Search<'a>) -> Search<'a>
-    ensures { (more : List Cancel) → found_in result more ≡ found_in search.entry (handled_cancels (names_round round.now) (handled_of handler.now) ++ more) }
+    ensures { (more : List Cancel) → found_in result more
+        ≡ found_in search.entry (handled_cancels (names_round round.now) (handled_of handler.now) ++ more) }
 {
     match handler {
         Some(handler) => search_steps(handler.body.as_slice(), round, search),
@@ -94,7 +97,8 @@ fn search_handler<'a>(handler: &Option<Handler>, round: &Round, search: Search<'
 
 #[cycle(search)]
 fn search_cleanup<'a>(cleanup: &Option<Body>, round: &Round, search: Search<'a>) -> Search<'a>
-    ensures { (more : List Cancel) → found_in result more ≡ found_in search.entry (cleaned_cancels (names_round round.now) (cleaned_of cleanup.now) ++ more) }
+    ensures { (more : List Cancel) → found_in result more
+        ≡ found_in search.entry (cleaned_cancels (names_round round.now) (cleaned_of cleanup.now) ++ more) }
 {
     match cleanup {
         Some(body) => search_steps(body.as_slice(), round, search),
@@ -104,7 +108,8 @@ fn search_cleanup<'a>(cleanup: &Option<Body>, round: &Round, search: Search<'a>)
 
 // Goes on past one `cancel`, whose name is the next that stands behind that word.
 fn search_cancel<'a>(name: &Name, round: &Round, search: Search<'a>) -> Search<'a>
-    ensures { (more : List Cancel) → found_in result more ≡ found_in search.entry (record { name = name.now; round = names_round round.now } ∷ more) }
+    ensures { (more : List Cancel) → found_in result more
+        ≡ found_in search.entry (record { name = name.now; round = names_round round.now } ∷ more) }
 {
     let Search::Passed(left) = search else {
         return search;
@@ -121,7 +126,8 @@ fn search_cancel<'a>(name: &Name, round: &Round, search: Search<'a>) -> Search<'
 
 // The place of the first name of what is cancelled, and what is left behind it.
 fn next_target(left: Left<'_>) -> Option<(usize, Left<'_>)>
-    ensures { MatchOption result (targets_in left.entry.tokens.now left.entry.roles.now ≡ []) (λ found. targets_in left.entry.tokens.now left.entry.roles.now ≡ found.0 ∷ targets_in found.1.tokens.now found.1.roles.now) }
+    ensures { MatchOption result (targets_in left.entry.tokens.now left.entry.roles.now ≡ [])
+        (λ found. targets_in left.entry.tokens.now left.entry.roles.now ≡ found.0 ∷ targets_in found.1.tokens.now found.1.roles.now) }
 {
     let mut roles = left.roles;
     let mut tokens = left.tokens;

@@ -42,22 +42,19 @@ pub fair_answer : (text : List ℕ) (k : JobKind) (found : Option ℕ) (r : Resu
 fair_answer text k found (Ok u) refuses is = tt
 fair_answer text k found (Err fault) refuses is = fair_refusal text k found fault refuses is
 
--- behind three passes that found nothing, a place from which no token can be read is a refusal of the text
-pub token_refused : (text : List ℕ) (tokens : List Token) (at : ℕ) → Passes text 3 → HasTokens text tokens (Some at) →
-    IsRefused text kind.Token at
-token_refused text tokens at before lexed = refused_after text 3 kind.Token at before refl (tokens, lexed)
-
 -- where none is such a place, the text is read to the pass for tokens, with all its tokens
 pub tokens_read : (text : List ℕ) (tokens : List Token) → Passes text 3 → HasTokens text tokens None → IsReadTo 4 text tokens
 tokens_read text tokens before lexed = record { tokens_are = lexed; passes = passes_tokens text tokens before lexed }
 
 -- the first number out of its range is a refusal of a text read to the pass for tokens
-pub number_refused : (text : List ℕ) (tokens : List Token) (at : ℕ) → IsReadTo 4 text tokens → number_fault (format_of text) None tokens ≡ Some at →
+pub number_refused : (text : List ℕ) (tokens : List Token) (at : ℕ) → IsReadTo 4 text tokens →
+    number_fault (format_of text) None tokens ≡ Some at →
     IsRefused text kind.Number at
 number_refused text tokens at read found = refused_after text 4 kind.Number at read.passes refl (tokens, read.tokens_are, found)
 
 -- where no number is out of its range, the text is read to the pass for numbers
-pub numbers_read : (text : List ℕ) (tokens : List Token) → IsReadTo 4 text tokens → number_fault (format_of text) None tokens ≡ None → IsReadTo 5 text tokens
+pub numbers_read : (text : List ℕ) (tokens : List Token) → IsReadTo 4 text tokens → number_fault (format_of text) None tokens ≡ None →
+    IsReadTo 5 text tokens
 numbers_read text tokens read none =
     record { tokens_are = read.tokens_are; passes = passes_numbers text tokens read.passes read.tokens_are none }
 
@@ -68,16 +65,19 @@ syntax_refused text tokens at read found =
     refused_after text 5 kind.Syntax at read.passes refl (
       tokens,
       read.tokens_are,
-      subst (λ (o : Option ℕ). IsFault (format_of text) (length text) whole_job tokens o) found (fault_at-means (format_of text) (length text) whole_job tokens),
+      subst (λ (o : Option ℕ). IsFault (format_of text) (length text) whole_job tokens o) found
+          (fault_at-means (format_of text) (length text) whole_job tokens),
     )
 
 -- the job whose tokens leave the grammar nowhere
 some_job : (text : List ℕ) (tokens : List Token) (roles : List Role) → fault_at (format_of text) (length text) whole_job tokens ≡ None →
     roles ≡ roles_at (format_of text) whole_job tokens → IsOfSomeJob (format_of text) tokens roles
 some_job text tokens roles none are =
-    let job = job_of_text (format_of text) (shapes_of tokens) (subst (λ (o : Option ℕ). IsFault (format_of text) (length text) whole_job tokens o)
+    let job = job_of_text (format_of text) (shapes_of tokens)
+    (subst (λ (o : Option ℕ). IsFault (format_of text) (length text) whole_job tokens o)
     none (fault_at-means (format_of text) (length text) whole_job tokens)) in
-    let steps : AreSteps job.0.format false job.0.steps = subst (λ (format : Format). AreSteps format false job.0.steps) (sym job.1) job.2 in (
+    let steps : AreSteps job.0.format false job.0.steps = subst (λ (format : Format). AreSteps format false job.0.steps)
+    (sym job.1) job.2 in (
       job.0,
       (steps, job.3),
       job.1,
@@ -86,7 +86,8 @@ some_job text tokens roles none are =
 
 -- the tokens leave the grammar nowhere
 pub course_read : (text : List ℕ) (tokens : List Token) (roles : List Role) → IsReadTo 5 text tokens →
-    fault_at (format_of text) (length text) whole_job tokens ≡ None → roles ≡ roles_at (format_of text) whole_job tokens → IsReadTo 6 text tokens × IsOfSomeJob (format_of text) tokens roles
+    fault_at (format_of text) (length text) whole_job tokens ≡ None → roles ≡ roles_at (format_of text) whole_job tokens →
+    IsReadTo 6 text tokens × IsOfSomeJob (format_of text) tokens roles
 course_read text tokens roles read none are = (
   record { tokens_are = read.tokens_are; passes = passes_syntax text tokens read.passes read.tokens_are none },
   some_job text tokens roles none are,
@@ -220,7 +221,8 @@ reserved_passed text d h e = next_draft 9 10 text d h (passes_reserved text d.to
     (by_roles d reserved_in None h.roles_are e))
 
 -- more step instances than the greatest number of them are a refusal of the text of such a draft, at place 0
-pub size_refused : (text : List ℕ) (d : Draft) → IsDraftTo 10 text d → most_steps d.format < size_of d.steps → IsRefused text kind.TooLarge 0
+pub size_refused : (text : List ℕ) (d : Draft) → IsDraftTo 10 text d → most_steps d.format < size_of d.steps →
+    IsRefused text kind.TooLarge 0
 size_refused text d h lt = refused_after text 10 kind.TooLarge 0 h.passes refl (d.tokens.items, tree_of d, h.is_of, lt, refl)
 
 -- where there are no more than that, the draft is one to the last pass

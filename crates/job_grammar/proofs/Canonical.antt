@@ -88,7 +88,8 @@ writable format before (shape.Number (Some n)) is in_range = is
 writable format before (shape.Text text) is in_range = is
 writable format before (shape.Mark mark) is in_range = is
 
-all_writable : (format : Format) (before : Option Keyword) (ts : List Token) → AreSpelled ts → number_fault format before ts ≡ None → AreWritable (shapes_of ts)
+all_writable : (format : Format) (before : Option Keyword) (ts : List Token) → AreSpelled ts → number_fault format before ts ≡ None →
+    AreWritable (shapes_of ts)
 all_writable format before [] are none = tt
 all_writable format before (t ∷ ts) are none =
     let parts = went_on (is_in_range format before t.shape) (number_fault format (keyword_in t.shape) ts) t.at none in

@@ -118,11 +118,14 @@ here_number text tokens lexed none kind.Number at e finds =
     (same_tokens text tokens finds.0 None None lexed finds.1) none) finds.2
 here_number text tokens lexed none _ at e finds = absurd (omega arith)
 
-here_syntax : (text : List ℕ) (tokens : List Token) → HasTokens text tokens None → fault_at (format_of text) (length text) whole_job tokens ≡ None →
+here_syntax : (text : List ℕ) (tokens : List Token) → HasTokens text tokens None →
+    fault_at (format_of text) (length text) whole_job tokens ≡ None →
     (k : JobKind) (at : ℕ) → number_of k ≡ 6 → Finds k text at → ⊥
 here_syntax text tokens lexed none kind.Syntax at e finds =
-    none_is_some (fault_at (format_of text) (length text) whole_job finds.0) at (subst (λ (ts : List Token). fault_at (format_of text) (length text) whole_job ts ≡ None)
-    (same_tokens text tokens finds.0 None None lexed finds.1) none) (fault_at-leaves (format_of text) (length text) whole_job finds.0 at finds.2)
+    none_is_some (fault_at (format_of text) (length text) whole_job finds.0) at
+    (subst (λ (ts : List Token). fault_at (format_of text) (length text) whole_job ts ≡ None)
+    (same_tokens text tokens finds.0 None None lexed finds.1) none)
+    (fault_at-leaves (format_of text) (length text) whole_job finds.0 at finds.2)
 here_syntax text tokens lexed none _ at e finds = absurd (omega arith)
 
 -- ---- the job
@@ -217,7 +220,8 @@ pub passes_tokens : (text : List ℕ) (tokens : List Token) → Passes text 3 �
 passes_tokens text tokens before lexed = next_pass text 3 before (here_token text tokens lexed)
 
 -- one that passed so far, with no number out of its range, passes the pass for numbers too
-pub passes_numbers : (text : List ℕ) (tokens : List Token) → Passes text 4 → HasTokens text tokens None → number_fault (format_of text) None tokens ≡ None →
+pub passes_numbers : (text : List ℕ) (tokens : List Token) → Passes text 4 → HasTokens text tokens None →
+    number_fault (format_of text) None tokens ≡ None →
     Passes text 5
 passes_numbers text tokens before lexed none = next_pass text 4 before (here_number text tokens lexed none)
 
@@ -271,10 +275,12 @@ one_place text kind.NotAscii a b below p q = sym p.0 ∙ q.0
 one_place text kind.Version a b below p q = p.1 ∙ sym q.1
 one_place text kind.Token a b below (ts, p) (us, q) = some_same a b (same_end text ts us (Some a) (Some b) p q)
 one_place text kind.Number a b below (ts, p, at_a) (us, q, at_b) =
-    some_is (number_fault (format_of text) None us) a b (subst (λ (xs : List Token). number_fault (format_of text) None xs ≡ Some a) (same_tokens text ts us None None p q)
+    some_is (number_fault (format_of text) None us) a b (subst (λ (xs : List Token). number_fault (format_of text) None xs ≡ Some a)
+    (same_tokens text ts us None None p q)
     at_a) at_b
 one_place text kind.Syntax a b below (ts, p, at_a) (us, q, at_b) =
-    some_is (fault_at (format_of text) (length text) whole_job us) a b (subst (λ (xs : List Token). fault_at (format_of text) (length text) whole_job xs ≡ Some a)
+    some_is (fault_at (format_of text) (length text) whole_job us) a b
+    (subst (λ (xs : List Token). fault_at (format_of text) (length text) whole_job xs ≡ Some a)
     (same_tokens text ts us None None p q) (fault_at-leaves (format_of text) (length text) whole_job ts a at_a))
     (fault_at-leaves (format_of text) (length text) whole_job us b at_b)
 one_place text kind.Depth a b below (ts, p, at_a) (us, q, at_b) =

@@ -27,14 +27,6 @@ Left whole old left now = (rest : List Piece) → old ++ shapes_in (whole rest) 
 abbrev pub left_from : List Step → ℕ → Print
 left_from steps i = steps_pieces (steps_of (drop i steps))
 
--- once the next step's tokens are appended, the steps behind it are left to append
-pub one_step : (whole : Print) (old now next : List Shape) (steps : List Step) (i : ℕ) (s : Step) → i < length steps →
-    s ≡ get_or steps i s → Appends (step_pieces (step_of s)) now next
-    → Left whole old (left_from steps i) now → Left whole old (left_from steps (i + 1)) next
-one_step whole old now next steps i s lt is pushes so_far = λ rest.
-    so_far rest ∙ ap (λ (x : List Piece). now ++ shapes_in x) (at_drop_more (λ (ss : List Step). steps_pieces (steps_of ss) rest) steps i s
-    lt ∙ ap (λ (x : Step). steps_pieces (steps_of (x ∷ drop (i + 1) steps)) rest) (sym is)) ∙ pushes (left_from steps (i + 1) rest)
-
 -- the mark behind the last step
 pub closed : (whole : Print) (old now new : List Shape) (steps : List Step) (i : ℕ) → length steps ≤ i →
     Left whole old (left_from steps i) now → new ≡ now ++ shape.Mark mark.Close ∷ [] → Appends whole old new

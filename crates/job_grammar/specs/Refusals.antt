@@ -80,7 +80,8 @@ Finds kind.Twice text at = (tokens : List Token) × (job : Tree) × IsOf text to
 Finds kind.NotEnclosing text at = (tokens : List Token) × (job : Tree) × IsOf text tokens job
     × (stray_of job tokens (roles_of job) ≡ Some at)
 Finds kind.Reserved text at = (tokens : List Token) × (job : Tree) × IsOf text tokens job × (reserved_in tokens (roles_of job) ≡ Some at)
-Finds kind.TooLarge text at = (tokens : List Token) × (job : Tree) × IsOf text tokens job × (most_steps job.format < size_of job.steps) × (at ≡ 0)
+Finds kind.TooLarge text at = (tokens : List Token) × (job : Tree) × IsOf text tokens job × (most_steps job.format < size_of job.steps)
+    × (at ≡ 0)
 Finds kind.NoMemory text at = ⊥
 
 -- the first so many passes find nothing

@@ -99,7 +99,8 @@ pub fn format_of(text: &[u8]) -> Format
 
 // The format whose first line the text begins with, and the bytes behind it.
 fn behind_first_line(text: &[u8]) -> Option<(Format, &[u8])>
-    ensures { MatchOption result (IsHeadless text.now) (λ found. (take 11 text.now ≡ first_line found.0) × (found.1.now ≡ drop 11 text.now)) }
+    ensures { MatchOption result (IsHeadless text.now)
+        (λ found. (take 11 text.now ≡ first_line found.0) × (found.1.now ≡ drop 11 text.now)) }
 {
     if let Some(body) = text.strip_prefix(first_line(Format::One)) {
         return Some((Format::One, body));

@@ -158,7 +158,8 @@ fn push_plain(
     keyword: Keyword,
     operands: &[Shape],
 ) -> Result<(), AllocError>
-    ensures { OnOk result (shapes.new.items ≡ shapes.old.items ++ shape.Word (spelling keyword) ∷ (operands.now ++ shape.Mark mark.Semicolon ∷ [])) }
+    ensures { OnOk result (shapes.new.items ≡ shapes.old.items
+        ++ shape.Word (spelling keyword) ∷ (operands.now ++ shape.Mark mark.Semicolon ∷ [])) }
 {
     shapes.push(shape_of(keyword))?;
     shapes.extend_from_slice(operands)?;

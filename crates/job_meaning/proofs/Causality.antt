@@ -192,6 +192,7 @@ module _ (c : ℕ) (kind : Kind) (label : Label) (t : ℕ) (d : Tick) where
         from_near c d _ _ (least_near c t label _ _ (h d).timed (h' d).timed (agree_logs (k d d refl)))
     block_near (by_table table) inside inside' h h' k = refl
 
+    -- blocks on near stacks agree before c where their insides do
     pub agree_block : (m : Mode) (inside inside' : Tick → Result) → ((f : Tick) → Late t (inside f)) → ((f : Tick) → Late t (inside' f)) →
         ((f g : Tick) → upto c f ≡ upto c g → Agree c (inside f) (inside' g)) →
         Agree c (block m kind label t d shield st inside) (block m kind label t d shield su inside')
@@ -380,6 +381,7 @@ mutual
       agree_and_then c _ _ _ _ (agree_step c m s here st su t near) (λ u. agree c m ss here st su u near) (λ u. late m ss here st u)
       (λ u. late m ss here su u)
 
+  -- the same of one step
   pub agree_step : (c : ℕ) (m : Mode) (s : Step) (here : Here) (st su : Stack) (t : ℕ) → Near c st su →
       Agree c (walk_step m s here st t) (walk_step m s here su t)
   agree_step c m (sleep n) here st su t near = agree_sleeping c st su _ t near
@@ -413,12 +415,14 @@ mutual
   agree_step c m (attempt body handler cleanup) here st su t near =
       agree_cleanup c m cleanup here st su _ _ near (agree_handler c m handler here st su _ _ near (agree c m body here st su t near))
 
+  -- the same of a handler, where what it stands behind agrees
   pub agree_handler : (c : ℕ) (m : Mode) (x : Handled) (here : Here) (st su : Stack) (r q : Result) → Near c st su → Agree c r q →
       Agree c (walk_handler m x here st r) (walk_handler m x here su q)
   agree_handler c m unhandled here st su r q near h = h
   agree_handler c m (except name body) here st su r q near h =
       agree_handled c _ r q _ _ h (λ u. agree c m body here st su u near) (λ u. late m body here st u) (λ u. late m body here su u)
 
+  -- the same of a cleanup, where what it stands behind agrees
   pub agree_cleanup : (c : ℕ) (m : Mode) (x : Cleaned) (here : Here) (st su : Stack) (r q : Result) → Near c st su → Agree c r q →
       Agree c (walk_cleanup m x here st r) (walk_cleanup m x here su q)
   agree_cleanup c m uncleaned here st su r q near h = h

@@ -195,7 +195,8 @@ finish_no_handler fs m told (except name body) cleanup here st r = refl
 
 -- a `repeat` without a pass
 pub finish_no_pass : (fs : List Frame) (m : Mode) (told : Telling) (body ss : Steps) (here : Here) (st : Stack) (t : ℕ) →
-    finish m told (steps_left (step (repeat zero body) ss) ∷ fs) here st (done_at t) ≡ finish m told (steps_left ss ∷ fs) here st (done_at t)
+    finish m told (steps_left (step (repeat zero body) ss) ∷ fs) here st (done_at t) ≡ finish m told (steps_left ss ∷ fs) here st
+    (done_at t)
 unfolding finish and_then walk
 finish_no_pass fs m told body ss here st t = refl
 

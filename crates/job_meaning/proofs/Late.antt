@@ -217,6 +217,7 @@ mutual
   late m stop here st t = late_done t t (omega arith)
   late m (step s ss) here st t = late_and_then t _ _ (late_step m s here st t) (λ u. late m ss here st u)
 
+  -- the same of one step
   pub late_step : (m : Mode) (s : Step) (here : Here) (st : Stack) (t : ℕ) → Late t (walk_step m s here st t)
   late_step m (sleep n) here st t = late_sleeping st _ t
   late_step m checkpoint here st t = late_sleeping st _ t
@@ -240,11 +241,13 @@ mutual
   late_step m (attempt body handler cleanup) here st t =
       late_cleanup m cleanup here st _ t (late_handler m handler here st _ t (late m body here st t))
 
+  -- the same of a handler, where what it stands behind is late
   pub late_handler : (m : Mode) (x : Handled) (here : Here) (st : Stack) (r : Result) (t : ℕ) → Late t r →
       Late t (walk_handler m x here st r)
   late_handler m unhandled here st r t h = h
   late_handler m (except name body) here st r t h = late_handled t _ r _ h (λ u. late m body here st u)
 
+  -- the same of a cleanup, where what it stands behind is late
   pub late_cleanup : (m : Mode) (x : Cleaned) (here : Here) (st : Stack) (r : Result) (t : ℕ) → Late t r →
       Late t (walk_cleanup m x here st r)
   late_cleanup m uncleaned here st r t h = h

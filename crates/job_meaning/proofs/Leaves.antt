@@ -44,6 +44,7 @@ mutual
       by_test false k = k
   pruned_holds (group whose parts) test h = pruned_parts_hold parts test (sym (group_holds whose (pruned_parts test parts)) ∙ h)
 
+  -- the same of the parts of a group
   pub pruned_parts_hold : (es : Excs) (test : Exc → Bool) → IsTrue (hold_cancelled (pruned_parts test es)) → IsTrue (hold_cancelled es)
   pruned_parts_hold no_parts test h = h
   pruned_parts_hold (part e es) test h =
@@ -58,6 +59,7 @@ mutual
   drop_holds_none (group whose parts) =
       group_holds whose (pruned_parts (λ leaf. not (matches is_cancelled leaf)) parts) ∙ drop_parts_hold_none parts
 
+  -- the same of the parts of a group
   pub drop_parts_hold_none : (es : Excs) → hold_cancelled (pruned_parts (λ leaf. not (matches is_cancelled leaf)) es) ≡ false
   drop_parts_hold_none no_parts = refl
   drop_parts_hold_none (part e es) =

@@ -180,7 +180,8 @@ unique_passes st names path (suc n) first go t h k =
 
     later_ones : (u : ℕ) → Tidy st Behind (passes (suc first) n go u)
     later_ones u =
-        tidy_passes st Behind n (suc first) go u (λ i v le. tidy_in st (Belongs names (path ++ i ∷ [])) Behind (go i v) (behind i le) (h i v))
+        tidy_passes st Behind n (suc first) go u (λ i v le. tidy_in st (Belongs names (path ++ i ∷ [])) Behind (go i v) (behind i le)
+        (h i v))
 
     apart : (l : Label) → Belongs names (path ++ first ∷ []) l → Behind l → ⊥
     apart l b c = behind_other names names path first c.0 l c.1 b c.2
@@ -232,6 +233,7 @@ mutual
       (λ u. unique m ss here st u (distinct_right (names_in s) (names_of ss) distinct))
       (λ u. differ_by_names st (names_in s) (names_of ss) here.path _ _ distinct (tidy_step m s here st t) (tidy m ss here st u))
 
+  -- the same of one step
   pub unique_step : (m : Mode) (s : Step) (here : Here) (st : Stack) (t : ℕ) → Distinct (names_in s) → Unique (walk_step m s here st t)
   unique_step m (sleep n) here st t distinct = unique_sleeping st _ t
   unique_step m checkpoint here st t distinct = unique_sleeping st _ t
@@ -277,6 +279,7 @@ mutual
       (distinct_left (names_of body) (handled_names handler) (distinct_left (names_of body ++ handled_names handler) (cleaned_names cleanup)
       distinct))))
 
+  -- the same of a body with its handler, where no name is given twice in the two
   pub unique_handler : (m : Mode) (x : Handled) (here : Here) (st : Stack) (r : Result) (names : List (List ℕ)) →
       Tidy st (Belongs names here.path) r →
       Distinct (names ++ handled_names x) → Unique r → Unique (walk_handler m x here st r)
@@ -285,6 +288,7 @@ mutual
       unique_handled _ r _ k (λ u. unique m body here st u (distinct_right names (names_of body) distinct))
       (λ u. differ_by_names st names (names_of body) here.path r _ distinct h (tidy m body here st u))
 
+  -- the same of these with their cleanup, where no name is given twice in all of them
   pub unique_cleanup : (m : Mode) (x : Cleaned) (here : Here) (st : Stack) (r : Result) (names : List (List ℕ)) →
       Tidy st (Belongs names here.path) r →
       Distinct (names ++ cleaned_names x) → Unique r → Unique (walk_cleanup m x here st r)

@@ -219,6 +219,7 @@ mutual
   root m stop here st t = root_done st t
   root m (step s ss) here st t = root_and_then st _ _ (root_step m s here st t) (λ u. root m ss here st u)
 
+  -- the same of one step
   pub root_step : (m : Mode) (s : Step) (here : Here) (st : Stack) (t : ℕ) → Rooted st (walk_step m s here st t)
   root_step m (sleep n) here st t = root_sleeping st _ t
   root_step m checkpoint here st t = root_sleeping st _ t
@@ -242,10 +243,12 @@ mutual
   root_step m (attempt body handler cleanup) here st t =
       root_cleanup m cleanup here st _ (root_handler m handler here st _ (root m body here st t))
 
+  -- the same of a handler, where what it stands behind is rooted
   pub root_handler : (m : Mode) (x : Handled) (here : Here) (st : Stack) (r : Result) → Rooted st r → Rooted st (walk_handler m x here st r)
   root_handler m unhandled here st r h = h
   root_handler m (except name body) here st r h = root_handled st _ r _ h (λ u. root m body here st u) (λ u. late m body here st u)
 
+  -- the same of a cleanup, where what it stands behind is rooted
   pub root_cleanup : (m : Mode) (x : Cleaned) (here : Here) (st : Stack) (r : Result) → Rooted st r → Rooted st (walk_cleanup m x here st r)
   root_cleanup m uncleaned here st r h = h
   root_cleanup m (finally body) here st r h = root_cleaned st r _ h (λ u. root m body here st u) (λ u. late m body here st u)

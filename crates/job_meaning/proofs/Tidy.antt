@@ -313,6 +313,7 @@ mutual
       (tidy_in st _ _ _ (in_left (names_in s) (names_of ss) here.path) (tidy_step m s here st t))
       (λ u. tidy_in st _ _ _ (in_right (names_in s) (names_of ss) here.path) (tidy m ss here st u))
 
+  -- the same of one step
   pub tidy_step : (m : Mode) (s : Step) (here : Here) (st : Stack) (t : ℕ) →
       Tidy st (Belongs (names_in s) here.path) (walk_step m s here st t)
   tidy_step m (sleep n) here st t = tidy_sleeping st _ _ t
@@ -345,6 +346,7 @@ mutual
       tidy_cleanup m cleanup here st _ (names_of body ++ handled_names handler)
       (tidy_handler m handler here st _ (names_of body) (tidy m body here st t))
 
+  -- the same of a body with its handler, by the names of the two
   pub tidy_handler : (m : Mode) (x : Handled) (here : Here) (st : Stack) (r : Result) (names : List (List ℕ)) →
       Tidy st (Belongs names here.path) r → Tidy st (Belongs (names ++ handled_names x) here.path) (walk_handler m x here st r)
   tidy_handler m unhandled here st r names h = tidy_in st _ _ _ (in_left names [] here.path) h
@@ -352,6 +354,7 @@ mutual
       tidy_handled st _ _ r _ (tidy_in st _ _ _ (in_left names (names_of body) here.path) h)
       (λ u. tidy_in st _ _ _ (in_right names (names_of body) here.path) (tidy m body here st u))
 
+  -- the same of these with their cleanup, by the names of all of them
   pub tidy_cleanup : (m : Mode) (x : Cleaned) (here : Here) (st : Stack) (r : Result) (names : List (List ℕ)) →
       Tidy st (Belongs names here.path) r → Tidy st (Belongs (names ++ cleaned_names x) here.path) (walk_cleanup m x here st r)
   tidy_cleanup m uncleaned here st r names h = tidy_in st _ _ _ (in_left names [] here.path) h

@@ -2,7 +2,8 @@
 //! at run time.
 //!
 //! The layer promises six laws of these definitions: monotone sight, the root, causality, the settled table, that labels
-//! are given once, and that a job means the same in format 2. It stands on the definitions of the tree, the input's parts, the kernels, the exceptions and the sight.
+//! are given once, and that a job means the same in format 2. It stands on the definitions of the tree, the input's parts,
+//! the kernels, the exceptions and the sight.
 #![tactic(auto)]
 
 mod laws;

@@ -86,8 +86,10 @@ impl Out for MemOut {
         ensures well { OnOk result (faults_of self.new ≡ faults_of self.old) }
         ensures fault { OnErr result (faults_of self.new ≡ faults_of self.old + 1) }
         ensures none_taken { OnErr result (Keeps (Some (held_by self.old)) (Some (held_by self.new))) }
-        ensures most { IfOk result (λ n. n ≡ min (min (length bytes.now) (piece_of self.old)) (room_of self.old - length (held_by self.old))) }
-        ensures fails { IsErr result ↔ IsTrue (is_due (puts_before_fault self.old) || nat_le (room_of self.old) (length (held_by self.old))) }
+        ensures most { IfOk result (λ n. n
+            ≡ min (min (length bytes.now) (piece_of self.old)) (room_of self.old - length (held_by self.old))) }
+        ensures fails { IsErr result ↔ IsTrue (is_due (puts_before_fault self.old)
+            || nat_le (room_of self.old) (length (held_by self.old))) }
         ensures same_room { room_of self.new ≡ room_of self.old }
         ensures same_piece { piece_of self.new ≡ piece_of self.old }
         ensures counted { puts_before_fault self.new ≡ puts_after (puts_before_fault self.old) }

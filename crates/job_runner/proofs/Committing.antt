@@ -196,6 +196,7 @@ commits_first r b answers w are current next all =
 
 module _ {P : Type 0} (picks : P → ℕ → ℕ → P → Type 0) (was r : Runner) (b : Batches) (p q : P) (id : ℕ) (wake : Wake)
     (h : IsCommitting was r) (out : HandsOut picks r.batch b p q id wake) where
+  -- once a task is handed out for its turn, the run still fits together, with that task away
   pub turn_going : IsGoing (Some id) (record r { batch = b })
   turn_going =
       record {
@@ -205,6 +206,7 @@ module _ {P : Type 0} (picks : P → ℕ → ℕ → P → Type 0) (was r : Runn
         course = h.going.course;
       }
 
+  -- and the task lives, and may go on by the wake that it is handed out with
   pub turn_goes : IsSomeAnd (running_at r.roster id) (λ (x : Running). MayGo r.world x.task wake)
   turn_goes =
       subst (λ (key : ℕ). IsSomeAnd (running_at r.roster key) (λ (x : Running). MayGo r.world x.task wake)) (sym out.its_task)
@@ -225,9 +227,11 @@ module _ {P : Type 0} (picks : P → ℕ → ℕ → P → Type 0) (was r : Runn
 
   module _ (new : Runner) (going : IsGoing None new) (same : IsSameJob (record r { batch = b }) new)
       (current : new.batch.current ≡ b.current) where
+    -- after that turn fewer entries of the batch are left
     pub turn_fewer : length new.batch.current < length r.batch.current
     turn_fewer = let a = fewer_left in let c : length new.batch.current ≡ length b.current = ap length current in omega (arith, a, c)
 
+    -- and what holds between the turns of a batch is true again
     pub commits_next : new.turns ≡ r.turns + 1 → AllPlaced b.current → IsCommitting was new
     commits_next turns all =
         record {
@@ -253,6 +257,7 @@ module _ (was r told : Runner) (left b : Batches) (h : IsCommitting was r) (same
   told_over : told.batch.current ≡ []
   told_over = ap (λ (x : Batches). x.current) told_batch ∙ over
 
+  -- so the run is underway again, with what was added to the next batch as its current one
   pub commits_last : IsUnderway (record told { batch = b })
   commits_last =
       record {
@@ -262,6 +267,7 @@ module _ (was r told : Runner) (left b : Batches) (h : IsCommitting was r) (same
         nothing_added = next;
       }
 
+  -- the job, the input and the limit are those that the batch began with
   pub commits_same : IsSameJob was (record told { batch = b })
   commits_same =
       record {
@@ -270,6 +276,7 @@ module _ (was r told : Runner) (left b : Batches) (h : IsCommitting was r) (same
         limit = ap (λ (x : Runner). x.limit) only ∙ h.same.limit;
       }
 
+  -- and one turn was taken for each entry of the batch
   pub commits_turns : told.turns ≡ was.turns + length was.batch.current
   commits_turns =
       let a : length r.batch.current ≡ 0 = ap length over in

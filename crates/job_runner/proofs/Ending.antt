@@ -86,12 +86,14 @@ module _ (r : Runner) (roster : Roster) (id row : ℕ) (exc : Option held.Exc) (
   lived : (x : Running) × (running_at r.roster id ≡ Some x) × ((x.row ≡ row) × StopSays r.world x.task (stops.Ended exc))
   lived = some_is (running_at r.roster id) (λ (x : Running). (x.row ≡ row) × StopSays r.world x.task (stops.Ended exc)) h.lives
 
+  -- the row that gets the end is that of the task that stopped
   pub its_row : e.row ≡ row
   its_row =
       let same : lived.0 ≡ record { task = e.task; row = e.row } =
       one_of lived.0 (record { task = e.task; row = e.row }) (sym lived.1 ∙ e.lived) in
       sym (ap (λ (x : Running). x.row) same) ∙ lived.2.0
 
+  -- and the task lived in it until then
   pub was_there : task_of r.roster row ≡ Some e.task
   was_there = subst (λ (p : ℕ). task_of r.roster p ≡ Some e.task) its_row
       (task_at r.roster h.shelved.agree id (record { task = e.task; row = e.row }) e.lived)
@@ -100,9 +102,11 @@ module _ (r : Runner) (roster : Roster) (id row : ℕ) (exc : Option held.Exc) (
   pub table_settled : IsSettled (meaning_table r.job.now r.input.now) r.job.now r.input.now
   table_settled = table_is_settled r.job.now r.input.now h.sound.names
 
+  -- the run up to then is one of the definitions, in which nobody was told yet that this task has ended
   pub crew_before : IsCrew (meaning_table r.job.now r.input.now) r.job.now r.input.now r.world.tick (many r.roster) (Some row) (crew_in r)
   crew_before = (h.course (meaning_table r.job.now r.input.now) table_settled).is
 
+  -- the task whose nursery is its home lives, in an earlier row, and the nursery was not told of its end yet
   pub waiter_of : (home : Home) → e.task.home ≡ Some home → HasWaiter r row home
   waiter_of home at =
       record {
@@ -137,9 +141,11 @@ module _ (r : Runner) (roster : Roster) (id row : ℕ) (exc : Option held.Exc) (
       subst (λ (i : ℕ). HasNursery r.world.book nursery (λ n. slice_get n.children i ≡ Some None)) y.3
       (subst (λ (i : ℕ). HasNursery r.world.book i (λ n. slice_get n.children y.0.place ≡ Some None)) y.2 (waiter_of y.0 y.1).runs)
 
+  -- its row is one of the roster's still
   pub tell_row : row < many roster
   tell_row = subst (λ (m : ℕ). row < m) (sym e.same.many) (lives_by r.roster h.shelved.agree row e.task was_there).below
 
+  -- and so is the row of the task that started it, where it has a home
   pub tell_parent : (nursery place : ℕ) → option_map {U = ℕ × ℕ} (λ (x : Home). (x.nursery, x.place)) e.task.home ≡ Some (nursery, place) →
       parent_of roster row < many roster
   tell_parent nursery place f =
@@ -175,6 +181,7 @@ module _ (r : Runner) (roster : Roster) (book : NurseryBook) (b : Batches) (id r
       at : e.row ≡ row
       at = its_row r roster id row exc h e
 
+  -- once its end is told, the run is one of the definitions, and no end is left to tell
   pub course_after : AreOnCourse (ended_runner r roster book b)
   course_after k settled =
       subst (λ (m : ℕ). IsCrew k r.job.now r.input.now r.world.tick m None (crew_in (ended_runner r roster book b))) (sym e.same.many)
@@ -242,6 +249,7 @@ module _ (r : Runner) (roster : Roster) (book : NurseryBook) (b : Batches) (id r
   none : times_shelved r.batch r.clock id ≡ 0
   none = h.shelved.away id refl
 
+  -- those that were added to the next batch live still, and are ready by the same calls
   pub added_after : All (λ (a : Added). IsCalled roster (record r.world { book = book }) a.0 a.1) r.batch.next
   added_after =
       each_other (λ (a : Added). a.0) id r.batch.next (let n : times_shelved r.batch r.clock id ≡ 0 = none in omega (arith, n))

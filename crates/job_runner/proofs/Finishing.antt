@@ -126,6 +126,7 @@ module _ (r : Runner) (w : IsUnderway r) (over : phase_of r ≡ phases.Over) whe
     told : ShowRecords r.input.now is_over.rows records froms
     told = tells r.input.now is_over.rows (subst (AreShown r.input.now is_over.rows) (sym same) are_shown)
 
+    -- a run of the job's name with these records and froms is what the job means over its input
     pub is_run : (run : Run) → name_of run ≡ r.job.now.name → records_in run ≡ records → froms_in run ≡ froms →
         IsRun r.job.now r.input.now run
     is_run run name rs fs =
@@ -136,6 +137,7 @@ module _ (r : Runner) (w : IsUnderway r) (over : phase_of r ≡ phases.Over) whe
           froms = ap (map from_of) fs ∙ told.froms ∙ is_over.froms told.taken told.order;
         }
 
+    -- and by its meaning the job ends within the limit
     pub ends_in_time : meaning_end r.job.now r.input.now ≤ r.limit
     ends_in_time =
         let shows = is_over.shows 0 crew.some in

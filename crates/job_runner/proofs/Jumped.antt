@@ -128,6 +128,7 @@ module _ (r : Runner) (w : IsUnderway r) (none : r.batch.current ≡ []) where
   abbrev pub NoneBefore : ℕ → Type 0
   NoneBefore u = (id due : ℕ) → due_of r.clock id ≡ Some due → (u ≤ due) × (upto u (sight_in r.roster r.world id) ≡ u)
 
+  -- before such a tick no task goes on: each sleeps, or waits for a nursery of which a member runs
   pub all_stay : (u : ℕ) → NoneBefore u → AllStay (crew_in r) u
   all_stay u bound p task e = by_halt task.halt refl
     where
@@ -220,6 +221,7 @@ module _ (r : Runner) (w : IsUnderway r) (none : r.batch.current ≡ []) where
         let z = seen_by r.roster r.world r.clock r.sleepers w.going.shelved.known w.unchanged one.0 t one.1 in
         (one.0, z.0.due, z.0.running, z.0.timer, z.0.lives, z.1)
 
+    -- so it is later than the clock's tick, in which no sleeper sees a cancellation
     pub cancel_later : (cancel : ℕ) → first ≡ Some cancel → now_of r.clock < cancel
     cancel_later cancel e =
         let z = seer cancel e in
@@ -240,6 +242,7 @@ module _ (r : Runner) (w : IsUnderway r) (none : r.batch.current ≡ []) where
     -- ---- the next tick
 
     module _ (t : ℕ) (next : IsNext r.clock first t) where
+      -- the next tick is later than the present one
       pub next_later : r.world.tick < t
       next_later = let now : now_of r.clock ≡ r.world.tick = w.going.shelved.now in by_one now next.is_one
         where

@@ -84,9 +84,11 @@ module _ (r : Runner) (w : IsUnderway r) (blocked : phase_of r ≡ phases.Blocke
     pub none_due : AllLater r.clock (now_of r.clock)
     none_due = timers_later r w none
 
+    -- some task sleeps, so the clock has a tick to jump to
     pub some_timer : HasTimer r.clock
     some_timer = has_timer r w none 0 root.0 root.1
 
+    -- and the first cancellation that a sleeper sees is later than the clock's tick
     pub next_cancel_later : (c : ℕ) → cancel ≡ Some c → now_of r.clock < c
     next_cancel_later c e = cancel_later r w none cancel is_first c e
 
@@ -99,10 +101,12 @@ module _ (r : Runner) (w : IsUnderway r) (blocked : phase_of r ≡ phases.Blocke
         (refl, omega (arith, le, late, limit))
 
     module _ (clock : Clock) (t : ℕ) (jumps : JumpsTo r.clock cancel t clock) where
+      -- the jump takes the world to no earlier tick
       pub no_earlier : r.world.tick ≤ t
       no_earlier = let lt = next_later r w none cancel is_first t jumps.next in omega (arith, lt)
 
       module _ (world : World) (is_world : world ≡ record r.world { tick = t }) where
+        -- the world has come to the clock's tick, and those that are timely can be woken
         pub jumped : IsWaking (record r { clock = clock; world = world })
         jumped =
             subst (λ (v : World). IsWaking (record r { clock = clock; world = v })) (sym is_world)
@@ -138,5 +142,6 @@ module _ (r : Runner) (w : IsUnderway r) (blocked : phase_of r ≡ phases.Blocke
         -- first those that see a cancellation are woken, and then those that are due
         pub both_woken : (seen woken : Runner) → WakesOnly (record r { clock = clock; world = world }) seen → WakesOnly seen woken →
             woken ≡ record r { world = world; clock = woken.clock; sleepers = woken.sleepers; batch = woken.batch }
-        both_woken seen woken a b = b ∙ ap (λ (x : Runner). record x { clock = woken.clock; sleepers = woken.sleepers; batch = woken.batch })
+        both_woken seen woken a b = b ∙ ap (λ (x : Runner). record x
+            { clock = woken.clock; sleepers = woken.sleepers; batch = woken.batch })
             a

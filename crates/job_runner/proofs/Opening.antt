@@ -95,6 +95,7 @@ module _ (r : Runner) (root : Task) (id : ℕ) (sound : IsSound r.job.now) (smal
             ∙ ap (running_times r.world.book) has.lives ∙ ap (halt_times r.world.book) is_root.halt)
         by_test (inr g) = ap one_if g.0 ∙ sym (ap (running_times r.world.book) (has.others other (λ e. g.1 (sym e))))
 
+    -- a run that was just opened is underway, with the root in its first batch, ready to begin
     pub opened : IsUnderway r
     opened =
         record {

@@ -223,6 +223,7 @@ module _ (old mid new : Roster) (parent : ℕ) (tasks : List Task) (tick : ℕ) 
   less : (p : ℕ) → p < many old → p < many mid
   less p lt = let more = a.more in omega (arith, lt, more)
 
+  -- a task that is started after others is one more of them: it has the row behind theirs, and an id of its own
   pub starts_more : StartsAll old new parent (tasks ++ task ∷ []) tick (ids ++ id ∷ [])
   starts_more = record {
     as_many = length-append ids (id ∷ []) ∙ ap (λ (n : ℕ). n + 1) a.as_many ∙ sym longer;

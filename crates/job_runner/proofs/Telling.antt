@@ -158,6 +158,7 @@ module _ (r : Runner) (going : IsGoing None r) (id : ℕ) (changed : List Bool) 
       (others scope differs)
       (going.shelved.known.sights key scope (sym (same key) ∙ e))
 
+  -- once the sleepers know the scope's sight, and its mark is gone, the run fits together as before
   pub told_going : IsGoing None (record r { world = marked r.world changed; sleepers = sleepers })
   told_going =
       going_marked r going changed sleepers
@@ -210,6 +211,7 @@ module _ (was r new : Runner) (id : ℕ) (lent tree read : Tree) (seen : Tick) (
   others : OtherMarksKeep r.world.scopes (marked r.world tree.changed).scopes id
   others other differs = ap (λ (t : Tree). is_changed t other) (sym stacks) ∙ takes.others other differs
 
+  -- once the next scope is handed out, what holds while they are is true again
   pub telling_next : IsTelling was new
   telling_next =
       record {
@@ -228,6 +230,7 @@ module _ (was r new : Runner) (id : ℕ) (lent tree read : Tree) (seen : Tick) (
       by_key key (inl e) f = absurd (let g : false ≡ true = sym takes.is ∙ (ap (is_changed tree) (sym e) ∙ f) in cc)
       by_key key (inr differs) f = s.fewer key (sym (takes.others key differs) ∙ f)
 
+  -- and fewer scopes are left to hand out
   pub telling_fewer : count_below (length was.world.scopes.changed) (is_changed new.world.scopes) < count_below
       (length was.world.scopes.changed) (is_changed r.world.scopes)
   telling_fewer =
@@ -257,6 +260,7 @@ module _ (was r new : Runner) (lent tree : Tree) (s : IsTelling was r) (lends : 
   last_tree : new.world.scopes ≡ tree
   last_tree = ap (λ (x : Runner). x.world.scopes) is
 
+  -- then the run fits together, no scope is marked, and nothing changed but marks and what is known of sleepers
   pub told_all : IsGoing None new × NoneChanged new.world × SeesOnly was new
   told_all = (
     subst (IsGoing None) (sym is_last) (still_going r s.going tree.changed

@@ -179,7 +179,8 @@ module _ (id : ℕ) (wake : Wake) (stop : Stop) (r new : Runner) (ro : Roster) (
     left = record r { world = record w { started = new.world.started }; roster = new.roster; batch = new.batch; turns = r.turns + 1 }
 
     new_is : new ≡ left
-    new_is = takes.rest ∙ ap (λ (x : World). record r { world = x; roster = new.roster; batch = new.batch; turns = r.turns + 1 }) takes.world
+    new_is = takes.rest ∙ ap (λ (x : World). record r { world = x; roster = new.roster; batch = new.batch; turns = r.turns + 1 })
+        takes.world
 
     tick : w.tick ≡ t
     tick = ap (λ (x : World). x.tick) turn.world
@@ -251,9 +252,11 @@ module _ (id : ℕ) (wake : Wake) (stop : Stop) (r new : Runner) (ro : Roster) (
 
       stopped_there : StoppedIn k r.job.now r.input.now t (m + length w.started.items) s stop that
       stopped_there =
-          stepped k r.job.now r.input.now t m s (crew_in r) that turn.before turn.after wake stop settled going.sound.names going.sound.starts
+          stepped k r.job.now r.input.now t m s (crew_in r) that turn.before turn.after wake stop settled going.sound.names
+          going.sound.starts
           c turn_taken
-          (may_wake k r.job.now r.input.now t m (crew_in r) settled going.sound.names going.sound.starts c s turn.before turn_taken.task wake
+          (may_wake k r.job.now r.input.now t m (crew_in r) settled going.sound.names going.sound.starts c s turn.before turn_taken.task
+          wake
           may)
 
       stopped_left : StoppedIn k r.job.now r.input.now t (m + length w.started.items) s stop (crew_in left)
@@ -263,6 +266,7 @@ module _ (id : ℕ) (wake : Wake) (stop : Stop) (r new : Runner) (ro : Roster) (
           (ap (λ (v : ℕ). record w { tick = v; started = new.world.started }) tick) stopped_there.is in
           record { is = x.0; ended = subst (λ (at : ℕ → Started). EndsAs stop t (at s)) (sym x.1) stopped_there.ended }
 
+      -- what the turn leaves is a run of the definitions by that table, in which this task stopped so
       pub stopped_course : StoppedIn k r.job.now r.input.now w.tick (many new.roster) s stop (crew_in left)
       stopped_course =
           subst (λ (v : ℕ). StoppedIn k r.job.now r.input.now v (many new.roster) s stop (crew_in left)) (sym tick)
@@ -325,7 +329,8 @@ module _ (id : ℕ) (wake : Wake) (stop : Stop) (r new : Runner) (ro : Roster) (
       y_task : task_of r.roster y.row ≡ Some y.task
       y_task = task_at r.roster going.shelved.agree other y lives
 
-      y_follows : Follows that T.is.froms r.input.now t T.is.at (numbers_then crew.numbers s m T.took.numbers_after) (leaving_by stop s) y.row
+      y_follows : Follows that T.is.froms r.input.now t T.is.at (numbers_then crew.numbers s m T.took.numbers_after)
+          (leaving_by stop s) y.row
           y.task
       y_follows =
           other_follows table r.job.now r.input.now t m s (crew_in r) that turn.before turn.after stop settled going.sound.names
@@ -424,14 +429,16 @@ module _ (id : ℕ) (wake : Wake) (stop : Stop) (r new : Runner) (ro : Roster) (
     begins i task e =
         let started : w.started.items ≡ T.took.tasks = T.took.started
         ∙ ap (λ (ts : List Task). ts ++ T.took.tasks) going.shelved.none_started in
-        let b = begun_at T.took.numbers_after w.book (blocks_of turn.after.frames.items) (waits_of turn.after.halt) T.took.tasks T.move.begun
+        let b = begun_at T.took.numbers_after w.book (blocks_of turn.after.frames.items)
+        (waits_of turn.after.halt) T.took.tasks T.move.begun
         T.took.begun i task (sym (ap (λ (ts : List Task). slice_get ts i) started) ∙ e) in
         b.2.halt
 
     new_task : (i key : ℕ) → slice_get takes.ids i ≡ Some key → (task : Task)
         × (running_at new.roster key ≡ Some (record { task = task; row = many ro + i })) × (task.halt ≡ ToBegin)
     new_task i key e =
-        let lt : i < length w.started.items = (let a = below_length takes.ids i key e in let b = started_at.as_many in omega (arith, a, b)) in
+        let lt : i < length w.started.items = (let a = below_length takes.ids i key e in let b = started_at.as_many in omega (arith, a, b))
+        in
         let task = nth w.started.items i lt in
         (task.0, (started_at.lives i key task.0 e task.1).1, begins i task.0 task.1)
 
@@ -551,9 +558,6 @@ module _ (id : ℕ) (wake : Wake) (stop : Stop) (r new : Runner) (ro : Roster) (
     is_stopping =
         subst (IsStopping id s stop) (sym new_is)
         (record { sound = going.sound; shelved = shelved_left; lives = lives_left; course = stopped_course })
-
-    pub same_batch : new.batch.current ≡ r.batch.current
-    same_batch = takes.current
 
 -- ---- for the code
 

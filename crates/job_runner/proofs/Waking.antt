@@ -215,6 +215,7 @@ module _ (was old : Runner) (id : ℕ) (s : IsSeeing was old) (sleepers : Sleepi
     only_new : WakesOnly old new
     only_new = is_new ∙ ap (λ (z : Sleeping). record old { clock = new.clock; sleepers = z; batch = new.batch }) (sym same_sleepers)
 
+    -- once one that sees a cancellation is woken, what holds while they are is true again
     pub seeing_next : IsSeeing was new
     seeing_next =
         record {
@@ -226,6 +227,7 @@ module _ (was old : Runner) (id : ℕ) (s : IsSeeing was old) (sleepers : Sleepi
           only = only_again was old new s.only only_new;
         }
 
+    -- and fewer timers are left
     pub seeing_fewer : timed (length was.roster.live.slots.slots) new.clock < timed (length was.roster.live.slots.slots) old.clock
     seeing_fewer =
         fewer_below (length was.roster.live.slots.slots) (λ key. is_some (due_of old.clock key)) (λ key. is_some (due_of new.clock key)) id
@@ -330,6 +332,7 @@ module _ (was old : Runner) (id : ℕ) (s : IsDue was old) (clock : Clock) (take
         differs : other ≢ id
         differs f = none-some tick (sym (ap (due_of new.clock) f ∙ timers_after.changed) ∙ e)
 
+    -- once one that is due is woken, what holds while they are is true again
     pub due_next : IsDue was new
     due_next =
         record {
@@ -341,6 +344,7 @@ module _ (was old : Runner) (id : ℕ) (s : IsDue was old) (clock : Clock) (take
           only = only_again was old new s.only only_due;
         }
 
+    -- and fewer timers are left
     pub due_fewer : timed (length was.roster.live.slots.slots) new.clock < timed (length was.roster.live.slots.slots) old.clock
     due_fewer =
         fewer_below (length was.roster.live.slots.slots) (λ key. is_some (due_of old.clock key)) (λ key. is_some (due_of new.clock key)) id

@@ -187,7 +187,8 @@ StepsAgain format steps =
     length (steps_pieces steps rest) ≤ n + length rest
     → steps_with (blocks_at depth) n (shapes_in (steps_pieces steps rest)) ≡ Some (steps, shapes_in rest)
 
-block_again : (format : Format) (inside : Bool) (body : Steps) (depth : ℕ) → StepsAgain format body → AreSteps format inside body → 0 < depth → AreWithin (depth - 1) body →
+block_again : (format : Format) (inside : Bool) (body : Steps) (depth : ℕ) → StepsAgain format body → AreSteps format inside body →
+    0 < depth → AreWithin (depth - 1) body →
     ReadsAgain (blocks_at depth) body
 unfolding blocks_at
 block_again format inside body zero again are some within rest = absurd (omega arith)
@@ -205,7 +206,9 @@ one_step blocks n s ss shapes after rest going found others = rw (going, found, 
 mutual
   unfolding steps_with keyword_of
 
-  pub steps_again : (format : Format) (steps : Steps) (inside : Bool) (depth n : ℕ) (rest : List Piece) → AreSteps format inside steps → AreWithin depth steps →
+  -- a block of the grammar that is not too deep is read again from its tokens, up to the mark that closes it
+  pub steps_again : (format : Format) (steps : Steps) (inside : Bool) (depth n : ℕ) (rest : List Piece) → AreSteps format inside steps →
+      AreWithin depth steps →
       length (steps_pieces steps rest) ≤ n + length rest
       → steps_with (blocks_at depth) n (shapes_in (steps_pieces steps rest)) ≡ Some (steps, shapes_in rest)
   steps_again format stop inside depth zero rest are within le = absurd (omega arith)
@@ -245,29 +248,39 @@ mutual
       (λ inside' depth' n' rest'. steps_again format body inside' depth' n' rest') is.1 within.0 within.1)
   step_again format (attempt body (except n handler) (finally clean)) inside depth rest is within none =
       try_both (blocks_at depth) body n handler clean rest
-      (block_again format false body depth (λ inside' depth' n' rest'. steps_again format body inside' depth' n' rest') is.1 within.0.0 within.0.1)
-      (block_again format false handler depth (λ inside' depth' n' rest'. steps_again format handler inside' depth' n' rest') is.2 within.1.0 within.1.1)
-      (block_again format false clean depth (λ inside' depth' n' rest'. steps_again format clean inside' depth' n' rest') is.3 within.2.0 within.2.1)
+      (block_again format false body depth (λ inside' depth' n' rest'. steps_again format body inside' depth' n' rest') is.1 within.0.0
+      within.0.1)
+      (block_again format false handler depth (λ inside' depth' n' rest'. steps_again format handler inside' depth' n' rest') is.2
+      within.1.0 within.1.1)
+      (block_again format false clean depth (λ inside' depth' n' rest'. steps_again format clean inside' depth' n' rest') is.3 within.2.0
+      within.2.1)
   step_again format (attempt body (except n handler) uncleaned) inside depth rest is within none =
       try_handler (blocks_at depth) body n handler rest
-      (block_again format false body depth (λ inside' depth' n' rest'. steps_again format body inside' depth' n' rest') is.1 within.0.0 within.0.1)
-      (block_again format false handler depth (λ inside' depth' n' rest'. steps_again format handler inside' depth' n' rest') is.2 within.1.0 within.1.1)
+      (block_again format false body depth (λ inside' depth' n' rest'. steps_again format body inside' depth' n' rest') is.1 within.0.0
+      within.0.1)
+      (block_again format false handler depth (λ inside' depth' n' rest'. steps_again format handler inside' depth' n' rest') is.2
+      within.1.0 within.1.1)
       none
   step_again format (attempt body unhandled (finally clean)) inside depth rest is within none =
       try_cleanup (blocks_at depth) body clean rest
-      (block_again format false body depth (λ inside' depth' n' rest'. steps_again format body inside' depth' n' rest') is.1 within.0.0 within.0.1)
-      (block_again format false clean depth (λ inside' depth' n' rest'. steps_again format clean inside' depth' n' rest') is.3 within.2.0 within.2.1)
+      (block_again format false body depth (λ inside' depth' n' rest'. steps_again format body inside' depth' n' rest') is.1 within.0.0
+      within.0.1)
+      (block_again format false clean depth (λ inside' depth' n' rest'. steps_again format clean inside' depth' n' rest') is.3 within.2.0
+      within.2.1)
   step_again format (attempt body unhandled uncleaned) inside depth rest is within none = absurd is.0
 
 -- ---- a whole job
 
 one_job : (format : Format) (name : List ℕ) (body : Steps) → blocks_at 32 (shapes_in (steps_pieces body [])) ≡ Some (body, []) →
-    job_at format (shapes_in (job_pieces (record { format = format; name = name; steps = body }))) ≡ Some (record { format = format; name = name; steps = body })
+    job_at format (shapes_in (job_pieces (record { format = format; name = name; steps = body }))) ≡ Some
+    (record { format = format; name = name; steps = body })
 unfolding keyword_of
 one_job format name body reads = rw reads refl
 
 -- a job is read again from its tokens
-pub job_again : (job : Tree) → AreSteps job.format false job.steps → AreWithin 31 job.steps → job_at job.format (shapes_in (job_pieces job)) ≡ Some job
+pub job_again : (job : Tree) → AreSteps job.format false job.steps → AreWithin 31 job.steps →
+    job_at job.format (shapes_in (job_pieces job)) ≡ Some job
 job_again job are within =
-    one_job job.format job.name job.steps (block_again job.format false job.steps 32 (λ inside depth n rest. steps_again job.format job.steps inside depth n rest) are
+    one_job job.format job.name job.steps (block_again job.format false job.steps 32
+    (λ inside depth n rest. steps_again job.format job.steps inside depth n rest) are
     (omega arith) within [])

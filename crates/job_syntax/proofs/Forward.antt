@@ -51,7 +51,8 @@ tail_of : (format : Format) (inside : Bool) (ps rest : List Piece) → Stands fo
 tail_of format false ps rest is = is
 tail_of format true ps rest is = is
 
-cleanup_of : (format : Format) (inside : Bool) (ps rest : List Piece) → Stands format (cleanup inside) ps rest → IsCleanupAndBlock format inside ps rest
+cleanup_of : (format : Format) (inside : Bool) (ps rest : List Piece) → Stands format (cleanup inside) ps rest →
+    IsCleanupAndBlock format inside ps rest
 cleanup_of format false ps rest is = is
 cleanup_of format true ps rest is = is
 
@@ -60,7 +61,8 @@ abbrev BlockFits : (format : Format) → Bool → List Symbol → List Piece →
 BlockFits format inside ss ps = (rest : List Piece) × IsBlock format inside ps rest × Fits format ss rest
 
 -- a step in front of a block
-step_on : (format : Format) (inside : Bool) (s : Step) (ss : List Symbol) (ps rest : List Piece) (steps : Steps) → IsStep format inside s → AreSteps format inside steps →
+step_on : (format : Format) (inside : Bool) (s : Step) (ss : List Symbol) (ps rest : List Piece) (steps : Steps) → IsStep format inside s →
+    AreSteps format inside steps →
     ps ≡ step_pieces s (steps_pieces steps rest) → Fits format ss rest → BlockFits format inside ss ps
 step_on format inside s ss ps rest steps is are e fits = (rest, (step s steps, (is, are), e), fits)
 
@@ -73,7 +75,8 @@ plain_step format inside s first ss ps is printed (r, e, (q, block, fits)) =
     let b = block_of format inside r q block in
     step_on format inside s ss (first ∷ ps) q b.0 is b.1 (ap (on first) (e ∙ ap (on ends) b.2) ∙ sym (printed (steps_pieces b.0 q))) fits
 
-number_step : (format : Format) (inside : Bool) (s : ℕ → Step) (first : Piece) (ss : List Symbol) (ps : List Piece) → ((n : ℕ) → IsStep format inside (s n)) →
+number_step : (format : Format) (inside : Bool) (s : ℕ → Step) (first : Piece) (ss : List Symbol) (ps : List Piece) →
+    ((n : ℕ) → IsStep format inside (s n)) →
     ((n : ℕ) (rest : List Piece) → step_pieces (s n) rest ≡ first ∷ number n ∷ ends ∷ rest)
     → Fits format (symbol.Number ∷ symbol.Semicolon ∷ outer inside ∷ ss) ps → BlockFits format inside ss (first ∷ ps)
 number_step format inside s first ss ps is printed (r, (n, e), (r', e', (q, block, fits))) =
@@ -82,7 +85,8 @@ number_step format inside s first ss ps is printed (r, (n, e), (r', e', (q, bloc
     ∙ sym (printed n (steps_pieces b.0 q))) fits
 
 name_step : (format : Format) (inside : Bool) (s : List ℕ → Step) (role : Role) (name : Symbol)
-    (names : (ps rest : List Piece) → Stands format name ps rest → (n : List ℕ) × (ps ≡ named role n ∷ rest)) (first : Piece) (ss : List Symbol)
+    (names : (ps rest : List Piece) → Stands format name ps rest → (n : List ℕ) × (ps ≡ named role n ∷ rest)) (first : Piece)
+    (ss : List Symbol)
     (ps : List Piece) → ((n : List ℕ) → IsStep format inside (s n))
     → ((n : List ℕ) (rest : List Piece) → step_pieces (s n) rest ≡ first ∷ named role n ∷ ends ∷ rest) →
     Fits format (name ∷ symbol.Semicolon ∷ outer inside ∷ ss) ps → BlockFits format inside ss (first ∷ ps)
@@ -92,7 +96,8 @@ name_step format inside s role name names first ss ps is printed (r, stands, (r'
     step_on format inside (s n.0) ss (first ∷ ps) q b.0 (is n.0) b.1 (ap (on first) (n.1 ∙ ap (on (named role n.0)) (e' ∙ ap (on ends) b.2))
     ∙ sym (printed n.0 (steps_pieces b.0 q))) fits
 
-find_step : (format : Format) (inside : Bool) (ss : List Symbol) (ps : List Piece) → Fits format (symbol.Text ∷ symbol.Semicolon ∷ outer inside ∷ ss) ps →
+find_step : (format : Format) (inside : Bool) (ss : List Symbol) (ps : List Piece) →
+    Fits format (symbol.Text ∷ symbol.Semicolon ∷ outer inside ∷ ss) ps →
     BlockFits format inside ss (keyword word.Find ∷ ps)
 find_step format inside ss ps (r, (t, e), (r', e', (q, block, fits))) =
     let b = block_of format inside r' q block in
@@ -100,13 +105,15 @@ find_step format inside ss ps (r, (t, e), (r', e', (q, block, fits))) =
     (ap (on (keyword word.Find)) (e ∙ ap (on (string t)) (e' ∙ ap (on ends) b.2))) fits
 
 need_step : (format : Format) (inside : Bool) (ss : List Symbol) (ps : List Piece) →
-    Fits format (symbol.Text ∷ symbol.Raised ∷ symbol.Semicolon ∷ outer inside ∷ ss) ps → BlockFits format inside ss (keyword word.Need ∷ ps)
+    Fits format (symbol.Text ∷ symbol.Raised ∷ symbol.Semicolon ∷ outer inside ∷ ss) ps →
+    BlockFits format inside ss (keyword word.Need ∷ ps)
 need_step format inside ss ps (r, (t, e), (r', (n, e'), (r'', e'', (q, block, fits)))) =
     let b = block_of format inside r'' q block in
     step_on format inside (need t n) ss (keyword word.Need ∷ ps) q b.0 tt b.1
     (ap (on (keyword word.Need)) (e ∙ ap (on (string t)) (e' ∙ ap (on (named role.Raised n)) (e'' ∙ ap (on ends) b.2)))) fits
 
-scope_step : (format : Format) (inside : Bool) (ss : List Symbol) (ps : List Piece) → Fits format (symbol.Given ∷ symbol.Scope ∷ outer inside ∷ ss) ps →
+scope_step : (format : Format) (inside : Bool) (ss : List Symbol) (ps : List Piece) →
+    Fits format (symbol.Given ∷ symbol.Scope ∷ outer inside ∷ ss) ps →
     BlockFits format inside ss (keyword word.Scope ∷ ps)
 scope_step format inside ss ps (r, (n, e), (r', (d, s, f, body, are, e'), (q, block, fits))) =
     let b = block_of format inside r' q block in
@@ -141,17 +148,20 @@ start_step format ss ps (r, (n, e), (r', (o, body, are, e'), (q, (steps, behind,
     (ap (on (keyword word.Start)) (e ∙ ap (on (named role.Given n))
     (e' ∙ ap (λ (x : List Piece). over_pieces o (opens ∷ steps_pieces body x)) e''))) fits
 
-try_step : (format : Format) (inside : Bool) (ss : List Symbol) (ps : List Piece) → Fits format (symbol.Open ∷ symbol.Steps ∷ tail inside ∷ ss) ps →
+try_step : (format : Format) (inside : Bool) (ss : List Symbol) (ps : List Piece) →
+    Fits format (symbol.Open ∷ symbol.Steps ∷ tail inside ∷ ss) ps →
     BlockFits format inside ss (keyword word.Try ∷ ps)
 try_step format inside ss ps (r, e, (r', (body, are, e'), (q, block, fits))) =
     let t = tail_of format inside r' q block in
     step_on format inside (attempt body t.0 t.1) ss (keyword word.Try ∷ ps) q t.2 (t.3, are, t.4, t.5) t.6
     (ap (on (keyword word.Try)) (e ∙ ap (on opens) (e' ∙ ap (steps_pieces body) t.7))) fits
 
-by_step : (format : Format) (inside : Bool) (k : Keyword) (ss : List Symbol) (ps : List Piece) → Left format (step_rest format inside k) ss ps →
+by_step : (format : Format) (inside : Bool) (k : Keyword) (ss : List Symbol) (ps : List Piece) →
+    Left format (step_rest format inside k) ss ps →
     BlockFits format inside ss (keyword k ∷ ps)
 by_step format inside word.Sleep ss ps left = number_step format inside sleep (keyword word.Sleep) ss ps (λ n. tt) (λ n rest. refl) left
-by_step format inside word.Checkpoint ss ps left = plain_step format inside checkpoint (keyword word.Checkpoint) ss ps tt (λ rest. refl) left
+by_step format inside word.Checkpoint ss ps left = plain_step format inside checkpoint (keyword word.Checkpoint) ss ps tt
+    (λ rest. refl) left
 by_step format inside word.Forever ss ps left = plain_step format inside forever (keyword word.Forever) ss ps tt (λ rest. refl) left
 by_step format inside word.Pace ss ps left = number_step format inside pace (keyword word.Pace) ss ps (λ n. tt) (λ n rest. refl) left
 by_step format inside word.Find ss ps left = find_step format inside ss ps left
@@ -179,39 +189,55 @@ CleanupFits format inside ss ps = (rest : List Piece) × IsCleanupAndBlock forma
 abbrev TailFits : (format : Format) → Bool → List Symbol → List Piece → Type 0
 TailFits format inside ss ps = (rest : List Piece) × IsTail format inside ps rest × Fits format ss rest
 
-unclean : (format : Format) (inside : Bool) (ss : List Symbol) (ps : List Piece) → BlockFits format inside ss ps → CleanupFits format inside ss ps
+unclean : (format : Format) (inside : Bool) (ss : List Symbol) (ps : List Piece) → BlockFits format inside ss ps →
+    CleanupFits format inside ss ps
 unclean format inside ss ps (rest, (steps, are, e), fits) = (rest, (uncleaned, steps, tt, are, e), fits)
 
-clean_step : (format : Format) (inside : Bool) (ss : List Symbol) (ps : List Piece) → Fits format (symbol.Open ∷ symbol.Steps ∷ outer inside ∷ ss) ps →
+clean_step : (format : Format) (inside : Bool) (ss : List Symbol) (ps : List Piece) →
+    Fits format (symbol.Open ∷ symbol.Steps ∷ outer inside ∷ ss) ps →
     CleanupFits format inside ss (keyword word.Finally ∷ ps)
 clean_step format inside ss ps (r, e, (r', (body, are, e'), (q, block, fits))) =
     let b = block_of format inside r' q block in
     (q, (finally body, b.0, are, b.1, ap (on (keyword word.Finally)) (e ∙ ap (on opens) (e' ∙ ap (steps_pieces body) b.2))), fits)
 
-by_cleanup : (format : Format) (inside : Bool) (k : Keyword) (ss : List Symbol) (ps : List Piece) → Left format (cleanup_rest format inside k) ss ps →
+by_cleanup : (format : Format) (inside : Bool) (k : Keyword) (ss : List Symbol) (ps : List Piece) →
+    Left format (cleanup_rest format inside k) ss ps →
     CleanupFits format inside ss (keyword k ∷ ps)
 by_cleanup format inside word.Finally ss ps left = clean_step format inside ss ps left
 by_cleanup format true word.Start ss ps left = unclean format true ss (keyword word.Start ∷ ps) (by_step format true word.Start ss ps left)
 by_cleanup format false word.Start ss ps left = absurd left
-by_cleanup format inside word.Sleep ss ps left = unclean format inside ss (keyword word.Sleep ∷ ps) (by_step format inside word.Sleep ss ps left)
-by_cleanup format inside word.Checkpoint ss ps left = unclean format inside ss (keyword word.Checkpoint ∷ ps) (by_step format inside word.Checkpoint ss ps left)
-by_cleanup format inside word.Forever ss ps left = unclean format inside ss (keyword word.Forever ∷ ps) (by_step format inside word.Forever ss ps left)
-by_cleanup format inside word.Pace ss ps left = unclean format inside ss (keyword word.Pace ∷ ps) (by_step format inside word.Pace ss ps left)
-by_cleanup format inside word.Find ss ps left = unclean format inside ss (keyword word.Find ∷ ps) (by_step format inside word.Find ss ps left)
-by_cleanup format inside word.Head ss ps left = unclean format inside ss (keyword word.Head ∷ ps) (by_step format inside word.Head ss ps left)
-by_cleanup format inside word.Longest ss ps left = unclean format inside ss (keyword word.Longest ∷ ps) (by_step format inside word.Longest ss ps left)
-by_cleanup format inside word.Need ss ps left = unclean format inside ss (keyword word.Need ∷ ps) (by_step format inside word.Need ss ps left)
-by_cleanup format inside word.Raise ss ps left = unclean format inside ss (keyword word.Raise ∷ ps) (by_step format inside word.Raise ss ps left)
-by_cleanup format inside word.Cancel ss ps left = unclean format inside ss (keyword word.Cancel ∷ ps) (by_step format inside word.Cancel ss ps left)
-by_cleanup format inside word.Scope ss ps left = unclean format inside ss (keyword word.Scope ∷ ps) (by_step format inside word.Scope ss ps left)
-by_cleanup format inside word.Nursery ss ps left = unclean format inside ss (keyword word.Nursery ∷ ps) (by_step format inside word.Nursery ss ps left)
+by_cleanup format inside word.Sleep ss ps left = unclean format inside ss (keyword word.Sleep ∷ ps)
+    (by_step format inside word.Sleep ss ps left)
+by_cleanup format inside word.Checkpoint ss ps left = unclean format inside ss (keyword word.Checkpoint ∷ ps)
+    (by_step format inside word.Checkpoint ss ps left)
+by_cleanup format inside word.Forever ss ps left = unclean format inside ss (keyword word.Forever ∷ ps)
+    (by_step format inside word.Forever ss ps left)
+by_cleanup format inside word.Pace ss ps left = unclean format inside ss (keyword word.Pace ∷ ps)
+    (by_step format inside word.Pace ss ps left)
+by_cleanup format inside word.Find ss ps left = unclean format inside ss (keyword word.Find ∷ ps)
+    (by_step format inside word.Find ss ps left)
+by_cleanup format inside word.Head ss ps left = unclean format inside ss (keyword word.Head ∷ ps)
+    (by_step format inside word.Head ss ps left)
+by_cleanup format inside word.Longest ss ps left = unclean format inside ss (keyword word.Longest ∷ ps)
+    (by_step format inside word.Longest ss ps left)
+by_cleanup format inside word.Need ss ps left = unclean format inside ss (keyword word.Need ∷ ps)
+    (by_step format inside word.Need ss ps left)
+by_cleanup format inside word.Raise ss ps left = unclean format inside ss (keyword word.Raise ∷ ps)
+    (by_step format inside word.Raise ss ps left)
+by_cleanup format inside word.Cancel ss ps left = unclean format inside ss (keyword word.Cancel ∷ ps)
+    (by_step format inside word.Cancel ss ps left)
+by_cleanup format inside word.Scope ss ps left = unclean format inside ss (keyword word.Scope ∷ ps)
+    (by_step format inside word.Scope ss ps left)
+by_cleanup format inside word.Nursery ss ps left = unclean format inside ss (keyword word.Nursery ∷ ps)
+    (by_step format inside word.Nursery ss ps left)
 by_cleanup Two inside word.Repeat ss ps left = unclean Two inside ss (keyword word.Repeat ∷ ps) (by_step Two inside word.Repeat ss ps left)
 by_cleanup One inside word.Repeat ss ps left = absurd left
 by_cleanup format inside word.Try ss ps left = unclean format inside ss (keyword word.Try ∷ ps) (by_step format inside word.Try ss ps left)
 by_cleanup format inside _ ss ps left = absurd left
 
 handler_step : (format : Format) (inside : Bool) (ss : List Symbol) (ps : List Piece) →
-    Fits format (symbol.Handled ∷ symbol.Open ∷ symbol.Steps ∷ cleanup inside ∷ ss) ps → TailFits format inside ss (keyword word.Except ∷ ps)
+    Fits format (symbol.Handled ∷ symbol.Open ∷ symbol.Steps ∷ cleanup inside ∷ ss) ps →
+    TailFits format inside ss (keyword word.Except ∷ ps)
 handler_step format inside ss ps (r, (n, e), (r', e', (r'', (body, are, e''), (q, block, fits)))) =
     let c = cleanup_of format inside r'' q block in (
       q,
@@ -229,7 +255,8 @@ handler_step format inside ss ps (r, (n, e), (r', e', (r'', (body, are, e''), (q
       fits,
     )
 
-finally_step : (format : Format) (inside : Bool) (ss : List Symbol) (ps : List Piece) → Fits format (symbol.Open ∷ symbol.Steps ∷ outer inside ∷ ss) ps →
+finally_step : (format : Format) (inside : Bool) (ss : List Symbol) (ps : List Piece) →
+    Fits format (symbol.Open ∷ symbol.Steps ∷ outer inside ∷ ss) ps →
     TailFits format inside ss (keyword word.Finally ∷ ps)
 finally_step format inside ss ps (r, e, (r', (body, are, e'), (q, block, fits))) =
     let b = block_of format inside r' q block in (
@@ -256,26 +283,32 @@ by_tail format inside _ ss ps left = absurd left
 
 -- ---- the heads of scopes and starts
 
-body_on : (format : Format) (ss : List Symbol) (ps : List Piece) → Fits format (symbol.Open ∷ symbol.Steps ∷ ss) ps → (rest : List Piece) × (body : Steps)
+body_on : (format : Format) (ss : List Symbol) (ps : List Piece) → Fits format (symbol.Open ∷ symbol.Steps ∷ ss) ps →
+    (rest : List Piece) × (body : Steps)
     × AreSteps format false body × (ps ≡ opens ∷ steps_pieces body rest) × Fits format ss rest
 body_on format ss ps (r, e, (q, (body, are, e'), fits)) = (q, body, are, e ∙ ap (on opens) e', fits)
 
-by_fail : (format : Format) (k : Keyword) (ss : List Symbol) (ps : List Piece) → Left format (fail_rest k) ss ps → Fits format (symbol.Fail ∷ ss) (keyword k ∷ ps)
+by_fail : (format : Format) (k : Keyword) (ss : List Symbol) (ps : List Piece) → Left format (fail_rest k) ss ps →
+    Fits format (symbol.Fail ∷ ss) (keyword k ∷ ps)
 by_fail format word.Fail ss ps left = let b = body_on format ss ps left in (b.0, (true, b.1, b.2, ap (on (keyword word.Fail)) b.3), b.4)
 by_fail format _ ss ps left = absurd left
 
-by_shield : (format : Format) (k : Keyword) (ss : List Symbol) (ps : List Piece) → Left format (shield_rest k) ss ps → Fits format (symbol.Shield ∷ ss) (keyword k ∷ ps)
+by_shield : (format : Format) (k : Keyword) (ss : List Symbol) (ps : List Piece) → Left format (shield_rest k) ss ps →
+    Fits format (symbol.Shield ∷ ss) (keyword k ∷ ps)
 by_shield format word.Shield ss ps (r, (f, body, are, e), fits) = (r, (true, f, body, are, ap (on (keyword word.Shield)) e), fits)
-by_shield format word.Fail ss ps left = let b = body_on format ss ps left in (b.0, (false, true, b.1, b.2, ap (on (keyword word.Fail)) b.3), b.4)
+by_shield format word.Fail ss ps left = let b = body_on format ss ps left in
+    (b.0, (false, true, b.1, b.2, ap (on (keyword word.Fail)) b.3), b.4)
 by_shield format _ ss ps left = absurd left
 
-by_scope : (format : Format) (k : Keyword) (ss : List Symbol) (ps : List Piece) → Left format (scope_rest k) ss ps → Fits format (symbol.Scope ∷ ss) (keyword k ∷ ps)
+by_scope : (format : Format) (k : Keyword) (ss : List Symbol) (ps : List Piece) → Left format (scope_rest k) ss ps →
+    Fits format (symbol.Scope ∷ ss) (keyword k ∷ ps)
 by_scope format word.After ss ps (r, (n, e), (q, (s, f, body, are, e'), fits)) =
     (q, (After n, s, f, body, are, ap (on (keyword word.After)) (e ∙ ap (on (number n)) e')), fits)
 by_scope format word.At ss ps (r, (n, e), (q, (s, f, body, are, e'), fits)) =
     (q, (At n, s, f, body, are, ap (on (keyword word.At)) (e ∙ ap (on (number n)) e')), fits)
 by_scope format word.Shield ss ps (r, (f, body, are, e), fits) = (r, (Never, true, f, body, are, ap (on (keyword word.Shield)) e), fits)
-by_scope format word.Fail ss ps left = let b = body_on format ss ps left in (b.0, (Never, false, true, b.1, b.2, ap (on (keyword word.Fail)) b.3), b.4)
+by_scope format word.Fail ss ps left = let b = body_on format ss ps left in
+    (b.0, (Never, false, true, b.1, b.2, ap (on (keyword word.Fail)) b.3), b.4)
 by_scope format _ ss ps left = absurd left
 
 items_on : (format : Format) (ss : List Symbol) (ps : List Piece) → Fits format (symbol.Open ∷ symbol.Items ∷ ss) ps →
@@ -298,12 +331,14 @@ by_nursery Two word.Shield ss ps left =
     let b = items_on Two ss ps left in (b.0, (Never, true, b.1, tt, b.2, ap (on (keyword word.Shield)) b.3), b.4)
 by_nursery Two _ ss ps left = absurd left
 
-by_over : (format : Format) (k : Keyword) (ss : List Symbol) (ps : List Piece) → Left format (over_rest k) ss ps → Fits format (symbol.Over ∷ ss) (keyword k ∷ ps)
+by_over : (format : Format) (k : Keyword) (ss : List Symbol) (ps : List Piece) → Left format (over_rest k) ss ps →
+    Fits format (symbol.Over ∷ ss) (keyword k ∷ ps)
 by_over format word.Over ss ps (r, (n, e), left) = let b = body_on format ss r left in
     (b.0, (Some n, b.1, b.2, ap (on (keyword word.Over)) (e ∙ ap (on (number n)) b.3)), b.4)
 by_over format _ ss ps left = absurd left
 
-by_text : (format : Format) (k : Keyword) (ss : List Symbol) (ps : List Piece) → Left format (text_rest k) ss ps → Fits format (symbol.Job ∷ ss) (keyword k ∷ ps)
+by_text : (format : Format) (k : Keyword) (ss : List Symbol) (ps : List Piece) → Left format (text_rest k) ss ps →
+    Fits format (symbol.Job ∷ ss) (keyword k ∷ ps)
 by_text format word.Job ss ps (r, (n, e), left) =
     let b = body_on format ss r left in
     let job : Tree = record { format = format; name = n; steps = b.1 } in
@@ -324,9 +359,11 @@ by_keyword format s rest same each w (Some k) is ss ps left =
     subst (λ (p : Piece). Fits format (s ∷ ss) (p ∷ ps)) e (each k ss ps left)
 
 -- a token that can stand for a symbol, in front of what it leaves, fits that symbol and those behind it
-pub forward : (format : Format) (s : Symbol) (shape : Shape) (ss : List Symbol) (ps : List Piece) → Left format (next format s shape) ss ps →
+pub forward : (format : Format) (s : Symbol) (shape : Shape) (ss : List Symbol) (ps : List Piece) →
+    Left format (next format s shape) ss ps →
     Fits format (s ∷ ss) (record { shape = shape; role = role_of s } ∷ ps)
-forward format symbol.Job (shape.Word w) ss ps left = by_keyword format symbol.Job text_rest refl (by_text format) w (keyword_of w) refl ss ps left
+forward format symbol.Job (shape.Word w) ss ps left = by_keyword format symbol.Job text_rest refl (by_text format) w
+    (keyword_of w) refl ss ps left
 forward format symbol.Job _ ss ps left = absurd left
 forward format symbol.Steps (shape.Word w) ss ps left =
     by_keyword format symbol.Steps (step_rest format false) refl (by_step format false) w (keyword_of w) refl ss ps left
@@ -350,14 +387,21 @@ forward format symbol.ItemsCleanup (shape.Word w) ss ps left =
     by_keyword format symbol.ItemsCleanup (cleanup_rest format true) refl (by_cleanup format true) w (keyword_of w) refl ss ps left
 forward format symbol.ItemsCleanup (shape.Mark mark.Close) ss ps left = (ps, (uncleaned, stop, tt, tt, refl), left)
 forward format symbol.ItemsCleanup _ ss ps left = absurd left
-forward format symbol.Scope (shape.Word w) ss ps left = by_keyword format symbol.Scope scope_rest refl (by_scope format) w (keyword_of w) refl ss ps left
+forward format symbol.Scope (shape.Word w) ss ps left = by_keyword format symbol.Scope scope_rest refl (by_scope format) w
+    (keyword_of w) refl ss ps left
 forward format symbol.Scope (shape.Mark mark.Open) ss ps (rest, (body, are, e), fits) =
     (rest, (Never, false, false, body, are, ap (on opens) e), fits)
 forward format symbol.Scope _ ss ps left = absurd left
-forward format symbol.Shield (shape.Word w) ss ps left = by_keyword format symbol.Shield shield_rest refl (by_shield format) w (keyword_of w) refl ss ps left
-forward format symbol.Shield (shape.Mark mark.Open) ss ps (rest, (body, are, e), fits) = (rest, (false, false, body, are, ap (on opens) e), fits)
+forward format symbol.Shield (shape.Word w) ss ps left = by_keyword format symbol.Shield shield_rest refl (by_shield format) w
+    (keyword_of w) refl ss ps left
+forward format symbol.Shield (shape.Mark mark.Open) ss ps (rest, (body, are, e), fits) = (
+  rest,
+  (false, false, body, are, ap (on opens) e),
+  fits,
+)
 forward format symbol.Shield _ ss ps left = absurd left
-forward format symbol.Fail (shape.Word w) ss ps left = by_keyword format symbol.Fail fail_rest refl (by_fail format) w (keyword_of w) refl ss ps left
+forward format symbol.Fail (shape.Word w) ss ps left = by_keyword format symbol.Fail fail_rest refl (by_fail format) w
+    (keyword_of w) refl ss ps left
 forward format symbol.Fail (shape.Mark mark.Open) ss ps (rest, (body, are, e), fits) = (rest, (false, body, are, ap (on opens) e), fits)
 forward format symbol.Fail _ ss ps left = absurd left
 forward format symbol.Nursery (shape.Word w) ss ps left =
@@ -370,7 +414,8 @@ forward format symbol.NurseryShield (shape.Word w) ss ps left =
 forward format symbol.NurseryShield (shape.Mark mark.Open) ss ps (rest, (body, are, e), fits) =
     (rest, (false, body, plain_head format, are, ap (on opens) e), fits)
 forward format symbol.NurseryShield _ ss ps left = absurd left
-forward format symbol.Over (shape.Word w) ss ps left = by_keyword format symbol.Over over_rest refl (by_over format) w (keyword_of w) refl ss ps left
+forward format symbol.Over (shape.Word w) ss ps left = by_keyword format symbol.Over over_rest refl (by_over format) w
+    (keyword_of w) refl ss ps left
 forward format symbol.Over (shape.Mark mark.Open) ss ps (rest, (body, are, e), fits) = (rest, (None, body, are, ap (on opens) e), fits)
 forward format symbol.Over _ ss ps left = absurd left
 forward format symbol.Given (shape.Word w) ss ps left = (ps, (w, refl), left)

@@ -72,7 +72,8 @@ shortest_stands format symbol.Semicolon rest = refl
 -- each list of symbols has a completion
 pub completed : (format : Format) (ss : List Symbol) → (ps : List Piece) × Fits format ss ps
 completed format [] = ([], refl)
-completed format (s ∷ ss) = let others = completed format ss in (shortest format s others.0, (others.0, shortest_stands format s others.0, others.1))
+completed format (s ∷ ss) = let others = completed format ss in
+    (shortest format s others.0, (others.0, shortest_stands format s others.0, others.1))
 
 -- ---- back: from a token and the rest to what must stand in the rest
 
@@ -88,26 +89,31 @@ Goes format s ss (p ∷ ps) = Left format (next format s p.shape) ss ps × (p.ro
 -- the first token of the rest of a block
 abbrev First : (format : Format) → Bool → List Symbol → List Piece → Type 0
 First format inside ss [] = ⊥
-First format inside ss (p ∷ ps) = ((p ≡ closes) × Fits format ss ps) ⊎ ((k : Keyword) × (p ≡ keyword k) × Left format (step_rest format inside k) ss ps)
+First format inside ss (p ∷ ps) = ((p ≡ closes) × Fits format ss ps) ⊎
+    ((k : Keyword) × (p ≡ keyword k) × Left format (step_rest format inside k) ss ps)
 
 block_stands : (format : Format) (inside : Bool) (steps : Steps) (rest : List Piece) → AreSteps format inside steps →
     Stands format (outer inside) (steps_pieces steps rest) rest
 block_stands format false steps rest are = (steps, are, refl)
 block_stands format true steps rest are = (steps, are, refl)
 
-tail_stands : (format : Format) (inside : Bool) (h : Handled) (c : Cleaned) (steps : Steps) (rest : List Piece) → HasTail h c → IsHandler format h → IsCleanup format c →
+tail_stands : (format : Format) (inside : Bool) (h : Handled) (c : Cleaned) (steps : Steps) (rest : List Piece) → HasTail h c →
+    IsHandler format h → IsCleanup format c →
     AreSteps format inside steps → Stands format (tail inside) (handler_pieces h (cleanup_pieces c (steps_pieces steps rest))) rest
 tail_stands format false h c steps rest has handler clean are = (h, c, steps, has, handler, clean, are, refl)
 tail_stands format true h c steps rest has handler clean are = (h, c, steps, has, handler, clean, are, refl)
 
-cleanup_stands : (format : Format) (inside : Bool) (c : Cleaned) (steps : Steps) (rest : List Piece) → IsCleanup format c → AreSteps format inside steps →
+cleanup_stands : (format : Format) (inside : Bool) (c : Cleaned) (steps : Steps) (rest : List Piece) → IsCleanup format c →
+    AreSteps format inside steps →
     Stands format (cleanup inside) (cleanup_pieces c (steps_pieces steps rest)) rest
 cleanup_stands format false c steps rest clean are = (c, steps, clean, are, refl)
 cleanup_stands format true c steps rest clean are = (c, steps, clean, are, refl)
 
-start_left : (format : Format) (inside : Bool) (n : List ℕ) (o : Option ℕ) (body others : Steps) (ss : List Symbol) (rest : List Piece) → inside ≡ true →
+start_left : (format : Format) (inside : Bool) (n : List ℕ) (o : Option ℕ) (body others : Steps) (ss : List Symbol) (rest : List Piece) →
+    inside ≡ true →
     AreSteps format false body → AreSteps format inside others → Fits format ss rest
-    → Left format (step_rest format inside word.Start) ss (named role.Given n ∷ over_pieces o (opens ∷ steps_pieces body (steps_pieces others rest)))
+    → Left format (step_rest format inside word.Start) ss (named role.Given n ∷ over_pieces o
+    (opens ∷ steps_pieces body (steps_pieces others rest)))
 start_left format true n o body others ss rest e are behind fits = (
   over_pieces o (opens ∷ steps_pieces body (steps_pieces others rest)),
   (n, refl),
@@ -129,7 +135,8 @@ repeat_left Two inside n body others ss rest e are behind fits = (
 )
 repeat_left One inside n body others ss rest e are behind fits = absurd cc
 
-first_of_block : (format : Format) (inside : Bool) (steps : Steps) (ss : List Symbol) (rest : List Piece) → AreSteps format inside steps → Fits format ss rest →
+first_of_block : (format : Format) (inside : Bool) (steps : Steps) (ss : List Symbol) (rest : List Piece) → AreSteps format inside steps →
+    Fits format ss rest →
     First format inside ss (steps_pieces steps rest)
 first_of_block format inside stop ss rest are fits = inl (refl, fits)
 first_of_block format inside (step (sleep n) others) ss rest are fits =
@@ -224,12 +231,14 @@ by_keyword : (format : Format) (words : Keyword → Rest) (k : Keyword) (ss : Li
 by_keyword format words k ss ps left = subst (λ (o : Option Keyword). Left format (o >>= words) ss ps) (sym (keyword_of-spelled k)) left
 
 -- a word that is no `finally` begins what a block begins with
-finally_no_step : (format : Format) (inside : Bool) (k : Keyword) (ss : List Symbol) (ps : List Piece) → Left format (step_rest format inside k) ss ps →
+finally_no_step : (format : Format) (inside : Bool) (k : Keyword) (ss : List Symbol) (ps : List Piece) →
+    Left format (step_rest format inside k) ss ps →
     Left format (cleanup_rest format inside k) ss ps
 finally_no_step format inside word.Finally ss ps left = absurd left
 finally_no_step format inside _ ss ps left = left
 
-goes_block : (format : Format) (inside : Bool) (ss : List Symbol) (ps : List Piece) → First format inside ss ps → Goes format (outer inside) ss ps
+goes_block : (format : Format) (inside : Bool) (ss : List Symbol) (ps : List Piece) → First format inside ss ps →
+    Goes format (outer inside) ss ps
 goes_block format inside ss [] first = absurd first
 goes_block format false ss (p ∷ ps) (inl (e, fits)) = subst (λ (x : Piece). Goes format symbol.Steps ss (x ∷ ps)) (sym e) (fits, refl)
 goes_block format false ss (p ∷ ps) (inr (k, e, left)) =
@@ -238,17 +247,21 @@ goes_block format true ss (p ∷ ps) (inl (e, fits)) = subst (λ (x : Piece). Go
 goes_block format true ss (p ∷ ps) (inr (k, e, left)) =
     subst (λ (x : Piece). Goes format symbol.Items ss (x ∷ ps)) (sym e) (by_keyword format (step_rest format true) k ss ps left, refl)
 
-goes_uncleaned : (format : Format) (inside : Bool) (ss : List Symbol) (ps : List Piece) → First format inside ss ps → Goes format (cleanup inside) ss ps
+goes_uncleaned : (format : Format) (inside : Bool) (ss : List Symbol) (ps : List Piece) → First format inside ss ps →
+    Goes format (cleanup inside) ss ps
 goes_uncleaned format inside ss [] first = absurd first
-goes_uncleaned format false ss (p ∷ ps) (inl (e, fits)) = subst (λ (x : Piece). Goes format symbol.StepsCleanup ss (x ∷ ps)) (sym e) (fits, refl)
+goes_uncleaned format false ss (p ∷ ps) (inl (e, fits)) = subst (λ (x : Piece). Goes format symbol.StepsCleanup ss (x ∷ ps)) (sym e)
+    (fits, refl)
 goes_uncleaned format false ss (p ∷ ps) (inr (k, e, left)) = subst (λ (x : Piece). Goes format symbol.StepsCleanup ss (x ∷ ps)) (sym e)
     (by_keyword format (cleanup_rest format false) k ss ps (finally_no_step format false k ss ps left), refl)
-goes_uncleaned format true ss (p ∷ ps) (inl (e, fits)) = subst (λ (x : Piece). Goes format symbol.ItemsCleanup ss (x ∷ ps)) (sym e) (fits, refl)
+goes_uncleaned format true ss (p ∷ ps) (inl (e, fits)) = subst (λ (x : Piece). Goes format symbol.ItemsCleanup ss (x ∷ ps)) (sym e)
+    (fits, refl)
 goes_uncleaned format true ss (p ∷ ps) (inr (k, e, left)) = subst (λ (x : Piece). Goes format symbol.ItemsCleanup ss (x ∷ ps)) (sym e)
     (by_keyword format (cleanup_rest format true) k ss ps (finally_no_step format true k ss ps left), refl)
 
 -- a block with its opening mark, and others behind it
-block_fits : (format : Format) (inside : Bool) (body others : Steps) (ss : List Symbol) (rest : List Piece) → AreSteps format false body → AreSteps format inside others →
+block_fits : (format : Format) (inside : Bool) (body others : Steps) (ss : List Symbol) (rest : List Piece) → AreSteps format false body →
+    AreSteps format inside others →
     Fits format ss rest
     → Fits format (symbol.Open ∷ symbol.Steps ∷ outer inside ∷ ss) (opens ∷ steps_pieces body (steps_pieces others rest))
 block_fits format inside body others ss rest are behind fits = (
@@ -261,7 +274,8 @@ block_fits format inside body others ss rest are behind fits = (
   ),
 )
 
-on_cleanup : (format : Format) (inside : Bool) (c : Cleaned) (steps : Steps) (ss : List Symbol) (rest : List Piece) → IsCleanup format c → AreSteps format inside steps →
+on_cleanup : (format : Format) (inside : Bool) (c : Cleaned) (steps : Steps) (ss : List Symbol) (rest : List Piece) → IsCleanup format c →
+    AreSteps format inside steps →
     Fits format ss rest → Goes format (cleanup inside) ss (cleanup_pieces c (steps_pieces steps rest))
 unfolding keyword_of
 on_cleanup format inside uncleaned steps ss rest clean are fits =
@@ -269,7 +283,8 @@ on_cleanup format inside uncleaned steps ss rest clean are fits =
 on_cleanup format false (finally body) steps ss rest clean are fits = (block_fits format false body steps ss rest clean are fits, refl)
 on_cleanup format true (finally body) steps ss rest clean are fits = (block_fits format true body steps ss rest clean are fits, refl)
 
-handler_fits : (format : Format) (inside : Bool) (n : List ℕ) (body : Steps) (c : Cleaned) (others : Steps) (ss : List Symbol) (rest : List Piece) →
+handler_fits : (format : Format) (inside : Bool) (n : List ℕ) (body : Steps) (c : Cleaned) (others : Steps) (ss : List Symbol)
+    (rest : List Piece) →
     AreSteps format false body → IsCleanup format c → AreSteps format inside others → Fits format ss rest
     → Fits format (symbol.Handled ∷ symbol.Open ∷ symbol.Steps ∷ cleanup inside ∷ ss)
     (named role.Handled n ∷ opens ∷ steps_pieces body (cleanup_pieces c (steps_pieces others rest)))
@@ -284,7 +299,8 @@ handler_fits format inside n body c others ss rest are clean behind fits =
       ),
     )
 
-on_tail : (format : Format) (inside : Bool) (h : Handled) (c : Cleaned) (steps : Steps) (ss : List Symbol) (rest : List Piece) → HasTail h c → IsHandler format h →
+on_tail : (format : Format) (inside : Bool) (h : Handled) (c : Cleaned) (steps : Steps) (ss : List Symbol) (rest : List Piece) →
+    HasTail h c → IsHandler format h →
     IsCleanup format c → AreSteps format inside steps → Fits format ss rest → Goes format (tail inside) ss
     (handler_pieces h (cleanup_pieces c (steps_pieces steps rest)))
 unfolding keyword_of
@@ -292,8 +308,10 @@ on_tail format false (except n body) c steps ss rest has handler clean are fits 
     (handler_fits format false n body c steps ss rest handler clean are fits, refl)
 on_tail format true (except n body) c steps ss rest has handler clean are fits =
     (handler_fits format true n body c steps ss rest handler clean are fits, refl)
-on_tail format false unhandled (finally body) steps ss rest has handler clean are fits = (block_fits format false body steps ss rest clean are fits, refl)
-on_tail format true unhandled (finally body) steps ss rest has handler clean are fits = (block_fits format true body steps ss rest clean are fits, refl)
+on_tail format false unhandled (finally body) steps ss rest has handler clean are
+    fits = (block_fits format false body steps ss rest clean are fits, refl)
+on_tail format true unhandled (finally body) steps ss rest has handler clean are
+    fits = (block_fits format true body steps ss rest clean are fits, refl)
 on_tail format inside unhandled uncleaned steps ss rest has handler clean are fits = absurd has
 
 -- a body with its opening mark
@@ -301,20 +319,23 @@ body_fits : (format : Format) (body : Steps) (ss : List Symbol) (rest : List Pie
     Fits format (symbol.Open ∷ symbol.Steps ∷ ss) (opens ∷ steps_pieces body rest)
 body_fits format body ss rest are fits = (steps_pieces body rest, refl, (rest, (body, are, refl), fits))
 
-on_fail : (format : Format) (f : Bool) (body : Steps) (ss : List Symbol) (rest : List Piece) → AreSteps format false body → Fits format ss rest →
+on_fail : (format : Format) (f : Bool) (body : Steps) (ss : List Symbol) (rest : List Piece) → AreSteps format false body →
+    Fits format ss rest →
     Goes format symbol.Fail ss (flag_pieces word.Fail f (opens ∷ steps_pieces body rest))
 unfolding keyword_of
 on_fail format true body ss rest are fits = (body_fits format body ss rest are fits, refl)
 on_fail format false body ss rest are fits = ((rest, (body, are, refl), fits), refl)
 
-on_shield : (format : Format) (s f : Bool) (body : Steps) (ss : List Symbol) (rest : List Piece) → AreSteps format false body → Fits format ss rest →
+on_shield : (format : Format) (s f : Bool) (body : Steps) (ss : List Symbol) (rest : List Piece) → AreSteps format false body →
+    Fits format ss rest →
     Goes format symbol.Shield ss (flag_pieces word.Shield s (flag_pieces word.Fail f (opens ∷ steps_pieces body rest)))
 unfolding keyword_of
 on_shield format true f body ss rest are fits = ((rest, (f, body, are, refl), fits), refl)
 on_shield format false true body ss rest are fits = (body_fits format body ss rest are fits, refl)
 on_shield format false false body ss rest are fits = ((rest, (body, are, refl), fits), refl)
 
-on_scope : (format : Format) (d : Deadline) (s f : Bool) (body : Steps) (ss : List Symbol) (rest : List Piece) → AreSteps format false body → Fits format ss rest →
+on_scope : (format : Format) (d : Deadline) (s f : Bool) (body : Steps) (ss : List Symbol) (rest : List Piece) →
+    AreSteps format false body → Fits format ss rest →
     Goes format symbol.Scope ss (deadline_pieces d (flag_pieces word.Shield s (flag_pieces word.Fail f (opens ∷ steps_pieces body rest))))
 unfolding keyword_of
 on_scope format (After n) s f body ss rest are fits =
@@ -348,7 +369,8 @@ on_nursery One (At n) s body ss rest may are fits = let e = may.0 in absurd cc
 on_nursery One Never true body ss rest may are fits = let e = may.1 in absurd cc
 on_nursery format Never false body ss rest may are fits = ((rest, (body, are, refl), fits), refl)
 
-on_over : (format : Format) (o : Option ℕ) (body : Steps) (ss : List Symbol) (rest : List Piece) → AreSteps format false body → Fits format ss rest →
+on_over : (format : Format) (o : Option ℕ) (body : Steps) (ss : List Symbol) (rest : List Piece) → AreSteps format false body →
+    Fits format ss rest →
     Goes format symbol.Over ss (over_pieces o (opens ∷ steps_pieces body rest))
 unfolding keyword_of
 on_over format (Some n) body ss rest are fits = ((opens ∷ steps_pieces body rest, (n, refl), body_fits format body ss rest are fits), refl)
@@ -357,15 +379,21 @@ on_over format None body ss rest are fits = ((rest, (body, are, refl), fits), re
 on_job : (format : Format) (job : Tree) (ss : List Symbol) (rest : List Piece) → AreSteps format false job.steps → Fits format ss rest →
     Goes format symbol.Job ss (job_onto job rest)
 unfolding keyword_of
-on_job format job ss rest are fits = ((opens ∷ steps_pieces job.steps rest, (job.name, refl), body_fits format job.steps ss rest are fits), refl)
+on_job format job ss rest are fits = (
+  (opens ∷ steps_pieces job.steps rest, (job.name, refl), body_fits format job.steps ss rest are fits),
+  refl,
+)
 
 -- what fits begins with a token that stands for the first symbol, and the rest fits what is left
 pub goes : (format : Format) (s : Symbol) (ss : List Symbol) (ps : List Piece) → Fits format (s ∷ ss) ps → Goes format s ss ps
-goes format symbol.Job ss ps (rest, (job, same, are, e), fits) = subst (Goes format symbol.Job ss) (sym e) (on_job format job ss rest are fits)
+goes format symbol.Job ss ps (rest, (job, same, are, e), fits) = subst (Goes format symbol.Job ss) (sym e)
+    (on_job format job ss rest are fits)
 goes format symbol.Steps ss ps (rest, (steps, are, e), fits) =
-    subst (Goes format symbol.Steps ss) (sym e) (goes_block format false ss (steps_pieces steps rest) (first_of_block format false steps ss rest are fits))
+    subst (Goes format symbol.Steps ss) (sym e) (goes_block format false ss (steps_pieces steps rest)
+    (first_of_block format false steps ss rest are fits))
 goes format symbol.Items ss ps (rest, (steps, are, e), fits) =
-    subst (Goes format symbol.Items ss) (sym e) (goes_block format true ss (steps_pieces steps rest) (first_of_block format true steps ss rest are fits))
+    subst (Goes format symbol.Items ss) (sym e) (goes_block format true ss (steps_pieces steps rest)
+    (first_of_block format true steps ss rest are fits))
 goes format symbol.StepsTail ss ps (rest, (h, c, steps, has, handler, clean, are, e), fits) =
     subst (Goes format symbol.StepsTail ss) (sym e) (on_tail format false h c steps ss rest has handler clean are fits)
 goes format symbol.ItemsTail ss ps (rest, (h, c, steps, has, handler, clean, are, e), fits) =
@@ -374,14 +402,18 @@ goes format symbol.StepsCleanup ss ps (rest, (c, steps, clean, are, e), fits) =
     subst (Goes format symbol.StepsCleanup ss) (sym e) (on_cleanup format false c steps ss rest clean are fits)
 goes format symbol.ItemsCleanup ss ps (rest, (c, steps, clean, are, e), fits) =
     subst (Goes format symbol.ItemsCleanup ss) (sym e) (on_cleanup format true c steps ss rest clean are fits)
-goes format symbol.Scope ss ps (rest, (d, s, f, body, are, e), fits) = subst (Goes format symbol.Scope ss) (sym e) (on_scope format d s f body ss rest are fits)
-goes format symbol.Shield ss ps (rest, (s, f, body, are, e), fits) = subst (Goes format symbol.Shield ss) (sym e) (on_shield format s f body ss rest are fits)
-goes format symbol.Fail ss ps (rest, (f, body, are, e), fits) = subst (Goes format symbol.Fail ss) (sym e) (on_fail format f body ss rest are fits)
+goes format symbol.Scope ss ps (rest, (d, s, f, body, are, e), fits) = subst (Goes format symbol.Scope ss) (sym e)
+    (on_scope format d s f body ss rest are fits)
+goes format symbol.Shield ss ps (rest, (s, f, body, are, e), fits) = subst (Goes format symbol.Shield ss) (sym e)
+    (on_shield format s f body ss rest are fits)
+goes format symbol.Fail ss ps (rest, (f, body, are, e), fits) = subst (Goes format symbol.Fail ss) (sym e)
+    (on_fail format f body ss rest are fits)
 goes format symbol.Nursery ss ps (rest, (d, s, body, may, are, e), fits) =
     subst (Goes format symbol.Nursery ss) (sym e) (on_nursery format d s body ss rest may are fits)
 goes format symbol.NurseryShield ss ps (rest, (s, body, may, are, e), fits) =
     subst (Goes format symbol.NurseryShield ss) (sym e) (on_nursery_shield format s body ss rest may are fits)
-goes format symbol.Over ss ps (rest, (o, body, are, e), fits) = subst (Goes format symbol.Over ss) (sym e) (on_over format o body ss rest are fits)
+goes format symbol.Over ss ps (rest, (o, body, are, e), fits) = subst (Goes format symbol.Over ss) (sym e)
+    (on_over format o body ss rest are fits)
 goes format symbol.Given ss ps (rest, (n, e), fits) = subst (Goes format symbol.Given ss) (sym e) (fits, refl)
 goes format symbol.Raised ss ps (rest, (n, e), fits) = subst (Goes format symbol.Raised ss) (sym e) (fits, refl)
 goes format symbol.Handled ss ps (rest, (n, e), fits) = subst (Goes format symbol.Handled ss) (sym e) (fits, refl)

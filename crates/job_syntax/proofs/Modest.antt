@@ -28,7 +28,8 @@ AllInRange format before (s ∷ rest) = (is_in_range format before s ≡ true) �
 pub all_in_range : (format : Format) (before : Option Keyword) (tokens : List Token) → number_fault format before tokens ≡ None →
     AllInRange format before (shapes_of tokens)
 all_in_range format before [] none = tt
-all_in_range format before (t ∷ ts) none = by_test (all_in_range format (keyword_in t.shape) ts) (is_in_range format before t.shape) refl none
+all_in_range format before (t ∷ ts) none = by_test (all_in_range format (keyword_in t.shape) ts) (is_in_range format before t.shape) refl
+    none
   where
     by_test : (number_fault format (keyword_in t.shape) ts ≡ None → AllInRange format (keyword_in t.shape) (shapes_of ts)) → (b : Bool) →
         is_in_range format before t.shape ≡ b → cond b (number_fault format (keyword_in t.shape) ts) (Some t.at) ≡ None
@@ -37,14 +38,17 @@ all_in_range format before (t ∷ ts) none = by_test (all_in_range format (keywo
     by_test others false is none' = absurd cc
 
 -- where all numbers are in their ranges no fault is found
-pub no_fault : (format : Format) (before : Option Keyword) (tokens : List Token) → AllInRange format before (shapes_of tokens) → number_fault format before tokens ≡ None
+pub no_fault : (format : Format) (before : Option Keyword) (tokens : List Token) → AllInRange format before (shapes_of tokens) →
+    number_fault format before tokens ≡ None
 no_fault format before [] all = refl
 no_fault format before (t ∷ ts) all = rw all.0 (no_fault format (keyword_in t.shape) ts all.1)
 
 -- which numbers are out of their ranges shows in the shapes
-pub numbers_by_shapes : (format : Format) (before : Option Keyword) (xs ys : List Token) → shapes_of xs ≡ shapes_of ys → number_fault format before xs ≡ None →
+pub numbers_by_shapes : (format : Format) (before : Option Keyword) (xs ys : List Token) → shapes_of xs ≡ shapes_of ys →
+    number_fault format before xs ≡ None →
     number_fault format before ys ≡ None
-numbers_by_shapes format before xs ys e none = no_fault format before ys (subst (AllInRange format before) e (all_in_range format before xs none))
+numbers_by_shapes format before xs ys e none = no_fault format before ys
+    (subst (AllInRange format before) e (all_in_range format before xs none))
 
 -- ---- one number behind its keyword
 
@@ -95,21 +99,25 @@ repeat_fit One n two e = absurd cc
 abbrev InRangeBehind : (format : Format) → List Piece → Type 0
 InRangeBehind format rest = (before : Option Keyword) × AllInRange format before (shapes_in rest)
 
-past_flag : (format : Format) (k : Keyword) (b : Bool) (rest : List Piece) → InRangeBehind format (flag_pieces k b rest) → InRangeBehind format rest
+past_flag : (format : Format) (k : Keyword) (b : Bool) (rest : List Piece) → InRangeBehind format (flag_pieces k b rest) →
+    InRangeBehind format rest
 past_flag format k false rest all = all
 past_flag format k true rest all = (keyword_in (keyword k).shape, all.1.1)
 
-deadline_modest : (format : Format) (d : Deadline) (rest : List Piece) → InRangeBehind format (deadline_pieces d rest) → IsModestDeadline d × InRangeBehind format rest
+deadline_modest : (format : Format) (d : Deadline) (rest : List Piece) → InRangeBehind format (deadline_pieces d rest) →
+    IsModestDeadline d × InRangeBehind format rest
 deadline_modest format Never rest all = (tt, all)
 deadline_modest format (After n) rest all = (after_fit format n all.1.1.0, (None, all.1.1.1))
 deadline_modest format (At n) rest all = (at_fit format n all.1.1.0, (None, all.1.1.1))
 
-over_modest : (format : Format) (o : Option ℕ) (rest : List Piece) → InRangeBehind format (over_pieces o rest) → IsModestOver o × InRangeBehind format rest
+over_modest : (format : Format) (o : Option ℕ) (rest : List Piece) → InRangeBehind format (over_pieces o rest) →
+    IsModestOver o × InRangeBehind format rest
 over_modest format None rest all = (tt, all)
 over_modest format (Some n) rest all = (over_fit format n all.1.1.0, (None, all.1.1.1))
 
 mutual
-  steps_modest : (format : Format) (steps : Steps) (inside : Bool) (rest : List Piece) → AreSteps format inside steps → InRangeBehind format (steps_pieces steps rest) →
+  steps_modest : (format : Format) (steps : Steps) (inside : Bool) (rest : List Piece) → AreSteps format inside steps →
+      InRangeBehind format (steps_pieces steps rest) →
       AreModest steps × InRangeBehind format rest
   steps_modest format stop inside rest are all = (tt, (None, all.1.1))
   steps_modest format (step s ss) inside rest are all =
@@ -117,7 +125,8 @@ mutual
       let others = steps_modest format ss inside rest are.1 one.1 in
       ((one.0, others.0), others.1)
 
-  step_modest : (format : Format) (s : Step) (inside : Bool) (rest : List Piece) → IsStep format inside s → InRangeBehind format (step_pieces s rest) → IsModestStep s
+  step_modest : (format : Format) (s : Step) (inside : Bool) (rest : List Piece) → IsStep format inside s →
+      InRangeBehind format (step_pieces s rest) → IsModestStep s
       × InRangeBehind format rest
   step_modest format (sleep n) inside rest is all = (sleep_fit format n all.1.1.0, (None, all.1.1.1.1))
   step_modest format checkpoint inside rest is all = (tt, (None, all.1.1.1))
@@ -157,19 +166,23 @@ mutual
       let cleaned = cleanup_modest format c rest is.3 handled.1 in
       ((inner.0, handled.0, cleaned.0), cleaned.1)
 
-  handler_modest : (format : Format) (h : Handled) (rest : List Piece) → IsHandler format h → InRangeBehind format (handler_pieces h rest) → IsModestHandler h
+  handler_modest : (format : Format) (h : Handled) (rest : List Piece) → IsHandler format h →
+      InRangeBehind format (handler_pieces h rest) → IsModestHandler h
       × InRangeBehind format rest
   handler_modest format unhandled rest is all = (tt, all)
   handler_modest format (except n body) rest is all = steps_modest format body false rest is (None, all.1.1.1.1)
 
-  cleanup_modest : (format : Format) (c : Cleaned) (rest : List Piece) → IsCleanup format c → InRangeBehind format (cleanup_pieces c rest) → IsModestCleanup c
+  cleanup_modest : (format : Format) (c : Cleaned) (rest : List Piece) → IsCleanup format c →
+      InRangeBehind format (cleanup_pieces c rest) → IsModestCleanup c
       × InRangeBehind format rest
   cleanup_modest format uncleaned rest is all = (tt, all)
   cleanup_modest format (finally body) rest is all = steps_modest format body false rest is (None, all.1.1.1)
 
 -- the numbers of a job none of whose tokens is out of its range are in their ranges
-pub modest_numbers : (job : Tree) (tokens : List Token) → AreSteps job.format false job.steps → shapes_of tokens ≡ shapes_in (job_pieces job) →
+pub modest_numbers : (job : Tree) (tokens : List Token) → AreSteps job.format false job.steps →
+    shapes_of tokens ≡ shapes_in (job_pieces job) →
     number_fault job.format None tokens ≡ None → AreModest job.steps
 modest_numbers job tokens are e none =
-    let all : AllInRange job.format None (shapes_in (job_pieces job)) = subst (AllInRange job.format None) e (all_in_range job.format None tokens none) in
+    let all : AllInRange job.format None (shapes_in (job_pieces job)) = subst (AllInRange job.format None) e
+    (all_in_range job.format None tokens none) in
     (steps_modest job.format job.steps false [] are (None, all.1.1.1)).0

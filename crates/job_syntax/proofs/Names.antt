@@ -12,14 +12,16 @@ use Rattle.job_syntax.specs.Syntax.{Fits, IsText, role_of, roles_at, or_nothing,
 use Rattle.job_syntax.proofs.Grammar.{Left, goes}
 
 -- the roles found along the tokens of what fits are those of its pieces
-pub roles_at-in : (format : Format) (ss : List Symbol) (tokens : List Token) (ps : List Piece) → Fits format ss ps → shapes_of tokens ≡ shapes_in ps →
+pub roles_at-in : (format : Format) (ss : List Symbol) (tokens : List Token) (ps : List Piece) → Fits format ss ps →
+    shapes_of tokens ≡ shapes_in ps →
     roles_at format ss tokens ≡ roles_in ps
 roles_at-in format ss [] [] fits e = refl
 roles_at-in format ss [] (p ∷ ps) fits e = absurd cc
 roles_at-in format ss (t ∷ ts) [] fits e = absurd cc
 roles_at-in format [] (t ∷ ts) (p ∷ ps) fits e = absurd cc
 roles_at-in format (s ∷ ss) (t ∷ ts) (p ∷ ps) fits e =
-    by_rest (λ more. roles_at-in format (more ++ ss) ts ps) (next format s t.shape) (subst (λ (x : Shape). Left format (next format s x) ss ps) (sym head) left.0)
+    by_rest (λ more. roles_at-in format (more ++ ss) ts ps) (next format s t.shape)
+    (subst (λ (x : Shape). Left format (next format s x) ss ps) (sym head) left.0)
   where
     left : Left format (next format s p.shape) ss ps × (p.role ≡ role_of s)
     left = goes format s ss (p ∷ ps) fits
@@ -30,7 +32,8 @@ roles_at-in format (s ∷ ss) (t ∷ ts) (p ∷ ps) fits e =
     tail : shapes_of ts ≡ shapes_in ps
     tail = cc
 
-    by_rest : ((more : List Symbol) → Fits format (more ++ ss) ps → shapes_of ts ≡ shapes_in ps → roles_at format (more ++ ss) ts ≡ roles_in ps) →
+    by_rest : ((more : List Symbol) → Fits format (more ++ ss) ps → shapes_of ts ≡ shapes_in ps →
+        roles_at format (more ++ ss) ts ≡ roles_in ps) →
         (r : Rest) → Left format r ss ps → role_of s ∷ or_nothing r (λ more. roles_at format (more ++ ss) ts) ≡ p.role ∷ roles_in ps
     by_rest others None fit = absurd fit
     by_rest others (Some more) fit = let same = others more fit tail in λ i. sym left.1 i ∷ same i

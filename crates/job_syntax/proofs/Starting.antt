@@ -11,6 +11,7 @@ mutual
   starts_in format inside stop a = tt
   starts_in format inside (step s ss) a = (starts_at format inside s a.0, starts_in format inside ss a.1)
 
+  -- the same of one step
   pub starts_at : (format : Format) (inside : Bool) (s : Step) → IsStep format inside s → StartsAt inside s
   starts_at format inside (sleep n) a = tt
   starts_at format inside checkpoint a = tt
@@ -26,12 +27,18 @@ mutual
   starts_at format inside (nursery name d shield body) a = starts_in format true body a.1
   starts_at format inside (start name over body) a = (a.0, starts_in format false body a.1)
   starts_at format inside (repeat count body) a = starts_in format false body a.1
-  starts_at format inside (attempt body handler cleanup) a = (starts_in format false body a.1, handler_starts format handler a.2, cleanup_starts format cleanup a.3)
+  starts_at format inside (attempt body handler cleanup) a = (
+    starts_in format false body a.1,
+    handler_starts format handler a.2,
+    cleanup_starts format cleanup a.3,
+  )
 
+  -- the same of a handler
   pub handler_starts : (format : Format) (x : Handled) → IsHandler format x → HandlerStarts x
   handler_starts format unhandled a = tt
   handler_starts format (except name body) a = starts_in format false body a
 
+  -- the same of a cleanup
   pub cleanup_starts : (format : Format) (x : Cleaned) → IsCleanup format x → CleanupStarts x
   cleanup_starts format uncleaned a = tt
   cleanup_starts format (finally body) a = starts_in format false body a

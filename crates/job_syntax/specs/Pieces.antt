@@ -147,7 +147,8 @@ abbrev mutual
   IsStep format inside (nursery name deadline shield body) = IsNurseryHead format deadline shield × AreSteps format true body
   IsStep format inside (start name over body) = (inside ≡ true) × AreSteps format false body
   IsStep format inside (repeat count body) = (format ≡ Two) × AreSteps format false body
-  IsStep format inside (attempt body handler cleanup) = HasTail handler cleanup × AreSteps format false body × IsHandler format handler × IsCleanup format cleanup
+  IsStep format inside (attempt body handler cleanup) = HasTail handler cleanup × AreSteps format false body × IsHandler format handler
+      × IsCleanup format cleanup
 
   pub IsHandler : Format → Handled → Type 0
   IsHandler format unhandled = Unit {0}

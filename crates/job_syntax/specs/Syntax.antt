@@ -22,7 +22,8 @@ IsBlock format inside ps rest = (steps : Steps) × AreSteps format inside steps 
 -- what follows the block of a `try`, and the rest of the block round it
 abbrev pub IsTail : Format → Bool → List Piece → List Piece → Type 0
 IsTail format inside ps rest =
-    (handler : Handled) × (cleanup : Cleaned) × (steps : Steps) × HasTail handler cleanup × IsHandler format handler × IsCleanup format cleanup
+    (handler : Handled) × (cleanup : Cleaned) × (steps : Steps) × HasTail handler cleanup × IsHandler format handler
+    × IsCleanup format cleanup
     × AreSteps format inside steps
     × (ps ≡ handler_pieces handler (cleanup_pieces cleanup (steps_pieces steps rest)))
 

@@ -15,7 +15,8 @@ use std::alloc::{AllocError, Global};
 /// The name and the steps of the job, of any format, whose tokens these are, where at most 32 of its blocks stand in one another. It is
 /// for tokens in which `follow` finds no fault: it asks neither where a `start` stands nor what follows a `try`.
 pub fn job_at(alloc: Global, tokens: &[Token]) -> Result<Option<(Name, Body)>, AllocError>
-    ensures { (format : Format) → IfOk result (λ x. Gives (λ j. record { format = format; name = j.0; steps = j.1 }) x (job_at format (shapes_of tokens.now))) }
+    ensures { (format : Format) → IfOk result (λ x. Gives (λ j. record { format = format; name = j.0; steps = j.1 }) x
+        (job_at format (shapes_of tokens.now))) }
 {
     let Some((name, rest)) = head_at(tokens) else {
         return Ok(None);

@@ -24,19 +24,6 @@ from_blanks end bytes rest (t ∷ ts) fault e h =
 pub record LexesOn (end : ℕ) (bytes : List ℕ) (front : List Token) (rest : List ℕ) : Type 0 where
   pub on : (ts : List Token) (fault : Option ℕ) → LexesFrom end rest ts fault → Lexes end bytes (front ++ ts) fault
 
--- before the first token, all behind the first blanks is left to read
-pub none_yet : (end : ℕ) (bytes rest : List ℕ) → rest ≡ behind_blanks bytes → LexesOn end bytes [] rest
-none_yet end bytes rest e = record { on = λ ts fault h. from_blanks end bytes rest ts fault e h }
-
--- with one token more read, all behind it and the blanks there is left to read
-pub one_more : (end : ℕ) (bytes : List ℕ) (front : List Token) (rest after next : List ℕ) (t : Token) →
-    token_at rest ≡ Some (t.shape, after) → t.at + length rest ≡ end → next ≡ behind_blanks after
-    → LexesOn end bytes front rest → LexesOn end bytes (front ++ t ∷ []) next
-one_more end bytes front rest after next t found place e before = record {
-  on = λ ts fault h. subst (λ (all : List Token). Lexes end bytes all fault) (sym (append_assoc front (t ∷ []) ts))
-      (before.on (t ∷ ts) fault (after, found, place, from_blanks end after next ts fault e h));
-}
-
 -- where no token can be read
 pub stops : (end : ℕ) (bytes : List ℕ) (front : List Token) (rest : List ℕ) → token_at rest ≡ None → 0 < length rest → length rest ≤ end →
     LexesOn end bytes front rest → Lexes end bytes front (Some (end - length rest))

@@ -167,7 +167,8 @@ read_kind (suc (suc (suc (suc (suc (suc (suc (suc (suc (suc (suc zero)))))))))))
 read_kind (suc (suc (suc (suc (suc (suc (suc (suc (suc (suc (suc (suc zero)))))))))))) m b = put_block (nursery m.first m.deadline m.flag) b
 read_kind (suc (suc (suc (suc (suc (suc (suc (suc (suc (suc (suc (suc (suc zero))))))))))))) m b = put_block (start m.first m.over) b
 read_kind (suc (suc (suc (suc (suc (suc (suc (suc (suc (suc (suc (suc (suc (suc zero)))))))))))))) m b = put_block (repeat m.number) b
-read_kind (suc (suc (suc (suc (suc (suc (suc (suc (suc (suc (suc (suc (suc (suc (suc k))))))))))))))) m b = put_attempt m.first m.flag m.other b
+read_kind (suc (suc (suc (suc (suc (suc (suc (suc (suc (suc (suc (suc (suc (suc (suc k))))))))))))))) m b = put_attempt m.first m.flag
+    m.other b
 
 abbrev read_marks : List Mark → Blocks
 read_marks [] = []

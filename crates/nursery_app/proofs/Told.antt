@@ -20,7 +20,8 @@ use Rattle.nursery_app.specs.Hinting.{syntax_hint, twice_hint, IsSyntaxHint, IsT
 use Rattle.nursery_app.specs.Explaining.{headed, shown_byte, is_newline, last_of, width_before, before, behind, most_before, most_behind}
 
 -- what the grammar asks for behind the tokens is what it asks for in the text
-pub expects : (format : Format) (text body : List ℕ) (tokens given : List Token) (fault : Option ℕ) (r : Result (Option Symbol) AllocError) →
+pub expects : (format : Format) (text body : List ℕ) (tokens given : List Token) (fault : Option ℕ)
+    (r : Result (Option Symbol) AllocError) →
     format ≡ format_of text → body ≡ drop 11 text → Lexes (length text) body tokens fault → given ≡ tokens
     → IfOk r (λ symbol. symbol ≡ expected_in format whole_job given) → IfOk r (IsExpected text)
 expects format text body tokens given fault (Ok s) of is lexes same found = (
@@ -93,7 +94,8 @@ pieces head front back newline spaces caret h0 h1 h2 h3 h4 h5 is0 is1 is2 is3 is
     is5 ∙ ap (λ (x : List ℕ). x ++ caret) four ∙ append_assoc head (((front ++ back) ++ newline) ++ spaces) caret
 
 -- what helps where a text goes on wrongly, or gives a name twice
-pub helps : (format : Format) (text body : List ℕ) (tokens given : List Token) (fault : Option ℕ) (at : ℕ) (shape : Option Shape) (h : Option Hint) →
+pub helps : (format : Format) (text body : List ℕ) (tokens given : List Token) (fault : Option ℕ) (at : ℕ) (shape : Option Shape)
+    (h : Option Hint) →
     format ≡ format_of text → body ≡ drop 11 text → Lexes (length text) body tokens fault
     → given ≡ tokens → shape ≡ shape_at at given → h ≡ syntax_hint format given shape → IsSyntaxHint text at h
 helps format text body tokens given fault at shape h of is lexes same shape_is h_is = (
@@ -105,7 +107,8 @@ helps format text body tokens given fault at shape h of is lexes same shape_is h
 )
 
 -- what helps where a name is given twice, found by the tokens of the text and what they are for
-pub helps_twice : (format : Format) (text body : List ℕ) (tokens given : List Token) (roles shown : List Role) (fault stop : Option ℕ) (at : ℕ)
+pub helps_twice : (format : Format) (text body : List ℕ) (tokens given : List Token) (roles shown : List Role) (fault stop : Option ℕ)
+    (at : ℕ)
     (shape : Option Shape) (h : Option Hint) → format ≡ format_of text → body ≡ drop 11 text → Lexes (length text) body tokens fault
     → given ≡ tokens → shown ≡ roles → stop ≡ fault_at format (length text) whole_job given →
     (stop ≡ None → roles ≡ roles_at format whole_job given)

@@ -22,7 +22,8 @@ expected_in format (s ∷ ss) (t ∷ ts) = or_symbol (next format s t.shape) s (
 
 -- what the grammar asks for where the tokens of a text leave it, as far as tokens can be read
 abbrev pub IsExpected : List ℕ → Option Symbol → Type 0
-IsExpected text symbol = (tokens : List Token) × (fault : Option ℕ) × HasTokens text tokens fault × (symbol ≡ expected_in (format_of text) whole_job tokens)
+IsExpected text symbol = (tokens : List Token) × (fault : Option ℕ) × HasTokens text tokens fault
+    × (symbol ≡ expected_in (format_of text) whole_job tokens)
 
 -- what the sentence of a refusal asks for: of a text that goes on wrongly what the grammar does, and nothing of another
 abbrev pub IsAsked : JobKind → List ℕ → Option Symbol → Type 0

@@ -9,7 +9,8 @@ use Rattle.job_grammar.specs.declared.fault.JobKind.TheVariants.{TooLong, NotAsc
 abbrev pub token_sentence : Option ℕ → List ℕ
 token_sentence None = codes "a word, a number, a string or one of `{`, `}` and `;` was expected"
 token_sentence (Some b) =
-    if b == 34 then codes "a string of 1 to 64 bytes was expected: printable, or `\\\"`, `\\\\` or `\\x` and two of 0-9a-f, and closed by a quote"
+    if b == 34 then
+    codes "a string of 1 to 64 bytes was expected: printable, or `\\\"`, `\\\\` or `\\x` and two of 0-9a-f, and closed by a quote"
     else if is_digit b then codes "a letter or `_` stands directly behind this number"
     else if is_letter b then codes "this word has more than 32 bytes"
     else codes "a word, a number, a string or one of `{`, `}` and `;` was expected"
@@ -52,5 +53,6 @@ sentence_of Depth byte asked = codes "more than 32 blocks stand in one another"
 sentence_of Twice byte asked = codes "this name was given before: jobs, scopes, nurseries and starts need names of their own"
 sentence_of NotEnclosing byte asked = codes "no scope or nursery round this `cancel` has this name"
 sentence_of Reserved byte asked = codes "this name is reserved: no keyword, not `Cancelled`, and `TooSlow` only behind `except`"
-sentence_of TooLarge byte asked = codes "the job has more than 100000 steps, in format 2 more than 1000000, the copies that `over` makes and the passes of `repeat` counted"
+sentence_of TooLarge byte asked =
+    codes "the job has more than 100000 steps, in format 2 more than 1000000, the copies that `over` makes and the passes of `repeat` counted"
 sentence_of NoMemory byte asked = codes "no memory"

@@ -22,8 +22,8 @@ const MOST_BEHIND: usize = 40;
 /// Tells a refusal to the user: `JOB:LINE:COLUMN: ` and a sentence, the line of the job text, and a caret under the
 /// place. Of a long line the 60 bytes in front of the place and the 40 from it on are shown. A byte that is no printable
 /// ASCII is shown as `?`, and a tab or a carriage return as a space. Where something may help, a line tells it: that format 2 has
-/// what stands there, a keyword that was nearly spelled, the block that is not closed, where a name was first given. `job` is the name that the user gave the
-/// text.
+/// what stands there, a keyword that was nearly spelled, the block that is not closed, where a name was first given. `job` is
+/// the name that the user gave the text.
 pub fn explain(alloc: Global, job: &str, text: &[u8], fault: JobFault) -> Result<String, AllocError>
     ensures { IfOk result (λ message. Tells job.now text.now fault (string_bytes message)) }
 {

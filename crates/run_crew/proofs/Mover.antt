@@ -253,6 +253,7 @@ module _ (k : Table) (job : Job) (input : List ℕ) (t m s : ℕ) (old new : Cre
           nurseries = members_after k job input t m s old new before after stop c T;
         }
 
+    -- after its turn the task is tied to the one of the definitions that has its serial number
     pub mover_follows : Follows new T.is.froms input t T.is.at (numbers_then c.numbers s m T.took.numbers_after) (leaving_by stop s) s after
     mover_follows =
         follows_by new T.is.froms input t T.is.at (numbers_then c.numbers s m now) (leaving_by stop s) s after now result

@@ -250,6 +250,7 @@ module _ (k : Table) (job : Job) (input : List ℕ) (t m s : ℕ) (old new : Cre
           nurseries = λ id has. absurd (none_owned id (blocks_of task.frames.items) (waits_of task.halt) no_blocks no_waits has);
         }
 
+  -- each task that was started is tied to the one of the definitions that has its serial number
   pub child_follows : ((i : ℕ) (b : Begun) → slice_get T.move.begun i ≡ Some b → b.here.input ≡ input) → (i : ℕ) (task : Task) →
       slice_get T.took.tasks i ≡ Some task →
       (leaving : Option ℕ) → Follows new T.is.froms input t T.is.at (numbers_then c.numbers s m T.took.numbers_after) leaving (m + i) task

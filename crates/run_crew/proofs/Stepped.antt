@@ -161,7 +161,8 @@ module _ (k : Table) (job : Job) (input : List ℕ) (t m s : ℕ) (old new : Cre
     turn =
         turning k job input t m s old new before after wake stop settled names starting c x.task x.stays x.world x.sound x.sound_after
         x.none_left
-        (crew_fits k job input t m None old c x.sound s before x.task) x.fits_after x.modest x.goes.fits x.turn may x.task_after x.child_after
+        (crew_fits k job input t m None old c x.sound s before x.task) x.fits_after x.modest x.goes.fits x.turn may x.task_after
+        x.child_after
         x.other_after x.gone_after x.start_after
         x.start_child x.more_children x.children_after x.no_children x.turns
 
@@ -189,7 +190,8 @@ module _ (k : Table) (job : Job) (input : List ℕ) (t m s : ℕ) (old new : Cre
 
       step : StoppedIn k job input t (m + length T.move.begun) s stop new
       step =
-          let after = crew_turned c T settled names starting (other_follows k job input t m s old new before after stop settled names starting
+          let after = crew_turned c T settled names starting
+          (other_follows k job input t m s old new before after stop settled names starting
           c T) in
           record { is = after.0; ended = subst (λ (at : ℕ → Started). EndsAs stop t (at s)) (sym after.1) now }
 

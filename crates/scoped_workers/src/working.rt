@@ -174,7 +174,8 @@ fn gather<'a>(
     requires { All (IsFinished requests.now claims.now) stations.items }
     ensures count { IfOk result (λ gathered. vec_len gathered.passes ≡ vec_len stations.entry) }
     ensures passes { IfOk result (λ gathered. All (λ pass. IsPassOf claims.now pass × (was_told pass ≡ true)) gathered.passes.items) }
-    ensures answered { IfOk result (λ gathered. gathered.refused ≡ false → AreGathered requests.entry.now gathered.passes.items gathered.answered.items) }
+    ensures answered { IfOk result (λ gathered. gathered.refused ≡ false →
+        AreGathered requests.entry.now gathered.passes.items gathered.answered.items) }
 {
     let mut gathered = Gathered {
         passes: Vec::with_capacity(alloc, stations.len())?,

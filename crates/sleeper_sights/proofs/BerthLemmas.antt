@@ -102,6 +102,7 @@ module _ {Z : Type 0} where
         | inr differs ↦ ap tasks_of (get-unwritten lists scope other w differs)
       ]
 
+  -- lists that stay through one change and then through another stay through both
   pub then_same : (lists more later : List (Vec ℕ Z)) → SameTasks lists more → SameTasks more later → SameTasks lists later
   then_same lists more later first second scope = second scope ∙ first scope
 
@@ -191,13 +192,15 @@ module _ {Z : Type 0} (berths : List (Option Berth)) (lists : List (Vec ℕ Z)) 
   own_place : berth_at berths task ≡ Some berth → place_under berth.scope (berth_at berths task) ≡ Some berth.place
   own_place slept = ap (place_under berth.scope) slept ∙ under_own berth
 
-  -- so its scope and its place are in the tables
+  -- so it is in the table of berths
   pub task_within : berth_at berths task ≡ Some berth → task < length berths
   task_within slept = is_within berths task berth.scope (ap scope_of slept)
 
+  -- its place is one in the list of the scope that it sleeps in
   pub place_within : AllPlaced berths lists → berth_at berths task ≡ Some berth → berth.place < length (tasks_at lists berth.scope)
   place_within kept slept = ((kept.placed berth.scope).stands task berth.place (own_place slept)).0
 
+  -- its scope has a list in the table
   pub scope_within : AllPlaced berths lists → berth_at berths task ≡ Some berth → berth.scope < length lists
   scope_within kept slept = has_list lists berth.scope berth.place (place_within kept slept)
 
@@ -215,10 +218,12 @@ module _ {Z : Type 0} (berths : List (Option Berth)) (lists : List (Vec ℕ Z)) 
       (own_place berths lists task berth h.slept) h.taken inside is in
       (under_is berth.scope (berth_at berths moved) (length v.items - 1) m.0, m.1)
 
+  -- the task that gets its place is in the table of berths
   pub moved_within : Leaves berths lists task berth v w → (moved : ℕ) → berth.place < length w.items →
       moved ≡ get_or w.items berth.place 0 → moved < length berths
   moved_within h moved inside is = is_within berths moved berth.scope (last_is h moved inside is).0
 
+  -- where the task was the last of its list, its berth is taken away and no other task moves
   pub clears_last : Leaves berths lists task berth v w → length w.items ≤ berth.place →
       Clears berths (slice_set berths task None) task berth w
   clears_last h out = record {
@@ -227,6 +232,7 @@ module _ {Z : Type 0} (berths : List (Option Berth)) (lists : List (Vec ℕ Z)) 
     others = λ k differs apart. unwritten berths task k None differs;
   }
 
+  -- where it was not, the last of the list gets its berth
   pub clears_moved : Leaves berths lists task berth v w → (moved : ℕ) → berth.place < length w.items →
       moved ≡ get_or w.items berth.place 0 → Clears berths (slice_set (slice_set berths task None) moved (Some berth)) task berth w
   clears_moved h moved inside is =
@@ -242,6 +248,7 @@ module _ {Z : Type 0} (berths : List (Option Berth)) (lists : List (Vec ℕ Z)) 
             ∙ unwritten berths task k None differs;
       }
 
+  -- then the list of each scope again has the tasks whose places are in it
   pub placed_left : (later : List (Option Berth)) → Leaves berths lists task berth v w → Clears berths later task berth w →
       AllPlaced later (slice_set lists berth.scope w)
   placed_left later h c = record {
@@ -287,6 +294,7 @@ module _ {Z : Type 0} (berths : List (Option Berth)) (lists : List (Vec ℕ Z)) 
                 ]
           ]
 
+  -- and the task sleeps nowhere, and every other one where it did
   pub puts_left : (later : List (Option Berth)) → Leaves berths lists task berth v w → Clears berths later task berth w →
       Puts (map scope_of berths) (map scope_of later) task None
   puts_left later h c = record {

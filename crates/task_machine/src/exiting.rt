@@ -44,7 +44,8 @@ impl<'a> Task<'a> {
         ensures world { OnOk result (world.new ≡ record world.old { scopes = world.new.scopes; labels = world.new.labels }) }
         ensures left { OnOk result (LeavesOne self.old self.new world.old world.new) }
         ensures own { OnOk result (OwnFirst world.new.scopes (home_scope self.old) self.new.own.items) }
-        ensures at { IfOk result (λ after. ExitsAt self.old self.new world.old world.new kind (option_map exc_of exc) (option_map exc_of after)) }
+        ensures at { IfOk result (λ after. ExitsAt self.old self.new world.old world.new kind (option_map exc_of exc)
+            (option_map exc_of after)) }
     {
         let Closed { label, catches } = self.leave(world);
         let left = left_with(self.alloc, catches, exc)?;

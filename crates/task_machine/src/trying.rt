@@ -49,7 +49,8 @@ impl<'a> Task<'a> {
         ensures stays { OnOk result (self.new ≡ record self.old { frames = self.new.frames }) }
         ensures blocks { OnOk result (blocks_of self.new.frames.items ≡ blocks_of self.old.frames.items) }
         ensures step { IfOk result (λ after. (numbers : Numbers) (ps : List Place) →
-            step_try (handled_of (option_copied handler.entry)) (cleaned_of cleanup.now) (frames_of numbers self.old.frames.items) ps (option_map exc_of exc)
+            step_try (handled_of (option_copied handler.entry)) (cleaned_of cleanup.now) (frames_of numbers self.old.frames.items) ps
+            (option_map exc_of exc)
             ≡ onward (frames_of numbers self.new.frames.items) ps (option_map exc_of after)) }
     {
         let Some(handler) = handler else {

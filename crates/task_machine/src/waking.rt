@@ -42,7 +42,8 @@ impl<'a> Task<'a> {
             ≡ record world.old { scopes = world.new.scopes; labels = world.new.labels; book = world.new.book }) }
         ensures halt { OnOk result (IsModestHalt self.new.halt) }
         ensures fits { IfOk result (λ moved. Fits self.new.frames.items self.new world.new (waits_by moved self.new.halt)) }
-        ensures wakes { IfOk result (λ moved. Wakens self.old self.new world.old world.new moved (wake_in world.old.book self.old.halt wake.entry)) }
+        ensures wakes { IfOk result (λ moved. Wakens self.old self.new world.old world.new moved
+            (wake_in world.old.book self.old.halt wake.entry)) }
     {
         match wake {
             Wake::Begin => Ok(Moved::On(None)),
@@ -136,7 +137,8 @@ impl<'a> Task<'a> {
         ensures world { OnOk result (world.new
             ≡ record world.old { scopes = world.new.scopes; labels = world.new.labels; book = world.new.book }) }
         ensures fits { IfOk result (λ moved. Fits self.new.frames.items self.new world.new (waits_by moved self.new.halt)) }
-        ensures wakes { IfOk result (λ moved. Wakens self.old self.new world.old world.new moved (settles (settled_exc world.old.book self.old.halt))) }
+        ensures wakes { IfOk result (λ moved. Wakens self.old self.new world.old world.new moved
+            (settles (settled_exc world.old.book self.old.halt))) }
     {
         stacks_are_chains(&world.scopes);
         let Halt::Awaits { nursery, .. } = &self.halt else {

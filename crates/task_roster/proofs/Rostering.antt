@@ -186,6 +186,7 @@ module _ (old new : Roster) (p : ℕ) (child : Task) (tick id : ℕ) (ok : IsRos
   add_parent : row_at new p ≡ Some a.grown
   add_parent = add_old p (slice_get_within old.rows.items p a.before a.is) ∙ set_here old.rows.items p a.before a.grown a.is
 
+  -- so a task was started: it has the next row, and an id under which nothing lived
   pub starts : Starts old new p child tick id
   starts = record {
     fresh = a.fresh;
@@ -296,6 +297,7 @@ module _ (old new : Roster) (p : ℕ) (child : Task) (tick id : ℕ) (ok : IsRos
         row_is = sym (h.0 ∙ length-set old.rows.items p a.grown);
       }
 
+  -- rows and ids agree still once a task was started
   pub agrees_started : IsRoster new
   agrees_started = record {
     rows = add_rows;
@@ -315,6 +317,7 @@ module _ (old new : Roster) (id : ℕ) (x y : Running) (ok : IsRoster old) (live
   same_rows : (j : ℕ) → row_at new j ≡ row_at old j
   same_rows j = ap (λ (v : List Row). slice_get v j) rows
 
+  -- a turn changes no other task, and no start, child, parent or id of any
   pub turned_same : SameBut old new x.row
   turned_same = record {
     many = ap length rows;
@@ -327,13 +330,11 @@ module _ (old new : Roster) (id : ℕ) (x y : Running) (ok : IsRoster old) (live
     id = λ j. ap id_by (same_rows j);
   }
 
+  -- the row of that task has it as the turn left it
   pub turned_task : task_of new x.row ≡ Some y.task
   turned_task =
       let h : HasRow old x.row id = ok.rows id x lived in
       ap (task_by new.live) (same_rows x.row ∙ h.is) ∙ task_here new.live h.row y h.endless (ap (live_at new.live) h.id_is ∙ live.changed)
-
-  pub turned_gone : gone_of new x.row ≡ gone_of old x.row
-  turned_gone = ap gone_by (same_rows x.row)
 
   turned_rows : (key : ℕ) (z : Running) → running_at new key ≡ Some z → HasRow new z.row key
   turned_rows key z is = by (eqb_tells key id)
@@ -360,6 +361,7 @@ module _ (old new : Roster) (id : ℕ) (x y : Running) (ok : IsRoster old) (live
       }
       by (inr h) = record { running = l.running; is = live.others r.task h.1 ∙ l.is; row_is = l.row_is }
 
+  -- rows and ids agree still after a turn
   pub agrees_turned : IsRoster new
   agrees_turned = record { rows = turned_rows; lives = turned_lives; tree = subst ChildrenAreApart (sym rows) ok.tree }
 
@@ -421,6 +423,7 @@ module _ (old new : Roster) (id tick : ℕ) (exc : Option held.Exc) (x : Running
   close_is : gone_from c.ended ≡ close_kept
   close_is = rw (c.label, c.tick_is, c.exc_is, c.entries, c.froms) refl
 
+  -- so the task has ended: nothing lives under its id, and its row keeps what is left of it
   pub ends : Ends old new id tick exc
   ends = record {
     row = x.row;
@@ -462,6 +465,7 @@ module _ (old new : Roster) (id tick : ℕ) (exc : Option held.Exc) (x : Running
           (same_Some _ _ (sym is ∙ ap (row_at new) h.1 ∙ close_here))))
       by (inr h) = others h.1 (sym (close_other j h.1) ∙ is)
 
+  -- rows and ids agree still once a task has ended
   pub agrees_ended : IsRoster new
   agrees_ended = record {
     rows = ends_rows;
@@ -494,6 +498,7 @@ module _ (r : Roster) (root : Task) (id : ℕ) (f : First r root id) where
   first_gone zero = ap gone_by first_here ∙ ap (option_map gone_from) f.begins.end
   first_gone (suc j) = ap gone_by (first_past j)
 
+  -- so the root is alone, in the first row, in tick 0
   pub has_root : HasRoot r root id
   has_root = record {
     many = ap length f.rows;
@@ -526,6 +531,7 @@ module _ (r : Roster) (root : Task) (id : ℕ) (f : First r root id) where
       }
   first_lives (suc j) row is none = absurd (false≢true (sym (ap is_some (first_past j)) ∙ ap is_some is))
 
+  -- and its row and its id agree
   pub agrees_first : IsRoster r
   agrees_first = record {
     rows = first_rows;

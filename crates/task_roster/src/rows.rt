@@ -52,7 +52,8 @@ pub fn records_of<'a>(
 ) -> Result<(Vec<Record<'a>>, Vec<ScopeFrom>), AllocError>
     requires ended { All (λ r. IsSome r.end) rows.items }
     requires tree { ChildrenAreApart rows.items }
-    ensures { IfOk result (λ told. (input : List ℕ) (rs : ℕ → course.Row) → AreShown input rs rows.entry.items → ShowRecords input rs told.0.items told.1.items) }
+    ensures { IfOk result (λ told. (input : List ℕ) (rs : ℕ → course.Row) → AreShown input rs rows.entry.items →
+        ShowRecords input rs told.0.items told.1.items) }
 {
     let mut rows = rows;
     let left = rows.as_mut_slice();

@@ -27,6 +27,7 @@ more_round name ns round d h n i (inl e) = d (subst (λ (x : List ℕ). Among x 
 more_round name ns round d h n i (inr j) = h n i j
 
 mutual
+  -- steps that give each name once, and none of a scope round them, enter no scope that has the name of one round it
   pub new_steps : (ss : Steps) (round : List (List ℕ)) → Distinct (names_of ss) → NoName (names_of ss) round → AreNew round ss
   new_steps stop round d h = tt
   new_steps (step s ss) round d h = (
@@ -34,6 +35,7 @@ mutual
     new_steps ss round (distinct_right (names_in s) (names_of ss) d) (λ n i. h n (among_right n (names_in s) (names_of ss) i)),
   )
 
+  -- the same of one step
   pub new_step : (s : Step) (round : List (List ℕ)) → Distinct (names_in s) → NoName (names_in s) round → IsNew round s
   new_step (sleep n) round d h = tt
   new_step checkpoint round d h = tt

@@ -4,4 +4,5 @@ use Rattle.nursery_app.specs.Expecting.{expected_in}
 use Rattle.nursery_app.proofs.expecting.expected_at.Given as goal
 
 abbrev pub invariant-loop-token : goal.invariant-loop-token
-invariant-loop-token l = expected_in l.format (reverse l.stack.items) (drop l.token-index l.tokens) ≡ expected_in l.format whole_job l.tokens
+invariant-loop-token l = expected_in l.format (reverse l.stack.items) (drop l.token-index l.tokens) ≡ expected_in
+    l.format whole_job l.tokens

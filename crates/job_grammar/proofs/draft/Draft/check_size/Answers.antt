@@ -11,4 +11,11 @@ returns-then-size_of-most_steps-clause-err c =
 
 pub returns-clause-ok : goal.returns-clause-ok
 returns-clause-ok c = size_passed c.args.self.now.text.now c.args.self.now c.requires
-    (omega (arith, c.size_of.ensures, c.most_steps.ensures, c.if-size_of-most_steps.false, few_steps c.args.self.now.format, ap size_of c.as_slice.ensures))
+    (omega (
+      arith,
+      c.size_of.ensures,
+      c.most_steps.ensures,
+      c.if-size_of-most_steps.false,
+      few_steps c.args.self.now.format,
+      ap size_of c.as_slice.ensures,
+    ))
