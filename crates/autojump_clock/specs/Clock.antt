@@ -6,7 +6,7 @@ use Rattle.tick_queue.specs.Ticks.{tick_in}
 pub record Clock : Type 0 where
   pub tick : ℕ
   pub limit : ℕ
-  pub timers : List (ℕ × ℕ)
+  pub timers : List (Option ℕ)
 
 -- the clock's tick
 abbrev pub now_of : Clock → ℕ

@@ -3,7 +3,7 @@ use Rattle.std.specs.Prelude.{◌≡◌, ℕ, ◌≤◌, List, min, Option, Some
 use Rattle.tick_queue.specs.Ticks.{tick_in}
 
 -- each timer is due at that tick or later
-abbrev pub NoneBefore : List (ℕ × ℕ) → ℕ → Type 0
+abbrev pub NoneBefore : List (Option ℕ) → ℕ → Type 0
 NoneBefore timers tick = (task due : ℕ) → tick_in timers task ≡ Some due → tick ≤ due
 
 -- the earlier of a tick and the next cancellation's

@@ -24,7 +24,7 @@ pub record Puts (old new : List (Option ℕ)) (task : ℕ) (scope : Option ℕ) 
   pub others : (other : ℕ) → other ≢ task → scope_at new other ≡ scope_at old other
 
 -- a scope that has a tick is one in which somebody sleeps
-abbrev pub AllSleptIn : List (Option ℕ) → List (ℕ × ℕ) → Type 0
+abbrev pub AllSleptIn : List (Option ℕ) → List (Option ℕ) → Type 0
 AllSleptIn scopes sights = (scope tick : ℕ) → tick_in sights scope ≡ Some tick → (task : ℕ) × (scope_at scopes task ≡ Some scope)
 
 abbrev pub scope_of : Option Berth → Option ℕ

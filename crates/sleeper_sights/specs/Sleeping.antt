@@ -6,7 +6,7 @@ use Rattle.tick_queue.specs.Ticks.{tick_in}
 -- the scopes by the keys of the tasks that sleep in them, and the keys of scopes with their ticks
 pub record Sleeping : Type 0 where
   pub scopes : List (Option ℕ)
-  pub sights : List (ℕ × ℕ)
+  pub sights : List (Option ℕ)
 
 abbrev pub scope_at : List (Option ℕ) → ℕ → Option ℕ
 scope_at scopes task = slice_index_or scopes task None

@@ -1,28 +1,26 @@
--- What clauses see of a queue: a map from keys to ticks, as the keys with their ticks.
+-- What clauses see of a queue: a map from keys to ticks, as the ticks at their keys' places.
 use Rattle.std.specs.Prelude.{◌≡◌, ◌≢◌, ℕ, ◌≤◌, List, Option, Some, None}
-use Rattle.std.specs.Map.{lookup}
-use Rattle.std.specs.Ordering.{nat_cmp}
-use Rattle.std.specs.BTreeMap.{is_at}
+use Rattle.std.specs.Prelude.{slice_index_or}
 
 -- the tick of a key, if it has one
-abbrev pub tick_in : List (ℕ × ℕ) → ℕ → Option ℕ
-tick_in q key = lookup (is_at (nat_cmp key)) q
+abbrev pub tick_in : List (Option ℕ) → ℕ → Option ℕ
+tick_in q key = slice_index_or q key None
 
 -- no key has a tick
-abbrev pub HasNone : List (ℕ × ℕ) → Type 0
+abbrev pub HasNone : List (Option ℕ) → Type 0
 HasNone q = (key : ℕ) → tick_in q key ≡ None
 
 -- each key's tick stays
-abbrev pub IsSame : List (ℕ × ℕ) → List (ℕ × ℕ) → Type 0
+abbrev pub IsSame : List (Option ℕ) → List (Option ℕ) → Type 0
 IsSame old new = (key : ℕ) → tick_in new key ≡ tick_in old key
 
 -- the key's tick is this now, and every other key keeps its own
-pub record Puts (old new : List (ℕ × ℕ)) (key : ℕ) (tick : Option ℕ) : Type 0 where
+pub record Puts (old new : List (Option ℕ)) (key : ℕ) (tick : Option ℕ) : Type 0 where
   pub changed : tick_in new key ≡ tick
   pub others : (other : ℕ) → other ≢ key → tick_in new other ≡ tick_in old other
 
 -- the key has this tick, no key has an earlier one, and none of those that have it is less
-pub record IsFirst (q : List (ℕ × ℕ)) (tick key : ℕ) : Type 0 where
+pub record IsFirst (q : List (Option ℕ)) (tick key : ℕ) : Type 0 where
   pub has : tick_in q key ≡ Some tick
   pub earliest : (other later : ℕ) → tick_in q other ≡ Some later → tick ≤ later
   pub least : (other later : ℕ) → tick_in q other ≡ Some later → later ≤ tick → key ≤ other
