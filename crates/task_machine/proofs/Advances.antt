@@ -1,6 +1,7 @@
 -- A step of the code by the innermost frame of a task, as the definitions' step: one lemma for each kind of frame.
 use Rattle.std.proofs.Common.{◌≡◌, ℕ, zero, suc, ◌<◌, Bool, true, false, Option, Some, None, List, [], ◌∷◌, ◌++◌, length, refl, ap, sym, ◌∙◌, subst, arith, Bor}
 use Rattle.std.proofs.lemmas.List.{append-nil}
+use Rattle.std.specs.Global.{Box}
 use Rattle.std.specs.Option.{option_map, option_copied}
 use Rattle.buffer_parts.specs.Part.{buffer_of}
 use Rattle.buffer_parts.specs.declared.part.Part.{Part}
@@ -35,7 +36,7 @@ use Rattle.task_machine.specs.Acts.{Scoping, scoping_of, Acts}
 use Rattle.task_machine.specs.Exits.{ExitsAt, FailsAt}
 use Rattle.task_machine.specs.Left.{LeavesOne}
 use Rattle.task_machine.specs.Fitting.{Block, a_scope, a_nursery, blocks_of}
-use Rattle.task_machine.specs.Frames.{frame_of, frames_onto, frames_of}
+use Rattle.task_machine.specs.Frames.{laid_aside, frame_of, frames_onto, frames_of}
 use Rattle.task_machine.specs.Stacked.{AreAt}
 use Rattle.task_machine.specs.Standing.{step_at, here_of, waits_by, Stands, AreNoted, Owns, OthersStay, Took, Takes}
 use Rattle.task_machine.specs.Stops.{Numbers, MovesAs}
@@ -282,13 +283,13 @@ takes_try frames handler cleanup task before after world exc goes popped same st
     (step numbers ps))
 
 -- its handler has ended
-pub takes_handler : (frames : List Frame) (others : Option held.Exc) (cleanup : Bor (Option tree.Steps)) (task before after : Task)
+pub takes_handler : (frames : List Frame) (others : Option (Box held.Exc)) (cleanup : Bor (Option tree.Steps)) (task before after : Task)
     (world : World) (exc goes : Option held.Exc) →
     frames ≡ before.frames.items ++ Handler others cleanup ∷ [] → before ≡ record task { frames = before.frames } →
     after ≡ record before { frames = after.frames } →
     ((numbers : Numbers) → frames_of numbers after.frames.items ≡ rest.in_try tree.unhandled (cleaned_of cleanup.now)
     ∷ frames_of numbers before.frames.items) →
-    option_map exc_of goes ≡ handler_exc (option_map exc_of exc) (option_map exc_of others) →
+    option_map exc_of goes ≡ handler_exc (option_map exc_of exc) (option_map exc_of (laid_aside others)) →
     Takes frames task after world world (On goes) (step_at task world frames (option_map exc_of exc))
 takes_handler frames others cleanup task before after world exc goes popped same stays held raised =
     takes_step frames before.frames.items (Handler others cleanup) task before after world world (On goes) (option_map exc_of exc) popped
@@ -297,23 +298,23 @@ takes_handler frames others cleanup task before after world exc goes popped same
     took_onward frames before after world goes froms numbers None ps
     (onward (rest.in_try tree.unhandled (cleaned_of cleanup.now) ∷ frames_of numbers before.frames.items) ps
     (handler_exc (option_map exc_of exc)
-    (option_map exc_of others))) stands stays
+    (option_map exc_of (laid_aside others)))) stands stays
     (blocks_same before.frames.items after.frames.items (ap (λ (fs : List rest.Frame). blocks_onto fs []) (held own_keys))
     ∙ blocks_off before.frames.items frames (Handler others cleanup) popped refl)
-    (ap (λ (fs : List rest.Frame). onward fs ps (handler_exc (option_map exc_of exc) (option_map exc_of others))) (sym (held numbers))
+    (ap (λ (fs : List rest.Frame). onward fs ps (handler_exc (option_map exc_of exc) (option_map exc_of (laid_aside others)))) (sym (held numbers))
     ∙ ap (λ (e : Option Exc). onward (frames_of numbers after.frames.items) ps e) (sym raised)))
 
 -- its cleanup has ended
-pub takes_cleanup : (frames : List Frame) (outcome : Option held.Exc) (task after : Task) (world : World) (exc goes : Option held.Exc) →
+pub takes_cleanup : (frames : List Frame) (outcome : Option (Box held.Exc)) (task after : Task) (world : World) (exc goes : Option held.Exc) →
     frames ≡ after.frames.items ++ Cleanup outcome ∷ [] →
     after ≡ record task { frames = after.frames } → option_map exc_of goes
-    ≡ outcome_after (option_map exc_of outcome) (option_map exc_of exc) →
+    ≡ outcome_after (option_map exc_of (laid_aside outcome)) (option_map exc_of exc) →
     Takes frames task after world world (On goes) (step_at task world frames (option_map exc_of exc))
 takes_cleanup frames outcome task after world exc goes popped same raised =
     takes_step frames after.frames.items (Cleanup outcome) task after after world world (On goes) (option_map exc_of exc) popped same
     (λ froms numbers ps count stands.
     took_onward frames after after world goes froms numbers None ps
-    (onward (frames_of numbers after.frames.items) ps (outcome_after (option_map exc_of outcome)
+    (onward (frames_of numbers after.frames.items) ps (outcome_after (option_map exc_of (laid_aside outcome))
     (option_map exc_of exc))) stands refl
     (blocks_off after.frames.items frames (Cleanup outcome) popped refl)
     (ap (λ (e : Option Exc). onward (frames_of numbers after.frames.items) ps e) (sym raised)))

@@ -1,11 +1,18 @@
 -- What the code holds of what a task has not finished, the innermost last, as frames, the innermost first.
-use Rattle.std.specs.Prelude.{ℕ, List, [], ◌∷◌, ◌++◌}
+use Rattle.std.specs.Prelude.{ℕ, List, [], ◌∷◌, ◌++◌, Option, Some, None}
+use Rattle.std.specs.Global.{Box}
 use Rattle.std.specs.Option.{option_map, option_copied}
 use Rattle.job_tree.specs.Blocks.{steps_of, handled_of, cleaned_of}
 use Rattle.exc_groups.specs.Held.{exc_of}
+use Rattle.exc_groups.specs.declared.exc.Exc as held
 use Rattle.job_meaning.specs.Rest as rest
 use Rattle.task_machine.specs.declared.frame.Frame.{Frame}
 use Rattle.task_machine.specs.declared.frame.Frame.TheVariants.{Steps, Scope, Nursery, Repeat, Try, Handler, Cleanup}
+
+-- an exception that a frame keeps until later
+abbrev pub laid_aside : Option (Box held.Exc) → Option held.Exc
+laid_aside None = None
+laid_aside (Some aside) = Some aside.value
 
 -- one frame, where the children that were started in each nursery have these numbers
 abbrev pub frame_of : (ℕ → List ℕ) → Frame → rest.Frame
@@ -14,8 +21,8 @@ frame_of children (Scope fail) = rest.in_scope fail
 frame_of children (Nursery id) = rest.in_nursery (children id)
 frame_of children (Repeat pass left body) = rest.in_repeat pass left body.now
 frame_of children (Try handler cleanup) = rest.in_try (handled_of (option_copied handler)) (cleaned_of cleanup.now)
-frame_of children (Handler others cleanup) = rest.in_handler (option_map exc_of others) (cleaned_of cleanup.now)
-frame_of children (Cleanup outcome) = rest.in_cleanup (option_map exc_of outcome)
+frame_of children (Handler others cleanup) = rest.in_handler (option_map exc_of (laid_aside others)) (cleaned_of cleanup.now)
+frame_of children (Cleanup outcome) = rest.in_cleanup (option_map exc_of (laid_aside outcome))
 
 -- those held, inside the outer ones
 abbrev pub frames_onto : (ℕ → List ℕ) → List Frame → List rest.Frame → List rest.Frame

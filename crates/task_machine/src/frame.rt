@@ -36,14 +36,14 @@ pub(crate) enum Frame<'a> {
     /// A handler.
     Handler {
         /// What the split left for others.
-        rest: Option<Exc>,
+        rest: Option<Box<Exc>>,
         /// The cleanup of its `try`, if it has one.
         cleanup: &'a Option<Body>,
     },
     /// A cleanup.
     Cleanup {
         /// How the `try` came out before it.
-        outcome: Option<Exc>,
+        outcome: Option<Box<Exc>>,
     },
 }
 

@@ -16,6 +16,7 @@ mod entry;
 mod exiting;
 mod frame;
 mod labels;
+mod laid_aside;
 mod laws;
 mod leaving;
 mod outcome;

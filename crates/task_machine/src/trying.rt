@@ -8,10 +8,11 @@ ghost use Rattle.job_tree.specs.Tree.{unhandled};
 ghost use Rattle.task_turns.specs.Midway.{Place};
 ghost use Rattle.task_turns.specs.Steps.{onward, step_try};
 ghost use Rattle.task_machine.specs.Fitting.{blocks_of};
-ghost use Rattle.task_machine.specs.Frames.{frames_of};
+ghost use Rattle.task_machine.specs.Frames.{frames_of, laid_aside};
 ghost use Rattle.task_machine.specs.Stops.{Numbers};
 
 use crate::frame::Frame;
+use crate::laid_aside::{lay_aside, take_up};
 use crate::outcome::handler_exc;
 use crate::task::Task;
 use exc_groups::{Exc, Match, split};
@@ -69,6 +70,7 @@ impl<'a> Task<'a> {
             self.without_handler(cleanup)?;
             return Ok(Some(exc));
         }
+        let rest = lay_aside(self.alloc, rest)?;
         self.push(Frame::Handler { rest, cleanup })?;
         self.push(Frame::Steps(handler.body.as_slice()))?;
         Ok(None)
@@ -77,7 +79,7 @@ impl<'a> Task<'a> {
     // A handler has ended with that exception, or well. Gives the exception that the task goes on with.
     pub(crate) fn end_handler(
         &mut self,
-        rest: Option<Exc>,
+        rest: Option<Box<Exc>>,
         cleanup: &'a Option<Body>,
         exc: Option<Exc>,
     ) -> Result<Option<Exc>, AllocError>
@@ -85,10 +87,10 @@ impl<'a> Task<'a> {
         ensures blocks { OnOk result (blocks_of self.new.frames.items ≡ blocks_of self.old.frames.items) }
         ensures frames { OnOk result ((numbers : Numbers) → frames_of numbers self.new.frames.items
             ≡ in_try unhandled (cleaned_of cleanup.now) ∷ frames_of numbers self.old.frames.items) }
-        ensures exc { IfOk result (λ after. option_map exc_of after ≡ raised_in_handler (option_map exc_of exc) (option_map exc_of rest)) }
+        ensures exc { IfOk result (λ after. option_map exc_of after ≡ raised_in_handler (option_map exc_of exc) (option_map exc_of (laid_aside rest))) }
     {
         self.without_handler(cleanup)?;
-        handler_exc(self.alloc, exc, rest)
+        handler_exc(self.alloc, exc, take_up(rest))
     }
 
     // Goes on behind the handler of a `try`.
@@ -119,7 +121,8 @@ impl<'a> Task<'a> {
         let Some(body) = cleanup else {
             return Ok(exc);
         };
-        self.push(Frame::Cleanup { outcome: exc })?;
+        let outcome = lay_aside(self.alloc, exc)?;
+        self.push(Frame::Cleanup { outcome })?;
         self.push(Frame::Steps(body.as_slice()))?;
         Ok(None)
     }

@@ -14,6 +14,7 @@ ghost use Rattle.task_machine.specs.Waking.{WakesFrom, IsModestHalt};
 
 use crate::entering::Block;
 use crate::frame::Frame;
+use crate::laid_aside::take_up;
 use crate::outcome::{Kind, outcome_after};
 use crate::stop::{Moved, Purpose, Stop, Wake};
 use crate::task::Task;
@@ -163,7 +164,7 @@ impl<'a> Task<'a> {
                 let exc = self.end_handler(rest, cleanup, exc)?;
                 Ok(Moved::On(exc))
             }
-            Frame::Cleanup { outcome } => Ok(Moved::On(outcome_after(outcome, exc))),
+            Frame::Cleanup { outcome } => Ok(Moved::On(outcome_after(take_up(outcome), exc))),
         }
     }
 

@@ -1,7 +1,9 @@
-use Rattle.std.proofs.Common.{[], ◌∷◌, ◌++◌, ap, sym, ◌∙◌, subst, refl, arith}
+use Rattle.std.proofs.Common.{Option, [], ◌∷◌, ◌++◌, ap, sym, ◌∙◌, subst, refl, arith}
 use Rattle.std.specs.Option.{option_map, option_copied}
+use Rattle.exc_groups.specs.declared.exc.Exc as held
 use Rattle.exc_groups.specs.Held.{exc_of}
 use Rattle.job_tree.specs.Blocks.{handled_of, cleaned_of}
+use Rattle.job_meaning.specs.Walk.{outcome_after}
 use Rattle.task_turns.specs.Bound.{frames_length}
 use Rattle.task_turns.specs.Midway.{Move}
 use Rattle.task_machine.specs.declared.frame.Frame.TheVariants.{Scope, Nursery, Repeat, Try, Handler, Cleanup}
@@ -11,7 +13,7 @@ use Rattle.task_machine.specs.declared.stop.Moved.{Moved}
 use Rattle.task_machine.specs.declared.task.Task.{Task}
 use Rattle.task_machine.specs.Fitting.{Fits, waits_of}
 use Rattle.task_machine.specs.Standing.{waits_by}
-use Rattle.task_machine.specs.Frames.{frames_of}
+use Rattle.task_machine.specs.Frames.{laid_aside, frames_of}
 use Rattle.task_machine.specs.Tasks.{home_scope}
 use Rattle.task_machine.specs.Worlds.{label_at}
 use Rattle.task_machine.proofs.Fits.{ready_scope}
@@ -111,7 +113,7 @@ returns-in_ok-exc-in-Handler-clause-fits c =
     let self = c.args.self.now in
     let e = c.in_ok-exc-in-Handler.ensures in
     let f = Handler c.in-Handler.rest c.in-Handler.cleanup in
-    handled_fits (cleaned_of c.in-Handler.cleanup.now) (option_map exc_of c.in-Handler.rest) c.pop.new.self.items f
+    handled_fits (cleaned_of c.in-Handler.cleanup.now) (option_map exc_of (laid_aside c.in-Handler.rest)) c.pop.new.self.items f
     (record self { frames = c.pop.new.self }) c.end_handler.new.self c.args.world.now refl refl
     (popped_fits self c.pop.new.self.items c.in-Some.frame f c.args.world.now c.in-Some.ensures.items c.in-Handler.is c.requires.fits)
     (e.frames (λ id. [])) e.blocks e.stays
@@ -189,7 +191,7 @@ returns-in-Cleanup-clause-step c =
     let self = c.args.self.now in
     takes_cleanup self.frames.items c.in-Cleanup.outcome self (record self { frames = c.pop.new.self }) c.args.world.now c.args.exc
     c.outcome_after.result (c.in-Some.ensures.items ∙ ap (λ (f : Frame). c.pop.new.self.items ++ f ∷ []) c.in-Cleanup.is) refl
-    c.outcome_after.ensures
+    (c.outcome_after.ensures ∙ ap (λ (o : Option held.Exc). outcome_after (option_map exc_of o) (option_map exc_of c.args.exc)) c.take_up.ensures)
 
 pub returns-in_ok-moved-in-Steps-clause-step : goal.returns-in_ok-moved-in-Steps-clause-step
 returns-in_ok-moved-in-Steps-clause-step c = c.in_ok-moved-in-Steps.ensures.step c.args.self.now.frames.items c.args.self.now
