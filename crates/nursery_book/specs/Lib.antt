@@ -1,4 +1,3 @@
 pub mod Nursery
 pub mod Ends
-pub mod EndCode
 pub mod Book

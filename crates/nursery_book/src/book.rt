@@ -2,8 +2,7 @@ ghost use Rattle.std.specs.Prelude.{◌≡◌, ℕ, true, Some, None, IsSome, If
 ghost use Rattle.std.specs.Option.{option_map};
 ghost use Rattle.exc_groups.specs.Held.{exc_of};
 
-use crate::children::Children;
-use crate::ending::{MemberEnd, gathered};
+use crate::ending::{MemberEnd, all_over, gathered};
 use crate::nursery_id::{NurseryId, Place};
 use autojump_clock::TaskId;
 use cancel_scopes::ScopeId;
@@ -28,7 +27,7 @@ struct Members {
     waiter: TaskId,
     label: Label,
     body: MemberEnd,
-    children: Children,
+    children: Vec<MemberEnd>,
 }
 
 impl NurseryBook {
@@ -62,7 +61,7 @@ impl NurseryBook {
             waiter,
             label,
             body: MemberEnd::Running,
-            children: Children::new(self.alloc),
+            children: Vec::new(self.alloc),
         })?;
         Ok(NurseryId { key })
     }
@@ -74,7 +73,9 @@ impl NurseryBook {
         ensures started { OnOk result (Changes self.old self.new id with_start) }
         ensures err { OnErr result (SameNurseries self.old self.new) }
     {
-        let place = self.nurseries[id.key].children.start()?;
+        let members = &mut self.nurseries[id.key];
+        let place = members.children.len();
+        members.children.push(MemberEnd::Running)?;
         Ok(place)
     }
 
@@ -84,7 +85,7 @@ impl NurseryBook {
         ensures { Changes self.old self.new id (with_child place (option_map exc_of exc)) }
     {
         let members = &mut self.nurseries[id.key];
-        members.children.end(place, exc);
+        members.children[place] = MemberEnd::Ended(exc);
     }
 
     /// The body ended, with that exception or well. Takes no memory.
@@ -102,7 +103,7 @@ impl NurseryBook {
         ensures { HasNursery self.now id (λ n. result ≡ is_settled n) }
     {
         let members = &self.nurseries[id.key];
-        members.body.is_over() && members.children.all_ended()
+        members.body.is_over() && all_over(members.children.as_slice())
     }
 
     /// The cancel scope that the nursery was opened with.
@@ -129,9 +130,10 @@ impl NurseryBook {
         ensures closed { OnOk result (Updates self.old self.new id None) }
         ensures err { OnErr result (SameNurseries self.old self.new) }
     {
-        let room = self.nurseries[id.key].children.room(self.alloc)?;
+        let count = self.nurseries[id.key].children.len();
+        let room = Vec::with_capacity(self.alloc, count + 1)?;
         let members = self.nurseries.remove(id.key);
-        let excs = gathered(room, members.body, members.children.into_ends());
+        let excs = gathered(room, members.body, members.children);
         Ok(group(Whose::Nursery(members.label), excs))
     }
 }

@@ -10,7 +10,6 @@
 #![tactic(auto)]
 
 mod book;
-mod children;
 mod ending;
 mod nursery_id;
 #[cfg(test)]
