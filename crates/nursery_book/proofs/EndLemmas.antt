@@ -1,13 +1,13 @@
 -- The exceptions of members, as the code holds them and as a nursery raises them.
-use Rattle.std.proofs.Common.{◌≡◌, ℕ, ◌<◌, List, [], ◌∷◌, ◌++◌, Some, None, ◌&&◌, is_some, map, refl, ap, ◌∙◌, arith}
-use Rattle.std.specs.Prelude.{option_to_list, slice_get, length}
+use Rattle.std.proofs.Common.{◌≡◌, ℕ, zero, suc, ◌+◌, ◌≤◌, nat_eq, Option, List, [], ◌∷◌, ◌++◌, Some, None, is_some, map, refl, ap, ◌∙◌, arith}
+use Rattle.std.specs.Prelude.{option_to_list, slice_get, slice_set, length}
 use Rattle.std.specs.List.{list_all}
-use Rattle.std.proofs.lemmas.List.{length-map}
-use Rattle.std.proofs.lemmas.Option.{slice_get_within}
+use Rattle.std.proofs.lemmas.Bool.{ne_eqb}
 use Rattle.exc_groups.specs.Exceptions.{parts_of, part}
+use Rattle.exc_groups.specs.declared.exc.Exc as held
 use Rattle.exc_groups.specs.Held.{exc_of, excs_of}
 use Rattle.nursery_book.specs.Nursery.{with_exc, excs_in}
-use Rattle.nursery_book.specs.Ends.{end_of, exc_held, excs_held}
+use Rattle.nursery_book.specs.Ends.{end_of, exc_held, excs_held, running_in}
 use Rattle.nursery_book.specs.declared.ending.MemberEnd.{MemberEnd}
 use Rattle.nursery_book.specs.declared.ending.MemberEnd.TheVariants.{Running, Ended}
 
@@ -33,11 +33,29 @@ pub held_raised : (body : MemberEnd) (es : List MemberEnd) →
     excs_of (option_to_list (exc_held body) ++ excs_held es) ≡ parts_of (with_exc (end_of body) (excs_in (map end_of es)))
 held_raised body es = held_first body es (held_all es)
 
--- whether every child ended
-pub all_over : (es : List MemberEnd) → list_all (λ e. is_some (end_of e)) es ≡ list_all is_some (map end_of es)
-all_over [] = refl
-all_over (e ∷ es) = ap (λ b. is_some (end_of e) && b) (all_over es)
+-- no more run than there are
+pub running_upto : (es : List MemberEnd) → running_in es ≤ length es
+running_upto [] = omega arith
+running_upto (Running ∷ es) = omega (arith, running_upto es)
+running_upto (Ended exc ∷ es) = omega (arith, running_upto es)
 
--- a child's place is one of the list
-pub place_within : (es : List MemberEnd) (place : ℕ) → slice_get (map end_of es) place ≡ Some None → place < length es
-place_within es place at = omega (arith, slice_get_within (map end_of es) place None at, length-map es end_of)
+-- one more runs
+pub running_more : (es : List MemberEnd) → running_in (es ++ Running ∷ []) ≡ running_in es + 1
+running_more [] = refl
+running_more (Running ∷ es) = omega (arith, running_more es)
+running_more (Ended exc ∷ es) = running_more es
+
+-- one that ran ended
+pub running_fewer : (es : List MemberEnd) (place : ℕ) (exc : Option held.Exc) → slice_get (map end_of es) place ≡ Some None →
+    running_in (slice_set es place (Ended exc)) + 1 ≡ running_in es
+running_fewer [] place exc at = absurd (cc)
+running_fewer (Running ∷ es) zero exc at = omega arith
+running_fewer (Ended other ∷ es) zero exc at = absurd (cc)
+running_fewer (Running ∷ es) (suc place) exc at = omega (arith, running_fewer es place exc at)
+running_fewer (Ended other ∷ es) (suc place) exc at = running_fewer es place exc at
+
+-- none runs where all ended
+pub none_runs : (es : List MemberEnd) → nat_eq (running_in es) 0 ≡ list_all is_some (map end_of es)
+none_runs [] = refl
+none_runs (Running ∷ es) = ne_eqb (suc (running_in es)) 0 (λ e. omega (arith, e))
+none_runs (Ended exc ∷ es) = none_runs es

@@ -1,5 +1,5 @@
 -- What clauses see of a book: a map from the keys of open nurseries to the nurseries.
-use Rattle.std.specs.Prelude.{◌≡◌, ◌≢◌, ℕ, Option, Some, map, IsSomeAnd}
+use Rattle.std.specs.Prelude.{◌≡◌, ◌≢◌, ℕ, Option, Some, IsSomeAnd}
 use Rattle.std.specs.Option.{option_map}
 use Rattle.slab.specs.Slab.{get}
 use Rattle.nursery_book.specs.Nursery.{Nursery}
@@ -9,7 +9,7 @@ use Rattle.nursery_book.specs.declared.book.NurseryBook.{NurseryBook}
 
 -- a nursery as the code holds it
 abbrev pub nursery_of : Members → Nursery
-nursery_of m = record { scope = m.scope; waiter = m.waiter; label = m.label; body = end_of m.body; children = map end_of m.children.items }
+nursery_of m = record { scope = m.scope; waiter = m.waiter; label = m.label; body = end_of m.body; children = m.children }
 
 -- the nursery of a key, if one is open
 abbrev pub nursery_at : NurseryBook → ℕ → Option Nursery

@@ -1,5 +1,5 @@
 -- The endings that the code holds, as ends of members. No public clause cites this module.
-use Rattle.std.specs.Prelude.{Option, Some, None, List, filter_map}
+use Rattle.std.specs.Prelude.{ℕ, suc, Option, Some, None, List, [], ◌∷◌, filter_map}
 use Rattle.std.specs.Option.{option_map}
 use Rattle.exc_groups.specs.declared.exc.Exc.{Exc}
 use Rattle.exc_groups.specs.Held.{exc_of}
@@ -15,6 +15,12 @@ end_of (Ended exc) = Some (option_map exc_of exc)
 abbrev pub exc_held : MemberEnd → Option Exc
 exc_held Running = None
 exc_held (Ended exc) = exc
+
+-- how many of them run
+abbrev pub running_in : List MemberEnd → ℕ
+running_in [] = 0
+running_in (Running ∷ es) = suc (running_in es)
+running_in (Ended exc ∷ es) = running_in es
 
 abbrev pub excs_held : List MemberEnd → List Exc
 excs_held es = filter_map exc_held es

@@ -1,3 +1,4 @@
 pub mod Nursery
 pub mod Ends
+pub mod EndCode
 pub mod Book

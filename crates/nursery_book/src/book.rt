@@ -2,7 +2,8 @@ ghost use Rattle.std.specs.Prelude.{◌≡◌, ℕ, true, Some, None, IsSome, If
 ghost use Rattle.std.specs.Option.{option_map};
 ghost use Rattle.exc_groups.specs.Held.{exc_of};
 
-use crate::ending::{MemberEnd, all_over, gathered};
+use crate::children::Children;
+use crate::ending::{MemberEnd, gathered};
 use crate::nursery_id::{NurseryId, Place};
 use autojump_clock::TaskId;
 use cancel_scopes::ScopeId;
@@ -27,7 +28,7 @@ struct Members {
     waiter: TaskId,
     label: Label,
     body: MemberEnd,
-    children: Vec<MemberEnd>,
+    children: Children,
 }
 
 impl NurseryBook {
@@ -61,7 +62,7 @@ impl NurseryBook {
             waiter,
             label,
             body: MemberEnd::Running,
-            children: Vec::new(self.alloc),
+            children: Children::new(self.alloc),
         })?;
         Ok(NurseryId { key })
     }
@@ -73,9 +74,7 @@ impl NurseryBook {
         ensures started { OnOk result (Changes self.old self.new id with_start) }
         ensures err { OnErr result (SameNurseries self.old self.new) }
     {
-        let members = &mut self.nurseries[id.key];
-        let place = members.children.len();
-        members.children.push(MemberEnd::Running)?;
+        let place = self.nurseries[id.key].children.start()?;
         Ok(place)
     }
 
@@ -85,7 +84,7 @@ impl NurseryBook {
         ensures { Changes self.old self.new id (with_child place (option_map exc_of exc)) }
     {
         let members = &mut self.nurseries[id.key];
-        members.children[place] = MemberEnd::Ended(exc);
+        members.children.end(place, exc);
     }
 
     /// The body ended, with that exception or well. Takes no memory.
@@ -103,7 +102,7 @@ impl NurseryBook {
         ensures { HasNursery self.now id (λ n. result ≡ is_settled n) }
     {
         let members = &self.nurseries[id.key];
-        members.body.is_over() && all_over(members.children.as_slice())
+        members.body.is_over() && members.children.all_ended()
     }
 
     /// The cancel scope that the nursery was opened with.
@@ -130,10 +129,9 @@ impl NurseryBook {
         ensures closed { OnOk result (Updates self.old self.new id None) }
         ensures err { OnErr result (SameNurseries self.old self.new) }
     {
-        let count = self.nurseries[id.key].children.len();
-        let room = Vec::with_capacity(self.alloc, count + 1)?;
+        let room = self.nurseries[id.key].children.room(self.alloc)?;
         let members = self.nurseries.remove(id.key);
-        let excs = gathered(room, members.body, members.children);
+        let excs = gathered(room, members.body, members.children.into_ends());
         Ok(group(Whose::Nursery(members.label), excs))
     }
 }

@@ -1,5 +1,4 @@
 ghost use Rattle.std.specs.Prelude.{◌≡◌, ◌++◌, ◌+◌, ◌<◌, ◌≤◌, [], is_some, map, vec_len, vec_capacity, option_to_list};
-ghost use Rattle.std.specs.List.{list_all};
 ghost use Rattle.exc_groups.specs.Held.{excs_of};
 ghost use Rattle.exc_groups.specs.Exceptions.{parts_of};
 ghost use Rattle.nursery_book.specs.Nursery.{with_exc, excs_in};
@@ -23,13 +22,6 @@ impl MemberEnd {
     {
         matches!(self, MemberEnd::Ended(_))
     }
-}
-
-// Whether every child ended.
-pub(crate) fn all_over(children: &[MemberEnd]) -> bool
-    ensures { result ≡ list_all (λ child. is_some (end_of child)) children.now }
-{
-    children.iter().all(|child| child.is_over())
 }
 
 // The exceptions of members, the body's first and then the children's in order, in a list that has room for them.

@@ -10,6 +10,7 @@
 #![tactic(auto)]
 
 mod book;
+mod children;
 mod ending;
 mod nursery_id;
 #[cfg(test)]

@@ -1,0 +1,89 @@
+ghost use Rattle.std.specs.Prelude.{◌≡◌, ◌≤◌, ◌+◌, ◌++◌, [], ◌∷◌, Some, None, IfOk, OnOk, OnErr, is_some, length, map, slice_get, slice_set, vec_capacity, vec_len};
+ghost use Rattle.std.specs.List.{list_all};
+ghost use Rattle.std.specs.Option.{option_map};
+ghost use Rattle.exc_groups.specs.Held.{exc_of};
+ghost use Rattle.nursery_book.specs.Ends.{end_of};
+
+use crate::ending::MemberEnd;
+use crate::nursery_id::Place;
+use exc_groups::Exc;
+use std::alloc::{AllocError, Global};
+use std::marker::Model;
+
+// The children of a nursery, in the order of their starts.
+#[derive(Drop)]
+pub(crate) struct Children {
+    ends: Vec<MemberEnd>,
+    // How many of them run.
+    running: usize,
+}
+
+impl Model for Children {
+    ghost use Rattle.std.specs.Prelude.{List, map, ◌≡◌};
+    ghost use Rattle.nursery_book.specs.Nursery.{End};
+    ghost use Rattle.nursery_book.specs.EndCode.{ends_code};
+    ghost use Rattle.nursery_book.specs.Ends.{end_of, running_in};
+
+    ghost Value = { List End };
+
+    ghost coded = { ends_code };
+
+    ghost view = { λ c. map end_of c.ends.items };
+
+    ghost invariant = { λ c. c.running ≡ running_in c.ends.items };
+}
+
+impl Children {
+    // No child. Takes no memory.
+    pub(crate) fn new(alloc: Global) -> Children
+        ensures { result ≡ [] }
+    {
+        Children {
+            ends: Vec::new(alloc),
+            running: 0,
+        }
+    }
+
+    // A list with room for an exception of each, and of the body.
+    pub(crate) fn room(&self, alloc: Global) -> Result<Vec<Exc>, AllocError>
+        ensures { IfOk result (λ room. (room.items ≡ []) × (length self.now + 1 ≤ vec_capacity room)) }
+    {
+        Vec::with_capacity(alloc, self.ends.len() + 1)
+    }
+
+    // One more runs. Tells its place. On want of memory nothing changes.
+    pub(crate) fn start(&mut self) -> Result<Place, AllocError>
+        ensures started { OnOk result (self.new ≡ self.old ++ None ∷ []) }
+        ensures place { IfOk result (λ place. place ≡ length self.old) }
+        ensures err { OnErr result (self.new ≡ self.old) }
+    {
+        let place = self.ends.len();
+        self.ends.push(MemberEnd::Running)?;
+        self.running += 1;
+        Ok(place)
+    }
+
+    // The child at the place ended, with that exception or well.
+    pub(crate) fn end(&mut self, place: Place, exc: Option<Exc>)
+        requires { slice_get self.old place ≡ Some None }
+        ensures { self.new ≡ slice_set self.old place (Some (option_map exc_of exc)) }
+    {
+        self.ends[place] = MemberEnd::Ended(exc);
+        self.running -= 1;
+    }
+
+    // Whether all ended.
+    pub(crate) fn all_ended(&self) -> bool
+        ensures { result ≡ list_all is_some self.now }
+    {
+        self.running == 0
+    }
+
+    // How each ended.
+    pub(crate) fn into_ends(self) -> Vec<MemberEnd>
+        ensures ends { map end_of result.items ≡ self }
+        ensures len { vec_len result ≡ length self }
+    {
+        self.ends
+    }
+}
