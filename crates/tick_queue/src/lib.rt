@@ -2,7 +2,8 @@
 //!
 //! Each key has at most one tick. A caller gives a key its tick, gives it another or takes it away, and asks at any time
 //! for the earliest tick of all; each call takes the logarithm of how many keys have one. Keys are small numbers, as places in
-//! a table: the queue has a place for each up to the greatest that was given a tick.
+//! a table: the queue has a place for each up to the greatest that was given a tick, and a call with a greater key may also copy
+//! that table, once for each doubling.
 //!
 //! The layer promises a map from keys to ticks, and says nothing of how it is kept. It stands on nothing.
 #![tactic(auto)]
