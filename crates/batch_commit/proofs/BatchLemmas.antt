@@ -1,20 +1,19 @@
 -- What the calls make of batches.
-use Rattle.std.proofs.Common.{◌≡◌, ℕ, zero, suc, ◌+◌, ◌-◌, ◌<◌, ◌≤◌, List, [], ◌∷◌, ◌++◌, Option, Some, None, length, map, take, drop, refl, ap, sym, ◌∙◌, arith, length-append}
-use Rattle.std.specs.Prelude.{slice_index_or, slice_get, slice_set, IsTrue, nat_eq, IsSome, true, false, ◌↔◌}
-use Rattle.std.specs.List.{All, remove}
+use Rattle.std.proofs.Common.{◌≡◌, ℕ, ◌+◌, ◌-◌, ◌<◌, ◌≤◌, List, [], ◌∷◌, ◌++◌, Option, Some, None, length, map, refl, ap, sym, ◌∙◌, arith, length-append}
+use Rattle.std.specs.Prelude.{slice_index_or, slice_get, slice_set, IsTrue, nat_eq, IsSome, ◌↔◌}
+use Rattle.std.specs.List.{remove}
 use Rattle.std.proofs.lemmas.List.{nil_from_length, length-map}
 use Rattle.std.proofs.lemmas.Bool.{eqb-true, eq-eqb}
-use Rattle.std.proofs.lemmas.Option.{slice_get_within, get_or_from_slice_get}
 use Rattle.line_kernels.specs.declared.answers.Answer.{Answer}
 use Rattle.batch_commit.specs.declared.entry.Entry.{Entry}
 use Rattle.batch_commit.specs.Halves.{numbers}
 use Rattle.batch_commit.specs.Places.{PlacesLeft}
 use Rattle.batch_commit.specs.Slots.{held, places_from}
-use Rattle.batch_commit.specs.Entries.{Added, unplaced, added_of, request_in, placed, HasAnswer, AllPlaced}
+use Rattle.batch_commit.specs.Entries.{Added, unplaced, added_of}
 use Rattle.batch_commit.specs.Placing.{slots_placed}
-use Rattle.batch_commit.specs.Batch.{Batches, unplaced_slots, added_in, IsReady}
+use Rattle.batch_commit.specs.Batch.{unplaced_slots, added_in, IsReady}
 use Rattle.batch_commit.proofs.SlotLemmas.{Taken, taken, length-places_from, held-append, held-full, places_from-full}
-use Rattle.batch_commit.proofs.EntryLemmas.{held-placed, places_from-placed, added_of-unplaced}
+use Rattle.batch_commit.proofs.EntryLemmas.{places_from-placed}
 
 -- as many places are left as entries
 pub left_count : (current next : List (Option Entry)) (places : PlacesLeft) → IsReady current next places →

@@ -1,14 +1,13 @@
 -- Entries, requests and answers.
-use Rattle.std.proofs.Common.{◌≡◌, ℕ, zero, suc, ◌+◌, ◌-◌, ◌<◌, List, [], ◌∷◌, ◌++◌, Option, Some, None, length, map, drop, refl, ap, sym, ◌∙◌, arith}
-use Rattle.std.specs.Prelude.{slice_get, IsSome, ⊤}
-use Rattle.std.specs.List.{All, remove, cons_option}
+use Rattle.std.proofs.Common.{◌≡◌, ℕ, suc, ◌+◌, ◌-◌, List, [], ◌∷◌, Option, Some, None, length, map, refl, ap, arith}
+use Rattle.std.specs.List.{remove, cons_option}
 use Rattle.std.proofs.lemmas.List.Elements.{All-nil, All-cons, All-append, All-take, All-drop, All-map}
 use Rattle.line_kernels.specs.declared.request.Request.{Request}
 use Rattle.line_kernels.specs.declared.answers.Answer.{Answer}
 use Rattle.batch_commit.specs.declared.entry.Entry.{Entry}
 use Rattle.batch_commit.specs.Slots.{held, places_from}
 use Rattle.batch_commit.specs.Entries.{Added, unplaced, added_of, request_in, requests_of, with_placed, placed, answer_placed, answers_after, HasAnswer, AllPlaced, NonePlaced}
-use Rattle.batch_commit.specs.Placing.{slot_placed, left_after, slots_placed}
+use Rattle.batch_commit.specs.Placing.{slots_placed}
 
 -- what slots hold once answers are placed are the entries that they held, with the answers placed
 pub held-placed : (slots : List (Option Entry)) (answers : List Answer) → held (slots_placed slots answers) ≡ placed (held slots) answers

@@ -1,7 +1,6 @@
 -- What clauses see of the ready tasks: the current batch and the next one.
 use Rattle.std.specs.Prelude.{◌≡◌, ℕ, ◌+◌, ◌≤◌, Option, Some, List, length, map, slice_get}
 use Rattle.std.specs.List.{remove}
-use Rattle.line_kernels.specs.declared.answers.Answer.{Answer}
 use Rattle.task_machine.specs.declared.stop.Wake.{Wake}
 use Rattle.batch_commit.specs.declared.entry.Entry.{Entry}
 use Rattle.batch_commit.specs.Slots.{held, places_from}

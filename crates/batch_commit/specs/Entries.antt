@@ -1,5 +1,5 @@
 -- Entries of batches: which requests they make, and how their tasks go on once answers are placed.
-use Rattle.std.specs.Prelude.{◌≡◌, ⊤, ℕ, Option, Some, None, IsSome, List, [], ◌∷◌, drop, slice_get, map}
+use Rattle.std.specs.Prelude.{◌≡◌, ⊤, ℕ, Option, Some, None, IsSome, List, [], ◌∷◌, drop, slice_get}
 use Rattle.std.specs.Option.{option_map}
 use Rattle.std.specs.List.{All, filter_map}
 use Rattle.line_kernels.specs.declared.request.Request.{Request}

@@ -1,8 +1,8 @@
 -- Where the next cut ends.
-use Rattle.std.proofs.Common.{◌≡◌, ◌≢◌, ◌⊎◌, ℕ, ◌+◌, ◌-◌, ◌*◌, ◌/◌, ◌<◌, ◌≤◌, Bool, true, false, ◌||◌, eqb, List, IsTrue, sym, ap, subst, ◌∙◌, inl, inr, ⊎_elim, arith}
+use Rattle.std.proofs.Common.{◌≡◌, ◌≢◌, ◌⊎◌, ℕ, ◌+◌, ◌-◌, ◌*◌, ◌/◌, ◌<◌, ◌≤◌, true, false, ◌||◌, eqb, List, IsTrue, sym, ap, subst, ◌∙◌, inl, inr, ⊎_elim, arith}
 use Rattle.std.proofs.lemmas.Bool.{eqb-true, cases_eq, cases_Bool}
 use Rattle.buffer_parts.specs.Lines.{Range}
-use Rattle.buffer_parts.specs.Cuts.{starts_line, next_start, cut_point}
+use Rattle.buffer_parts.specs.Cuts.{starts_line, cut_point}
 use Rattle.buffer_parts.proofs.CutLemmas.{IsNextStart, next_start-is, next_start-finds, cut_point-between, cut_point-lies, step-ordered, target_of}
 
 -- where a cut ends behind the next step already, the next one ends there too

@@ -5,14 +5,14 @@ use Rattle.std.proofs.lemmas.Bool.{cases_eq}
 use Rattle.std.specs.Option.{option_map}
 use Rattle.cancel_scopes.specs.Sight.{Tick, earlier, before, sight}
 use Rattle.cancel_scopes.specs.Tree.{Stack, Tree, stack_of, is_changed, IsOpen, OtherMarksKeep, after_cancel}
-use Rattle.cancel_scopes.specs.Kept.{Outline, Slots, Find, IsTree, full, outline_of, scope_in, find_in, tree_of, stack_at, own_sight, sight_of, seen_at, HasSights, place_of, places_in, is_listed, IsListed, IsReady, SameScopes, Marks, AllFresh, place_under, children_at, Family}
+use Rattle.cancel_scopes.specs.Kept.{Outline, Slots, IsTree, full, outline_of, scope_in, find_in, tree_of, stack_at, own_sight, sight_of, seen_at, HasSights, place_of, places_in, is_listed, IsListed, IsReady, SameScopes, Marks, AllFresh, place_under, children_at, Family}
 use Rattle.cancel_scopes.specs.Children.{SameOutlines}
 use Rattle.cancel_scopes.specs.Lowering.{sight_by, outer_sight, AllRight, Along, Starts}
 use Rattle.std.proofs.lemmas.List.{length-set}
 use Rattle.cancel_scopes.proofs.LowerLemmas.{sights_of, rights_of}
-use Rattle.cancel_scopes.proofs.StackLemmas.{stack_of-tree_of, stacks_of-same, stack_seen, mark_seen, is_changed-tree_of, found_at}
+use Rattle.cancel_scopes.proofs.StackLemmas.{stacks_of-same, stack_seen, mark_seen, is_changed-tree_of, found_at}
 use Rattle.cancel_scopes.proofs.SlotLemmas.{written, unwritten, same_by}
-use Rattle.cancel_scopes.proofs.MarkLemmas.{same_find, same-tree, same-sights, listed-same, family-same}
+use Rattle.cancel_scopes.proofs.MarkLemmas.{same-tree, same-sights, listed-same, family-same}
 use Rattle.cancel_scopes.proofs.CancelLemmas.{Cancels, cancels, IsTree-cancelled, stack_at-cancelled, tree_cancelled}
 use Rattle.cancel_scopes.proofs.CloseLemmas.{Closes, IsTree-closes, stack_at-closes}
 use Rattle.cancel_scopes.specs.declared.store.Scope.{Scope}

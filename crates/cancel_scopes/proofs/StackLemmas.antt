@@ -1,5 +1,5 @@
 -- The stacks that contracts see, as they are kept.
-use Rattle.std.proofs.Common.{◌≡◌, ℕ, suc, List, Bool, false, map, length, slice_index_or, Option, Some, None, is_some, IsSome, refl, sym, ap, subst, ◌∙◌, arith, inl, inr}
+use Rattle.std.proofs.Common.{◌≡◌, ℕ, suc, List, Bool, false, map, length, Option, Some, None, is_some, IsSome, refl, sym, ap, subst, ◌∙◌, arith, inl, inr}
 use Rattle.std.proofs.Math.Path.{fun_ext}
 use Rattle.std.proofs.lemmas.Bool.{cases_lt}
 use Rattle.std.proofs.lemmas.List.{get_or_past}

@@ -1,13 +1,13 @@
 -- Tokens appended one after the other.
-use Rattle.std.proofs.Common.{◌≡◌, ℕ, ◌+◌, ◌<◌, ◌≤◌, List, [], ◌∷◌, ◌++◌, length, get_or, drop, refl, sym, ap, ◌∙◌, append_assoc}
-use Rattle.std.proofs.lemmas.List.{at_drop_more, drop_all}
+use Rattle.std.proofs.Common.{◌≡◌, ℕ, ◌+◌, ◌≤◌, List, [], ◌∷◌, ◌++◌, length, drop, refl, sym, ap, ◌∙◌, append_assoc}
+use Rattle.std.proofs.lemmas.List.{drop_all}
 use Rattle.job_tree.specs.declared.step.Step.{Step}
 use Rattle.job_tree.specs.Tree.{stop}
-use Rattle.job_tree.specs.Blocks.{step_of, steps_of}
+use Rattle.job_tree.specs.Blocks.{steps_of}
 use Rattle.job_tokens.specs.declared.token.Shape.{Shape}
 use Rattle.job_tokens.specs.declared.token.Shape.TheVariants as shape
 use Rattle.job_tokens.specs.declared.token.Mark.TheVariants as mark
-use Rattle.job_syntax.specs.Pieces.{Piece, shapes_in, step_pieces, steps_pieces}
+use Rattle.job_syntax.specs.Pieces.{Piece, shapes_in, steps_pieces}
 use Rattle.job_grammar.specs.Printing.{Appends}
 
 abbrev Print : Type 0

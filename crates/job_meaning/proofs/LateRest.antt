@@ -3,7 +3,7 @@ use Rattle.std.proofs.Common.{ℕ, suc, ◌≤◌, Option, List, [], ◌∷◌}
 use Rattle.exc_groups.specs.Exceptions.{Label, Exc}
 use Rattle.cancel_scopes.specs.Sight.{Level, catches}
 use Rattle.job_meaning.specs.Log.{entry, nil, Member, Result}
-use Rattle.job_meaning.specs.Walk.{Stack, Mode, Here, walk, in_pass, passes, Kind, a_scope, a_nursery, left_as, left_with, latest, gathered, signed, with_outcome, handler_exc, outcome_after}
+use Rattle.job_meaning.specs.Walk.{Stack, Mode, Here, walk, in_pass, Kind, a_scope, a_nursery, left_as, left_with, latest, gathered, signed, with_outcome, handler_exc, outcome_after}
 use Rattle.job_meaning.specs.Rest.{Telling, told_members, Frame, steps_left, in_scope, in_nursery, in_repeat, in_try, in_handler, in_cleanup, inside, block_left, with_children, waited, finish}
 use Rattle.job_meaning.proofs.Late.{Late, late, late_and_then, late_passes, late_handler, late_cleanup, late_signed, late_gathered, timed_followed}
 

@@ -1,4 +1,4 @@
-ghost use Rattle.std.specs.Prelude.{◌≡◌, ◌++◌, [], ◌∷◌, OnOk, take, map, length, decimal, codes};
+ghost use Rattle.std.specs.Prelude.{◌≡◌, ◌++◌, [], ◌∷◌, IfOk, OnOk, take, map, length, decimal, codes};
 ghost use Rattle.buffer_parts.specs.Part.{span_of, line_text};
 ghost use Rattle.job_meaning.specs.Shown.{line_shown};
 ghost use Rattle.std.specs.List.{flat_map};
@@ -11,7 +11,7 @@ use crate::exc::push_exc;
 use crate::label::{push_label, push_number};
 use buffer_parts::Line;
 use job_runner::{Entry, Outcome, Record};
-use std::alloc::AllocError;
+use std::alloc::{AllocError, Global};
 
 // Appends the line for an entry.
 fn push_entry(out: &mut Vec<u8>, entry: &Entry<'_>) -> Result<(), AllocError>
@@ -116,13 +116,16 @@ pub fn push_rows(out: &mut Vec<u8>, rows: &[Record<'_>]) -> Result<(), AllocErro
     Ok(())
 }
 
-// Room for the lines of all tasks, at least where no byte of a line of the input is escaped. Where it is less, the text grows.
-pub fn room_for(rows: &[Record<'_>]) -> usize {
+// An empty text with room for the lines of all tasks, at least where no byte of a line of the input is escaped. Where there is
+// less, it grows.
+pub fn text_for(alloc: Global, rows: &[Record<'_>]) -> Result<Vec<u8>, AllocError>
+    ensures { IfOk result (λ text. text.items ≡ []) }
+{
     let mut room: usize = 0;
     'rows: for row in rows {
         room = room.saturating_add(room_of(row));
     }
-    room
+    Vec::with_capacity(alloc, room)
 }
 
 // Room for the lines of a task.

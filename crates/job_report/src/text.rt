@@ -4,7 +4,7 @@ ghost use Rattle.job_runner.specs.Runs.{name_of, rows_of};
 ghost use Rattle.job_report.specs.Text.{report_text, last_tick};
 
 use crate::label::push_number;
-use crate::rows::{push_rows, room_for};
+use crate::rows::{push_rows, text_for};
 use job_runner::{Record, Run};
 use std::alloc::{AllocError, Global};
 
@@ -12,7 +12,7 @@ use std::alloc::{AllocError, Global};
 pub fn report(alloc: Global, run: &Run<'_>) -> Result<Vec<u8>, AllocError>
     ensures { IfOk result (λ text. text.items ≡ report_text (name_of run.now) (rows_of run.now)) }
 {
-    let mut out = Vec::with_capacity(alloc, room_for(run.records()))?;
+    let mut out = text_for(alloc, run.records())?;
     out.extend_from_slice(b"job ")?;
     let name = run.name();
     out.extend_from_slice(name.bytes())?;

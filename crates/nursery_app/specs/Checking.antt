@@ -3,7 +3,6 @@ use Rattle.std.specs.Prelude.{◌≡◌, ℕ, ◌<◌, Option, List, ◌++◌, l
 use Rattle.job_tree.specs.Tree.{Tree}
 use Rattle.job_grammar.specs.Refusals.{Spells, IsRefused}
 use Rattle.job_grammar.specs.Canon.{canon}
-use Rattle.job_meaning.specs.Laws.{in_format_2}
 use Rattle.std.specs.Io.KnownBytes.{Appends}
 use Rattle.nursery_app.specs.declared.verdict.CheckVerdict.{CheckVerdict}
 use Rattle.nursery_app.specs.declared.verdict.CheckVerdict.TheVariants.{Fine, JobRefused}

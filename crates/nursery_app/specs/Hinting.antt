@@ -1,5 +1,5 @@
 -- What may help beside the sentence of a refusal.
-use Rattle.std.specs.Prelude.{◌≡◌, ℕ, Bool, false, is_some, ◌==◌, ◌||◌, if◌then◌else◌, List, [], ◌∷◌, length, take, Option, Some, None, codes, slice_get}
+use Rattle.std.specs.Prelude.{◌≡◌, ℕ, Bool, false, is_some, ◌==◌, ◌||◌, if◌then◌else◌, List, [], length, take, Option, Some, None, codes, slice_get}
 use Rattle.std.specs.Str.{bytes_eq}
 use Rattle.job_tree.specs.declared.format.Format.{Format}
 use Rattle.job_tree.specs.declared.format.Format.TheVariants.{One, Two}

@@ -1,24 +1,21 @@
 -- Each task of a run is in a nursery of the task that started it, until it has ended.
 use Rattle.cancel_scopes.specs.Sight.{Tick}
-use Rattle.std.proofs.Common.{◌≡◌, ◌⊎◌, inl, inr, ℕ, zero, suc, ◌+◌, ◌-◌, ◌<◌, ◌≤◌, true, false, Option, Some, None, List, [], ◌∷◌, ◌++◌, length, refl, sym, ap, ◌∙◌, subst, arith}
-use Rattle.exc_groups.specs.Exceptions.{Exc}
+use Rattle.std.proofs.Common.{◌≡◌, ◌⊎◌, inl, inr, ℕ, zero, suc, ◌+◌, ◌-◌, ◌<◌, ◌≤◌, true, false, Option, Some, List, [], ◌∷◌, ◌++◌, length, refl, sym, ap, ◌∙◌, subst, arith}
 use Rattle.job_tree.specs.Tree.{Tree}
-use Rattle.job_tree.specs.Starting.{StartsInNurseries}
 use Rattle.exc_groups.specs.Exceptions.{Label}
 use Rattle.job_meaning.specs.Log.{Table}
 use Rattle.job_meaning.specs.Rest.{Event, noted, signs, enters, starts, Frame, steps_left, in_scope, in_nursery, in_repeat, in_try, in_handler, in_cleanup, Stopped, to_begin, asking, asleep, awaiting, at_end}
 use Rattle.task_turns.specs.Midway.{Place, Begun, Move}
-use Rattle.task_turns.specs.Steps.{froms_after}
-use Rattle.task_turns.specs.Placed.{PlacedStop, PlacedAfter, places_behind, home_after, AllBelow, KidsBelow, KidsAfter, IsAmong, HasChild, WaitsFor, HasChildAfter, AllHoused}
+use Rattle.task_turns.specs.Placed.{PlacedStop, PlacedAfter, home_after, AllBelow, KidsBelow, KidsAfter, IsAmong, HasChild, WaitsFor, HasChildAfter, AllHoused}
 use Rattle.task_turns.specs.Wakes.{Wake, begins, sees, is_due, has_answer, settles}
 use Rattle.task_turns.specs.Turned.{Known, labels_of, AllKnown, known_after, EntersIn, Starts, BegunIn, TurnsOver}
 use Rattle.run_course.specs.Course.{Started, In, EachPlace, EntersWith, times_made, made_times, all_times, live}
-use Rattle.run_course.specs.Going.{root_task, children_from, child_from, turned}
-use Rattle.run_course.specs.Woken.{WaitIsOver, MayWake}
-use Rattle.run_course.specs.Runs.{Front, Reached, begun, turn, jump}
+use Rattle.run_course.specs.Going.{root_task, children_from, turned}
+use Rattle.run_course.specs.Woken.{MayWake}
+use Rattle.run_course.specs.Runs.{Reached, begun, turn, jump}
 use Rattle.run_course.specs.Laws.{Home, home_of, IsHoused, TasksAreHoused, LastToLeave}
 use Rattle.run_course.proofs.Picking.{SameTasks, front_same}
-use Rattle.run_course.proofs.Readings.{in_first, in_second, in_either, made_few, made_counted, enters_too, enters_counted}
+use Rattle.run_course.proofs.Readings.{in_second, in_either, made_few, made_counted, enters_too, enters_counted}
 use Rattle.run_course.proofs.Contract.{known_of, each_known}
 use Rattle.run_course.proofs.Turning.{old_child, later_child}
 use Rattle.run_course.proofs.Running.{begun_small, runs_on_course}

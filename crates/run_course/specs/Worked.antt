@@ -1,7 +1,7 @@
 -- A worked run, under two orders of turns, by computing: a sibling that fails, a shield, and a task that cancels a scope
 -- across a `start`.
-use Rattle.std.specs.Prelude.{◌≡◌, ℕ, zero, suc, ◌+◌, true, false, Option, None, Some, List, [], ◌∷◌, ◌++◌, refl, codes, length}
-use Rattle.job_tree.specs.Tree.{Step, sleep, raise, cancel, Steps}
+use Rattle.std.specs.Prelude.{◌≡◌, ℕ, zero, suc, ◌+◌, Option, None, Some, List, [], ◌∷◌, ◌++◌, refl, codes, length}
+use Rattle.job_tree.specs.Tree.{Step, sleep, raise, cancel}
 use Rattle.exc_groups.specs.Exceptions.{Exc, cancelled}
 use Rattle.cancel_scopes.specs.Sight.{Tick}
 use Rattle.job_meaning.specs.Log.{Table}

@@ -14,7 +14,7 @@ use Rattle.line_kernels.specs.declared.kernel.Kernel.TheVariants.{Find, Head, Lo
 use Rattle.exc_groups.specs.Exceptions.{Label, Exc, by_nursery, parts_of, group_of}
 use Rattle.cancel_scopes.specs.Sight.{seen}
 use Rattle.cancel_scopes.specs.Tree.{Stack, outer_of}
-use Rattle.nursery_book.specs.Nursery.{End, Nursery, is_settled, excs_in, raised_by}
+use Rattle.nursery_book.specs.Nursery.{End, Nursery, is_settled, excs_in}
 use Rattle.nursery_book.specs.Nursery as nursery
 use Rattle.nursery_book.specs.Book.{nursery_at, HasNursery}
 use Rattle.nursery_book.specs.declared.book.NurseryBook.{NurseryBook}

@@ -1,5 +1,5 @@
 -- What a wake says of a nursery that was waited for, where the move of a stop stops, and tasks without blocks.
-use Rattle.std.proofs.Common.{◌≡◌, true, ℕ, Option, Some, None, List, [], ◌∷◌, refl, ap, subst}
+use Rattle.std.proofs.Common.{◌≡◌, true, ℕ, Option, Some, None, List, [], ◌∷◌, refl, subst}
 use Rattle.buffer_parts.specs.declared.part.Part.{Part}
 use Rattle.job_tree.specs.Tree.{Steps}
 use Rattle.job_meaning.specs.Rest.{Stopped}

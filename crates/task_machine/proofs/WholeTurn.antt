@@ -14,7 +14,7 @@ use Rattle.task_turns.specs.Midway.{Place, Midway, Move, then_move}
 use Rattle.task_turns.specs.Placed.{PlacedAfter}
 use Rattle.task_turns.specs.Names.{NewIn, OwnNames, names_at, StaysNew}
 use Rattle.task_turns.specs.Steps.{froms_after, turn_of}
-use Rattle.task_turns.specs.Wakes.{CanWake, from_start, from_asking, from_sleep, from_due, from_wait, wake_of, turn_from}
+use Rattle.task_turns.specs.Wakes.{CanWake, from_start, from_asking, from_sleep, from_due, from_wait, turn_from}
 use Rattle.task_turns.specs.Wakes as wakes
 use Rattle.task_turns.proofs.Waking.{turned_from}
 use Rattle.task_turns.proofs.Names.{turn_stays_new}

@@ -8,7 +8,7 @@ use Rattle.std.proofs.lemmas.List.Elements.{All-nil, All-push}
 use Rattle.exc_groups.specs.Exceptions.{Label}
 use Rattle.job_meaning.specs.Meaning.{From}
 use Rattle.job_meaning.specs.Meaning as meaning
-use Rattle.job_meaning.specs.Shown.{Shown, Ending, ending_of, row_of, shown}
+use Rattle.job_meaning.specs.Shown.{Shown, Ending, ending_of, row_of}
 use Rattle.job_meaning.specs.Shown as report
 use Rattle.run_course.specs.Rows.{DepthFirst, no_more, and_more, record_of, records_by, froms_in}
 use Rattle.run_course.specs.Rows as course

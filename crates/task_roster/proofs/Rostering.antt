@@ -480,12 +480,12 @@ pub record First (r : Roster) (root : Task) (id : ℕ) : Type 0 where
   pub none : Live Running
   pub nothing : (key : ℕ) → live_at none key ≡ None
   pub live : Updates none r.live id (Some (record { task = root; row = 0 }))
-  pub row : Row
-  pub begins : Begins row 0 id 0
-  pub rows : r.rows.items ≡ row ∷ []
+  pub begun : Row
+  pub begins : Begins begun 0 id 0
+  pub rows : r.rows.items ≡ begun ∷ []
 
 module _ (r : Roster) (root : Task) (id : ℕ) (f : First r root id) where
-  first_here : row_at r 0 ≡ Some f.row
+  first_here : row_at r 0 ≡ Some f.begun
   first_here = ap (λ (xs : List Row). slice_get xs 0) f.rows
 
   first_past : (j : ℕ) → row_at r (suc j) ≡ None
@@ -504,7 +504,7 @@ module _ (r : Roster) (root : Task) (id : ℕ) (f : First r root id) where
     many = ap length f.rows;
     lives = f.live.changed;
     others = first_others;
-    task = ap (task_by r.live) first_here ∙ task_here r.live f.row _ f.begins.end (ap (live_at r.live) f.begins.task ∙ f.live.changed);
+    task = ap (task_by r.live) first_here ∙ task_here r.live f.begun _ f.begins.end (ap (live_at r.live) f.begins.task ∙ f.live.changed);
     none = λ j. let next : j + 1 ≡ suc j = omega arith in rw next (ap (task_by r.live) (first_past j));
     gone = first_gone;
     start = ap start_by first_here ∙ f.begins.start;
@@ -515,7 +515,7 @@ module _ (r : Roster) (root : Task) (id : ℕ) (f : First r root id) where
   first_rows key x is = by (eqb_tells key id)
     where
       mine : key ≡ id → 0 ≡ x.row → HasRow r x.row key
-      mine k e = record { row = f.row; is = ap (row_at r) (sym e) ∙ first_here; endless = f.begins.end; id_is = f.begins.task ∙ sym k }
+      mine k e = record { row = f.begun; is = ap (row_at r) (sym e) ∙ first_here; endless = f.begins.end; id_is = f.begins.task ∙ sym k }
 
       by : (((key == id) ≡ true) × (key ≡ id)) ⊎ (((key == id) ≡ false) × (key ≢ id)) → HasRow r x.row key
       by (inl h) = mine h.1 (ap (λ (y : Running). y.row) (same_Some _ _ (sym f.live.changed ∙ ap (running_at r) (sym h.1) ∙ is)))
@@ -523,7 +523,7 @@ module _ (r : Roster) (root : Task) (id : ℕ) (f : First r root id) where
 
   first_lives : (j : ℕ) (row : Row) → row_at r j ≡ Some row → row.end ≡ None → Lives r j row
   first_lives zero row is none =
-      let same : f.row ≡ row = same_Some _ _ (sym first_here ∙ is) in
+      let same : f.begun ≡ row = same_Some _ _ (sym first_here ∙ is) in
       record {
         running = record { task = root; row = 0 };
         is = ap (λ (x : Row). running_at r x.task) (sym same) ∙ ap (running_at r) f.begins.task ∙ f.live.changed;
@@ -536,7 +536,7 @@ module _ (r : Roster) (root : Task) (id : ℕ) (f : First r root id) where
   agrees_first = record {
     rows = first_rows;
     lives = first_lives;
-    tree = subst ChildrenAreApart (sym f.rows) (tree_first f.row f.begins.children);
+    tree = subst ChildrenAreApart (sym f.rows) (tree_first f.begun f.begins.children);
   }
 
 -- ---- a root that has one child

@@ -1,17 +1,17 @@
 -- No scope is entered that has the name of one round it: each step of a task keeps that.
-use Rattle.std.proofs.Common.{◌≡◌, ◌⊎◌, inl, inr, ℕ, zero, suc, ◌+◌, Bool, true, false, Option, Some, None, List, [], ◌∷◌, ◌++◌, length, refl, ap, sym, ◌∙◌, subst}
+use Rattle.std.proofs.Common.{◌≡◌, inl, inr, ℕ, zero, suc, ◌+◌, Bool, true, false, Option, Some, None, List, [], ◌∷◌, ◌++◌, length, refl, subst}
 use Rattle.job_tree.specs.Tree.{Step, sleep, checkpoint, forever, pace, find, head, longest, need, raise, cancel, scope, nursery, start, repeat, attempt, Steps, stop, step, Handled, unhandled, except, Cleaned, uncleaned, finally, Tree}
 use Rattle.job_tree.specs.Names.{names_of, names_in, handled_names, cleaned_names, GivesNamesOnce}
-use Rattle.exc_groups.specs.Exceptions.{Label, Exc}
+use Rattle.exc_groups.specs.Exceptions.{Exc}
 use Rattle.exc_groups.specs.Split.{named, keep, drop}
-use Rattle.cancel_scopes.specs.Sight.{Tick, seen}
+use Rattle.cancel_scopes.specs.Sight.{seen}
 use Rattle.job_meaning.specs.Log.{Table}
-use Rattle.job_meaning.specs.Walk.{Here, far}
-use Rattle.job_meaning.specs.Rest.{Frame, steps_left, in_scope, in_nursery, in_repeat, in_try, in_handler, in_cleanup, inside, Stopped, to_begin, asking, asleep, awaiting, at_end, Rest}
+use Rattle.job_meaning.specs.Walk.{Here}
+use Rattle.job_meaning.specs.Rest.{Frame, steps_left, in_scope, in_nursery, in_repeat, in_try, in_handler, in_cleanup, inside, Stopped, awaiting, Rest}
 use Rattle.job_meaning.specs.Asking.{Answer, lines, missing, counted, Purpose, shows, needs, paces}
-use Rattle.job_meaning.proofs.Distinct.{Among, among_left, among_right, Distinct, distinct_left, distinct_right, distinct_apart, distinct_by_bytes}
+use Rattle.job_meaning.proofs.Distinct.{Among, among_left, among_right, Distinct, distinct_left, distinct_right, distinct_by_bytes}
 use Rattle.task_turns.specs.Midway.{Place, stack_at, Midway, Begun, Move, moved, then_move}
-use Rattle.task_turns.specs.Wakes.{Wake, begins, sees, is_due, has_answer, settles, goes_on_with, settled, wake_of, turn_from, CanWake, from_start, from_sleep, from_due, from_asking, from_wait}
+use Rattle.task_turns.specs.Wakes.{Wake, goes_on_with, settled, wake_of, turn_from, CanWake, from_start, from_sleep, from_due, from_asking, from_wait}
 use Rattle.task_turns.specs.Placed.{places_behind}
 use Rattle.task_turns.specs.Steps.{falls_asleep, sleeps, with_started, begun_over, step_on, step_steps, handler_if, step_try, step_frames, step_of, froms_after, turn_of, begins_passes, step_pass}
 use Rattle.task_turns.specs.Names.{IsName, names_at, OwnNames, AreNew, IsNew, IsNewHandler, IsNewCleanup, NewIn, AllNew, StaysNew}

@@ -1,5 +1,5 @@
 -- The laws of steps and turns. Each is the contract of a function that does nothing.
-use Rattle.std.specs.Prelude.{◌≡◌, ℕ, ◌<◌, ◌≤◌, Some, List, [], ◌∷◌, ◌++◌}
+use Rattle.std.specs.Prelude.{◌≡◌, ℕ, ◌<◌, Some, List, [], ◌∷◌, ◌++◌}
 use Rattle.job_tree.specs.Tree.{Tree}
 use Rattle.job_tree.specs.Names.{GivesNamesOnce}
 use Rattle.exc_groups.specs.Exceptions.{Label}

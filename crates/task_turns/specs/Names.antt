@@ -1,7 +1,6 @@
 -- Names of scopes and nurseries that are round one another.
-use Rattle.std.specs.Prelude.{◌≡◌, ◌⊎◌, ℕ, Option, Some, None, List, [], ◌∷◌}
+use Rattle.std.specs.Prelude.{◌≡◌, ◌⊎◌, ℕ, List, [], ◌∷◌}
 use Rattle.job_tree.specs.Tree.{Step, sleep, checkpoint, forever, pace, find, head, longest, need, raise, cancel, scope, nursery, start, repeat, attempt, Steps, stop, step, Handled, unhandled, except, Cleaned, uncleaned, finally}
-use Rattle.exc_groups.specs.Exceptions.{Label}
 use Rattle.job_meaning.specs.Rest.{Frame, steps_left, in_scope, in_nursery, in_repeat, in_try, in_handler, in_cleanup}
 use Rattle.task_turns.specs.Midway.{Place, Begun, Move}
 use Rattle.task_turns.specs.Placed.{places_behind}

@@ -1,5 +1,5 @@
 -- What a turn promises of a task: it comes to the same as before, and what it made, began and left.
-use Rattle.std.specs.Prelude.{◌≡◌, ◌⊎◌, ℕ, suc, ◌+◌, ◌<◌, false, Option, Some, None, List, [], ◌∷◌, ◌++◌, length}
+use Rattle.std.specs.Prelude.{◌≡◌, ◌⊎◌, ℕ, suc, ◌+◌, ◌<◌, false, Option, Some, None, List, [], ◌∷◌, length}
 use Rattle.exc_groups.specs.Exceptions.{Label}
 use Rattle.cancel_scopes.specs.Sight.{Tick, earlier, seen}
 use Rattle.job_meaning.specs.Log.{Log, nil, entry, sign, entered, task, Result, Table, same_label, tick_if}

@@ -1,6 +1,5 @@
-use Rattle.std.proofs.Common.{◌≡◌, ◌+◌, ◌-◌, ◌++◌, ◌∷◌, ◌∙◌, ap, length, arith}
-use Rattle.batch_commit.specs.Halves.{inner}
-use Rattle.batch_commit.proofs.HalvesLemmas.{drawn_first, drawn_last, tree_parts, above, half_of, last_of, inner_of}
+use Rattle.std.proofs.Common.{◌+◌, ◌-◌, ◌++◌, ◌∙◌, ap, arith}
+use Rattle.batch_commit.proofs.HalvesLemmas.{drawn_first, drawn_last, tree_parts, above, half_of, inner_of}
 use Rattle.batch_commit.proofs.halves.+draw.Goals as goal
 
 pub draw-requires : goal.draw-requires

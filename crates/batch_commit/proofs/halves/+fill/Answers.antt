@@ -1,6 +1,5 @@
-use Rattle.std.proofs.Common.{◌≡◌, ◌+◌, ◌-◌, ◌++◌, ◌∷◌, ◌∙◌, ap, sym, length, arith, ⊎_elim, inl, inr}
-use Rattle.batch_commit.specs.Halves.{inner}
-use Rattle.batch_commit.proofs.HalvesLemmas.{InFirst, in_first, filled_tree, filled_all, above, half_of, inner_of}
+use Rattle.std.proofs.Common.{◌-◌, ◌∙◌, arith, ⊎_elim}
+use Rattle.batch_commit.proofs.HalvesLemmas.{in_first, filled_tree, filled_all, above, half_of, inner_of}
 use Rattle.batch_commit.proofs.halves.+fill.Goals as goal
 
 pub in_first_of-in_first-requires : goal.in_first_of-in_first-requires

@@ -1,4 +1,4 @@
-use Rattle.std.proofs.Common.{◌≡◌, ◌∷◌, [], List, ℕ, Some, None, filter, subst, ap, ◌∙◌}
+use Rattle.std.proofs.Common.{◌≡◌, ◌∷◌, [], List, ℕ, Some, None, filter, subst}
 use Rattle.memchr.specs.Find.{FindsNeedle}
 use Rattle.buffer_parts.specs.Lines.{bytes_of, lines_of}
 use Rattle.buffer_parts.specs.Part.{buffer_of, range_of, source_of, range_left, lines_left, span_of, IsLineOf}

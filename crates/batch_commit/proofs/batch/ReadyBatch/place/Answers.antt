@@ -1,6 +1,6 @@
 use Rattle.std.proofs.Common.{ap, subst, sym, ◌∙◌}
 use Rattle.std.proofs.lemmas.List.{with_items_is}
-use Rattle.batch_commit.specs.Batch.{Batches, IsReady}
+use Rattle.batch_commit.specs.Batch.{Batches}
 use Rattle.batch_commit.specs.Slots.{held}
 use Rattle.batch_commit.specs.Entries.{placed, AllPlaced}
 use Rattle.batch_commit.specs.Placing.{slots_placed}

@@ -1,4 +1,4 @@
-use Rattle.std.proofs.Common.{◌≡◌, ◌+◌, ◌≤◌, ap, sym, ◌∙◌, arith}
+use Rattle.std.proofs.Common.{◌+◌, ◌≤◌, sym, ◌∙◌, arith}
 use Rattle.buffer_parts.specs.Cuts.{cut_point}
 use Rattle.buffer_parts.specs.Part.{buffer_of, range_of}
 use Rattle.buffer_parts.proofs.CutLemmas.{target_of, target-le}
