@@ -52,6 +52,11 @@ def job_of_format_2(body):
     return b"trio-job 2\njob main { " + body + b" }\n"
 
 
+def started_in_one(inner, starts):
+    """The body of a job whose tasks are all children of one nursery, 64 for each `start`."""
+    return b"nursery n{" + b"".join(b"start r%d over 64{%s}" % (i, inner) for i in range(starts)) + b"}"
+
+
 def grid(inner, outer=64, middle=64):
     return job(b"nursery n { start a over %d { nursery m { start b over %d { %s } } } }" % (outer, middle, inner))
 
@@ -208,8 +213,10 @@ class Bench:
         for name, body, turns in [
             ("499,000 sleeps in one task", b"repeat 499 { repeat 1000 { sleep 1; } }", 499_001),
             ("998,000 checkpoints in one task, each a step", b"repeat 1000 { " + b"checkpoint;" * 998 + b" }", 998_000),
-            ("246,021 tasks that end at once", started % 4, 246_282),
-            ("922,576 tasks that end at once", started % 15, 923_552),
+            ("246,021 tasks that end at once, up to 256 in a nursery", started % 4, 246_282),
+            ("922,576 tasks that end at once, up to 960 in a nursery", started % 15, 923_552),
+            ("192,001 tasks that end at once, all in one nursery", started_in_one(b"", 3000), 192_002),
+            ("128,001 tasks that sleep once, all in one nursery", started_in_one(b"sleep 1;", 2000), 256_002),
         ]:
             run = Run(name, self.program, "run", self.file("large.job", job_of_format_2(body)), os.devnull)
             measure([run], min(self.rounds, 3))
