@@ -9,7 +9,7 @@ use Rattle.job_meaning.specs.Rest as rest
 use Rattle.task_machine.specs.declared.frame.Frame.{Frame}
 use Rattle.task_machine.specs.declared.frame.Frame.TheVariants.{Steps, Scope, Nursery, Repeat, Try, Handler, Cleanup}
 
--- an exception that a frame keeps until later
+-- an exception that waits behind a pointer
 abbrev pub laid_aside : Option (Box held.Exc) → Option held.Exc
 laid_aside None = None
 laid_aside (Some aside) = Some aside.value

@@ -4,9 +4,9 @@ ghost use Rattle.task_machine.specs.Frames.{laid_aside};
 use exc_groups::Exc;
 use std::alloc::{AllocError, Global};
 
-// An exception laid aside until a handler or a cleanup has ended. A task is moved at each of its turns and seldom has one,
-// so a frame keeps a pointer in its place.
-pub(crate) fn lay_aside(alloc: Global, exc: Option<Exc>) -> Result<Option<Box<Exc>>, AllocError>
+/// Lays an exception aside: it waits behind a pointer, where there is one, so that many places for one that seldom has one are
+/// small. Want of memory is the only error, and there is none where there is no exception.
+pub fn lay_aside(alloc: Global, exc: Option<Exc>) -> Result<Option<Box<Exc>>, AllocError>
     ensures { IfOk result (λ aside. laid_aside aside ≡ exc) }
 {
     let Some(exc) = exc else {
@@ -16,8 +16,8 @@ pub(crate) fn lay_aside(alloc: Global, exc: Option<Exc>) -> Result<Option<Box<Ex
     Ok(Some(aside))
 }
 
-// The exception that was laid aside.
-pub(crate) fn take_up(aside: Option<Box<Exc>>) -> Option<Exc>
+/// The exception that was laid aside. Takes no memory.
+pub fn take_up(aside: Option<Box<Exc>>) -> Option<Exc>
     ensures { result ≡ laid_aside aside }
 {
     let Some(aside) = aside else {

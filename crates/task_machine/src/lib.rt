@@ -33,6 +33,7 @@ mod waking;
 mod world;
 
 pub use entry::{Entry, ScopeFrom};
+pub use laid_aside::{lay_aside, take_up};
 pub use laws::law_places;
 pub use stop::{Stop, Wake};
 pub use task::Task;

@@ -48,7 +48,7 @@ pub struct Task<'a> {
     // None for the root.
     pub(crate) home: Option<Home>,
     // The innermost is the last.
-    pub(crate) frames: SmallVec<Frame<'a>, 4>,
+    pub(crate) frames: SmallVec<Frame<'a>, 2>,
     // The innermost is the last.
     pub(crate) own: Vec<Own>,
     pub(crate) halt: Halt<'a>,
