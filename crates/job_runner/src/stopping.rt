@@ -84,7 +84,7 @@ impl<'a> Runner<'a> {
     {
         let home = self.roster.home(id);
         let told = copy_of(self.alloc, &exc)?;
-        self.roster.end(id, self.world.now(), exc);
+        self.roster.end(id, self.world.now(), exc)?;
         if let Some(at) = home {
             let (nursery, place) = at;
             self.tell(row, nursery, place, told)?;

@@ -12,6 +12,7 @@ use Rattle.batch_commit.specs.declared.live.Live.{Live}
 use Rattle.batch_commit.specs.Live.{live_at, Updates}
 use Rattle.batch_commit.specs.Lending.{with_live}
 use Rattle.task_machine.specs.declared.task.Task.{Task}
+use Rattle.task_machine.specs.Frames.{laid_aside}
 use Rattle.run_crew.specs.Crew.{Gone}
 use Rattle.task_roster.specs.declared.rows.Row.{Row}
 use Rattle.task_roster.specs.declared.rows.Ended.{Ended}
@@ -376,7 +377,7 @@ pub record Closes (old new : Roster) (id tick : ℕ) (exc : Option held.Exc) (x 
   pub is : row_at old x.row ≡ Some before
   pub label : ended.label ≡ x.task.label
   pub tick_is : ended.tick ≡ tick
-  pub exc_is : ended.exc ≡ exc
+  pub exc_is : laid_aside ended.exc ≡ exc
   pub entries : ended.entries.items ≡ x.task.entries.items
   pub froms : ended.froms.items ≡ x.task.froms.items
   pub rows : new.rows.items ≡ slice_set old.rows.items x.row (record before { end = Some ended })

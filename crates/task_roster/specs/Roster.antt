@@ -10,6 +10,7 @@ use Rattle.task_machine.specs.declared.stop.Wake.{Wake}
 use Rattle.task_machine.specs.declared.task.Task.{Task}
 use Rattle.task_machine.specs.declared.world.World.{World}
 use Rattle.task_machine.specs.Fitting.{Fits, waits_of}
+use Rattle.task_machine.specs.Frames.{laid_aside}
 use Rattle.task_machine.specs.Standing.{TurnsAs}
 use Rattle.task_machine.specs.Waking.{IsModestHalt, WakesFrom}
 use Rattle.run_crew.specs.Crew.{Crew, Gone}
@@ -47,7 +48,7 @@ task_by live (Some row) = task_unless row.end (live_at live row.task)
 
 -- what is kept of an end
 abbrev pub gone_from : Ended → Gone
-gone_from e = record { label = e.label; end = e.tick; exc = option_map exc_of e.exc; entries = e.entries.items; froms = e.froms.items }
+gone_from e = record { label = e.label; end = e.tick; exc = option_map exc_of (laid_aside e.exc); entries = e.entries.items; froms = e.froms.items }
 
 abbrev pub gone_by : Option Row → Option Gone
 gone_by None = None

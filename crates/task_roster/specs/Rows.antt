@@ -8,6 +8,7 @@ use Rattle.run_course.specs.Rows as course
 use Rattle.task_roster.specs.declared.record.Record.{Record}
 use Rattle.task_machine.specs.declared.entry.ScopeFrom.{ScopeFrom}
 use Rattle.task_machine.specs.Noted.{entry_of, IsSlice, from_of}
+use Rattle.task_machine.specs.Frames.{laid_aside}
 use Rattle.task_roster.specs.Records.{AreSlices, row_in, ending_in}
 use Rattle.task_roster.specs.declared.rows.Row.{Row}
 use Rattle.task_roster.specs.declared.rows.Ended.{Ended}
@@ -18,7 +19,7 @@ use Rattle.task_roster.specs.declared.rows.Ended.{Ended}
 pub record ShowsEnd (input : List ℕ) (row : course.Row) (ended : Ended) : Type 0 where
   pub label : ended.label ≡ row.label
   pub tick : ended.tick ≡ row.end
-  pub exc : option_map exc_of ended.exc ≡ row.exc
+  pub exc : option_map exc_of (laid_aside ended.exc) ≡ row.exc
   pub entries : map entry_of ended.entries.items ≡ map (shown input) row.entries
   pub slices : All (IsSlice input) ended.entries.items
   pub froms : map from_of ended.froms.items ≡ row.froms
@@ -68,7 +69,7 @@ pub record IsRecordOf (start : ℕ) (ended : Ended) (r : Record) : Type 0 where
   pub label : r.label ≡ ended.label
   pub from_tick : r.from_tick ≡ start
   pub to_tick : r.to_tick ≡ ended.tick
-  pub ending : ending_in r.outcome ≡ ending_of (option_map exc_of ended.exc)
+  pub ending : ending_in r.outcome ≡ ending_of (option_map exc_of (laid_aside ended.exc))
   pub entries : r.entries.items ≡ ended.entries.items
 
 -- a row without children and without an end stands in the place of the one that was there

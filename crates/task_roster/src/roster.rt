@@ -1,5 +1,5 @@
 //! The tasks of a run: those that live by their ids, and a row for each that was ever started.
-ghost use Rattle.std.specs.Prelude.{◌≡◌, ◌<◌, ◌≤◌, ◌^◌, ◌↔◌, [], None, Some, IsSome, IsTrue, IfOk, OnOk, length};
+ghost use Rattle.std.specs.Prelude.{◌≡◌, ◌<◌, ◌≤◌, ◌^◌, ◌↔◌, [], None, Some, IsSome, IsTrue, IfOk, OnOk, OnErr, length};
 ghost use Rattle.std.specs.Option.{ForSome};
 ghost use Rattle.task_machine.specs.Tasks.{scope_of, home_of};
 ghost use Rattle.task_roster.specs.Roster.{running_at, many, row_at, gone_of, id_of, parent_of, IsRoster, HasRoot, Starts, MayTurn, HasTurn, Ends};
@@ -11,7 +11,7 @@ use cancel_scopes::ScopeId;
 use exc_groups::Exc;
 use nursery_book::{NurseryId, Place};
 use std::alloc::{AllocError, Global};
-use task_machine::{Stop, Task, Wake, World};
+use task_machine::{Stop, Task, Wake, World, lay_aside};
 
 /// A task that has not ended.
 #[derive(Drop)]
@@ -82,14 +82,16 @@ impl<'a> Roster<'a> {
         }
     }
 
-    /// The task under an id has ended in that tick, with that exception or well. Its row keeps what is left of it. Takes no
-    /// memory.
-    pub fn end(&mut self, id: TaskId, tick: u64, exc: Option<Exc>)
+    /// The task under an id has ended in that tick, with that exception or well. Its row keeps what is left of it. Want of
+    /// memory is the only error, after which nothing has changed.
+    pub fn end(&mut self, id: TaskId, tick: u64, exc: Option<Exc>) -> Result<(), AllocError>
         requires agree { IsRoster self.old }
         requires lives { IsSome (running_at self.old id) }
-        ensures ended { Ends self.old self.new id tick exc }
-        ensures agree { IsRoster self.new }
+        ensures ended { OnOk result (Ends self.old self.new id tick exc) }
+        ensures agree { OnOk result (IsRoster self.new) }
+        ensures err { OnErr result (self.new ≡ self.old) }
     {
+        let aside = lay_aside(self.alloc, exc)?;
         let Some(Running { task, row }) = self.live.take(id) else {
             unreachable!()
         };
@@ -97,10 +99,11 @@ impl<'a> Roster<'a> {
         self.rows[row].end = Some(Ended {
             label,
             tick,
-            exc,
+            exc: aside,
             entries,
             froms,
         });
+        Ok(())
     }
 
     /// The row of a task that lives.

@@ -12,7 +12,7 @@ use autojump_clock::TaskId;
 use exc_groups::{Exc, Label};
 use std::alloc::{AllocError, Global};
 use std::mem;
-use task_machine::{Entry, ScopeFrom};
+use task_machine::{Entry, ScopeFrom, take_up};
 
 /// What is kept of a task that was started.
 #[derive(Drop)]
@@ -36,8 +36,8 @@ pub struct Ended<'a> {
     pub label: Label,
     /// The tick in which it ended.
     pub tick: u64,
-    /// The exception with which it ended: none where it ended well.
-    pub exc: Option<Exc>,
+    /// The exception with which it ended, behind a pointer: none where it ended well.
+    pub exc: Option<Box<Exc>>,
     /// What it noted, in order.
     pub entries: Vec<Entry<'a>>,
     /// From which tick each scope and nursery that it entered was cancelled, in the order of entering.
@@ -120,7 +120,7 @@ fn told_of<'a>(start: u64, ended: Ended<'a>) -> (Record<'a>, Vec<ScopeFrom>)
         label,
         from_tick: start,
         to_tick: tick,
-        outcome: outcome_of(exc),
+        outcome: outcome_of(take_up(exc)),
         entries,
     };
     (record, froms)

@@ -84,9 +84,9 @@ fn tasks_come_and_go(rt: HostRuntime) -> Result<(), Fail> {
     let child = roster.start(0, second, 3)?;
     assert_eq!(rt; roster.row(child), 1);
     assert!(rt; roster.parent(1) == root);
-    roster.end(child, 5, None);
+    roster.end(child, 5, None)?;
     assert!(rt; !roster.is_over());
-    roster.end(root, 6, None);
+    roster.end(root, 6, None)?;
     assert!(rt; roster.is_over());
     let rows = roster.into_rows();
     assert_eq!(rt; rows.len(), 2);

@@ -19,7 +19,7 @@ returns-clause-ended c = ends _ _ _ _ _ c.in-Some.field-0 c.requires.agree (reco
   ended = record {
     label = c.into_parts-label.result.0;
     tick = c.args.tick;
-    exc = c.args.exc;
+    exc = c.in_ok-aside.aside;
     entries = c.into_parts-label.result.1;
     froms =
         c.into_parts-label.result.2;
@@ -29,7 +29,7 @@ returns-clause-ended c = ends _ _ _ _ _ c.in-Some.field-0 c.requires.agree (reco
       c.index_mut.ensures.value;
   label = c.into_parts-label.ensures.label;
   tick_is = refl;
-  exc_is = refl;
+  exc_is = c.in_ok-aside.ensures;
   entries = c.into_parts-label.ensures.entries;
   froms = c.into_parts-label.ensures.froms;
   rows = refl;
@@ -43,7 +43,7 @@ returns-clause-agree c = agrees_ended c.args.self.now _ c.args.id c.args.tick c.
   ended = record {
     label = c.into_parts-label.result.0;
     tick = c.args.tick;
-    exc = c.args.exc;
+    exc = c.in_ok-aside.aside;
     entries = c.into_parts-label.result.1;
     froms =
         c.into_parts-label.result.2;
@@ -53,7 +53,7 @@ returns-clause-agree c = agrees_ended c.args.self.now _ c.args.id c.args.tick c.
       c.index_mut.ensures.value;
   label = c.into_parts-label.ensures.label;
   tick_is = refl;
-  exc_is = refl;
+  exc_is = c.in_ok-aside.ensures;
   entries = c.into_parts-label.ensures.entries;
   froms = c.into_parts-label.ensures.froms;
   rows = refl;
