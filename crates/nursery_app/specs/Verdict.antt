@@ -1,8 +1,7 @@
 -- What `serve` answers: the report of a job's meaning over an input, or the refusal which that meaning names.
-use Rattle.std.specs.Prelude.{◌≡◌, ◌≢◌, ℕ, ◌+◌, ◌<◌, ◌≤◌, Bool, true, false, Option, List, [], ◌∷◌, ◌++◌, length, take, codes, decimal, IsSome, IsNone}
+use Rattle.std.specs.Prelude.{◌≡◌, ℕ, ◌+◌, ◌<◌, ◌≤◌, Bool, true, false, Option, List, [], ◌∷◌, ◌++◌, length, take, codes, decimal, IsSome, IsNone}
 use Rattle.job_tree.specs.Tree.{Tree}
 use Rattle.job_grammar.specs.declared.fault.JobFault.{JobFault}
-use Rattle.job_grammar.specs.declared.fault.JobKind.TheVariants as kinds
 use Rattle.job_grammar.specs.Kinds.{number_of, name_of}
 use Rattle.job_grammar.specs.Refusals.{Spells, IsRefused}
 use Rattle.job_meaning.specs.Meaning.{meaning, meaning_end}
@@ -65,12 +64,6 @@ is_well (with_exception e) = false
 abbrev pub root_is_well : List Row → Bool
 root_is_well [] = true
 root_is_well (r ∷ rs) = is_well r.ending
-
--- the verdict on a fault of the reader that is no want of memory
-pub record IsRefusalOf (fault : JobFault) (verdict : Verdict) (bytes : List ℕ) : Type 0 where
-  pub verdict_is : verdict ≡ JobRefused fault
-  pub line : bytes ≡ refusal_line fault
-  pub kind : fault.kind ≢ kinds.NoMemory
 
 -- the verdict on a job that was read
 abbrev pub IsRunVerdict : Tree → List ℕ → ℕ → Verdict → List ℕ → Type 0

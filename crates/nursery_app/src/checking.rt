@@ -1,11 +1,12 @@
-ghost use Rattle.std.specs.Prelude.{◌≡◌, ◌<◌, IfOk, IfErr, OnOk};
+ghost use Rattle.std.specs.Prelude.{◌≡◌, ◌++◌, ◌<◌, codes, IfOk, IfErr, OnOk};
+ghost use Rattle.job_grammar.specs.Canon.{canon};
 ghost use Rattle.nursery_app.specs.Verdict.{CountsFailure};
 ghost use Rattle.job_meaning.specs.Laws.{in_format_2};
 ghost use Rattle.nursery_app.specs.Checking.{IsAnswer, IsAnswerSent, IsAnswerFault, as_it_is};
 
 use crate::lines::refusal;
 use crate::verdict::{CheckVerdict, ServeFault};
-use job_grammar::{JobKind, read_job, to_format_2, write_job};
+use job_grammar::{Job, read_job, to_format_2, write_job};
 use job_report::{Out, send};
 use std::alloc::{AllocError, Global};
 
@@ -22,13 +23,9 @@ pub fn check<W: Out>(
     ensures fault { IfErr result (IsAnswerFault as_it_is job_text.now (W.contents out.old) (W.contents out.new)) }
     ensures counted { IfErr result (CountsFailure (W.failed out.old) (W.failed out.new)) }
 {
-    let Ok((verdict, bytes)) = checked(alloc, job_text) else {
-        return Err(ServeFault::NoMemory);
-    };
-    match send(bytes.as_slice(), out) {
-        Ok(()) => Ok(verdict),
-        Err(fault) => Err(ServeFault::Send { sent: fault.sent }),
-    }
+    let (verdict, bytes) = checked(alloc, job_text)?;
+    send(bytes.as_slice(), out)?;
+    Ok(verdict)
 }
 
 // The verdict and all its bytes.
@@ -36,18 +33,8 @@ fn checked(alloc: Global, job_text: &[u8]) -> Result<(CheckVerdict, Vec<u8>), Al
     ensures { IfOk result (λ r. IsAnswer as_it_is job_text.now r.0 r.1.items) }
 {
     match read_job(alloc, job_text) {
-        Ok(job) => {
-            let mut text = write_job(alloc, &job)?;
-            text.extend_from_slice(b"\n")?;
-            Ok((CheckVerdict::Fine, text))
-        }
-        Err(fault) => {
-            if matches!(fault.kind, JobKind::NoMemory) {
-                return Err(AllocError);
-            }
-            let line = refusal(alloc, fault)?;
-            Ok((CheckVerdict::JobRefused(fault), line))
-        }
+        Ok(job) => Ok((CheckVerdict::Fine, canonical(alloc, &job)?)),
+        Err(fault) => Ok((CheckVerdict::JobRefused(fault), refusal(alloc, fault)?)),
     }
 }
 
@@ -64,13 +51,9 @@ pub fn upgrade<W: Out>(
     ensures fault { IfErr result (IsAnswerFault in_format_2 job_text.now (W.contents out.old) (W.contents out.new)) }
     ensures counted { IfErr result (CountsFailure (W.failed out.old) (W.failed out.new)) }
 {
-    let Ok((verdict, bytes)) = upgraded(alloc, job_text) else {
-        return Err(ServeFault::NoMemory);
-    };
-    match send(bytes.as_slice(), out) {
-        Ok(()) => Ok(verdict),
-        Err(fault) => Err(ServeFault::Send { sent: fault.sent }),
-    }
+    let (verdict, bytes) = upgraded(alloc, job_text)?;
+    send(bytes.as_slice(), out)?;
+    Ok(verdict)
 }
 
 // The verdict and all its bytes.
@@ -78,17 +61,16 @@ fn upgraded(alloc: Global, job_text: &[u8]) -> Result<(CheckVerdict, Vec<u8>), A
     ensures { IfOk result (λ r. IsAnswer in_format_2 job_text.now r.0 r.1.items) }
 {
     match read_job(alloc, job_text) {
-        Ok(job) => {
-            let mut text = write_job(alloc, &to_format_2(job))?;
-            text.extend_from_slice(b"\n")?;
-            Ok((CheckVerdict::Fine, text))
-        }
-        Err(fault) => {
-            if matches!(fault.kind, JobKind::NoMemory) {
-                return Err(AllocError);
-            }
-            let answer = refusal(alloc, fault)?;
-            Ok((CheckVerdict::JobRefused(fault), answer))
-        }
+        Ok(job) => Ok((CheckVerdict::Fine, canonical(alloc, &to_format_2(job))?)),
+        Err(fault) => Ok((CheckVerdict::JobRefused(fault), refusal(alloc, fault)?)),
     }
+}
+
+// The canonical text of a job and a newline.
+fn canonical(alloc: Global, job: &Job) -> Result<Vec<u8>, AllocError>
+    ensures { IfOk result (λ text. text.items ≡ canon job.now ++ codes "\n") }
+{
+    let mut text = write_job(alloc, job)?;
+    text.extend_from_slice(b"\n")?;
+    Ok(text)
 }

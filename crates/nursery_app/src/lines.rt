@@ -1,8 +1,9 @@
-ghost use Rattle.std.specs.Prelude.{◌≡◌, ◌++◌, IfOk, OnOk, decimal};
+ghost use Rattle.std.specs.Prelude.{◌≡◌, ◌≢◌, ◌++◌, IfOk, OnOk, decimal};
+ghost use Rattle.job_grammar.specs.declared.fault.JobKind.TheVariants as kinds;
 ghost use Rattle.nursery_app.specs.Verdict.{refusal_line, limit_line};
 
 use itoa::Buffer;
-use job_grammar::JobFault;
+use job_grammar::{JobFault, JobKind};
 use std::alloc::{AllocError, Global};
 
 // Appends a number in decimal digits.
@@ -13,10 +14,14 @@ fn push_number(out: &mut Vec<u8>, n: u64) -> Result<(), AllocError>
     out.extend_from_slice(buffer.format(n).as_bytes())
 }
 
-// The line for a refused job.
+// The line for a refused job. Want of memory is no refusal, and has none.
 pub fn refusal(alloc: Global, fault: JobFault) -> Result<Vec<u8>, AllocError>
-    ensures { IfOk result (λ line. line.items ≡ refusal_line fault) }
+    ensures line { IfOk result (λ line. line.items ≡ refusal_line fault) }
+    ensures kind { OnOk result (fault.kind ≢ kinds.NoMemory) }
 {
+    if matches!(fault.kind, JobKind::NoMemory) {
+        return Err(AllocError);
+    }
     let mut line = Vec::from_slice(alloc, b"refused J")?;
     push_number(&mut line, fault.kind.number())?;
     line.extend_from_slice(b" ")?;

@@ -2,11 +2,11 @@ ghost use Rattle.std.specs.Prelude.{◌≡◌, ◌<◌, ◌≤◌, length, map, 
 ghost use Rattle.job_meaning.specs.declared.limits.TheConstants.{MOST_INPUT};
 ghost use Rattle.task_roster.specs.Records.{row_in};
 ghost use Rattle.job_runner.specs.Runs.{rows_of};
-ghost use Rattle.nursery_app.specs.Verdict.{IsVerdict, IsSent, IsServeFault, CountsFailure, IsRefusalOf, IsRunVerdict, root_is_well};
+ghost use Rattle.nursery_app.specs.Verdict.{IsVerdict, IsSent, IsServeFault, CountsFailure, IsRunVerdict, root_is_well};
 
 use crate::lines::{past_limit, refusal};
 use crate::verdict::{ServeFault, Verdict};
-use job_grammar::{Job, JobFault, JobKind, read_job};
+use job_grammar::{Job, read_job};
 use job_report::{Out, report, send};
 use job_runner::{Gate, Outcome, Pick, Run, RunFault, Settings, run};
 use std::alloc::{AllocError, Global};
@@ -37,13 +37,9 @@ pub fn serve<R: Threads + Sync, P: Pick, G: Gate + Sync, W: Out>(
     ensures fault { IfErr result (IsServeFault job_text.now input.now settings.limit (W.contents out.old) (W.contents out.new)) }
     ensures counted { IfErr result (CountsFailure (W.failed out.old) (W.failed out.new)) }
 {
-    let Ok((verdict, bytes)) = answer(rt, alloc, job_text, input, settings, picker, gate) else {
-        return Err(ServeFault::NoMemory);
-    };
-    match send(bytes.as_slice(), out) {
-        Ok(()) => Ok(verdict),
-        Err(fault) => Err(ServeFault::Send { sent: fault.sent }),
-    }
+    let (verdict, bytes) = answer(rt, alloc, job_text, input, settings, picker, gate)?;
+    send(bytes.as_slice(), out)?;
+    Ok(verdict)
 }
 
 // The verdict and all its bytes.
@@ -64,18 +60,8 @@ fn answer<R: Threads + Sync, P: Pick, G: Gate + Sync>(
             let (verdict, bytes) = run_answer(rt, alloc, &job, input, settings, picker, gate)?;
             Ok((verdict, bytes))
         }
-        Err(fault) => refused(alloc, fault),
+        Err(fault) => Ok((Verdict::JobRefused(fault), refusal(alloc, fault)?)),
     }
-}
-
-// The verdict on a refused text.
-fn refused(alloc: Global, fault: JobFault) -> Result<(Verdict, Vec<u8>), AllocError>
-    ensures { IfOk result (λ r. IsRefusalOf fault r.0 r.1.items) }
-{
-    if matches!(fault.kind, JobKind::NoMemory) {
-        return Err(AllocError);
-    }
-    Ok((Verdict::JobRefused(fault), refusal(alloc, fault)?))
 }
 
 // The verdict on a job that was read.

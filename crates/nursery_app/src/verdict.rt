@@ -1,7 +1,10 @@
 ghost use Rattle.std.specs.Prelude.{◌≡◌};
 ghost use Rattle.nursery_app.specs.Statuses.{status_of, check_status_of};
+ghost use Rattle.nursery_app.specs.declared.verdict.ServeFault.TheVariants.{Send, NoMemory};
 
 use job_grammar::JobFault;
+use job_report::SendFault;
+use std::alloc::AllocError;
 use thiserror::Error;
 
 /// What `serve` wrote.
@@ -65,4 +68,20 @@ pub enum ServeFault {
     /// Memory was refused, and nothing was sent.
     #[error("no memory")]
     NoMemory,
+}
+
+impl From<AllocError> for ServeFault {
+    ghost from_gives = { λ _ fault. fault ≡ NoMemory };
+
+    fn from(_error: AllocError) -> ServeFault {
+        ServeFault::NoMemory
+    }
+}
+
+impl From<SendFault> for ServeFault {
+    ghost from_gives = { λ stopped fault. fault ≡ Send stopped.sent };
+
+    fn from(stopped: SendFault) -> ServeFault {
+        ServeFault::Send { sent: stopped.sent }
+    }
 }
