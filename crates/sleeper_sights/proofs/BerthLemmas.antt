@@ -7,9 +7,11 @@ use Rattle.std.specs.Prelude.{MatchOption}
 use Rattle.std.specs.List.{slice_get}
 use Rattle.std.specs.declared.vec.Vec.{Vec}
 use Rattle.sleeper_sights.specs.Sleeping.{scope_at}
-use Rattle.sleeper_sights.specs.Kept.{Puts, IsSame, IsEmpty, scope_of, berth_at, place_under, tasks_of, tasks_at, IsPlaced, AllPlaced, SameBerths, SameTasks}
+use Rattle.cancel_scopes.specs.Kept.{IsPlaced}
+use Rattle.sleeper_sights.specs.Kept.{Puts, IsSame, IsEmpty, scope_of, berth_at, place_under, tasks_of, tasks_at, AllPlaced, SameBerths, SameTasks}
 use Rattle.sleeper_sights.specs.declared.berths.Berth.{Berth}
-use Rattle.sleeper_sights.proofs.PlaceLemmas.{Removed, placed-same, placed-push, placed-removed, removed, moved_is, some_same}
+use Rattle.cancel_scopes.proofs.PlaceLemmas.{Removed, placed-push, placed-removed, removed, some_same}
+use Rattle.sleeper_sights.proofs.PlaceLemmas.{placed-same, moved_is}
 
 -- what clauses see of a table
 pub scope_seen : (berths : List (Option Berth)) (task : ℕ) → scope_at (map scope_of berths) task ≡ scope_of (berth_at berths task)
@@ -267,8 +269,8 @@ module _ {Z : Type 0} (berths : List (Option Berth)) (lists : List (Vec ℕ Z)) 
           subst (λ (l : List ℕ). IsPlaced (λ k. place_under berth.scope (berth_at later k)) l)
           (sym (ap tasks_of (get-written lists berth.scope w (scope_within berths lists task berth h.kept h.slept))))
           (placed-removed (λ k. place_under berth.scope (berth_at berths k)) (λ k. place_under berth.scope (berth_at later k)) v.items
-          w.items task berth.place (placed_in h) (own_place berths lists task berth h.slept) h.taken
-          (ap (place_under berth.scope) c.gone)
+          w.items task berth.place (placed_in h) (own_place berths lists task berth h.slept) h.taken.long h.taken.seam
+          h.taken.keeps (ap (place_under berth.scope) c.gone)
           (λ inside. ap (place_under berth.scope) (c.moved inside) ∙ under_own berth)
           (λ other differs apart. ap (place_under berth.scope) (c.others other differs apart)))
 

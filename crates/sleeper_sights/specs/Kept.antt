@@ -1,7 +1,8 @@
 -- How sleepers are kept. No public clause cites this module.
-use Rattle.std.specs.Prelude.{◌≡◌, ◌≢◌, ℕ, ◌<◌, ◌==◌, if◌then◌else◌, List, [], length, Option, Some, None, slice_index_or, slice_index}
+use Rattle.std.specs.Prelude.{◌≡◌, ◌≢◌, ℕ, ◌==◌, if◌then◌else◌, List, [], Option, Some, None, slice_index_or}
 use Rattle.std.specs.List.{slice_get}
 use Rattle.std.specs.declared.vec.Vec.{Vec}
+use Rattle.cancel_scopes.specs.Kept.{IsPlaced}
 use Rattle.tick_queue.specs.Ticks.{tick_in}
 use Rattle.sleeper_sights.specs.Sleeping.{scope_at}
 use Rattle.sleeper_sights.specs.declared.berths.Berth.{Berth}
@@ -47,11 +48,6 @@ tasks_of (Some tasks) = tasks.items
 -- the tasks that sleep right in a scope
 abbrev pub tasks_at : {Z : Type 0} → List (Vec ℕ Z) → ℕ → List ℕ
 tasks_at lists scope = tasks_of (slice_get lists scope)
-
--- each task that has a place stands there in the list, and each in the list has its place
-pub record IsPlaced (places : ℕ → Option ℕ) (list : List ℕ) : Type 0 where
-  pub stands : (task place : ℕ) → places task ≡ Some place → (place < length list) × (slice_index list place ≡ task)
-  pub placed : (place : ℕ) → place < length list → places (slice_index list place) ≡ Some place
 
 -- the list of each scope has the tasks whose places are in it
 pub record AllPlaced {Z : Type 0} (berths : List (Option Berth)) (lists : List (Vec ℕ Z)) : Type 0 where
