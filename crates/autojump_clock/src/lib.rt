@@ -9,8 +9,6 @@
 
 mod clock;
 mod task_id;
-#[cfg(test)]
-mod tests;
 
 pub use clock::{Jump, MockClock};
 pub use task_id::TaskId;

@@ -17,8 +17,6 @@ mod live;
 mod pick;
 mod places;
 mod slots;
-#[cfg(test)]
-mod tests;
 
 pub use batch::ReadyBatch;
 pub use entry::Call;

@@ -10,8 +10,6 @@ mod cuts;
 mod laws;
 mod line;
 mod part;
-#[cfg(test)]
-mod tests;
 
 pub use cuts::Cuts;
 pub use laws::{cuts_keep_bytes, cuts_keep_lines, cuts_meet};

@@ -12,8 +12,6 @@
 
 mod scope_id;
 mod store;
-#[cfg(test)]
-mod tests;
 mod ticks;
 mod tree;
 

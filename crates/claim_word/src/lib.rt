@@ -8,8 +8,6 @@
 
 mod batch;
 mod rule;
-#[cfg(test)]
-mod tests;
 mod worker;
 
 pub use batch::Claims;

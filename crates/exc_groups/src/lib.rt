@@ -8,8 +8,6 @@ mod copy;
 mod exc;
 mod label;
 mod leaves;
-#[cfg(test)]
-mod tests;
 mod wanted;
 
 pub use exc::{Exc, Parts, Whose};

@@ -9,8 +9,6 @@ mod cancels;
 mod given;
 mod reserved;
 mod size;
-#[cfg(test)]
-mod tests;
 
 pub use cancels::stray_cancel;
 pub use given::given_twice;

@@ -13,8 +13,6 @@ mod keyword;
 mod range;
 mod role;
 mod symbol;
-#[cfg(test)]
-mod tests;
 mod tree;
 
 pub use course::{Course, follow};

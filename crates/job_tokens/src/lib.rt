@@ -9,8 +9,6 @@ mod lexing;
 mod number;
 mod run;
 mod string;
-#[cfg(test)]
-mod tests;
 mod token;
 mod word;
 

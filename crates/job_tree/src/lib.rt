@@ -10,8 +10,6 @@ mod limits;
 mod name;
 mod room;
 mod step;
-#[cfg(test)]
-mod tests;
 mod text;
 mod word;
 

@@ -15,8 +15,6 @@ mod longest;
 mod need;
 mod newlines;
 mod request;
-#[cfg(test)]
-mod tests;
 
 pub use answers::Answer;
 pub use kernel::{Kernel, answer};

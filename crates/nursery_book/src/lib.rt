@@ -13,8 +13,6 @@ mod book;
 mod children;
 mod ending;
 mod nursery_id;
-#[cfg(test)]
-mod tests;
 
 pub use book::NurseryBook;
 pub use nursery_id::{NurseryId, Place};

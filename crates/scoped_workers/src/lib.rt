@@ -9,8 +9,6 @@ mod bench;
 mod gate;
 mod slot;
 mod station;
-#[cfg(test)]
-mod tests;
 mod working;
 
 pub use bench::Bench;

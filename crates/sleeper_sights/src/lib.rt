@@ -11,7 +11,5 @@
 
 mod berths;
 mod sleepers;
-#[cfg(test)]
-mod tests;
 
 pub use sleepers::Sleepers;

@@ -25,8 +25,6 @@ mod repeating;
 mod starting;
 mod stop;
 mod task;
-#[cfg(test)]
-mod tests;
 mod trying;
 mod turning;
 mod waking;

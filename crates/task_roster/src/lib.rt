@@ -7,8 +7,6 @@
 mod record;
 mod roster;
 mod rows;
-#[cfg(test)]
-mod tests;
 
 pub use record::{Outcome, Record};
 pub use roster::{Roster, Running};

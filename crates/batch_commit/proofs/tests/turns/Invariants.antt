@@ -1,9 +1,0 @@
-use Rattle.std.proofs.Common.{length}
-use Rattle.batch_commit.specs.Entries.{AllPlaced}
-use Rattle.batch_commit.proofs.tests.turns.Given as goal
-
-abbrev pub invariant-turns : goal.invariant-turns
-invariant-turns g l = AllPlaced l.batch.current
-
-abbrev pub decreases-turns : goal.decreases-turns
-decreases-turns g l = length l.batch.current

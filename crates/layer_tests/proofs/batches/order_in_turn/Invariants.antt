@@ -1,0 +1,12 @@
+use Rattle.std.proofs.Common.{◌≡◌, [], length}
+use Rattle.batch_commit.specs.Entries.{AllPlaced}
+use Rattle.layer_tests.proofs.batches.order_in_turn.Given as goal
+
+abbrev pub invariant-keys : goal.invariant-keys
+invariant-keys l = l.batch.current ≡ []
+
+abbrev pub invariant-turns : goal.invariant-turns
+invariant-turns l = AllPlaced l.batch.current
+
+abbrev pub decreases-turns : goal.decreases-turns
+decreases-turns l = length l.batch.current

@@ -1,0 +1,194 @@
+//! `job_checks`: names given twice, a `cancel` of nothing round it, reserved names, and the sizes of jobs.
+
+use crate::fixtures::word;
+use job_checks::{given_twice, reserved_name, size_of, stray_cancel};
+use job_syntax::Role;
+use job_tokens::{Shape, Token};
+use job_tree::{Body, Deadline, Handler, Name, Step};
+use std::alloc::Global;
+use std::test::Fail;
+
+fn token(at: usize, name: Name) -> Token {
+    Token {
+        at,
+        shape: Shape::Word(name),
+    }
+}
+
+/// A block of one step.
+fn block(alloc: Global, step: Step) -> Result<Body, Fail> {
+    let mut steps = Vec::new(alloc);
+    steps.push(step)?;
+    Ok(Body::new(steps))
+}
+
+/// A block of two steps.
+fn block_of_two(alloc: Global, first: Step, second: Step) -> Result<Body, Fail> {
+    let mut steps = Vec::new(alloc);
+    steps.push(first)?;
+    steps.push(second)?;
+    Ok(Body::new(steps))
+}
+
+fn scope(alloc: Global, name: &[u8], step: Step) -> Result<Step, Fail> {
+    Ok(Step::Scope {
+        name: word(name)?,
+        deadline: Deadline::Never,
+        shield: false,
+        fail: false,
+        body: block(alloc, step)?,
+    })
+}
+
+/// A nursery that starts one child.
+fn nursery(alloc: Global, child: &[u8], over: Option<u64>, step: Step) -> Result<Step, Fail> {
+    let name = word(b"n")?;
+    let child = word(child)?;
+    let body = block(alloc, step)?;
+    let start = Step::Start {
+        name: child,
+        over,
+        body,
+    };
+    let body = block(alloc, start)?;
+    Ok(Step::Nursery {
+        name,
+        deadline: Deadline::Never,
+        shield: false,
+        body,
+    })
+}
+
+/// Where a `cancel` of that name is stray, which stands at 9 behind the job's name.
+fn place_of_stray(body: &Body, name: &[u8]) -> Result<Option<usize>, Fail> {
+    let tokens = [token(3, word(b"main")?), token(9, word(name)?)];
+    let roles = [Role::Given, Role::Target];
+    Ok(stray_cancel(body.as_slice(), &tokens, &roles))
+}
+
+/// Where a name is given twice among `a b a b`, of which the first two are given.
+fn place_of_twice(alloc: Global, third: Role, fourth: Role) -> Result<Option<usize>, Fail> {
+    let (a, b) = (word(b"a")?, word(b"b")?);
+    let tokens = [token(0, a), token(2, b), token(4, a), token(6, b)];
+    let roles = [Role::Given, Role::Given, third, fourth];
+    Ok(given_twice(alloc, &tokens, &roles)?)
+}
+
+#[test]
+fn a_name_is_given_once(rt: HostRuntime) -> Result<(), Fail> {
+    let rows = [
+        (Role::Given, Role::Given, Some(4)),
+        (Role::Raised, Role::Given, Some(6)),
+        (Role::Raised, Role::Handled, None),
+        (Role::Target, Role::Plain, None),
+    ];
+    for (third, fourth, wanted) in rows {
+        let found = place_of_twice(rt.alloc(), third, fourth)?;
+        assert!(rt; found == wanted);
+    }
+    Ok(())
+}
+
+/// A `cancel` of a scope in a child that is started inside the scope.
+fn across_a_start(alloc: Global) -> Result<Body, Fail> {
+    let inner = nursery(alloc, b"t", None, Step::Cancel(word(b"s")?))?;
+    block(alloc, scope(alloc, b"s", inner)?)
+}
+
+/// A `cancel` of a scope behind the scope.
+fn behind_a_scope(alloc: Global) -> Result<Body, Fail> {
+    let beside = scope(alloc, b"s", Step::Checkpoint)?;
+    block_of_two(alloc, beside, Step::Cancel(word(b"s")?))
+}
+
+/// A `cancel` of a child in the child.
+fn in_a_child(alloc: Global) -> Result<Body, Fail> {
+    let inner = nursery(alloc, b"t", None, Step::Cancel(word(b"t")?))?;
+    block(alloc, inner)
+}
+
+#[test]
+fn a_scope_is_cancelled_across_a_start(rt: HostRuntime) -> Result<(), Fail> {
+    let steps = across_a_start(rt.alloc())?;
+    assert!(rt; place_of_stray(&steps, b"s")? == None);
+    Ok(())
+}
+
+#[test]
+fn a_scope_beside_a_cancel_is_not_round_it(rt: HostRuntime) -> Result<(), Fail> {
+    let steps = behind_a_scope(rt.alloc())?;
+    assert!(rt; place_of_stray(&steps, b"s")? == Some(9));
+    Ok(())
+}
+
+#[test]
+fn tasks_are_not_cancelled(rt: HostRuntime) -> Result<(), Fail> {
+    let steps = in_a_child(rt.alloc())?;
+    assert!(rt; place_of_stray(&steps, b"t")? == Some(9));
+    let steps = block(rt.alloc(), Step::Cancel(word(b"main")?))?;
+    assert!(rt; place_of_stray(&steps, b"main")? == Some(9));
+    Ok(())
+}
+
+/// The place of a name that is reserved where its token at 5 has that role.
+fn place_of_reserved(text: &[u8], role: Role) -> Result<Option<usize>, Fail> {
+    let tokens = [token(5, word(text)?)];
+    Ok(reserved_name(&tokens, &[role]))
+}
+
+#[test]
+fn reserved_names(rt: HostRuntime) -> Result<(), Fail> {
+    let rows = [
+        (b"TooSlow".as_slice(), Role::Handled, None),
+        (b"TooSlow".as_slice(), Role::Raised, Some(5)),
+        (b"TooSlow".as_slice(), Role::Given, Some(5)),
+        (b"Cancelled".as_slice(), Role::Handled, Some(5)),
+        (b"over".as_slice(), Role::Handled, Some(5)),
+        (b"over".as_slice(), Role::Target, Some(5)),
+        (b"over".as_slice(), Role::Plain, None),
+        (b"Over".as_slice(), Role::Given, None),
+    ];
+    for (text, role, wanted) in rows {
+        let found = place_of_reserved(text, role)?;
+        assert!(rt; found == wanted);
+    }
+    Ok(())
+}
+
+/// A block of three nurseries in one another, each of which starts 64 children.
+fn three_nurseries(alloc: Global) -> Result<Body, Fail> {
+    let third = nursery(alloc, b"c", Some(64), Step::Sleep(1))?;
+    let second = nursery(alloc, b"b", Some(64), third)?;
+    let first = nursery(alloc, b"a", Some(64), second)?;
+    block(alloc, first)
+}
+
+/// A nursery that starts more children than there are numbers.
+fn many_children(alloc: Global) -> Result<Body, Fail> {
+    let many = nursery(alloc, b"a", Some(u64::MAX), Step::Checkpoint)?;
+    block(alloc, many)
+}
+
+/// A `try` with a handler and a cleanup, and a step behind it.
+fn attempt_and_checkpoint(alloc: Global) -> Result<Body, Fail> {
+    let handler = Handler {
+        name: word(b"E")?,
+        body: block(alloc, Step::Checkpoint)?,
+    };
+    let attempt = Step::Try {
+        body: block(alloc, Step::Checkpoint)?,
+        handler: Some(handler),
+        cleanup: Some(block(alloc, Step::Checkpoint)?),
+    };
+    block_of_two(alloc, attempt, Step::Checkpoint)
+}
+
+#[test]
+fn sizes(rt: HostRuntime) -> Result<(), Fail> {
+    let alloc = rt.alloc();
+    assert!(rt; size_of(three_nurseries(alloc)?.as_slice()) == 532_609);
+    assert!(rt; size_of(many_children(alloc)?.as_slice()) == u64::MAX);
+    assert!(rt; size_of(attempt_and_checkpoint(alloc)?.as_slice()) == 5);
+    assert!(rt; size_of(&[]) == 0);
+    Ok(())
+}

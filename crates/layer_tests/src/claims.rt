@@ -1,0 +1,93 @@
+//! `claim_word`: each number of a batch is drawn once, by one thread or by two.
+
+ghost use Rattle.std.specs.Prelude.{◌≡◌, false, All};
+ghost use Rattle.claim_word.specs.Claims.{IsPassOf, was_told};
+
+use claim_word::{Claims, Pass};
+use std::alloc::Global;
+use std::test::Fail;
+use std::thread;
+use std::thread::Threads;
+
+/// Whether two passes draw two numbers in order, and nothing is left for the first then.
+fn draw_two(alloc: Global) -> Result<bool, Fail> {
+    let (claims, mut passes) = Claims::new(alloc, 2, 2)?;
+    let first = claims.claim(&mut passes[0]);
+    if first != Some(0) {
+        return Ok(false);
+    }
+    let second = claims.claim(&mut passes[1]);
+    let third = claims.claim(&mut passes[0]);
+    if third.is_some() {
+        return Ok(false);
+    }
+    let sum = claims.close(passes);
+    Ok(second == Some(1) && sum == 2)
+}
+
+#[test]
+fn two_passes_claim_two_requests(rt: HostRuntime) -> Result<(), Fail> {
+    assert!(rt; draw_two(rt.alloc())?);
+    Ok(())
+}
+
+/// Whether nothing is left of no number, and none was drawn.
+fn draw_none(alloc: Global) -> Result<bool, Fail> {
+    let (claims, mut passes) = Claims::new(alloc, 0, 1)?;
+    let first = claims.claim(&mut passes[0]);
+    if first.is_some() {
+        return Ok(false);
+    }
+    Ok(claims.close(passes) == 0)
+}
+
+#[test]
+fn nothing_is_left_of_no_request(rt: HostRuntime) -> Result<(), Fail> {
+    assert!(rt; draw_none(rt.alloc())?);
+    Ok(())
+}
+
+/// A worker's pass and the number that it drew.
+#[derive(Drop)]
+struct Station {
+    pass: Pass,
+    number: Option<usize>,
+}
+
+fn claim_in_two_threads<R: Threads + Sync>(rt: &R, claims: &Claims, stations: &mut [Station])
+    requires { All (λ station. IsPassOf claims.now station.pass × (was_told station.pass ≡ false)) stations.old }
+{
+    thread::for_each_mut(
+        rt,
+        stations,
+        2,
+        &|_: usize, station: &mut Station|
+            requires { IsPassOf claims.now station.old.pass × (was_told station.old.pass ≡ false) }
+        { station.number = claims.claim(&mut station.pass) },
+    );
+}
+
+#[test]
+fn two_threads_draw_two_numbers(rt: HostRuntime) -> Result<(), Fail> {
+    let (claims, mut passes) = Claims::new(rt.alloc(), 2, 2)?;
+    let Some(second) = passes.pop() else {
+        panic!(rt; "there are two passes")
+    };
+    let Some(first) = passes.pop() else {
+        panic!(rt; "there are two passes")
+    };
+    let mut stations = [
+        Station {
+            pass: first,
+            number: None,
+        },
+        Station {
+            pass: second,
+            number: None,
+        },
+    ];
+    claim_in_two_threads(&rt, &claims, &mut stations);
+    let drawn = (stations[0].number, stations[1].number);
+    assert!(rt; drawn == (Some(0), Some(1)) || drawn == (Some(1), Some(0)));
+    Ok(())
+}

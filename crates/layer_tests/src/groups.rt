@@ -1,0 +1,186 @@
+//! `exc_groups`: splits of exceptions and groups, copies, and the labels of what raised them.
+
+use crate::fixtures::{label, push_bytes, push_exc, push_label, raised, word};
+use exc_groups::{Exc, Label, Match, Parts, Whose, group, holds_cancelled, split};
+use std::alloc::{AllocError, Global};
+use std::test::Fail;
+
+fn nursery(alloc: Global, name: &[u8]) -> Result<Whose, Fail> {
+    Ok(Whose::Nursery(label(alloc, name)?))
+}
+
+/// The nursery's group of two exceptions.
+fn group_of_two(alloc: Global, name: &[u8], first: Exc, second: Exc) -> Result<Exc, Fail> {
+    let mut parts = Vec::new(alloc);
+    parts.push(first)?;
+    parts.push(second)?;
+    match group(nursery(alloc, name)?, parts) {
+        Some(exc) => Ok(exc),
+        None => Err("no group")?,
+    }
+}
+
+/// Appends one side of a split: no bytes where it is empty.
+fn push_side(text: &mut Vec<u8>, side: &Option<Exc>) -> Result<(), AllocError> {
+    if let Some(exc) = side {
+        push_exc(text, exc)?;
+    }
+    Ok(())
+}
+
+/// The two sides of a split, of which no more is known here.
+fn split_in_two(
+    alloc: Global,
+    exc: Exc,
+    wanted: Match,
+) -> Result<(Option<Exc>, Option<Exc>), AllocError> {
+    split(alloc, exc, &wanted)
+}
+
+/// The texts of the two sides of a split, with a bar between them.
+fn sides(alloc: Global, exc: Exc, wanted: Match) -> Result<Vec<u8>, AllocError> {
+    let (kept, dropped) = split_in_two(alloc, exc, wanted)?;
+    let mut text = Vec::new(alloc);
+    push_side(&mut text, &kept)?;
+    push_bytes(&mut text, b"|")?;
+    push_side(&mut text, &dropped)?;
+    Ok(text)
+}
+
+/// The two sides of a group that is split by `Cancelled`.
+fn sides_by_cancelled(alloc: Global) -> Result<Vec<u8>, Fail> {
+    let exc = group_of_two(alloc, b"n", raised(alloc, b"A", b"a")?, Exc::Cancelled)?;
+    Ok(sides(alloc, exc, Match::Cancelled)?)
+}
+
+#[test]
+fn groups_split_by_cancelled(rt: HostRuntime) -> Result<(), Fail> {
+    let found = sides_by_cancelled(rt.alloc())?;
+    assert_eq!(rt; found.as_slice(), b"n[!;]|n[A@a@0;]".as_slice());
+    Ok(())
+}
+
+/// The two sides of what was raised as `A` that is split by a name.
+fn sides_by_name(alloc: Global, name: &[u8]) -> Result<Vec<u8>, Fail> {
+    let wanted = Match::Name(word(name)?);
+    let exc = raised(alloc, b"A", b"a")?;
+    Ok(sides(alloc, exc, wanted)?)
+}
+
+#[test]
+fn leaves_split_by_name(rt: HostRuntime) -> Result<(), Fail> {
+    let rows = [(b"B".as_slice(), b"|A@a@0".as_slice()), (b"A", b"A@a@0|")];
+    for (name, expected) in rows {
+        let found = sides_by_name(rt.alloc(), name)?;
+        assert!(rt; found.as_slice() == expected);
+    }
+    Ok(())
+}
+
+/// The two sides of a `TooSlow` that is split by its name.
+fn sides_of_too_slow(alloc: Global) -> Result<Vec<u8>, Fail> {
+    let wanted = Match::Name(word(b"TooSlow")?);
+    let exc = Exc::TooSlow {
+        scope: label(alloc, b"s")?,
+        tick: 2,
+    };
+    Ok(sides(alloc, exc, wanted)?)
+}
+
+#[test]
+fn too_slow_has_its_name(rt: HostRuntime) -> Result<(), Fail> {
+    let found = sides_of_too_slow(rt.alloc())?;
+    assert_eq!(rt; found.as_slice(), b"@s@2|".as_slice());
+    Ok(())
+}
+
+/// A copy of an exception, of which no more is known here.
+fn copy_of(alloc: Global, exc: &Exc) -> Result<Exc, AllocError> {
+    exc.copy(alloc)
+}
+
+/// The texts of a group and of its copy.
+fn text_of_copies(alloc: Global) -> Result<Vec<u8>, Fail> {
+    let exc = group_of_two(alloc, b"n", raised(alloc, b"A", b"a")?, Exc::Cancelled)?;
+    let copy = copy_of(alloc, &exc)?;
+    let mut text = Vec::new(alloc);
+    push_exc(&mut text, &exc)?;
+    push_bytes(&mut text, b"|")?;
+    push_exc(&mut text, &copy)?;
+    Ok(text)
+}
+
+#[test]
+fn copies_are_equal(rt: HostRuntime) -> Result<(), Fail> {
+    let found = text_of_copies(rt.alloc())?;
+    assert_eq!(rt; found.as_slice(), b"n[A@a@0;!;]|n[A@a@0;!;]".as_slice());
+    Ok(())
+}
+
+/// The label of that name with one index, of which no more is known here.
+fn indexed(alloc: Global, name: &[u8], index: u64) -> Result<Label, Fail> {
+    Ok(label(alloc, name)?.indexed(index)?)
+}
+
+/// A copy of a label.
+fn same_label(alloc: Global, label: &Label) -> Result<Label, AllocError> {
+    label.copy(alloc)
+}
+
+/// The label of another name.
+fn renamed(alloc: Global, label: &Label, name: &[u8]) -> Result<Label, Fail> {
+    Ok(label.named(alloc, word(name)?)?)
+}
+
+/// The texts of a label, of its copy, and of one of another name.
+fn text_of_labels(alloc: Global) -> Result<Vec<u8>, Fail> {
+    let first = indexed(alloc, b"p", 1)?;
+    let copy = same_label(alloc, &first)?;
+    let other = renamed(alloc, &first, b"q")?;
+    let mut text = Vec::new(alloc);
+    push_label(&mut text, &first)?;
+    push_bytes(&mut text, b" ")?;
+    push_label(&mut text, &copy)?;
+    push_bytes(&mut text, b" ")?;
+    push_label(&mut text, &other)?;
+    Ok(text)
+}
+
+#[test]
+fn labels_keep_their_indices(rt: HostRuntime) -> Result<(), Fail> {
+    let found = text_of_labels(rt.alloc())?;
+    assert_eq!(rt; found.as_slice(), b"p.1 p.1 q.1".as_slice());
+    Ok(())
+}
+
+#[test]
+fn group_of_no_parts(rt: HostRuntime) -> Result<(), Fail> {
+    let alloc = rt.alloc();
+    assert!(rt; group(nursery(alloc, b"n")?, Vec::new(alloc)).is_none());
+    Ok(())
+}
+
+/// A group of what was raised and of a group that holds `Cancelled`.
+fn nested(alloc: Global) -> Result<Exc, Fail> {
+    let mut parts = Vec::new(alloc);
+    parts.push(Exc::Cancelled)?;
+    let inner = Exc::Group {
+        whose: nursery(alloc, b"m")?,
+        parts: Parts::new(parts),
+    };
+    group_of_two(alloc, b"n", raised(alloc, b"A", b"a")?, inner)
+}
+
+/// Whether the nested group and what was raised alone hold `Cancelled`.
+fn holding(alloc: Global) -> Result<(bool, bool), Fail> {
+    let exc = nested(alloc)?;
+    let in_group = holds_cancelled(&exc);
+    let exc = raised(alloc, b"A", b"a")?;
+    Ok((in_group, holds_cancelled(&exc)))
+}
+
+#[test]
+fn cancelled_below_a_nested_group(rt: HostRuntime) -> Result<(), Fail> {
+    assert!(rt; holding(rt.alloc())? == (true, false));
+    Ok(())
+}

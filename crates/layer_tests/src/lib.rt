@@ -1,0 +1,44 @@
+//! Tests of the layers below the runner, each through its public calls.
+//!
+//! There is nothing but tests here. They stand in a crate of their own, so that the layers are proved once, and the tests once
+//! over their contracts. A module tests one layer, and says at its head what it shows; `fixtures` has what several share.
+#![tactic(auto)]
+
+#[cfg(test)]
+mod batches;
+#[cfg(test)]
+mod checks;
+#[cfg(test)]
+mod claims;
+#[cfg(test)]
+mod clocks;
+#[cfg(test)]
+mod fixtures;
+#[cfg(test)]
+mod grammar;
+#[cfg(test)]
+mod groups;
+#[cfg(test)]
+mod kernels;
+#[cfg(test)]
+mod names;
+#[cfg(test)]
+mod nurseries;
+#[cfg(test)]
+mod parts;
+#[cfg(test)]
+mod queues;
+#[cfg(test)]
+mod rosters;
+#[cfg(test)]
+mod scopes;
+#[cfg(test)]
+mod sights;
+#[cfg(test)]
+mod syntax;
+#[cfg(test)]
+mod tasks;
+#[cfg(test)]
+mod tokens;
+#[cfg(test)]
+mod workers;

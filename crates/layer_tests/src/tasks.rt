@@ -1,0 +1,284 @@
+//! `task_machine`: what a new world and a root task are, and what a root's first turn notes, opens and starts.
+
+ghost use Rattle.std.specs.Prelude.{◌≤◌, ◌^◌};
+
+use crate::fixtures::{job, label, push_bytes, push_exc, push_label, push_number, root};
+use autojump_clock::TaskId;
+use buffer_parts::Part;
+use cancel_scopes::ScopeId;
+use exc_groups::Label;
+use job_grammar::{Job, spelled_jobs_are_sound};
+use job_meaning::MOST_INPUT;
+use std::alloc::{AllocError, Global};
+use std::test::Fail;
+use task_machine::{Entry, ScopeFrom, Stop, Task, Wake, World};
+
+/// What a root's first turn left.
+#[derive(Drop)]
+struct Turned<'a> {
+    task: Task<'a>,
+    world: World<'a>,
+    stop: Stop<'a>,
+}
+
+/// The first turn of a job's root, in a new world at that tick.
+fn first_turn<'a>(alloc: Global, job: &'a Job, tick: u64) -> Result<Turned<'a>, Fail>
+    requires { tick ≤ 2 ^ 40 }
+{
+    let part = Part::whole(b"one\ntwo\n");
+    if part.text().len() > MOST_INPUT {
+        return Err("the part is too long")?;
+    }
+    let mut task = Task::root(alloc, job, part)?;
+    let mut world = World::new(alloc);
+    world.set_now(tick);
+    spelled_jobs_are_sound();
+    let _steps = job.steps();
+    let stop = task.turn(TaskId::of(0), Wake::Begin, &mut world)?;
+    Ok(Turned { task, world, stop })
+}
+
+/// Appends a scope or a nursery that was left, as `a@0;`, with a mark where it took a `Cancelled` away.
+fn push_left(text: &mut Vec<u8>, label: &Label, tick: u64, caught: bool) -> Result<(), AllocError> {
+    push_label(text, label)?;
+    push_bytes(text, b"@")?;
+    push_number(text, tick)?;
+    push_bytes(text, if caught { b"!;" } else { b";" })
+}
+
+/// Appends something that a task noted.
+fn push_entry(text: &mut Vec<u8>, entry: &Entry<'_>) -> Result<(), AllocError> {
+    match entry {
+        Entry::Line(_) => push_bytes(text, b"line;"),
+        Entry::Scope {
+            label,
+            tick,
+            caught,
+        } => push_left(text, label, *tick, *caught),
+        Entry::Nursery {
+            label,
+            tick,
+            caught,
+        } => push_left(text, label, *tick, *caught),
+    }
+}
+
+/// Appends what a task noted.
+fn push_entries(text: &mut Vec<u8>, entries: &[Entry<'_>]) -> Result<(), AllocError> {
+    for entry in entries {
+        push_entry(text, entry)?;
+    }
+    Ok(())
+}
+
+/// Appends from when each scope was cancelled, as `a=1;b=-;`.
+fn push_froms(text: &mut Vec<u8>, froms: &[ScopeFrom]) -> Result<(), AllocError> {
+    for from in froms {
+        push_label(text, &from.label)?;
+        push_bytes(text, b"=")?;
+        match from.seen {
+            Some(tick) => push_number(text, tick)?,
+            None => push_bytes(text, b"-")?,
+        }
+        push_bytes(text, b";")?;
+    }
+    Ok(())
+}
+
+/// Appends where a turn stopped: `end` where the task ended well, and the exception where it ended with one.
+fn push_stop(text: &mut Vec<u8>, stop: &Stop<'_>) -> Result<(), AllocError> {
+    match stop {
+        Stop::Ask(_) => push_bytes(text, b"ask"),
+        Stop::Sleep(_) => push_bytes(text, b"sleep"),
+        Stop::Wait(_) => push_bytes(text, b"wait"),
+        Stop::Ended(None) => push_bytes(text, b"end"),
+        Stop::Ended(Some(exc)) => push_exc(text, exc),
+    }
+}
+
+/// Appends what a task noted, from when its scopes were cancelled, and where its turn stopped.
+fn push_turned(text: &mut Vec<u8>, turned: &Turned<'_>) -> Result<(), AllocError> {
+    push_entries(text, turned.task.entries())?;
+    push_bytes(text, b"|")?;
+    push_froms(text, turned.task.froms())?;
+    push_bytes(text, b"|")?;
+    push_stop(text, &turned.stop)
+}
+
+/// The text of a root's first turn.
+fn text_of_turn(alloc: Global, job: &Job, tick: u64) -> Result<Vec<u8>, Fail>
+    requires { tick ≤ 2 ^ 40 }
+{
+    let mut text = Vec::new(alloc);
+    let turned = first_turn(alloc, job, tick)?;
+    push_turned(&mut text, &turned)?;
+    Ok(text)
+}
+
+/// The text of the first turn of the root of a job that is given as text.
+fn shown(alloc: Global, text: &[u8], tick: u64) -> Result<Vec<u8>, Fail>
+    requires { tick ≤ 2 ^ 40 }
+{
+    let job = job(alloc, text)?;
+    text_of_turn(alloc, &job, tick)
+}
+
+/// The tick of a new world, and the tick that it was set to.
+fn ticks(alloc: Global) -> (u64, u64) {
+    let mut world = World::new(alloc);
+    let first = world.now();
+    world.set_now(7);
+    (first, world.now())
+}
+
+/// Whether a task was started in a new world.
+fn has_started(alloc: Global) -> bool {
+    let mut world = World::new(alloc);
+    world.take_started().is_some()
+}
+
+#[test]
+fn a_new_world_stands_at_tick_0(rt: HostRuntime) {
+    assert!(rt; ticks(rt.alloc()) == (0, 7));
+    assert!(rt; !has_started(rt.alloc()));
+}
+
+/// A scope that is opened in a world, whether it is open there, and the scope of a nursery that is opened in it.
+fn opened(alloc: Global) -> Result<(ScopeId, bool, ScopeId), Fail> {
+    let whose = label(alloc, b"n")?;
+    let mut world = World::new(alloc);
+    let scope = world.scopes_mut().open(None, false, Some(3))?;
+    let is_open = world.scopes().is_open(scope);
+    let nursery = world.book_mut().open(scope, TaskId::of(4), whose)?;
+    Ok((scope, is_open, world.book().scope(nursery)))
+}
+
+#[test]
+fn parts_of_a_world_are_lent(rt: HostRuntime) -> Result<(), Fail> {
+    let (scope, is_open, of_nursery) = opened(rt.alloc())?;
+    assert!(rt; is_open && of_nursery == scope);
+    Ok(())
+}
+
+/// Whether a task has nothing but a label, which is of that name.
+fn is_bare(task: &Task<'_>, name: &[u8]) -> bool {
+    let label = task.label().name();
+    label.bytes() == name
+        && task.scope().is_none()
+        && task.home().is_none()
+        && task.entries().is_empty()
+        && task.froms().is_empty()
+}
+
+/// Whether the root of a job has nothing but a label of that name.
+fn has_bare_root(alloc: Global, job: &Job, name: &[u8]) -> Result<bool, Fail> {
+    let task = root(alloc, job)?;
+    Ok(is_bare(&task, name))
+}
+
+#[test]
+fn a_root_is_in_no_scope(rt: HostRuntime) -> Result<(), Fail> {
+    let job = job(rt.alloc(), b"trio-job 1\njob main { sleep 5; }")?;
+    assert!(rt; has_bare_root(rt.alloc(), &job, b"main")?);
+    Ok(())
+}
+
+#[test]
+fn passes_are_numbered_from_0_until_an_exception(rt: HostRuntime) -> Result<(), Fail> {
+    let rows = [
+        (
+            b"trio-job 2\njob main { repeat 2 { scope s { } } }".as_slice(),
+            b"s.0@0;s.1@0;|s.0=-;s.1=-;|end".as_slice(),
+        ),
+        (
+            b"trio-job 2\njob main { repeat 5 { scope s { raise A; } } }",
+            b"s.0@0;|s.0=-;|A@main@0",
+        ),
+        (b"trio-job 2\njob main { repeat 0 { raise A; } }", b"||end"),
+    ];
+    for (text, expected) in rows {
+        assert_eq!(rt; shown(rt.alloc(), text, 0)?.as_slice(), expected);
+    }
+    Ok(())
+}
+
+#[test]
+fn a_scope_is_found_by_its_name_and_signed(rt: HostRuntime) -> Result<(), Fail> {
+    let rows = [
+        (
+            b"trio-job 1\njob main { scope a { cancel a; checkpoint; } }".as_slice(),
+            b"a@0;|a=1;|end".as_slice(),
+        ),
+        (
+            b"trio-job 1\njob main { scope a { scope b shield { cancel a; } } }",
+            b"b@0;a@0;|a=1;b=-;|end",
+        ),
+        (
+            b"trio-job 1\njob main { scope a { scope b shield { cancel b; } } }",
+            b"b@0;a@0;|a=-;b=1;|end",
+        ),
+    ];
+    for (text, expected) in rows {
+        assert_eq!(rt; shown(rt.alloc(), text, 0)?.as_slice(), expected);
+    }
+    Ok(())
+}
+
+#[test]
+fn a_scope_is_seen_and_catches_from_its_tick_on(rt: HostRuntime) -> Result<(), Fail> {
+    let text = b"trio-job 1\njob main { checkpoint; scope a at 1 { checkpoint; } }";
+    let before = shown(rt.alloc(), text, 0)?;
+    assert_eq!(rt; before.as_slice(), b"a@0;|a=1;|end".as_slice());
+    let then = shown(rt.alloc(), text, 1)?;
+    assert_eq!(rt; then.as_slice(), b"a@1!;|a=1;|end".as_slice());
+    Ok(())
+}
+
+/// Whether the task is a child of that name, started at that place in a nursery of that scope.
+fn is_child(task: &Task<'_>, name: &[u8], place: usize, scope: ScopeId) -> bool {
+    let Some((_, found)) = task.home() else {
+        return false;
+    };
+    let label = task.label().name();
+    label.bytes() == name && found == place && task.scope() == Some(scope)
+}
+
+/// Whether the root of a job, in whose nursery two children are started, is in a scope of its own inside the nursery's, and
+/// whether the children are taken in the order of their starts.
+fn starts_two(alloc: Global, job: &Job) -> Result<(bool, bool), Fail> {
+    let mut turned = first_turn(alloc, job, 0)?;
+    let Some(outer) = scope_round(&turned) else {
+        return Ok((false, false));
+    };
+    let first = takes_child(&mut turned.world, b"first", 0, outer);
+    let second = takes_child(&mut turned.world, b"second", 1, outer);
+    let is_last = turned.world.take_started().is_none();
+    Ok((true, first && second && is_last))
+}
+
+/// The scope round the innermost one of a task.
+fn scope_round(turned: &Turned<'_>) -> Option<ScopeId> {
+    let own = turned.task.scope()?;
+    let scopes = turned.world.scopes();
+    if !scopes.is_open(own) {
+        return None;
+    }
+    scopes.parent(own)
+}
+
+/// Whether the task that is taken next is a child of that name, started at that place in a nursery of that scope.
+fn takes_child(world: &mut World<'_>, name: &[u8], place: usize, scope: ScopeId) -> bool {
+    match world.take_started() {
+        Some(task) => is_child(&task, name, place, scope),
+        None => false,
+    }
+}
+
+#[test]
+fn started_tasks_are_taken_in_order(rt: HostRuntime) -> Result<(), Fail> {
+    let text =
+        b"trio-job 1\njob main { nursery n { start first { } start second { } scope s { sleep 5; } } }";
+    let job = job(rt.alloc(), text)?;
+    assert!(rt; starts_two(rt.alloc(), &job)? == (true, true));
+    Ok(())
+}

@@ -1,0 +1,59 @@
+//! `job_tokens`: the places of tokens, where no token can be read, and what a shape is.
+
+use job_tokens::{Mark, Shape, Token, lex, push_canon};
+use std::alloc::{AllocError, Global};
+use std::test::Fail;
+
+/// The places of tokens.
+fn places(alloc: Global, tokens: &[Token]) -> Result<Vec<usize>, AllocError> {
+    let mut places = Vec::new(alloc);
+    for token in tokens {
+        places.push(token.at)?;
+    }
+    Ok(places)
+}
+
+/// The canonical text of tokens.
+fn canonical(alloc: Global, tokens: &[Token]) -> Result<Vec<u8>, AllocError> {
+    let mut shapes = Vec::new(alloc);
+    for token in tokens {
+        shapes.push(token.shape)?;
+    }
+    let mut text = Vec::new(alloc);
+    push_canon(alloc, &mut text, shapes.as_slice())?;
+    Ok(text)
+}
+
+#[test]
+fn tokens_have_their_places(rt: HostRuntime) -> Result<(), Fail> {
+    let lexed = lex(rt.alloc(), b"find  \"er\";\n{ 7", 26)?;
+    assert!(rt; lexed.fault == None);
+    let places = places(rt.alloc(), lexed.tokens.as_slice())?;
+    assert_eq!(rt; places.as_slice(), [11, 17, 21, 23, 25].as_slice());
+    let text = canonical(rt.alloc(), lexed.tokens.as_slice())?;
+    assert_eq!(rt; text.as_slice(), b"find\"er\";{7".as_slice());
+    Ok(())
+}
+
+#[test]
+fn tokens_end_where_none_can_be_read(rt: HostRuntime) -> Result<(), Fail> {
+    for (bytes, tokens, fault) in [
+        (b"find #".as_slice(), 1, Some(5)),
+        (b"7a", 0, Some(0)),
+        (b"{ \"a", 1, Some(2)),
+        (b"", 0, None),
+    ] {
+        let lexed = lex(rt.alloc(), bytes, bytes.len())?;
+        assert!(rt; lexed.tokens.len() == tokens && lexed.fault == fault);
+    }
+    Ok(())
+}
+
+#[test]
+fn a_shape_tells_what_it_is(rt: HostRuntime) {
+    let number = Shape::Number(Some(7));
+    assert!(rt; number.number() == Some(7));
+    assert!(rt; number.word().is_none() && number.text().is_none());
+    assert!(rt; number.mark() == None);
+    assert!(rt; Shape::Mark(Mark::Open).mark() == Some(Mark::Open));
+}

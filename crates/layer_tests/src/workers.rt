@@ -1,0 +1,209 @@
+//! `scoped_workers`: the workers' answers come in the order of the requests, for every number of workers and every gate.
+
+use crate::fixtures::{push_bytes, push_number};
+use buffer_parts::Part;
+use line_kernels::{Answer, Kernel, Request};
+use scoped_workers::{Bench, Content, Gate, NoGate, Slot, work};
+use std::alloc::{AllocError, Global};
+use std::sync::atomic::{AtomicU64, Ordering};
+use std::test::Fail;
+
+/// Three lines of two, one and four bytes.
+const BUFFER: &[u8] = b"aa\nb\ncccc\n";
+
+/// A hundred empty lines.
+const LINES: &[u8] = &[b'\n'; 100];
+
+/// How often a gate looks whether both requests were begun.
+const LOOKS: u32 = 100_000_000;
+
+/// The counts of the first line, of the two lines behind it, and of nothing.
+fn counts<'a>(buffer: &'a [u8]) -> [Request<'a>; 3] {
+    let whole = Part::whole(buffer);
+    let (first, rest) = whole.first_of(3);
+    [first, rest, whole.cut(64, 63)].map(|part| Request {
+        kernel: Kernel::Count,
+        part,
+    })
+}
+
+/// Answers as text: each count with a space behind it.
+fn shown(alloc: Global, answers: &[Answer<'_>]) -> Result<Vec<u8>, AllocError> {
+    let mut text = Vec::new(alloc);
+    for answer in answers {
+        match answer {
+            Answer::Count(lines) => push_number(&mut text, *lines)?,
+            _ => push_bytes(&mut text, b"?")?,
+        }
+        push_bytes(&mut text, b" ")?;
+    }
+    Ok(text)
+}
+
+#[test]
+fn workers_answer_in_the_order_of_the_requests(rt: HostRuntime) -> Result<(), Fail> {
+    let requests = counts(BUFFER);
+    for workers in [1, 2, 3, 64] {
+        let answers = work(&rt, rt.alloc(), workers, &requests, &NoGate)?;
+        let text = shown(rt.alloc(), answers.as_slice())?;
+        assert_eq!(rt; text.as_slice(), b"1 2 0 ".as_slice());
+    }
+    Ok(())
+}
+
+#[test]
+fn no_requests_have_no_answers(rt: HostRuntime) -> Result<(), Fail> {
+    let answers = work(&rt, rt.alloc(), 64, &[], &NoGate)?;
+    assert_eq!(rt; answers.len(), 0);
+    Ok(())
+}
+
+/// The count in a slot, if there is one.
+fn counted(slot: &Slot<'_>) -> Option<u64> {
+    match &slot.content {
+        Content::Done(Answer::Count(lines)) => Some(*lines),
+        _ => None,
+    }
+}
+
+/// What two benches fill into one row.
+fn filled_by_two(alloc: Global) -> [Option<u64>; 2] {
+    let requests = counts(BUFFER);
+    let mut row = [
+        Slot {
+            content: Content::Empty,
+        },
+        Slot {
+            content: Content::Empty,
+        },
+    ];
+    let (first, second) = Bench::new(&requests[..2], &mut row).cut(1);
+    first.fill(alloc);
+    second.fill(alloc);
+    [counted(&row[0]), counted(&row[1])]
+}
+
+#[test]
+fn two_benches_fill_one_row(rt: HostRuntime) {
+    assert!(rt; filled_by_two(rt.alloc()) == [Some(1), Some(2)]);
+}
+
+#[test]
+fn a_bench_takes_what_is_put(rt: HostRuntime) -> Result<(), Fail> {
+    let requests = counts(BUFFER);
+    let mut row = [Slot {
+        content: Content::Empty,
+    }];
+    let mut bench = Bench::new(&requests[..1], &mut row);
+    bench.put(
+        0,
+        Slot {
+            content: Content::NoMemory,
+        },
+    );
+    assert!(rt; matches!(&row[0].content, Content::NoMemory));
+    Ok(())
+}
+
+/// A gate that counts its calls, and at which each of two requests waits for the other, though not for ever.
+#[derive(Drop)]
+struct Both {
+    begun: [AtomicU64; 2],
+    missed: AtomicU64,
+    before: AtomicU64,
+    after: AtomicU64,
+}
+
+impl Gate for Both {
+    fn before(&self, i: usize) {
+        self.before.fetch_add(1, Ordering::SeqCst);
+        if i < 2 {
+            self.begun[i].store(1, Ordering::SeqCst);
+        }
+        if !self.both_begun() {
+            self.missed.store(1, Ordering::SeqCst);
+        }
+    }
+
+    fn after(&self, _i: usize) {
+        self.after.fetch_add(1, Ordering::SeqCst);
+    }
+}
+
+impl Both {
+    fn new() -> Both {
+        Both {
+            begun: [AtomicU64::new(0), AtomicU64::new(0)],
+            missed: AtomicU64::new(0),
+            before: AtomicU64::new(0),
+            after: AtomicU64::new(0),
+        }
+    }
+
+    /// Whether this many requests were begun, the first two among them, and ended.
+    fn has_seen(&self, requests: u64) -> bool {
+        self.before.load(Ordering::SeqCst) == requests
+            && self.after.load(Ordering::SeqCst) == requests
+            && self.begun[0].load(Ordering::SeqCst) == 1
+            && self.begun[1].load(Ordering::SeqCst) == 1
+    }
+
+    /// Looks until both requests were begun, or so many times.
+    fn both_begun(&self) -> bool {
+        for _ in 0..LOOKS {
+            if self.begun[0].load(Ordering::SeqCst) == 1
+                && self.begun[1].load(Ordering::SeqCst) == 1
+            {
+                return true;
+            }
+        }
+        false
+    }
+}
+
+#[test]
+fn two_workers_compute_at_once(rt: HostRuntime) -> Result<(), Fail> {
+    let gate = Both::new();
+    let answers = work(&rt, rt.alloc(), 2, &counts(BUFFER)[..2], &gate)?;
+    let text = shown(rt.alloc(), answers.as_slice())?;
+    assert_eq!(rt; text.as_slice(), b"1 2 ".as_slice());
+    assert!(rt; gate.has_seen(2));
+    assert!(rt; gate.missed.load(Ordering::SeqCst) == 0);
+    Ok(())
+}
+
+/// Requests for the counts of no line, of one, and so on, up to 99 lines.
+fn hundred_requests(alloc: Global) -> Result<Vec<Request<'static>>, AllocError> {
+    let mut requests = Vec::new(alloc);
+    for lines in 0..LINES.len() {
+        requests.push(Request {
+            kernel: Kernel::Count,
+            part: Part::whole(&LINES[..lines]),
+        })?;
+    }
+    Ok(requests)
+}
+
+/// Whether answers are the counts from 0 on, one after the other.
+fn count_up(answers: &[Answer<'_>]) -> bool {
+    let mut lines: u64 = 0;
+    for answer in answers {
+        match answer {
+            Answer::Count(found) if *found == lines => lines = lines.wrapping_add(1),
+            _ => return false,
+        }
+    }
+    true
+}
+
+#[test]
+fn three_workers_answer_a_hundred_requests(rt: HostRuntime) -> Result<(), Fail> {
+    let gate = Both::new();
+    let requests = hundred_requests(rt.alloc())?;
+    assert!(rt; requests.len() <= 2_000_000);
+    let answers = work(&rt, rt.alloc(), 3, requests.as_slice(), &gate)?;
+    assert!(rt; answers.len() == 100);
+    assert!(rt; count_up(answers.as_slice()));
+    assert!(rt; gate.has_seen(100));
+    Ok(())
+}
