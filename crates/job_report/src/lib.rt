@@ -10,8 +10,6 @@ mod label;
 mod mem_out;
 mod out;
 mod rows;
-#[cfg(test)]
-mod tests;
 mod text;
 mod write_out;
 

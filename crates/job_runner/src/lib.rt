@@ -14,8 +14,6 @@ mod runner;
 mod running;
 mod settings;
 mod stopping;
-#[cfg(test)]
-mod tests;
 
 pub use batch_commit::{Forward, Pick, Reverse, Turn};
 pub use fault::RunFault;

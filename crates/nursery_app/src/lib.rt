@@ -5,8 +5,6 @@
 //! which that meaning names, and every line shown is the slice of the input at its stated place.
 #![tactic(auto)]
 
-#[cfg(test)]
-mod at_scale;
 mod checking;
 mod command_line;
 mod expecting;
@@ -17,21 +15,11 @@ mod lines;
 mod nearness;
 mod places;
 mod read;
-#[cfg(test)]
-mod refusal_tests;
 mod scanning;
 mod sentences;
 mod serving;
-#[cfg(test)]
-mod tests;
 mod verdict;
-#[cfg(test)]
-mod word_tests;
 mod words;
-#[cfg(test)]
-mod worked;
-#[cfg(test)]
-mod worker_tests;
 
 pub use checking::{check, upgrade};
 pub use command_line::DEFAULT_LIMIT;

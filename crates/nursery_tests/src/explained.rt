@@ -1,0 +1,170 @@
+//! Refused job texts, and what `explain` tells of them.
+
+/// A job text, and what its refusal shows, where the file is named `f`.
+pub type Row = (&'static str, &'static str);
+
+/// Texts that go on wrongly: what the grammar expected.
+pub const EXPECTED: &[Row] = &[
+    (
+        "trio-job 1\njob main { sleep }\n",
+        "f:2:18: expected a number\njob main { sleep }\n                 ^\n",
+    ),
+    (
+        "trio-job 1\njob main { sleep 1 }",
+        "f:2:20: expected `;`\njob main { sleep 1 }\n                   ^\n",
+    ),
+    (
+        "trio-job 1\njob main {\n  sleep 1;\n",
+        "f:4:1: expected a step, as `sleep 1;`, or `}` (a `start` stands only right inside a nursery)\n\n^\nthe innermost block that is not closed begins at f:2:10\n",
+    ),
+    (
+        "trio-job 1\njob main { } }",
+        "f:2:14: expected the text's end: nothing may follow the job's `}`\njob main { } }\n             ^\n",
+    ),
+    (
+        "trio-job 1\nsleep 1;",
+        "f:2:1: expected `job NAME { .. }`\nsleep 1;\n^\n",
+    ),
+    (
+        "trio-job 1\njob { }",
+        "f:2:5: expected a name\njob { }\n    ^\n",
+    ),
+    (
+        "trio-job 1\njob a { scope s; }",
+        "f:2:16: expected `after N`, `at N`, `shield`, `fail` or `{`\njob a { scope s; }\n               ^\n",
+    ),
+    (
+        "trio-job 1\njob a { try { } }",
+        "f:2:17: expected `except NAME { .. }` or `finally { .. }`\njob a { try { } }\n                ^\n",
+    ),
+    (
+        "trio-job 1\njob a { find x; }",
+        "f:2:14: expected a string, as `\"error\"`\njob a { find x; }\n             ^\n",
+    ),
+    (
+        "trio-job 1\njob a { raise 1; }",
+        "f:2:15: expected the name of an exception\njob a { raise 1; }\n              ^\n",
+    ),
+    (
+        "trio-job 1\njob a { nursery n { start b at 1 { } } }",
+        "f:2:29: expected `over N` or `{`\njob a { nursery n { start b at 1 { } } }\n                            ^\n",
+    ),
+    (
+        "trio-job 1\njob a { nursery n { 5 } }",
+        "f:2:21: expected a step, as `sleep 1;`, a `start NAME { .. }` or `}`\njob a { nursery n { 5 } }\n                    ^\n",
+    ),
+    (
+        "trio-job 2\njob a { nursery n; }",
+        "f:2:18: expected `{`, or in format 2 `after N` or `shield`\njob a { nursery n; }\n                 ^\n",
+    ),
+];
+
+/// Texts that are refused for another reason: what is wrong.
+pub const WRONG: &[Row] = &[
+    (
+        "trio-job 1\njob a {\n\tfind \"ä\"; }",
+        "f:3:8: this byte is not ASCII\n find \"??\"; }\n       ^\n",
+    ),
+    (
+        "job a { }",
+        "f:1:1: a job text begins with the line `trio-job 1` or `trio-job 2`, ended by a newline alone\njob a { }\n^\n",
+    ),
+    (
+        "",
+        "f:1:1: a job text begins with the line `trio-job 1` or `trio-job 2`, ended by a newline alone\n\n^\n",
+    ),
+    (
+        "trio-job 1\njob a { sleep 1s; }",
+        "f:2:15: a letter or `_` stands directly behind this number\njob a { sleep 1s; }\n              ^\n",
+    ),
+    (
+        "trio-job 1\njob a { sleep 1_; }",
+        "f:2:15: a letter or `_` stands directly behind this number\njob a { sleep 1_; }\n              ^\n",
+    ),
+    (
+        "trio-job 1\njob a { find \"x; }",
+        "f:2:14: a string of 1 to 64 bytes was expected: printable, or `\\\"`, `\\\\` or `\\x` and two of 0-9a-f, and closed by a quote\njob a { find \"x; }\n             ^\n",
+    ),
+    (
+        "trio-job 1\njob a { # }",
+        "f:2:9: a word, a number, a string or one of `{`, `}` and `;` was expected\njob a { # }\n        ^\na job text has no comments\n",
+    ),
+    (
+        "trio-job 1\njob a123456789012345678901234567890123 { }",
+        "f:2:5: this word has more than 32 bytes\njob a123456789012345678901234567890123 { }\n    ^\n",
+    ),
+    (
+        "trio-job 1\njob a { sleep 01; }\r\n",
+        "f:2:15: a number out of its range: `over` takes 1 to 64, `pace` 1 to 1000000, `repeat` 0 to 1000, others 0 to 1000000000; no leading zero\njob a { sleep 01; } \n              ^\n",
+    ),
+    (
+        "trio-job 1\njob a { scope a { } }",
+        "f:2:15: this name was given before: jobs, scopes, nurseries and starts need names of their own\njob a { scope a { } }\n              ^\nit was first given at f:2:5\n",
+    ),
+    (
+        "trio-job 1\njob a { cancel b; }",
+        "f:2:16: no scope or nursery round this `cancel` has this name\njob a { cancel b; }\n               ^\n",
+    ),
+    (
+        "trio-job 1\njob a { raise sleep; }",
+        "f:2:15: this name is reserved: no keyword, not `Cancelled`, and `TooSlow` only behind `except`\njob a { raise sleep; }\n              ^\n",
+    ),
+    (
+        "trio-job 1\njob a { nursery n { start b over 64 { nursery m { start c over 64 { nursery q { start d over 64 { } } } } } } }",
+        "f:1:1: the job has more than 100000 steps, in format 2 more than 1000000, the copies that `over` makes and the passes of `repeat` counted\ntrio-job 1\n^\n",
+    ),
+];
+
+/// Texts for which something may help: the last line of what is shown, and the newline before it.
+pub const HELPED: &[Row] = &[
+    ("trio-job 1\njob a { slep 1; }", "\ndid you mean `sleep`?\n"),
+    (
+        "trio-job 1\njob a { sleeep 1; }",
+        "\ndid you mean `sleep`?\n",
+    ),
+    (
+        "trio-job 1\njob a { Sleep 1; }",
+        "\ndid you mean `sleep`?\n",
+    ),
+    ("trio-job 1\njob a { tyr { } }", "\ndid you mean `try`?\n"),
+    ("trio-job 1\nob a { }", "\ndid you mean `job`?\n"),
+    (
+        "trio-job 1\njob a { scope s sheild { } }",
+        "\ndid you mean `shield`?\n",
+    ),
+    (
+        "trio-job 1\njob a { nursery n { strat b { } } }",
+        "\ndid you mean `start`?\n",
+    ),
+    (
+        "trio-job 1\njob a { try { } finaly { } }",
+        "\ndid you mean `finally`?\n",
+    ),
+    // `start` stands only in a nursery, and two bytes are wrong.
+    ("trio-job 1\njob a { strat b { } }", "\n        ^\n"),
+    ("trio-job 1\njob a { slop 1; }", "\n        ^\n"),
+    (
+        "trio-job 1\njob a { scope b { sleep 1; }\n scope c {\n { }",
+        "\n ^\n",
+    ),
+    (
+        "trio-job 1\r\njob a { }\r\n",
+        "\nits line ends are carriage returns and newlines: save it with newlines alone\n",
+    ),
+    (
+        "trio-job 1\njob a { // no\n}",
+        "\na job text has no comments\n",
+    ),
+    (
+        "trio-job 1\njob a { repeat 2 { } }",
+        "\nformat 2 has this: begin the job text with the line `trio-job 2`\n",
+    ),
+    (
+        "trio-job 1\njob a { nursery n shield { } }",
+        "\nformat 2 has this: begin the job text with the line `trio-job 2`\n",
+    ),
+    (
+        "trio-job 2\njob a { repaet 2 { } }",
+        "\ndid you mean `repeat`?\n",
+    ),
+];

@@ -1,0 +1,167 @@
+//! What the tests of this crate share: job texts, and serving them under each order of picks.
+
+use job_grammar::Job;
+use job_report::{MemOut, Out};
+use job_runner::{Forward, Gate, MOST_INPUT, NoGate, Pick, Reverse, Run, Settings, Turn, run};
+use nursery_app::{ServeFault, Verdict, serve};
+use std::alloc::{AllocError, Global};
+use std::process::Abort;
+use std::test::Fail;
+use std::thread::Threads;
+
+/// A worked job: the steps of the job `main`, its input, and its report.
+pub type Row = (&'static str, &'static [u8], &'static [u8]);
+
+/// The first line of a job text of format 1.
+pub const FORMAT_1: &[u8] = b"trio-job 1\n";
+
+/// The first line of a job text of format 2.
+pub const FORMAT_2: &[u8] = b"trio-job 2\n";
+
+/// Two lines, of which the first holds `er`.
+pub const TWO_LINES: &[u8] = b"error\nok\n";
+
+/// Three lines, of which each half begins with its longest.
+pub const HALVES: &[u8] = b"aa\nb\ncccc\n";
+
+/// The tick after which the jobs of these tests may not end.
+pub const LIMIT: u64 = 100;
+
+/// The pieces of a text, one behind the other.
+pub fn joined(alloc: Global, pieces: &[&[u8]]) -> Result<Vec<u8>, AllocError> {
+    let mut text = Vec::new(alloc);
+    for piece in pieces {
+        text.extend_from_slice(piece)?;
+    }
+    Ok(text)
+}
+
+/// The text of the job `main` of these steps, behind the first line of its format.
+pub fn job_text(alloc: Global, first_line: &[u8], steps: &[u8]) -> Result<Vec<u8>, AllocError> {
+    joined(alloc, &[first_line, b"job main { ", steps, b" }"])
+}
+
+/// The run of a job by some workers.
+pub fn run_of<'a, R: Abort + Threads + Sync + AllocGlobal, P: Pick, G: Gate + Sync>(
+    rt: &R,
+    job: &'a Job,
+    input: &'a [u8],
+    workers: usize,
+    picker: &mut P,
+    gate: &G,
+) -> Result<Run<'a>, Fail> {
+    assert!(rt; input.len() <= MOST_INPUT);
+    let settings = Settings::new(workers, LIMIT).ok_or("settings")?;
+    let done = run(rt, rt.alloc(), job, input, settings, picker, gate)?;
+    Ok(done)
+}
+
+/// Calls `serve` with a writer that has not failed.
+pub fn serve_into<R: Abort + Threads + Sync + AllocGlobal, P: Pick, G: Gate + Sync, W: Out>(
+    rt: &R,
+    text: &[u8],
+    input: &[u8],
+    settings: Settings,
+    picker: &mut P,
+    gate: &G,
+    out: &mut W,
+) -> Result<Verdict, ServeFault> {
+    assert!(rt; input.len() <= MOST_INPUT);
+    assert!(rt; out.failures() == 0);
+    serve(rt, rt.alloc(), text, input, settings, picker, gate, out)
+}
+
+/// Serves a text. Where memory is refused nothing was sent, and the text is served again.
+pub fn serve_again<R: Abort + Threads + Sync + AllocGlobal, P: Pick>(
+    rt: &R,
+    text: &[u8],
+    input: &[u8],
+    settings: Settings,
+    picker: &mut P,
+    out: &mut MemOut,
+) -> Result<Verdict, ServeFault> {
+    let verdict = serve_into(rt, text, input, settings, picker, &NoGate, out);
+    if !matches!(verdict, Err(ServeFault::NoMemory)) {
+        return verdict;
+    }
+    assert!(rt; out.taken().is_empty());
+    serve_into(rt, text, input, settings, picker, &NoGate, out)
+}
+
+/// What `serve` writes for a text with these settings, and the status of its verdict, which is 5 for a fault.
+pub fn served<R: Abort + Threads + Sync + AllocGlobal, P: Pick>(
+    rt: &R,
+    text: &[u8],
+    input: &[u8],
+    workers: usize,
+    picker: &mut P,
+) -> Result<(u8, MemOut), Fail> {
+    let settings = Settings::new(workers, LIMIT).ok_or("settings")?;
+    let mut out = MemOut::new(rt.alloc(), 1_000_000, 7, None)?;
+    let status = match serve_again(rt, text, input, settings, picker, &mut out) {
+        Ok(verdict) => verdict.status(),
+        Err(_fault) => 5,
+    };
+    Ok((status, out))
+}
+
+/// Checks what was written, with the name of what was asked.
+pub fn assert_written(rt: &impl Abort, name: &str, out: &MemOut, expected: &[u8]) {
+    assert_eq!(rt; out.taken(), expected, "{name}");
+}
+
+/// Checks what `serve` writes for a text with the limit 100, by 1 and 64 workers in each order of picks.
+pub fn assert_serves<R: Abort + Threads + Sync + AllocGlobal>(
+    rt: &R,
+    name: &str,
+    text: &[u8],
+    input: &[u8],
+    expected: &[u8],
+) -> Result<(), Fail> {
+    for workers in [1, 64] {
+        let (forward, out) = served(rt, text, input, workers, &mut Forward)?;
+        assert_written(rt, name, &out, expected);
+        let (reverse, out) = served(rt, text, input, workers, &mut Reverse)?;
+        assert_written(rt, name, &out, expected);
+        let (turn, out) = served(rt, text, input, workers, &mut Turn { calls: 0 })?;
+        assert_written(rt, name, &out, expected);
+        assert!(rt; forward < 4 && reverse < 4 && turn < 4, "{name}");
+    }
+    Ok(())
+}
+
+/// Checks the reports of worked jobs in a format.
+pub fn assert_rows<R: Abort + Threads + Sync + AllocGlobal>(
+    rt: &R,
+    first_line: &[u8],
+    rows: &[Row],
+) -> Result<(), Fail> {
+    for &(steps, input, report) in rows {
+        let text = job_text(rt.alloc(), first_line, steps.as_bytes())?;
+        assert_serves(rt, steps, text.as_slice(), input, report)?;
+    }
+    Ok(())
+}
+
+/// Checks the reports of worked jobs, which are the same in both formats.
+pub fn assert_rows_in_both_formats<R: Abort + Threads + Sync + AllocGlobal>(
+    rt: &R,
+    rows: &[Row],
+) -> Result<(), Fail> {
+    assert_rows(rt, FORMAT_1, rows)?;
+    assert_rows(rt, FORMAT_2, rows)
+}
+
+/// Checks what `serve` writes for a text, and the status of its verdict.
+pub fn assert_answers<R: Abort + Threads + Sync + AllocGlobal>(
+    rt: &R,
+    text: &str,
+    input: &[u8],
+    status: u8,
+    expected: &[u8],
+) -> Result<(), Fail> {
+    let (told, out) = served(rt, text.as_bytes(), input, 1, &mut Forward)?;
+    assert_written(rt, text, &out, expected);
+    assert_eq!(rt; told, status, "{text}");
+    Ok(())
+}

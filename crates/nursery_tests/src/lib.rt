@@ -1,0 +1,26 @@
+//! The tests of the crates `job_runner`, `job_report` and `nursery_app`, through what these make public.
+//!
+//! They show what no clause says: that the reports of worked jobs, worked out by hand, are what the definitions give; how words and
+//! refused texts are answered; and what becomes of readers and writers that fail.
+#![tactic(auto)]
+
+#[cfg(test)]
+mod explained;
+#[cfg(test)]
+mod fixtures;
+#[cfg(test)]
+mod nested;
+#[cfg(test)]
+mod orders;
+#[cfg(test)]
+mod refused;
+#[cfg(test)]
+mod reports;
+#[cfg(test)]
+mod scale;
+#[cfg(test)]
+mod streams;
+#[cfg(test)]
+mod words;
+#[cfg(test)]
+mod worked;

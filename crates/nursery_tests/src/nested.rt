@@ -1,0 +1,52 @@
+//! Texts of 31 blocks within one another, as deep as the job `main` may have them.
+
+use std::alloc::{AllocError, Global};
+
+// How many blocks there are.
+const DEEPEST: u8 = 31;
+
+// Appends a number of two digits between two texts.
+fn push_numbered(
+    out: &mut Vec<u8>,
+    front: &[u8],
+    number: u8,
+    behind: &[u8],
+) -> Result<(), AllocError> {
+    out.extend_from_slice(front)?;
+    out.push(b'0'.wrapping_add(number / 10))?;
+    out.push(b'0'.wrapping_add(number % 10))?;
+    out.extend_from_slice(behind)
+}
+
+/// Appends the numbers from 01 to 31, each between two texts.
+pub fn push_up(out: &mut Vec<u8>, front: &[u8], behind: &[u8]) -> Result<(), AllocError> {
+    for i in 0..DEEPEST {
+        push_numbered(out, front, i.wrapping_add(1), behind)?;
+    }
+    Ok(())
+}
+
+/// Appends the numbers from 31 down to 01, each between two texts.
+pub fn push_down(out: &mut Vec<u8>, front: &[u8], behind: &[u8]) -> Result<(), AllocError> {
+    for i in 0..DEEPEST {
+        push_numbered(out, front, DEEPEST.wrapping_sub(i), behind)?;
+    }
+    Ok(())
+}
+
+/// Appends a text 31 times.
+pub fn push_each(out: &mut Vec<u8>, text: &[u8]) -> Result<(), AllocError> {
+    for _ in 0..DEEPEST {
+        out.extend_from_slice(text)?;
+    }
+    Ok(())
+}
+
+/// The steps within 31 blocks that begin so, each with a number behind its name.
+pub fn nested(alloc: Global, block: &[u8], steps: &[u8]) -> Result<Vec<u8>, AllocError> {
+    let mut text = Vec::new(alloc);
+    push_up(&mut text, block, b" { ")?;
+    text.extend_from_slice(steps)?;
+    push_each(&mut text, b" }")?;
+    Ok(text)
+}

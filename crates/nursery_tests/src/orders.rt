@@ -1,0 +1,315 @@
+//! Turns and requests of a run: which picks are asked for, how many turns the tasks have, and when a gate is called.
+
+ghost use Rattle.std.specs.Prelude.{◌<◌};
+
+use crate::fixtures::{FORMAT_1, HALVES, LIMIT, assert_written, job_text, run_of, serve_into};
+use crate::nested::nested;
+use job_grammar::read_job;
+use job_report::MemOut;
+use job_runner::{Forward, Gate, NoGate, Pick, Record, Reverse, ScopeFrom, Settings, Turn};
+use std::process::Abort;
+use std::sync::atomic::{AtomicU64, Ordering};
+use std::test::Fail;
+use std::thread::Threads;
+
+// Checks the ticks in which tasks started and ended.
+fn assert_ticks(rt: &impl Abort, records: &[Record<'_>], ticks: &[(u64, u64)]) {
+    assert!(rt; records.len() == ticks.len());
+    for (i, &(start, end)) in ticks.iter().enumerate() {
+        let (from, to) = ticks_of(records.get(i));
+        assert!(rt; from == start && to == end, "task {i}");
+    }
+}
+
+// The ticks in which a task started and ended.
+fn ticks_of(record: Option<&Record<'_>>) -> (u64, u64) {
+    match record {
+        Some(record) => (record.from_tick, record.to_tick),
+        None => (u64::MAX, u64::MAX),
+    }
+}
+
+// Checks how many turns a job takes in the order of a picker, and the ticks of its tasks.
+fn assert_turns<R: Abort + Threads + Sync + AllocGlobal, P: Pick>(
+    rt: &R,
+    text: &[u8],
+    picker: &mut P,
+    turns: u64,
+    ticks: &[(u64, u64)],
+) -> Result<(), Fail> {
+    let job = read_job(rt.alloc(), text)?;
+    let done = run_of(rt, &job, b"", 1, picker, &NoGate)?;
+    assert_eq!(rt; done.turns(), turns);
+    assert_ticks(rt, done.records(), ticks);
+    Ok(())
+}
+
+const SIBLING_FAILS: &[u8] = b"trio-job 1
+job main { nursery n {
+  start a { sleep 2; raise Boom; } start b { sleep 10; } start c { sleep 2; }
+} }";
+
+#[test]
+fn each_order_takes_the_same_turns(rt: HostRuntime) -> Result<(), Fail> {
+    let ticks = &[(0, 3), (0, 2), (0, 3), (0, 2)];
+    assert_turns(&rt, SIBLING_FAILS, &mut Forward, 8, ticks)?;
+    assert_turns(&rt, SIBLING_FAILS, &mut Reverse, 8, ticks)?;
+    let mut turn = Turn { calls: 0 };
+    assert_turns(&rt, SIBLING_FAILS, &mut turn, 8, ticks)?;
+    assert!(rt; turn.calls == 8);
+    Ok(())
+}
+
+#[test]
+fn a_nursery_without_tasks_takes_two_turns(rt: HostRuntime) -> Result<(), Fail> {
+    let text = b"trio-job 1\njob main { nursery n { } }";
+    assert_turns(&rt, text, &mut Forward, 2, &[(0, 0)])
+}
+
+#[test]
+fn many_tasks_take_four_turns_each(rt: HostRuntime) -> Result<(), Fail> {
+    let text = b"trio-job 1
+job main { nursery n { start a over 64 { nursery m {
+  start b over 64 { sleep 1; sleep 1; sleep 1; }
+} } } }";
+    let ticks = vec![in rt.alloc(); (0, 3); 4161]?;
+    assert_turns(&rt, text, &mut Forward, 16_514, ticks.as_slice())
+}
+
+#[test]
+fn orders_pick_their_places(rt: HostRuntime) {
+    let mut reverse = Reverse;
+    let mut turn = Turn { calls: 0 };
+    for (left, last, place) in [
+        (3, 2, 0),
+        (3, 2, 1),
+        (3, 2, 2),
+        (3, 2, 0),
+        (5, 4, 4),
+        (1, 0, 0),
+    ] {
+        assert_eq!(rt; reverse.pick(left), last);
+        assert_eq!(rt; turn.pick(left), place);
+    }
+    let mut turn = Turn { calls: u64::MAX };
+    assert_eq!(rt; turn.pick(10), 5);
+    assert_eq!(rt; turn.pick(10), 0);
+}
+
+#[test]
+fn settings_have_their_ranges(rt: HostRuntime) {
+    for (workers, limit, fits) in [
+        (0, 1, false),
+        (65, 1, false),
+        (1, 4_294_967_296, false),
+        (64, 4_294_967_295, true),
+    ] {
+        assert_eq!(rt; Settings::new(workers, limit).is_some(), fits);
+    }
+}
+
+// From which tick a job's scopes and nurseries were cancelled, each by its name.
+const FROMS: &[(&[u8], &[(&[u8], Option<u64>)])] = &[
+    (SIBLING_FAILS, &[(b"n", Some(3))]),
+    (
+        b"trio-job 1\njob main { scope s after 4 { try { forever; } finally { scope g shield { sleep 3; } sleep 1; } } }",
+        &[(b"s", Some(4)), (b"g", None)],
+    ),
+];
+
+// Checks from when scopes were cancelled.
+fn assert_froms(rt: &impl Abort, froms: &[ScopeFrom], wanted: &[(&[u8], Option<u64>)]) {
+    assert!(rt; froms.len() == wanted.len());
+    for (i, &(name, seen)) in wanted.iter().enumerate() {
+        assert!(rt; is_from(froms.get(i), name, seen), "scope {i}");
+    }
+}
+
+// Whether a scope of that name was cancelled from that tick.
+fn is_from(from: Option<&ScopeFrom>, name: &[u8], seen: Option<u64>) -> bool {
+    match from {
+        Some(from) => *from.label.name().bytes() == *name && from.seen == seen,
+        None => false,
+    }
+}
+
+#[test]
+fn a_run_tells_from_when_its_scopes_were_cancelled(rt: HostRuntime) -> Result<(), Fail> {
+    for &(text, froms) in FROMS {
+        let job = read_job(rt.alloc(), text)?;
+        let done = run_of(&rt, &job, b"", 1, &mut Forward, &NoGate)?;
+        assert_froms(&rt, done.froms(), froms);
+    }
+    Ok(())
+}
+
+// How often a gate looks whether both requests were begun.
+const LOOKS: u32 = 100_000_000;
+
+// A job of two tasks, each with two requests over its half.
+const TWO_TASKS: &[u8] =
+    b"trio-job 1\njob main { nursery n { start p over 2 { longest; head 1; } } }";
+
+const TWO_REPORTS: &[u8] = b"job main 0
+task main 0 0 done
+  nursery n 0 passed
+task p.0 0 0 done
+  line 0+2 aa
+  line 0+2 aa
+task p.1 0 0 done
+  line 5+4 cccc
+  line 5+4 cccc
+";
+
+// A gate at which the first two requests of a batch wait for one another, though not for ever.
+#[derive(Drop)]
+struct Both {
+    first: AtomicU64,
+    second: AtomicU64,
+    missed: AtomicU64,
+}
+
+impl Gate for Both {
+    fn before(&self, i: usize) {
+        match i {
+            0 => self.first.store(1, Ordering::SeqCst),
+            1 => self.second.store(1, Ordering::SeqCst),
+            _ => (),
+        }
+        if !self.both_begun() {
+            self.missed.store(1, Ordering::SeqCst);
+        }
+    }
+
+    fn after(&self, _i: usize) {}
+}
+
+impl Both {
+    fn new() -> Both {
+        Both {
+            first: AtomicU64::new(0),
+            second: AtomicU64::new(0),
+            missed: AtomicU64::new(0),
+        }
+    }
+
+    // Whether both requests were begun, and neither waited in vain.
+    fn both_met(&self) -> bool {
+        self.both_begun() && self.missed.load(Ordering::SeqCst) == 0
+    }
+
+    // Looks until both requests were begun, or so many times.
+    fn both_begun(&self) -> bool {
+        for _ in 0..LOOKS {
+            if self.first.load(Ordering::SeqCst) == 1 && self.second.load(Ordering::SeqCst) == 1 {
+                return true;
+            }
+        }
+        false
+    }
+}
+
+#[test]
+fn two_workers_serve_at_once(rt: HostRuntime) -> Result<(), Fail> {
+    let gate = Both::new();
+    let settings = Settings::new(2, LIMIT).ok_or("settings")?;
+    let mut out = MemOut::new(rt.alloc(), 65_536, 4_096, None)?;
+    serve_into(
+        &rt,
+        TWO_TASKS,
+        HALVES,
+        settings,
+        &mut Forward,
+        &gate,
+        &mut out,
+    )?;
+    assert_written(&rt, "two workers", &out, TWO_REPORTS);
+    assert!(rt; gate.both_met());
+    Ok(())
+}
+
+// A picker that picks the first, and notes how many were left each time, as the digits of a number.
+#[derive(Clone, Copy)]
+struct Noting {
+    noted: u64,
+}
+
+impl Pick for Noting {
+    fn pick(&mut self, left: usize) -> usize
+        requires { 0 < left }
+        ensures { result < left }
+    {
+        self.noted = self.noted.wrapping_mul(10).wrapping_add(left as u64);
+        0
+    }
+}
+
+// A gate that counts its calls.
+#[derive(Drop)]
+struct Counting {
+    before: AtomicU64,
+    after: AtomicU64,
+}
+
+impl Counting {
+    fn new() -> Counting {
+        Counting {
+            before: AtomicU64::new(0),
+            after: AtomicU64::new(0),
+        }
+    }
+
+    // How often it was called before and after a request.
+    fn counts(&self) -> (u64, u64) {
+        (
+            self.before.load(Ordering::SeqCst),
+            self.after.load(Ordering::SeqCst),
+        )
+    }
+}
+
+impl Gate for Counting {
+    fn before(&self, _i: usize) {
+        self.before.fetch_add(1, Ordering::SeqCst);
+    }
+
+    fn after(&self, _i: usize) {
+        self.after.fetch_add(1, Ordering::SeqCst);
+    }
+}
+
+// Checks what a run asks of its picker and its gate: how many were left at each turn, in how many turns, and how many
+// requests there were.
+fn assert_goes<R: Abort + Threads + Sync + AllocGlobal>(
+    rt: &R,
+    text: &[u8],
+    input: &[u8],
+    noted: u64,
+    turns: u64,
+    requests: u64,
+) -> Result<(), Fail> {
+    let job = read_job(rt.alloc(), text)?;
+    let gate = Counting::new();
+    let mut picker = Noting { noted: 0 };
+    let done = run_of(rt, &job, input, 2, &mut picker, &gate)?;
+    assert!(rt; done.turns() == turns);
+    assert!(rt; picker.noted == noted);
+    let (before, after) = gate.counts();
+    assert!(rt; before == requests && after == requests);
+    Ok(())
+}
+
+#[test]
+fn each_turn_is_picked_and_each_request_is_gated(rt: HostRuntime) -> Result<(), Fail> {
+    let two_fail = b"trio-job 1
+job main { nursery n { start a { sleep 2; raise A; } start b { sleep 2; raise B; } } }";
+    assert_goes(&rt, two_fail, b"", 121_211, 6, 0)?;
+    assert_goes(&rt, TWO_TASKS, HALVES, 12_121_211, 8, 4)
+}
+
+#[test]
+fn a_request_within_nested_scopes_is_gated_once(rt: HostRuntime) -> Result<(), Fail> {
+    let steps = nested(rt.alloc(), b"scope s", b"find \"a\"; sleep 1;")?;
+    let text = job_text(rt.alloc(), FORMAT_1, steps.as_slice())?;
+    assert_goes(&rt, text.as_slice(), b"a", 111, 3, 1)
+}

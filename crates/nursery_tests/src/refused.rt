@@ -1,0 +1,186 @@
+//! Job texts that are refused: the line that tells it, what `check` and `upgrade` write, and how `explain` shows the place.
+
+use crate::explained::{EXPECTED, HELPED, Row, WRONG};
+use crate::fixtures::{assert_answers, assert_written};
+use job_grammar::{JobFault, JobKind, read_job};
+use job_report::MemOut;
+use nursery_app::{CheckVerdict, check, explain, upgrade};
+use std::alloc::Global;
+use std::process::Abort;
+use std::test::Fail;
+
+// A job text, and the line of its refusal.
+const LINES: &[(&str, &[u8])] = &[
+    ("trio-job 1\njob main { sleep", b"refused J6 Syntax at 27\n"),
+    (
+        "trio-job 1\njob main { raise Cancelled; }",
+        b"refused J10 Reserved at 28\n",
+    ),
+    (
+        "trio-job 1\njob main { find \"a }",
+        b"refused J4 Token at 27\n",
+    ),
+    (
+        "trio-job 1\njob main { nursery n { start p over 65 { } } }",
+        b"refused J5 Number at 47\n",
+    ),
+    (
+        "trio-job 1\njob main { scope s { } scope s { } }",
+        b"refused J8 Twice at 40\n",
+    ),
+    (
+        "trio-job 1\njob main { cancel x; }",
+        b"refused J9 NotEnclosing at 29\n",
+    ),
+    (
+        "trio-job 1\njob main { nursery n { start a over 64 { nursery m { start b over 64 { nursery q { start c over 64 { } } } } } } }",
+        b"refused J11 TooLarge at 0\n",
+    ),
+    (
+        "trio-job 1\njob main { repeat 2 { } }",
+        b"refused J6 Syntax at 22\n",
+    ),
+    (
+        "trio-job 2\njob main { repeat 1001 { } }",
+        b"refused J5 Number at 29\n",
+    ),
+    (
+        "trio-job 2\njob main { repeat 1000 { repeat 1000 { } } }",
+        b"refused J11 TooLarge at 0\n",
+    ),
+    ("trio-job 3\njob main { }", b"refused J3 Version at 0\n"),
+    ("", b"refused J3 Version at 0\n"),
+];
+
+#[test]
+fn a_refusal_is_told_by_a_line(rt: HostRuntime) -> Result<(), Fail> {
+    for &(text, line) in LINES {
+        assert_answers(&rt, text, b"", 2, line)?;
+    }
+    Ok(())
+}
+
+// A job of format 1 as `check` writes it, and the same job in format 2 as `upgrade` does.
+const CANONICAL: &[u8] = b"trio-job 1\njob main{find\"er\";}\n";
+
+const UPGRADED: &[u8] = b"trio-job 2\njob main{find\"er\";}\n";
+
+// A job text, the status of the verdict of `check` and `upgrade`, and what each of them writes.
+const CHECKS: &[(&str, u8, &[u8], &[u8])] = &[
+    (
+        "trio-job 1\njob main {\n  find \"er\" ;\n}\n",
+        0,
+        CANONICAL,
+        UPGRADED,
+    ),
+    ("trio-job 2\njob main{find\"er\";}\n", 0, UPGRADED, UPGRADED),
+    (
+        "trio-job 1\njob main { sleep",
+        2,
+        b"refused J6 Syntax at 27\n",
+        b"refused J6 Syntax at 27\n",
+    ),
+];
+
+#[test]
+fn check_writes_the_canonical_text(rt: HostRuntime) -> Result<(), Fail> {
+    for &(text, status, checked, _upgraded) in CHECKS {
+        let mut out = MemOut::new(rt.alloc(), 100, 100, None)?;
+        let verdict = check(rt.alloc(), text.as_bytes(), &mut out)?;
+        assert_written(&rt, text, &out, checked);
+        assert!(rt; verdict.status() == status, "{text}");
+    }
+    Ok(())
+}
+
+#[test]
+fn upgrade_writes_the_job_in_format_2(rt: HostRuntime) -> Result<(), Fail> {
+    for &(text, status, _checked, upgraded) in CHECKS {
+        let mut out = MemOut::new(rt.alloc(), 100, 100, None)?;
+        let verdict = upgrade(rt.alloc(), text.as_bytes(), &mut out)?;
+        assert_written(&rt, text, &out, upgraded);
+        assert!(rt; verdict.status() == status, "{text}");
+    }
+    Ok(())
+}
+
+#[test]
+fn check_tells_the_fault_of_a_refused_text(rt: HostRuntime) -> Result<(), Fail> {
+    let mut out = MemOut::new(rt.alloc(), 100, 100, None)?;
+    let CheckVerdict::JobRefused(fault) = check(
+        rt.alloc(),
+        b"trio-job 1\njob main { sleep",
+        &mut out,
+    )?
+    else {
+        return Err("a refusal")?;
+    };
+    assert!(rt; fault.at == 27);
+    assert!(rt; matches!(fault.kind, JobKind::Syntax));
+    Ok(())
+}
+
+#[test]
+fn a_text_that_nests_thousands_deep_is_refused(rt: HostRuntime) -> Result<(), Fail> {
+    let mut text = Vec::from_slice(rt.alloc(), b"trio-job 1\njob main{")?;
+    for _ in 0..16_378u64 {
+        text.extend_from_slice(b"try{")?;
+    }
+    let mut out = MemOut::new(rt.alloc(), 100, 100, None)?;
+    let verdict = check(rt.alloc(), text.as_slice(), &mut out)?;
+    assert!(rt; matches!(verdict, CheckVerdict::JobRefused(_)));
+    Ok(())
+}
+
+// What `explain` tells of a refused text. Want of memory is an error.
+fn told_of(alloc: Global, text: &[u8]) -> Result<String, Fail> {
+    let fault = read_job(alloc, text).err().ok_or("a refusal")?;
+    if matches!(fault.kind, JobKind::NoMemory) {
+        Err(fault)?;
+    }
+    Ok(explain(alloc, "f", text, fault)?)
+}
+
+// Checks how refused texts are told, of which the file is named `f`.
+fn assert_told(rt: &(impl Abort + AllocGlobal), rows: &[Row]) -> Result<(), Fail> {
+    for &(text, expected) in rows {
+        let told = told_of(rt.alloc(), text.as_bytes())?;
+        assert_eq!(rt; told.as_str(), expected, "{text}");
+    }
+    Ok(())
+}
+
+#[test]
+fn syntax_is_told_by_what_was_expected(rt: HostRuntime) -> Result<(), Fail> {
+    assert_told(&rt, EXPECTED)
+}
+
+#[test]
+fn other_refusals_are_told_by_what_is_wrong(rt: HostRuntime) -> Result<(), Fail> {
+    assert_told(&rt, WRONG)
+}
+
+#[test]
+fn a_refusal_ends_with_what_may_help(rt: HostRuntime) -> Result<(), Fail> {
+    for &(text, last) in HELPED {
+        let told = told_of(rt.alloc(), text.as_bytes())?;
+        assert!(rt; told.as_str().ends_with(last), "{text}");
+    }
+    Ok(())
+}
+
+// A line of 300 bytes, shown round its place 200.
+const CUT: &str =
+    "f:1:201: more than 32 blocks stand in one another\nxxxxxxxxxxxxxxxxxxxxxxxxxxxxxxxxxxxxxxxxxxxxxxxxxxxxxxxxxxxxxxxxxxxxxxxxxxxxxxxxxxxxxxxxxxxxxxxxxxxx\n                                                            ^\n";
+
+#[test]
+fn a_long_line_is_cut_round_the_place(rt: HostRuntime) -> Result<(), Fail> {
+    let text = [b'x'; 300];
+    let fault = JobFault {
+        at: 200,
+        kind: JobKind::Depth,
+    };
+    let shown = explain(rt.alloc(), "f", &text, fault)?;
+    assert_eq!(rt; shown.as_str(), CUT);
+    Ok(())
+}

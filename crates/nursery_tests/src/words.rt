@@ -1,0 +1,180 @@
+//! The command line: what words ask for, what help shows, and how words are refused.
+
+use nursery_app::{Command, CommandFault, Order, read_command};
+use std::alloc::{AllocError, Global};
+use std::test::Fail;
+
+// The words of a line, cut at its spaces.
+fn words_of(alloc: Global, line: &str) -> Result<Vec<String>, AllocError> {
+    let mut words = Vec::new(alloc);
+    for word in line.split_whitespace() {
+        push_word(&mut words, String::from_str(alloc, word)?)?;
+    }
+    Ok(words)
+}
+
+// Appends a word.
+fn push_word(words: &mut Vec<String>, word: String) -> Result<(), AllocError> {
+    match words.push(word) {
+        Ok(()) => Ok(()),
+        Err(_full) => Err(AllocError),
+    }
+}
+
+// What the words of a line ask for.
+fn command_of(alloc: Global, line: &str) -> Result<Command, CommandFault> {
+    let words = words_of(alloc, line)?;
+    read_command(alloc, words.as_slice())
+}
+
+// The text that refuses a line; empty where it is a command. Want of memory is an error.
+fn refusal_of(alloc: Global, line: &str) -> Result<String, AllocError> {
+    match command_of(alloc, line) {
+        Ok(_command) => Ok(String::new(alloc)),
+        Err(CommandFault::NoMemory) => Err(AllocError),
+        Err(fault) => fault.to_string(alloc),
+    }
+}
+
+// The help that a line asks for; empty where it asks for something else.
+fn help_of(alloc: Global, line: &str) -> Result<String, CommandFault> {
+    match command_of(alloc, line)? {
+        Command::Help { text } => Ok(text),
+        _other => Ok(String::new(alloc)),
+    }
+}
+
+// The word of a command.
+fn word_of(command: &Command) -> &'static str {
+    match command {
+        Command::Feed => "feed",
+        Command::Run { .. } => "run",
+        Command::Check { .. } => "check",
+        Command::Upgrade { .. } => "upgrade",
+        Command::Help { .. } => "help",
+    }
+}
+
+// The job that a command names, or the text that it tells.
+fn text_of(command: &Command) -> &str {
+    match command {
+        Command::Feed => "",
+        Command::Run { job, .. } => job.as_str(),
+        Command::Check { job } => job.as_str(),
+        Command::Upgrade { job } => job.as_str(),
+        Command::Help { text } => text.as_str(),
+    }
+}
+
+// A line, the word of its command, and the job that it names or the text that it tells.
+const NAMED: &[(&str, &str, &str)] = &[
+    ("", "feed", ""),
+    ("check j", "check", "j"),
+    ("check -", "check", "-"),
+    ("upgrade j", "upgrade", "j"),
+    ("run j i", "run", "j"),
+    ("--version", "help", "nursery 0.1.0\n"),
+];
+
+#[test]
+fn words_name_a_command_and_its_job(rt: HostRuntime) -> Result<(), Fail> {
+    for &(line, word, text) in NAMED {
+        let command = command_of(rt.alloc(), line)?;
+        assert!(rt; word_of(&command) == word, "{line}");
+        assert!(rt; text_of(&command) == text, "{line}");
+    }
+    Ok(())
+}
+
+// Whether a command runs the job `j` over the input `i` with these settings.
+fn is_run(command: &Command, settings: (usize, Order, u64)) -> bool {
+    match command {
+        Command::Run {
+            job,
+            input,
+            workers,
+            order,
+            limit,
+        } => {
+            job.as_str() == "j" && input.as_str() == "i" && (*workers, *order, *limit) == settings
+        }
+        _other => false,
+    }
+}
+
+#[test]
+fn runs_have_their_settings(rt: HostRuntime) -> Result<(), Fail> {
+    for (line, settings) in [
+        ("run j i", (1, Order::Forward, 1_000_000)),
+        (
+            "run j i --order turn --limit 7 --workers 64",
+            (64, Order::Turn, 7),
+        ),
+        (
+            "run --limit=4294967295 --order=reverse j i",
+            (1, Order::Reverse, 4_294_967_295),
+        ),
+        ("run j --order forward i --limit 0", (1, Order::Forward, 0)),
+    ] {
+        let command = command_of(rt.alloc(), line)?;
+        assert!(rt; is_run(&command, settings), "{line}: {command:?}");
+    }
+    Ok(())
+}
+
+// A line, and a part of what it is told.
+type Row = (&'static str, &'static str);
+
+const REFUSED: &[Row] = &[
+    ("run j i --workers 0", "0 is not in 1..=64"),
+    ("run j i --workers 65", "65 is not in 1..=64"),
+    ("run j i --order up", "forward, reverse, turn"),
+    ("run j i --limit 4294967296", "'--limit <T>'"),
+    (
+        "run j i --limit 1 --limit 2",
+        "cannot be used multiple times",
+    ),
+    ("run j", "<INPUT>"),
+    ("run", "<JOB>"),
+    ("run j i k", "'k'"),
+    ("check", "Usage: nursery check <JOB>"),
+    ("check j i", "'i'"),
+    ("run - -", "one standard input"),
+    ("go", "unrecognized subcommand 'go'"),
+    ("--workers 3", "'--workers'"),
+];
+
+const HELP: &[Row] = &[
+    ("--help", "  run      Runs a job"),
+    ("--help", "  check    Writes the canonical text"),
+    ("--help", "  upgrade  Writes the canonical text"),
+    ("-h", "$ nursery run first.job log.txt\n    job main 0\n"),
+    ("help", "  line 0+5 error\n"),
+    ("run --help", "Usage: nursery run [OPTIONS] <JOB> <INPUT>"),
+    ("run --help", "--workers <N>"),
+    ("run --help", "--order <ORDER>"),
+    ("run --help", "--limit <T>"),
+    ("run --help", "  line 6+10 ERROR disk\n"),
+    ("help run", "--workers <N>"),
+    ("check --help", "wait.job:2:18: expected a number\n"),
+    ("upgrade --help", "job main{find\"er\";}"),
+];
+
+#[test]
+fn a_refusal_says_what_is_wrong(rt: HostRuntime) -> Result<(), Fail> {
+    for &(line, told) in REFUSED {
+        let text = refusal_of(rt.alloc(), line)?;
+        assert!(rt; text.as_str().contains(told), "{line}: {text}");
+        assert!(rt; text.as_str().ends_with("\n"), "{line}");
+    }
+    Ok(())
+}
+
+#[test]
+fn help_shows_a_whole_example(rt: HostRuntime) -> Result<(), Fail> {
+    for &(line, told) in HELP {
+        let text = help_of(rt.alloc(), line)?;
+        assert!(rt; text.as_str().contains(told), "{line}: {text}");
+    }
+    Ok(())
+}
