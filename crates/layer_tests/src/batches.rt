@@ -21,7 +21,7 @@ fn numbered(number: u64) -> Request<'static> {
     }
 }
 
-/// The numbers of requests, each with a space behind it.
+/// The numbers of requests, each with a space after it.
 fn numbers(alloc: Global, requests: &[Request<'_>]) -> Result<Vec<u8>, AllocError> {
     let mut text = Vec::new(alloc);
     for request in requests {

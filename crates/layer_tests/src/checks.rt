@@ -1,4 +1,4 @@
-//! `job_checks`: names given twice, a `cancel` of nothing round it, reserved names, and the sizes of jobs.
+//! `job_checks`: names given twice, a `cancel` of nothing around it, reserved names, and the sizes of jobs.
 
 use crate::fixtures::word;
 use job_checks::{given_twice, reserved_name, size_of, stray_cancel};
@@ -59,7 +59,7 @@ fn nursery(alloc: Global, child: &[u8], over: Option<u64>, step: Step) -> Result
     })
 }
 
-/// Where a `cancel` of that name is stray, which stands at 9 behind the job's name.
+/// Where a `cancel` of that name is stray, which stands at 9 after the job's name.
 fn place_of_stray(body: &Body, name: &[u8]) -> Result<Option<usize>, Fail> {
     let tokens = [token(3, word(b"main")?), token(9, word(name)?)];
     let roles = [Role::Given, Role::Target];
@@ -95,7 +95,7 @@ fn across_a_start(alloc: Global) -> Result<Body, Fail> {
     block(alloc, scope(alloc, b"s", inner)?)
 }
 
-/// A `cancel` of a scope behind the scope.
+/// A `cancel` of a scope after the scope.
 fn behind_a_scope(alloc: Global) -> Result<Body, Fail> {
     let beside = scope(alloc, b"s", Step::Checkpoint)?;
     block_of_two(alloc, beside, Step::Cancel(word(b"s")?))
@@ -169,7 +169,7 @@ fn many_children(alloc: Global) -> Result<Body, Fail> {
     block(alloc, many)
 }
 
-/// A `try` with a handler and a cleanup, and a step behind it.
+/// A `try` with a handler and a cleanup, and a step after it.
 fn attempt_and_checkpoint(alloc: Global) -> Result<Body, Fail> {
     let handler = Handler {
         name: word(b"E")?,

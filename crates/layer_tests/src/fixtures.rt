@@ -111,7 +111,7 @@ fn push_head(text: &mut Vec<u8>, exc: &Exc) -> Result<(), AllocError> {
     }
 }
 
-/// Appends an exception, and behind a group its parts, as `n[A@a@0;!;]`.
+/// Appends an exception, and after a group its parts, as `n[A@a@0;!;]`.
 pub(crate) fn push_exc(text: &mut Vec<u8>, exc: &Exc) -> Result<(), AllocError> {
     push_head(text, exc)?;
     let Exc::Group { parts, .. } = exc else {

@@ -131,7 +131,7 @@ fn accepted(rt: HostRuntime) -> Result<(), Fail> {
     Ok(())
 }
 
-/// A job of so many blocks in one another, each with these bytes in front and behind.
+/// A job of so many blocks in one another, each with these bytes before and after it.
 fn nested(alloc: Global, depth: usize, front: &[u8], behind: &[u8]) -> Result<Vec<u8>, AllocError> {
     let mut text = Vec::from_slice(alloc, b"trio-job 1\njob main {")?;
     for _ in 0..depth {

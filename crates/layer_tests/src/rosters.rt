@@ -52,7 +52,7 @@ fn records_of_four(alloc: Global) -> Result<(Vec<Record<'static>>, Vec<ScopeFrom
     Ok(records_of(alloc, rows)?)
 }
 
-/// When the tasks of records were started, each tick with a space behind it.
+/// When the tasks of records were started, each tick with a space after it.
 fn starts(alloc: Global, records: &[Record<'_>]) -> Result<Vec<u8>, AllocError> {
     let mut text = Vec::new(alloc);
     for record in records {

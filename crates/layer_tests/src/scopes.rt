@@ -60,7 +60,7 @@ fn caught_at(tree: &ScopeTree, id: ScopeId, tick: u64) -> Option<bool> {
     Some(tree.may_catch(id, tick))
 }
 
-/// The scope round a scope.
+/// The scope around a scope.
 fn parent(tree: &ScopeTree, id: ScopeId) -> Option<Option<ScopeId>> {
     if !tree.is_open(id) {
         return None;
@@ -136,7 +136,7 @@ fn the_outermost_of_two_catches(rt: HostRuntime) -> Result<(), Fail> {
     Ok(())
 }
 
-/// Three scopes in one another, the outermost first, and the scope round each.
+/// Three scopes in one another, the outermost first, and the scope around each.
 fn three_scopes(alloc: Global) -> Result<([ScopeId; 3], [Option<Option<ScopeId>>; 3]), Fail> {
     let mut tree = ScopeTree::new(alloc);
     let outer = open(&mut tree, None, false, None)?;
@@ -175,7 +175,7 @@ fn a_closed_scope_is_not_handed_out(rt: HostRuntime) -> Result<(), Fail> {
     Ok(())
 }
 
-/// Whether an id is open before its scope is closed, behind that, and as it is given out again; and from when the two scopes
+/// Whether an id is open before its scope is closed, after that, and as it is given out again; and from when the two scopes
 /// were cancelled.
 fn open_by_turns(alloc: Global) -> Result<([bool; 3], [Option<u64>; 2]), Fail> {
     let mut tree = ScopeTree::new(alloc);

@@ -256,7 +256,7 @@ fn starts_two(alloc: Global, job: &Job) -> Result<(bool, bool), Fail> {
     Ok((true, first && second && is_last))
 }
 
-/// The scope round the innermost one of a task.
+/// The scope around the innermost one of a task.
 fn scope_round(turned: &Turned<'_>) -> Option<ScopeId> {
     let own = turned.task.scope()?;
     let scopes = turned.world.scopes();

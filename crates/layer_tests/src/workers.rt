@@ -17,7 +17,7 @@ const LINES: &[u8] = &[b'\n'; 100];
 /// How often a gate looks whether both requests were begun.
 const LOOKS: u32 = 100_000_000;
 
-/// The counts of the first line, of the two lines behind it, and of nothing.
+/// The counts of the first line, of the two lines after it, and of nothing.
 fn counts<'a>(buffer: &'a [u8]) -> [Request<'a>; 3] {
     let whole = Part::whole(buffer);
     let (first, rest) = whole.first_of(3);
@@ -27,7 +27,7 @@ fn counts<'a>(buffer: &'a [u8]) -> [Request<'a>; 3] {
     })
 }
 
-/// Answers as text: each count with a space behind it.
+/// Answers as text: each count with a space after it.
 fn shown(alloc: Global, answers: &[Answer<'_>]) -> Result<Vec<u8>, AllocError> {
     let mut text = Vec::new(alloc);
     for answer in answers {

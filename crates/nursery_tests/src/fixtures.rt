@@ -27,7 +27,7 @@ pub const HALVES: &[u8] = b"aa\nb\ncccc\n";
 /// The tick after which the jobs of these tests may not end.
 pub const LIMIT: u64 = 100;
 
-/// The pieces of a text, one behind the other.
+/// The pieces of a text, one after the other.
 pub fn joined(alloc: Global, pieces: &[&[u8]]) -> Result<Vec<u8>, AllocError> {
     let mut text = Vec::new(alloc);
     for piece in pieces {
@@ -36,7 +36,7 @@ pub fn joined(alloc: Global, pieces: &[&[u8]]) -> Result<Vec<u8>, AllocError> {
     Ok(text)
 }
 
-/// The text of the job `main` of these steps, behind the first line of its format.
+/// The text of the job `main` of these steps, after the first line of its format.
 pub fn job_text(alloc: Global, first_line: &[u8], steps: &[u8]) -> Result<Vec<u8>, AllocError> {
     joined(alloc, &[first_line, b"job main { ", steps, b" }"])
 }

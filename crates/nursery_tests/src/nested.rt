@@ -42,7 +42,7 @@ pub fn push_each(out: &mut Vec<u8>, text: &[u8]) -> Result<(), AllocError> {
     Ok(())
 }
 
-/// The steps within 31 blocks that begin so, each with a number behind its name.
+/// The steps within 31 blocks that begin so, each with a number after its name.
 pub fn nested(alloc: Global, block: &[u8], steps: &[u8]) -> Result<Vec<u8>, AllocError> {
     let mut text = Vec::new(alloc);
     push_up(&mut text, block, b" { ")?;

@@ -169,7 +169,7 @@ fn a_refusal_ends_with_what_may_help(rt: HostRuntime) -> Result<(), Fail> {
     Ok(())
 }
 
-// A line of 300 bytes, shown round its place 200.
+// A line of 300 bytes, shown around its place 200.
 const CUT: &str =
     "f:1:201: more than 32 blocks stand in one another\nxxxxxxxxxxxxxxxxxxxxxxxxxxxxxxxxxxxxxxxxxxxxxxxxxxxxxxxxxxxxxxxxxxxxxxxxxxxxxxxxxxxxxxxxxxxxxxxxxxxx\n                                                            ^\n";
 
