@@ -7,7 +7,8 @@
 Runs the command, and reads the processor time of every process below it from /proc several times a second. The table has a row
 for each crate: the proof of the crate, the proof of its tests, the check that its must-fail edits begin with, and the edits.
 The total is the system's own count. What a process used between the last look at it and its end is therefore only in the last
-row, with the programs that are no checks. The table goes to standard error when the command has ended, in Markdown; the output
+row, with the programs that are no checks. Of a command that is cut off the total is too small, and that row below 0, since the
+system counts only the processes that were waited for. The table goes to standard error when the command has ended, in Markdown; the output
 of the command is left as it is. The exit status is the command's.
 """
 import argparse
