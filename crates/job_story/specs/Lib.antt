@@ -4,6 +4,7 @@ pub mod Events
 pub mod Causes
 pub mod Sentences
 pub mod Limit
+pub mod Held
 pub mod Laws
 pub mod Examples
 pub mod ExamplesCleanups

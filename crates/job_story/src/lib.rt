@@ -1,10 +1,13 @@
-//! The story of a run: what happened to each task, in which tick and why. It does nothing at run time.
+//! The story of a run: what happened to each task, in which tick and why.
 //!
 //! The layer defines what is told of a job by a table (`specs/Tell.antt`), as the walk of `job_meaning` with a story in the place of
-//! the log. It promises that the story by a settled table is true: with all erased that a log does not hold, it is the log of the
-//! job's meaning (`specs/Laws.antt`).
+//! the log, and the text of a story (`specs/Sentences.antt`, `specs/Limit.antt`). It promises that the story by a settled table is
+//! true: with all erased that a log does not hold, it is the log of the job's meaning (`specs/Laws.antt`). At run time it has the
+//! events alone, as values.
 #![tactic(auto)]
 
+mod event;
 mod laws;
 
+pub use event::{Event, Happening, Kind, What};
 pub use laws::law_story;

@@ -1,0 +1,42 @@
+-- Events as the code holds them.
+use Rattle.std.specs.Prelude.{map}
+use Rattle.std.specs.Option.{option_map}
+use Rattle.buffer_parts.specs.Part.{range_of, span_of}
+use Rattle.exc_groups.specs.Held.{exc_of}
+use Rattle.job_meaning.specs.Walk as walks
+use Rattle.job_story.specs.Story as story
+use Rattle.job_story.specs.Events as events
+use Rattle.job_story.specs.declared.event.Kind.{Kind}
+use Rattle.job_story.specs.declared.event.Kind.TheVariants.{Scope, Nursery}
+use Rattle.job_story.specs.declared.event.Happening.{Happening}
+use Rattle.job_story.specs.declared.event.Happening.TheVariants.{Enters, Sleeps, IsCancelled, Finds, Misses, Raises, Cancels, Handles, Cleans, Replaces, Waits, Leaves}
+use Rattle.job_story.specs.declared.event.What.{What}
+use Rattle.job_story.specs.declared.event.What.TheVariants.{Starts, Happens, Ends}
+use Rattle.job_story.specs.declared.event.Event.{Event}
+
+abbrev pub kind_of : Kind → walks.Kind
+kind_of (Scope fail) = walks.a_scope fail
+kind_of Nursery = walks.a_nursery
+
+abbrev pub happening_of : Happening → story.Happening
+happening_of (Enters kind label deadline shield) = story.enters (kind_of kind) label deadline shield
+happening_of (Sleeps until) = story.sleeps until
+happening_of (IsCancelled by since in_cleanup) = story.is_cancelled by since in_cleanup
+happening_of (Finds lines) = story.finds (map span_of lines.items)
+happening_of (Misses name) = story.misses name
+happening_of (Raises name) = story.raises name
+happening_of (Cancels label) = story.cancels label
+happening_of (Handles matched rest) = story.handles (exc_of matched) (option_map exc_of rest)
+happening_of (Cleans exc) = story.cleans (option_map exc_of exc)
+happening_of (Replaces lost fresh) = story.replaces (exc_of lost) (exc_of fresh)
+happening_of (Waits nursery exc) = story.waits nursery (option_map exc_of exc)
+happening_of (Leaves kind label inside caught outside) =
+    story.leaves (kind_of kind) label (option_map exc_of inside) caught (option_map exc_of outside)
+
+abbrev pub what_of : What → events.What
+what_of (Starts home part) = events.starts home (range_of part)
+what_of (Happens what) = events.happens (happening_of what)
+what_of (Ends home exc) = events.ends home (option_map exc_of exc)
+
+abbrev pub event_of : Event → events.Event
+event_of e = record { tick = e.tick; task = e.task; what = what_of e.what }
