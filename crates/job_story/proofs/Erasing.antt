@@ -1,22 +1,22 @@
 -- A story with all erased that a log does not hold is the log of following the table.
-use Rattle.std.proofs.Common.{◌≡◌, ℕ, zero, suc, ◌+◌, ◌-◌, Bool, true, false, Option, Some, None, List, [], ◌∷◌, ◌++◌, refl, ap, sym, ◌∙◌, subst, arith}
+use Rattle.std.proofs.Common.{◌≡◌, ℕ, zero, suc, ◌+◌, ◌-◌, Bool, true, false, Option, Some, None, List, [], refl, ap, sym, ◌∙◌}
 use Rattle.std.specs.Prelude.{nat_le, if◌then◌else◌}
-use Rattle.job_tree.specs.Tree.{Step, sleep, checkpoint, forever, pace, find, head, longest, need, raise, cancel, scope, nursery, start, repeat, attempt, Steps, stop, step, Handled, unhandled, except, Cleaned, uncleaned, finally, Tree}
+use Rattle.job_tree.specs.Tree.{Step, sleep, checkpoint, forever, pace, find, head, longest, need, raise, cancel, scope, nursery, start, repeat, attempt, Steps, stop, step, Handled, unhandled, except, Cleaned, uncleaned, finally}
 use Rattle.buffer_parts.specs.Lines.{Span}
 use Rattle.buffer_parts.specs.Cuts.{cut_of}
 use Rattle.exc_groups.specs.Exceptions.{Label, Exc, cancelled, raised}
 use Rattle.exc_groups.specs.Split.{Wanted, named, keep, drop}
 use Rattle.cancel_scopes.specs.Sight.{Tick, sight, catches}
-use Rattle.job_meaning.specs.Log.{Log, nil, entry, sign, entered, task, followed_by, Result, Table}
-use Rattle.job_meaning.specs.Follow.{follow, IsSettled}
-use Rattle.job_meaning.specs.Meaning.{meaning, root_log, root_label}
+use Rattle.job_meaning.specs.Log.{Log, nil, entered, task, followed_by, Result, Table}
+use Rattle.job_meaning.specs.Follow.{follow}
+use Rattle.job_meaning.specs.Meaning.{root_log, root_label}
 use Rattle.job_meaning.specs.Walk.{far, Stack, by_table, Here, walk, walk_step, walk_handler, walk_cleanup, joined, then_if, and_then, done_at, raised_at, slept, sleeping, log_of_lines, showing, needing, sign_of, cancelling, Kind, left_from, left_with, block, sign_if, home_of, signed, gathered, child, each, passes, handled, cleaned, with_outcome, handler_exc, label_here, label_over, within, here_in, in_pass}
 use Rattle.job_meaning.specs.Walk as walks
 use Rattle.job_meaning.proofs.Finish.{followed_assoc}
 use Rattle.job_meaning.proofs.Clips.{followed_nil}
 use Rattle.job_meaning.proofs.Settled.{settled_is_meaning}
 use Rattle.job_story.specs.Story.{Happening, enters, sleeps, is_cancelled, finds, misses, raises, cancels, handles, cleans, replaces, waits, leaves, Story, no_more, happened, started, then_story, erased_one, erased, Tale, result_of}
-use Rattle.job_story.specs.Tell.{Scene, told_at, only, and_tale, tale_if, then_tale, failed_at, after_this, seer, asleep_for, tell_slept, tell_sleep, tell_lines, tell_need, tell_raise, tell_cancel, tell_left, tell_block, tell_wait, tell_gathered, tell_child, tell_each, tell_passes, handled_if, handled_exc, tell_handled, replaced, cleaned_by, tell_cleaned, at_place, tell, tell_step, tell_handler, tell_cleanup, root_scene, tale_by, story_by}
+use Rattle.job_story.specs.Tell.{Scene, told_at, only, and_tale, tale_if, then_tale, failed_at, after_this, seer, asleep_for, tell_slept, tell_sleep, tell_lines, tell_need, tell_raise, tell_cancel, tell_left, tell_block, tell_wait, tell_gathered, tell_child, tell_each, tell_passes, handled_if, handled_exc, tell_handled, replaced, cleaned_by, tell_cleaned, at_place, tell, tell_step, tell_handler, tell_cleanup, root_scene, tale_by}
 use Rattle.job_story.specs.Laws.{TellingIsFollowing, StoriesAreTrue}
 
 -- ---- stories, one after another

@@ -1,13 +1,13 @@
 -- Why a scope or nursery is cancelled.
-use Rattle.std.specs.Prelude.{ℕ, ◌+◌, ◌==◌, Bool, true, false, ◌&&◌, Option, Some, None, is_none, List, [], ◌∷◌, if◌then◌else◌}
+use Rattle.std.specs.Prelude.{ℕ, ◌+◌, ◌==◌, Bool, true, false, Option, Some, None, is_none, List, [], ◌∷◌, if◌then◌else◌}
 use Rattle.exc_groups.specs.Exceptions.{Label, Exc}
 use Rattle.exc_groups.specs.Split.{is_cancelled as by_cancelled, drop}
 use Rattle.cancel_scopes.specs.Sight.{Tick}
 use Rattle.job_meaning.specs.Log.{Table, same_label}
 use Rattle.job_meaning.specs.Walk.{Kind}
-use Rattle.job_story.specs.Story.{Happening, enters, sleeps, is_cancelled, finds, misses, raises, cancels, handles, cleans, replaces, waits, leaves}
+use Rattle.job_story.specs.Story.{enters, cancels, waits}
 use Rattle.job_story.specs.Tell.{is_from}
-use Rattle.job_story.specs.Events.{What, starts, happens, ends, Event}
+use Rattle.job_story.specs.Events.{What, happens, ends, Event}
 
 -- The cause of a cancellation: the deadline; a task that cancelled it; a member, or its own body, that ended with an exception, or
 -- with nothing but cancellations.

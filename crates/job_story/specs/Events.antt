@@ -1,5 +1,5 @@
 -- The events of a story, one after the other.
-use Rattle.std.specs.Prelude.{ℕ, Bool, Option, List, [], ◌∷◌, ◌++◌, nat_le, if◌then◌else◌}
+use Rattle.std.specs.Prelude.{ℕ, Option, List, [], ◌∷◌, ◌++◌, nat_le, if◌then◌else◌}
 use Rattle.buffer_parts.specs.Lines.{Range}
 use Rattle.exc_groups.specs.Exceptions.{Label, Exc}
 use Rattle.job_story.specs.Story.{Happening, Story, no_more, happened, started}

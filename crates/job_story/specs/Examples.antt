@@ -1,7 +1,6 @@
 -- The words in which worked stories are written, and one of them, by computing: a sibling fails, and its cleanup has a shield.
-use Rattle.std.specs.Prelude.{◌≡◌, ℕ, None, Some, List, [], ◌∷◌, ◌++◌, codes, refl, true, false}
+use Rattle.std.specs.Prelude.{◌≡◌, ℕ, List, [], ◌∷◌, ◌++◌, codes, refl}
 use Rattle.std.specs.Fmt.{digits}
-use Rattle.job_tree.specs.declared.deadline.Deadline.TheVariants.{Never, After}
 use Rattle.job_tree.specs.declared.format.Format.TheVariants.{Two}
 use Rattle.job_tree.specs.Tree.{Step, sleep, forever, raise, Tree}
 use Rattle.job_meaning.specs.Meaning.{meaning, meaning_table}

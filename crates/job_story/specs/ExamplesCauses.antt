@@ -1,7 +1,7 @@
 -- Worked stories, by computing: who cancels whom, and attempts that are too slow.
-use Rattle.std.specs.Prelude.{◌≡◌, ℕ, None, Some, List, [], ◌∷◌, codes, refl}
+use Rattle.std.specs.Prelude.{◌≡◌, [], ◌∷◌, codes, refl}
 use Rattle.std.specs.Fmt.{digits}
-use Rattle.job_tree.specs.Tree.{Step, sleep, find, raise, cancel, repeat, Tree}
+use Rattle.job_tree.specs.Tree.{sleep, find, raise, cancel, repeat, Tree}
 use Rattle.job_meaning.specs.Examples.{block_of, nursery_of, start_of, timed_scope, fail_scope, try_except}
 use Rattle.job_story.specs.Examples.{job_named, lines_of, told}
 

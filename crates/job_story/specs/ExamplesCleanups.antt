@@ -1,7 +1,7 @@
 -- Worked stories, by computing: cleanups, with a shield and without one, and shields with deadlines.
-use Rattle.std.specs.Prelude.{◌≡◌, ℕ, None, Some, List, [], ◌∷◌, codes, refl}
+use Rattle.std.specs.Prelude.{◌≡◌, [], ◌∷◌, codes, refl}
 use Rattle.std.specs.Fmt.{digits}
-use Rattle.job_tree.specs.Tree.{Step, sleep, forever, find, Tree}
+use Rattle.job_tree.specs.Tree.{sleep, forever, find, Tree}
 use Rattle.job_meaning.specs.Examples.{nursery_of, start_of, timed_scope, shielded_scope, timed_shield, try_finally}
 use Rattle.job_story.specs.Examples.{job_named, lines_of, told}
 

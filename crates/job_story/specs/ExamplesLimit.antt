@@ -1,7 +1,7 @@
 -- A worked story up to a limit, by computing.
 use Rattle.std.specs.Prelude.{◌≡◌, ℕ, List, [], ◌∷◌, codes, refl}
 use Rattle.std.specs.Fmt.{digits}
-use Rattle.job_tree.specs.Tree.{Step, sleep, forever, Tree}
+use Rattle.job_tree.specs.Tree.{sleep, forever, Tree}
 use Rattle.job_meaning.specs.Examples.{nursery_of, start_of}
 use Rattle.job_meaning.specs.Meaning.{meaning, meaning_table}
 use Rattle.job_meaning.specs.Walk.{walk, and_then, sleeping, showing, needing, cancelling, block, signed, gathered, child, handled, cleaned}

@@ -3,7 +3,7 @@ use Rattle.std.specs.Prelude.{◌≡◌, ℕ, List}
 use Rattle.job_tree.specs.Tree.{Tree}
 use Rattle.job_tree.specs.Names.{GivesNamesOnce}
 use Rattle.job_meaning.specs.Log.{Table}
-use Rattle.job_meaning.specs.Meaning.{root_log, meaning, meaning_table}
+use Rattle.job_meaning.specs.Meaning.{root_log, meaning}
 use Rattle.job_meaning.specs.Follow.{follow, IsSettled}
 use Rattle.job_story.specs.Story.{result_of, erased}
 use Rattle.job_story.specs.Tell.{tale_by, story_by}

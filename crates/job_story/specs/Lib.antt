@@ -5,6 +5,7 @@ pub mod Causes
 pub mod Sentences
 pub mod Limit
 pub mod Held
+pub mod Froms
 pub mod Laws
 pub mod Examples
 pub mod ExamplesCleanups

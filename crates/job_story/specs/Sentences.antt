@@ -1,5 +1,5 @@
 -- The text of a story.
-use Rattle.std.specs.Prelude.{ℕ, zero, suc, ◌+◌, ◌-◌, ◌==◌, Bool, true, false, Option, Some, None, List, [], ◌∷◌, ◌++◌, length, codes, decimal, max, if◌then◌else◌, replicate}
+use Rattle.std.specs.Prelude.{ℕ, ◌+◌, ◌-◌, ◌==◌, Bool, true, false, Option, Some, None, List, [], ◌∷◌, ◌++◌, length, codes, decimal, max, if◌then◌else◌, replicate}
 use Rattle.exc_groups.specs.Exceptions.{Label, Whose, by_nursery, by_handler, Exc, cancelled, raised, too_slow, group, Excs, no_parts, part}
 use Rattle.exc_groups.specs.Split.{is_cancelled as by_cancelled, drop}
 use Rattle.cancel_scopes.specs.Sight.{Tick}

@@ -1,9 +1,9 @@
 -- The story of a task: what happened to it, in order, with the stories of the tasks that it started.
-use Rattle.std.specs.Prelude.{ℕ, Bool, Option, Some, None, List, ◌++◌}
+use Rattle.std.specs.Prelude.{ℕ, Bool, Option, Some, List}
 use Rattle.buffer_parts.specs.Lines.{Range, Span}
 use Rattle.exc_groups.specs.Exceptions.{Label, Exc}
 use Rattle.cancel_scopes.specs.Sight.{Tick}
-use Rattle.job_meaning.specs.Log.{Log, nil, entry, sign, entered, task, followed_by, Member, Result}
+use Rattle.job_meaning.specs.Log.{Log, nil, entry, entered, task, followed_by, Member, Result}
 use Rattle.job_meaning.specs.Walk.{Kind, left_as, log_of_lines, sign_if, sign_of}
 
 -- One thing that happened to a task.

@@ -7,7 +7,7 @@ use Rattle.line_kernels.specs.Kernels.{found_in, head_of, longest_in, needed_in,
 use Rattle.exc_groups.specs.Exceptions.{Label, by_nursery, Exc, cancelled, raised, parts_of, group_of}
 use Rattle.exc_groups.specs.Split.{Wanted, named, keep, drop}
 use Rattle.cancel_scopes.specs.Sight.{Tick, sight, catches}
-use Rattle.job_meaning.specs.Log.{Result, Table}
+use Rattle.job_meaning.specs.Log.{Table}
 use Rattle.job_meaning.specs.Meaning.{root_label, root_here}
 use Rattle.job_meaning.specs.Walk.{far, Stack, Here, label_here, paced, label_on, due, Left, left_with, Kind, a_scope, a_nursery, exc_after, within, home_of, latest, with_exc, excs_of, in_pass, here_in, label_over, handler_exc, outcome_after}
 use Rattle.job_story.specs.Story.{Happening, enters, sleeps, is_cancelled, finds, misses, raises, cancels, handles, cleans, replaces, waits, leaves, Story, no_more, happened, started, then_story, Tale}

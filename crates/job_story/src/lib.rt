@@ -7,7 +7,9 @@
 #![tactic(auto)]
 
 mod event;
+mod froms;
 mod laws;
 
 pub use event::{Event, Happening, Kind, What};
+pub use froms::{CancelledFrom, Froms};
 pub use laws::law_story;
