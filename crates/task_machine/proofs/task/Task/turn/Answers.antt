@@ -35,7 +35,7 @@ returns-in-Stops-clause-turn c =
 pub returns-in_ok-stop-in-On-clause-waiters : goal.returns-in_ok-stop-in-On-clause-waiters
 returns-in_ok-stop-in-On-clause-waiters c =
     opened_then c.args.me c.args.world.now.book c.wake.new.world.book c.go_to_stop.new.world.book
-    (opened_none c.args.me _ _ c.in_ok-exc.ensures.waiters) c.in_ok-stop-in-On.ensures.waiters
+    (opened_none c.args.me c.args.world.now.book c.wake.new.world.book c.in_ok-exc.ensures.waiters) c.in_ok-stop-in-On.ensures.waiters
 
 pub returns-in-Stops-clause-waiters : goal.returns-in-Stops-clause-waiters
 returns-in-Stops-clause-waiters c = opened_none c.args.me c.args.world.now.book c.wake.new.world.book c.in_ok-exc.ensures.waiters
