@@ -54,7 +54,8 @@ adds_child me l home lent s u e own a b c d first h last =
       added =
           last
           ∙ (ap (λ (es : List Event). es ++ over) (h.added ∙ ap (λ (es : List Event). es ++ events_of l own) first)
-          ∙ (append_assoc (map event_of a ++ begun) (events_of l own) over ∙ append_assoc (map event_of a) begun (events_of l own ++ over)));
+          ∙ (append_assoc (map event_of a ++ begun) (events_of l own) over ∙ append_assoc (map event_of a) begun
+          (events_of l own ++ over)));
     }
 
 -- the same story in other words

@@ -1,5 +1,5 @@
 -- Blocks that are entered and left, and tasks that are started, as tales.
-use Rattle.std.proofs.Common.{◌≡◌, ℕ, ◌++◌, ◌∷◌, [], Bool, Option, List, refl, ap, sym, subst, ◌∙◌, arith, max}
+use Rattle.std.proofs.Common.{◌≡◌, ℕ, ◌++◌, ◌∷◌, [], Bool, Option, List, refl, subst, ◌∙◌, arith}
 use Rattle.std.specs.Prelude.{map}
 use Rattle.std.specs.Option.{option_map}
 use Rattle.buffer_parts.specs.Lines.{Range}
@@ -11,7 +11,7 @@ use Rattle.job_meaning.specs.Log.{Table}
 use Rattle.job_meaning.specs.Walk.{Kind, Stack, left_with, exc_after}
 use Rattle.job_story.specs.Events.{event, starts, ends}
 use Rattle.job_story.specs.Held.{event_of}
-use Rattle.job_story.specs.Story.{Tale, enters, leaves, waits, happened, then_story}
+use Rattle.job_story.specs.Story.{Tale, enters, leaves, waits}
 use Rattle.job_story.specs.Tell.{Scene, only, tell, tell_block, tell_left, tell_wait, tell_gathered, tell_child}
 use Rattle.job_story.specs.declared.event.Event as held
 use Rattle.job_teller.specs.declared.told.Told.{Told}
@@ -23,7 +23,8 @@ use Rattle.job_teller.proofs.Telling.{told_like}
 abbrev Shut : Label → List held.Event → List held.Event → Kind → Label → Tick → Bool → Stack → ℕ → Option Exc → Type 0
 Shut me mid after kind label from shield st n o =
     Adds me mid after
-    (only n (leaves kind label o (left_with (catches from shield st n) o).caught (exc_after kind label n (left_with (catches from shield st n) o))))
+    (only n (leaves kind label o (left_with (catches from shield st n) o).caught (exc_after kind label n (left_with
+    (catches from shield st n) o))))
 
 -- a block is entered, and left where its inside ends
 pub tells_block : (me : Label) (a b c d : List held.Event) (table : Table) (kind : Kind) (label : Label) (t : ℕ) (deadline : Tick)
@@ -39,7 +40,8 @@ tells_block me a b c d table kind label t deadline shield st inside inner w from
     (subst (λ (o : Option Exc). Shut me c d kind label from shield st inner.end o) k.told.exc x.events) in
     let outside : option_map exc_of w.exc ≡ exc_after kind label tale.end (left_with (catches from shield st tale.end) tale.exc) =
     subst (λ (n : ℕ). option_map exc_of w.exc ≡ exc_after kind label n (left_with (catches from shield st n) tale.exc)) k.told.end
-    (subst (λ (o : Option Exc). option_map exc_of w.exc ≡ exc_after kind label inner.end (left_with (catches from shield st inner.end) o)) k.told.exc
+    (subst (λ (o : Option Exc). option_map exc_of w.exc ≡ exc_after kind label inner.end (left_with
+    (catches from shield st inner.end) o)) k.told.exc
     x.exc) in
     let until : w.open_until ≡ 0 = x.open_until in
     subst (λ (f : Tick). Tells me a w d
@@ -76,16 +78,19 @@ tells_child me l home scene t tale a b c d told w first h last k =
     record { told = k; events = adds_child me l home scene.here.part t tale.end tale.exc tale.story a b c d first h.events over }
 
 -- the same steps, told where the input is the same
-pub tells_in : (me : Label) (a b : List held.Event) (w : Told) (k : Table) (ss : Steps) (x y : List ℕ) (p : Range) (l : Label) (in_cleanup : Bool)
+pub tells_in : (me : Label) (a b : List held.Event) (w : Told) (k : Table) (ss : Steps) (x y : List ℕ) (p : Range) (l : Label)
+    (in_cleanup : Bool)
     (st : Stack) (t : ℕ) → x ≡ y →
-    Tells me a w b (tell k ss (record { here = record { input = x; part = p; task = l; path = l.indices }; in_cleanup = in_cleanup }) st t) →
+    Tells me a w b (tell k ss (record { here = record { input = x; part = p; task = l; path = l.indices }; in_cleanup = in_cleanup }) st t)
+    →
     Tells me a w b (tell k ss (record { here = record { input = y; part = p; task = l; path = l.indices }; in_cleanup = in_cleanup }) st t)
 tells_in me a b w k ss x y p l in_cleanup st t e h =
     subst (λ (z : List ℕ). Tells me a w b
     (tell k ss (record { here = record { input = z; part = p; task = l; path = l.indices }; in_cleanup = in_cleanup }) st t)) e h
 
 -- equal steps, told from an equal tick
-pub tells_at : (me : Label) (a b : List held.Event) (w : Told) (k : Table) (ss body : Steps) (scene : Scene) (st : Stack) (u v : ℕ) → ss ≡ body → u ≡ v →
+pub tells_at : (me : Label) (a b : List held.Event) (w : Told) (k : Table) (ss body : Steps) (scene : Scene) (st : Stack) (u v : ℕ) →
+    ss ≡ body → u ≡ v →
     Tells me a w b (tell k ss scene st u) → Tells me a w b (tell k body scene st v)
 tells_at me a b w k ss body scene st u v e f h =
     subst (λ (x : ℕ). Tells me a w b (tell k body scene st x)) f (subst (λ (x : Steps). Tells me a w b (tell k x scene st u)) e h)

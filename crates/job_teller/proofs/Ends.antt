@@ -63,7 +63,8 @@ by_slept : (a : Tick) (n t : ℕ) → EndsBy (t + n) (slept a n t)
 by_slept None n t = by_done (t + n) (t + n) (omega arith)
 by_slept (Some from) n t = by_now (nat_le from t) (nat_le from (t + n)) refl
   where
-    by_now : (now due : Bool) → nat_le from (t + n) ≡ due → EndsBy (t + n) (if now then raised_at cancelled t else (if due then raised_at cancelled from else done_at (t + n)))
+    by_now : (now due : Bool) → nat_le from (t + n) ≡ due → EndsBy (t + n) (if now then raised_at cancelled t else
+        (if due then raised_at cancelled from else done_at (t + n)))
     by_now true due e = by_raised cancelled (t + n) t (omega arith)
     by_now false true e = by_raised cancelled (t + n) from (grind (arith, nat_tests))
     by_now false false e = by_done (t + n) (t + n) (omega arith)
@@ -122,9 +123,11 @@ by_passes (suc k) first go c t h =
     let all : suc k * c ≡ k * c + c = suc-mul k c in
     by_and_then (t + c * 1099511627776) (t + suc k * c * 1099511627776) (go first t) (λ (u : ℕ). passes (suc first) k go u)
     (omega (arith, all)) (h first t)
-    (λ (u : ℕ) (le : u ≤ t + c * 1099511627776). later (u + k * c * 1099511627776) _ _ (omega (arith, all)) (by_passes k (suc first) go c u h))
+    (λ (u : ℕ) (le : u ≤ t + c * 1099511627776). later (u + k * c * 1099511627776) _ _ (omega (arith, all)) (by_passes k
+    (suc first) go c u h))
 
-by_handled : (b c : ℕ) (wanted : Wanted) (r : Result) (go : ℕ → Result) → b ≤ c → EndsBy b r → ((u : ℕ) → u ≤ b → EndsBy c (go u)) → EndsBy c (handled wanted r go)
+by_handled : (b c : ℕ) (wanted : Wanted) (r : Result) (go : ℕ → Result) → b ≤ c → EndsBy b r → ((u : ℕ) → u ≤ b → EndsBy c (go u)) →
+    EndsBy c (handled wanted r go)
 unfolding handled
 by_handled b c wanted r go le h k = by_exc r.exc
   where
@@ -167,13 +170,16 @@ mutual
   unfolding walk
 
   -- every walk ends by its start and as many times `forever` as it has step instances
-  pub ends_by : (m : Mode) (b : Steps) (here : Here) (st : Stack) (t : ℕ) → AreModest b → length here.input ≤ 16777216 → EndsBy (t + size_of b * 1099511627776) (walk m b here st t)
+  pub ends_by : (m : Mode) (b : Steps) (here : Here) (st : Stack) (t : ℕ) → AreModest b → length here.input ≤ 16777216 →
+      EndsBy (t + size_of b * 1099511627776) (walk m b here st t)
   ends_by m stop here st t h small = by_done _ t (omega arith)
   ends_by m (step s ss) here st t h small =
       by_and_then (t + size_in s * 1099511627776) _ _ _ (omega arith) (ends_step m s here st t h.0 small)
-      (λ (u : ℕ) (le : u ≤ t + size_in s * 1099511627776). later (u + size_of ss * 1099511627776) _ _ (omega arith) (ends_by m ss here st u h.1 small))
+      (λ (u : ℕ) (le : u ≤ t + size_in s * 1099511627776). later (u + size_of ss * 1099511627776) _ _ (omega arith)
+      (ends_by m ss here st u h.1 small))
 
-  pub ends_step : (m : Mode) (s : Step) (here : Here) (st : Stack) (t : ℕ) → IsModestStep s → length here.input ≤ 16777216 → EndsBy (t + size_in s * 1099511627776) (walk_step m s here st t)
+  pub ends_step : (m : Mode) (s : Step) (here : Here) (st : Stack) (t : ℕ) → IsModestStep s → length here.input ≤ 16777216 →
+      EndsBy (t + size_in s * 1099511627776) (walk_step m s here st t)
   ends_step m (sleep n) here st t h small = by_sleeping _ st _ t (omega arith)
   ends_step m checkpoint here st t h small = by_sleeping _ st _ t (omega arith)
   ends_step m forever here st t h small = by_sleeping _ st _ t (omega arith)
@@ -187,29 +193,38 @@ mutual
   ends_step m (raise name) here st t h small = by_raised _ _ t (omega arith)
   ends_step m (cancel name) here st t h small = by_cancelling _ _ t (omega arith)
   ends_step m (scope name d shield fail body) here st t h small =
-      by_block m _ _ t _ shield st _ _ (λ from. later (t + size_of body * 1099511627776) _ _ (omega arith) (ends_by m body here _ t h.1 small))
+      by_block m _ _ t _ shield st _ _ (λ from. later (t + size_of body * 1099511627776) _ _ (omega arith)
+      (ends_by m body here _ t h.1 small))
   ends_step m (nursery name d shield body) here st t h small =
-      by_block m _ _ t _ shield st _ _ (λ from. by_gathered _ _ _ (by_signed _ _ _ (later (t + size_of body * 1099511627776) _ _ (omega arith) (ends_by m body here _ t h.1 small))))
+      by_block m _ _ t _ shield st _ _ (λ from. by_gathered _ _ _ (by_signed _ _ _ (later (t + size_of body * 1099511627776) _ _
+      (omega arith) (ends_by m body here _ t h.1 small))))
   ends_step m (start name None body) here st t h small =
-      by_child _ _ t _ (omega arith) (by_signed _ st _ (later (t + size_of body * 1099511627776) _ _ (omega arith) (ends_by m body _ st t h.1 small)))
+      by_child _ _ t _ (omega arith) (by_signed _ st _ (later (t + size_of body * 1099511627776) _ _ (omega arith)
+      (ends_by m body _ st t h.1 small)))
   ends_step m (start name (Some k) body) here st t h small =
       let one : 1 + size_of body ≤ k * (1 + size_of body) = copies_le k (1 + size_of body) h.0.0 in
-      by_each k _ _ t (omega arith) (λ (i : ℕ). by_child _ _ t _ (omega arith) (by_signed _ st _ (later (t + size_of body * 1099511627776) _ _ (omega (arith, one)) (ends_by m body _ st t h.1 small))))
+      by_each k _ _ t (omega arith) (λ (i : ℕ). by_child _ _ t _ (omega arith) (by_signed _ st _ (later
+      (t + size_of body * 1099511627776) _ _ (omega (arith, one)) (ends_by m body _ st t h.1 small))))
   ends_step m (repeat count body) here st t h small =
       later (t + count * (1 + size_of body) * 1099511627776) _ _ (omega arith)
       (by_passes count 0 _ (1 + size_of body) t (λ (i : ℕ) (u : ℕ).
       later (u + size_of body * 1099511627776) _ _ (omega arith) (ends_by m body _ st u h.1 small)))
   ends_step m (attempt body handler cleanup) here st t h small =
-      later (t + size_of body * 1099511627776 + handled_size handler * 1099511627776 + cleaned_size cleanup * 1099511627776) _ _ (omega arith)
+      later (t + size_of body * 1099511627776 + handled_size handler * 1099511627776 + cleaned_size cleanup * 1099511627776) _ _
+      (omega arith)
       (ends_cleanup m cleanup here st _ (t + size_of body * 1099511627776 + handled_size handler * 1099511627776) h.2 small
       (ends_handler m handler here st _ (t + size_of body * 1099511627776) h.1 small (ends_by m body here st t h.0 small)))
 
-  pub ends_handler : (m : Mode) (x : Handled) (here : Here) (st : Stack) (r : Result) (b : ℕ) → IsModestHandler x → length here.input ≤ 16777216 → EndsBy b r → EndsBy (b + handled_size x * 1099511627776) (walk_handler m x here st r)
+  pub ends_handler : (m : Mode) (x : Handled) (here : Here) (st : Stack) (r : Result) (b : ℕ) → IsModestHandler x →
+      length here.input ≤ 16777216 → EndsBy b r → EndsBy (b + handled_size x * 1099511627776) (walk_handler m x here st r)
   ends_handler m unhandled here st r b h small e = later b _ r (omega arith) e
   ends_handler m (except name body) here st r b h small e =
-      by_handled b _ _ r _ (omega arith) e (λ (u : ℕ) (le : u ≤ b). later (u + size_of body * 1099511627776) _ _ (omega arith) (ends_by m body here st u h small))
+      by_handled b _ _ r _ (omega arith) e (λ (u : ℕ) (le : u ≤ b). later (u + size_of body * 1099511627776) _ _ (omega arith)
+      (ends_by m body here st u h small))
 
-  pub ends_cleanup : (m : Mode) (x : Cleaned) (here : Here) (st : Stack) (r : Result) (b : ℕ) → IsModestCleanup x → length here.input ≤ 16777216 → EndsBy b r → EndsBy (b + cleaned_size x * 1099511627776) (walk_cleanup m x here st r)
+  pub ends_cleanup : (m : Mode) (x : Cleaned) (here : Here) (st : Stack) (r : Result) (b : ℕ) → IsModestCleanup x →
+      length here.input ≤ 16777216 → EndsBy b r → EndsBy (b + cleaned_size x * 1099511627776) (walk_cleanup m x here st r)
   ends_cleanup m uncleaned here st r b h small e = later b _ r (omega arith) e
   ends_cleanup m (finally body) here st r b h small e =
-      by_cleaned b _ r _ (omega arith) e (λ (u : ℕ) (le : u ≤ b). later (u + size_of body * 1099511627776) _ _ (omega arith) (ends_by m body here st u h small))
+      by_cleaned b _ r _ (omega arith) e (λ (u : ℕ) (le : u ≤ b). later (u + size_of body * 1099511627776) _ _ (omega arith)
+      (ends_by m body here st u h small))

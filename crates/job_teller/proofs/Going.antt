@@ -1,5 +1,5 @@
 -- A telling that goes on: what was told so far, and what is left.
-use Rattle.std.proofs.Common.{◌≡◌, ℕ, Bool, true, false, Option, Some, None, List, [], ◌++◌, refl, ap, sym, subst, ◌∙◌, append_assoc}
+use Rattle.std.proofs.Common.{◌≡◌, ℕ, true, false, Option, Some, None, List, [], ◌++◌, refl, ap, sym, subst, ◌∙◌, append_assoc}
 use Rattle.std.specs.Option.{option_map, is_some}
 use Rattle.std.proofs.lemmas.List.{append-nil}
 use Rattle.exc_groups.specs.Exceptions.{Label, Exc}
@@ -44,7 +44,8 @@ next_tells me start mid now w v x all left step at u ends h join =
 
 -- a step that ends with an exception ends all
 pub going_failed : (me : Label) (start mid now : List held.Event) (w v x : Told) (all : Tale) (left step rest : ℕ → Tale)
-    (at : Going me start w mid all left) → ((y : ℕ) → left y ≡ then_tale (step y) rest) → (u : ℕ) → u ≡ w.end → Tells me mid v now (step u) →
+    (at : Going me start w mid all left) → ((y : ℕ) → left y ≡ then_tale (step y) rest) → (u : ℕ) → u ≡ w.end →
+    Tells me mid v now (step u) →
     ((p q : Tale) → IsTold w p → IsTold v q → IsTold x (and_tale p q)) → is_some x.exc ≡ true → Tells me start x now all
 unfolding then_tale
 going_failed me start mid now w v x all left step rest at is u ends h join failed =
@@ -62,7 +63,8 @@ going_failed me start mid now w v x all left step rest at is u ends h join faile
 
 -- a step that ends well goes on with the rest
 pub going_next : (me : Label) (start mid now : List held.Event) (w v x : Told) (all : Tale) (left step rest : ℕ → Tale)
-    (at : Going me start w mid all left) → ((y : ℕ) → left y ≡ then_tale (step y) rest) → (u : ℕ) → u ≡ w.end → Tells me mid v now (step u) →
+    (at : Going me start w mid all left) → ((y : ℕ) → left y ≡ then_tale (step y) rest) → (u : ℕ) → u ≡ w.end →
+    Tells me mid v now (step u) →
     ((p q : Tale) → IsTold w p → IsTold v q → IsTold x (and_tale p q)) → is_some x.exc ≡ false → Going me start x now all rest
 unfolding then_tale
 going_next me start mid now w v x all left step rest at is u ends h join well =

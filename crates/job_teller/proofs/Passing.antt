@@ -1,5 +1,5 @@
 -- The telling of the passes of a `repeat`, one by one.
-use Rattle.std.proofs.Common.{◌≡◌, ℕ, zero, suc, ◌+◌, ◌-◌, ◌*◌, ◌≤◌, ◌<◌, Bool, true, false, List, length, refl, ap, sym, subst, ◌∙◌, arith, suc-mul}
+use Rattle.std.proofs.Common.{◌≡◌, ℕ, suc, ◌+◌, ◌-◌, ◌*◌, ◌≤◌, ◌<◌, true, false, List, refl, ap, sym, subst, ◌∙◌, arith, suc-mul}
 use Rattle.std.specs.Option.{is_some}
 use Rattle.job_tree.specs.Tree.{Steps}
 use Rattle.job_tree.specs.Modest.{AreModest}
@@ -16,12 +16,14 @@ use Rattle.job_teller.proofs.Going.{Going, going_start, going_failed, going_next
 use Rattle.job_teller.proofs.Steps.{ends_small}
 
 -- before a pass, what was told ended well and goes on with the passes that are left
-pub record AtPass (h : Here) (t count : ℕ) (body : Steps) (i : ℕ) (start : List held.Event) (w : Told) (now : List held.Event) : Type 0 where
+pub record AtPass (h : Here) (t count : ℕ) (body : Steps) (i : ℕ) (start : List held.Event) (w : Told)
+    (now : List held.Event) : Type 0 where
   pub going : Going h.task.now start w now (tell_passes 0 count (pass body h) t) (λ u. tell_passes i (count - i) (pass body h) u)
   pub modest : AreModest body
   pub room : HasRoom ((count - i) * (1 + size_of body)) h w.end
 
-pub at_first : (h : Here) (t count : ℕ) (body : Steps) (start : List held.Event) (w : Told) → IsTold w (told_at t no_more) → AreModest body →
+pub at_first : (h : Here) (t count : ℕ) (body : Steps) (start : List held.Event) (w : Told) → IsTold w (told_at t no_more) →
+    AreModest body →
     HasRoom (count * (1 + size_of body)) h t → AtPass h t count body 0 start w start
 at_first h t count body start w told modest room =
     record {
@@ -55,7 +57,8 @@ pub pass_failed : (h : Here) (t count : ℕ) (body : Steps) (i : ℕ) (start mid
     ((p q : Tale) → IsTold w p → IsTold v q → IsTold x (and_tale p q)) → is_some x.exc ≡ true →
     Tells h.task.now start x now (tell_passes 0 count (pass body h) t)
 pass_failed h t count body i start mid now w v x at lt u ends tells join failed =
-    going_failed h.task.now start mid now w v x _ _ (λ y. pass body h i y) (λ y. tell_passes (i + 1) (count - (i + 1)) (pass body h) y) at.going
+    going_failed h.task.now start mid now w v x _ _ (λ y. pass body h i y) (λ y. tell_passes (i + 1) (count - (i + 1))
+    (pass body h) y) at.going
     (first_left i count (pass body h) lt) u ends tells join failed
 
 pub pass_next : (h : Here) (t count : ℕ) (body : Steps) (i : ℕ) (start mid now : List held.Event) (w v x : Told) →
@@ -69,10 +72,22 @@ pass_next h t count body i start mid now w v x at lt u ends tells join well =
     let over : x.end ≡ v.end = (join at.going.before _ at.going.tells.told tells.told).end ∙ sym tells.told.end in
     record {
       going =
-          going_next h.task.now start mid now w v x _ _ (λ y. pass body h i y) (λ y. tell_passes (i + 1) (count - (i + 1)) (pass body h) y) at.going
+          going_next h.task.now start mid now w v x _ _ (λ y. pass body h i y) (λ y. tell_passes (i + 1) (count - (i + 1))
+          (pass body h) y) at.going
           (first_left i count (pass body h) lt) u ends tells join well;
       modest = at.modest;
-      room = record { room = omega (arith, at.room.room, fits, from, over, left_size i count (1 + size_of body) lt); small = at.room.small };
+      room = record {
+        room = omega (
+          arith,
+          at.room.room,
+          fits,
+          from,
+          over,
+          left_size i count
+              (1 + size_of body) lt,
+        );
+        small = at.room.small;
+      };
     }
 
 -- all passes were told

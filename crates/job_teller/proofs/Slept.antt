@@ -1,5 +1,5 @@
 -- Sleeps and other steps of one tick, as tales.
-use Rattle.std.proofs.Common.{◌≡◌, ℕ, zero, suc, subst, sym, ◌+◌, ◌≤◌, ◌<◌, Bool, true, false, Option, Some, None, List, refl, arith, nat_le, if◌then◌else◌}
+use Rattle.std.proofs.Common.{◌≡◌, ℕ, zero, suc, subst, sym, ◌+◌, ◌≤◌, ◌<◌, Bool, true, false, Some, None, List, refl, arith, nat_le, if◌then◌else◌}
 use Rattle.std.proofs.lemmas.Bool.Decides.{nat_tests}
 use Rattle.exc_groups.specs.Exceptions.{Label, cancelled}
 use Rattle.cancel_scopes.specs.Sight.{Tick, sight}
@@ -19,8 +19,10 @@ slept_from from now due st c until n t =
     failed_at cancelled from (then_story (asleep_for n t until) (only from (is_cancelled (seer st from) (Some t) c)))
     else told_at (t + n) (asleep_for n t until))
 
-pub slept_never : (me : Label) (before after : List held.Event) (w : Told) (st : Stack) (c : Bool) (until : Tick) (n t : ℕ) → sight st ≡ None →
-    Adds me before after (asleep_for n t until) → ((s : Story) → IsTold w (told_at (t + n) s)) → Tells me before w after (tell_sleep st c until n t)
+pub slept_never : (me : Label) (before after : List held.Event) (w : Told) (st : Stack) (c : Bool) (until : Tick) (n t : ℕ) →
+    sight st ≡ None →
+    Adds me before after (asleep_for n t until) → ((s : Story) → IsTold w (told_at (t + n) s)) →
+    Tells me before w after (tell_sleep st c until n t)
 unfolding tell_sleep
 slept_never me before after w st c until n t e h k = rw e (record { told = k (asleep_for n t until); events = h })
 
@@ -60,7 +62,8 @@ slept_past me before after w st c until n t from e lt h k = rw e (by_test (nat_l
     by_test false x false y = record { told = k _; events = h }
 
 -- a sleep that takes time
-pub asleep_some : (me : Label) (before after : List held.Event) (n t : ℕ) (until : Tick) → 0 < n → Adds me before after (only t (sleeps until)) →
+pub asleep_some : (me : Label) (before after : List held.Event) (n t : ℕ) (until : Tick) → 0 < n →
+    Adds me before after (only t (sleeps until)) →
     Adds me before after (asleep_for n t until)
 asleep_some me before after zero t until lt h = absurd (omega arith)
 asleep_some me before after (suc n) t until lt h = h

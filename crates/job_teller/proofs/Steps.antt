@@ -1,5 +1,5 @@
 -- The telling of a block's steps, one by one.
-use Rattle.std.proofs.Common.{◌≡◌, ℕ, zero, suc, ◌+◌, ◌*◌, ◌≤◌, ◌<◌, Bool, true, false, List, [], ◌∷◌, length, drop, get_or, refl, ap, sym, subst, ◌∙◌, arith}
+use Rattle.std.proofs.Common.{◌≡◌, ℕ, zero, suc, ◌+◌, ◌*◌, ◌≤◌, ◌<◌, true, false, List, [], ◌∷◌, length, drop, get_or, refl, ap, sym, subst, ◌∙◌, arith}
 use Rattle.std.specs.Option.{is_some}
 use Rattle.job_tree.specs.Tree.{Step, Steps, stop, step, Handled}
 use Rattle.job_tree.specs.Blocks.{step_of, steps_of}
@@ -8,19 +8,20 @@ use Rattle.job_tree.specs.Names.{size_of, size_in, handled_size}
 use Rattle.job_tree.specs.declared.step.Step as held_step
 use Rattle.job_meaning.specs.Log.{Table, Result}
 use Rattle.job_meaning.specs.Walk.{Stack, by_table, walk, walk_step, walk_handler}
-use Rattle.job_story.specs.Story.{Tale, no_more, result_of}
-use Rattle.job_story.specs.Tell.{Scene, told_at, and_tale, then_tale, tell, tell_step, tell_handler}
+use Rattle.job_story.specs.Story.{Tale, no_more}
+use Rattle.job_story.specs.Tell.{Scene, told_at, and_tale, tell, tell_step, tell_handler}
 use Rattle.job_story.specs.declared.event.Event as held
 use Rattle.job_story.proofs.Erasing.{tell_is, step_is, handler_is}
 use Rattle.job_teller.specs.declared.here.Here.{Here}
 use Rattle.job_teller.specs.declared.told.Told.{Told}
-use Rattle.job_teller.specs.Heres.{HasRoom, here_of, input_of, scene_of, scopes_of, table_of}
+use Rattle.job_teller.specs.Heres.{HasRoom, scene_of, scopes_of, table_of}
 use Rattle.job_teller.specs.Tales.{IsTold, Tells}
 use Rattle.job_teller.proofs.Ends.{EndsBy, ends_step, ends_by, ends_handler}
 use Rattle.job_teller.proofs.Going.{Going, going_start, going_failed, going_next, going_stop}
 
 -- a telling of steps ends before any tick is too large
-pub ends_small : (w : Told) (k : Table) (ss : Steps) (scene : Scene) (st : Stack) (t : ℕ) → AreModest ss → length scene.here.input ≤ 16777216 →
+pub ends_small : (w : Told) (k : Table) (ss : Steps) (scene : Scene) (st : Stack) (t : ℕ) → AreModest ss →
+    length scene.here.input ≤ 16777216 →
     IsTold w (tell k ss scene st t) → w.end ≤ t + size_of ss * 1099511627776
 ends_small w k ss scene st t modest small told =
     let walked = walk (by_table k) ss scene.here st t in
@@ -30,7 +31,8 @@ ends_small w k ss scene st t modest small told =
     let end : w.end ≡ (tell k ss scene st t).end = told.end in
     omega (arith, fits, same, end)
 
-pub ends_one : (w : Told) (k : Table) (s : Step) (scene : Scene) (st : Stack) (t : ℕ) → IsModestStep s → length scene.here.input ≤ 16777216 →
+pub ends_one : (w : Told) (k : Table) (s : Step) (scene : Scene) (st : Stack) (t : ℕ) → IsModestStep s →
+    length scene.here.input ≤ 16777216 →
     IsTold w (tell_step k s scene st t) → w.end ≤ t + size_in s * 1099511627776
 ends_one w k s scene st t modest small told =
     let walked = walk_step (by_table k) s scene.here st t in
@@ -40,7 +42,8 @@ ends_one w k s scene st t modest small told =
     let end : w.end ≡ (tell_step k s scene st t).end = told.end in
     omega (arith, fits, same, end)
 
-pub ends_handled : (w : Told) (k : Table) (x : Handled) (ss : Steps) (scene : Scene) (st : Stack) (t : ℕ) → AreModest ss → IsModestHandler x →
+pub ends_handled : (w : Told) (k : Table) (x : Handled) (ss : Steps) (scene : Scene) (st : Stack) (t : ℕ) → AreModest ss →
+    IsModestHandler x →
     length scene.here.input ≤ 16777216 → IsTold w (tell_handler k x scene st (tell k ss scene st t)) →
     w.end ≤ t + size_of ss * 1099511627776 + handled_size x * 1099511627776
 ends_handled w k x ss scene st t modest modest_handler small told =
@@ -91,7 +94,8 @@ pub room_step : (h : Here) (t : ℕ) (all rest : Steps) (s : Step) (start : List
 room_step h t all rest s start w now at = record { room = omega (arith, at.room.room); small = at.room.small }
 
 pub at_failed : (h : Here) (t : ℕ) (all rest : Steps) (s : Step) (start mid now : List held.Event) (w v x : Told) →
-    AtStep h t all (step s rest) start w mid → (u : ℕ) → u ≡ w.end → Tells h.task.now mid v now (tell_step (table_of h) s (scene_of h) (scopes_of h) u) →
+    AtStep h t all (step s rest) start w mid → (u : ℕ) → u ≡ w.end → Tells h.task.now mid v now (tell_step (table_of h) s (scene_of h)
+    (scopes_of h) u) →
     ((p q : Tale) → IsTold w p → IsTold v q → IsTold x (and_tale p q)) → is_some x.exc ≡ true →
     Tells h.task.now start x now (tell (table_of h) all (scene_of h) (scopes_of h) t)
 unfolding tell
@@ -100,7 +104,8 @@ at_failed h t all rest s start mid now w v x at u ends tells join failed =
     (λ y. tell (table_of h) rest (scene_of h) (scopes_of h) y) at.going (λ y. refl) u ends tells join failed
 
 pub at_next : (h : Here) (t : ℕ) (all rest : Steps) (s : Step) (start mid now : List held.Event) (w v x : Told) →
-    AtStep h t all (step s rest) start w mid → (u : ℕ) → u ≡ w.end → Tells h.task.now mid v now (tell_step (table_of h) s (scene_of h) (scopes_of h) u) →
+    AtStep h t all (step s rest) start w mid → (u : ℕ) → u ≡ w.end → Tells h.task.now mid v now (tell_step (table_of h) s (scene_of h)
+    (scopes_of h) u) →
     ((p q : Tale) → IsTold w p → IsTold v q → IsTold x (and_tale p q)) → is_some x.exc ≡ false → AtStep h t all rest start x now
 unfolding tell
 at_next h t all rest s start mid now w v x at u ends tells join well =
@@ -117,7 +122,8 @@ at_next h t all rest s start mid now w v x at u ends tells join well =
     }
 
 -- all steps were told
-pub at_stop : (h : Here) (t : ℕ) (all : Steps) (start : List held.Event) (w : Told) (now : List held.Event) → AtStep h t all stop start w now →
+pub at_stop : (h : Here) (t : ℕ) (all : Steps) (start : List held.Event) (w : Told) (now : List held.Event) →
+    AtStep h t all stop start w now →
     Tells h.task.now start w now (tell (table_of h) all (scene_of h) (scopes_of h) t)
 unfolding tell
 at_stop h t all start w now at = going_stop h.task.now start now w _ _ at.going (λ y. refl)

@@ -1,5 +1,5 @@
 -- How tellings of the code come to tales.
-use Rattle.std.proofs.Common.{◌≡◌, ℕ, ◌+◌, ◌≤◌, max, Bool, true, false, Option, Some, None, List, [], ◌∷◌, ◌++◌, refl, ap, sym, subst, ◌∙◌, append_assoc, arith}
+use Rattle.std.proofs.Common.{◌≡◌, ℕ, max, true, false, Option, Some, None, List, [], ◌∷◌, ◌++◌, refl, ap, sym, subst, ◌∙◌, arith}
 use Rattle.std.specs.Prelude.{map}
 use Rattle.std.specs.Option.{option_map, is_some}
 use Rattle.std.proofs.lemmas.List.{map-append}
@@ -8,11 +8,11 @@ use Rattle.exc_groups.specs.Held as held
 use Rattle.exc_groups.specs.declared.exc.Exc as held_exc
 use Rattle.job_meaning.specs.Log.{Member}
 use Rattle.job_meaning.specs.Walk.{latest, with_exc, excs_of}
-use Rattle.job_story.specs.Story.{Story, Tale, then_story}
+use Rattle.job_story.specs.Story.{Story, Tale}
 use Rattle.job_story.specs.Tell.{Scene, told_at, failed_at, and_tale, with_exc_of, tell_gathered, tell_child}
 use Rattle.job_story.specs.declared.event.Event as held_event
 use Rattle.job_teller.specs.declared.told.Told.{Told}
-use Rattle.job_teller.specs.Tales.{IsTold, Adds, Tells}
+use Rattle.job_teller.specs.Tales.{IsTold, Tells}
 use Rattle.job_teller.proofs.Adding.{adds_then}
 
 -- the story does not matter for the end
@@ -28,12 +28,24 @@ told_like w a b h e x m =
 -- nothing is open
 pub is_at : (w : Told) (t : ℕ) (s : Story) → w.end ≡ t → w.exc ≡ None → w.open_until ≡ 0 → w.open_excs.items ≡ [] → IsTold w (told_at t s)
 is_at w t s end exc until excs =
-    record { end = end; exc = ap (option_map held.exc_of) exc; open_until = λ u. omega (arith, until); open_excs = ap (map held.exc_of) excs }
+    record {
+      end = end;
+      exc = ap (option_map held.exc_of) exc;
+      open_until = λ u. omega (arith, until);
+      open_excs = ap
+          (map held.exc_of) excs;
+    }
 
 pub is_failed : (w : Told) (e : held_exc.Exc) (t : ℕ) (s : Story) → w.end ≡ t → w.exc ≡ Some e → w.open_until ≡ 0 → w.open_excs.items ≡ [] →
     IsTold w (failed_at (held.exc_of e) t s)
 is_failed w e t s end exc until excs =
-    record { end = end; exc = ap (option_map held.exc_of) exc; open_until = λ u. omega (arith, until); open_excs = ap (map held.exc_of) excs }
+    record {
+      end = end;
+      exc = ap (option_map held.exc_of) exc;
+      open_until = λ u. omega (arith, until);
+      open_excs = ap
+          (map held.exc_of) excs;
+    }
 
 -- one after another
 latest_append : (t : ℕ) (ms ns : List Member) → latest t (ms ++ ns) ≡ latest (latest t ms) ns

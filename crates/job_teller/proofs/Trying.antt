@@ -1,9 +1,8 @@
 -- What handlers and cleanups go on with.
-use Rattle.std.proofs.Common.{◌≡◌, ℕ, Option, Some, None, List, refl, ap, sym, subst, ◌∙◌}
+use Rattle.std.proofs.Common.{◌≡◌, ℕ, Option, Some, None, List, sym, subst}
 use Rattle.std.specs.Option.{option_map}
 use Rattle.exc_groups.specs.Exceptions.{Label, Exc}
 use Rattle.exc_groups.specs.Held.{exc_of}
-use Rattle.exc_groups.specs.declared.exc.Exc as held_exc
 use Rattle.exc_groups.specs.Split.{Wanted, keep, drop}
 use Rattle.job_story.specs.Story.{Tale, happened, handles, cleans, then_story}
 use Rattle.job_story.specs.Tell.{only, handled_by, handled_if, handled_exc, tell_handled, replaced, cleaned_by, tell_cleaned}
@@ -19,7 +18,8 @@ unfolding tell_handled
 not_raised me before after w wanted a go e h = subst (λ (o : Option Exc). Tells me before w after (handled_exc o wanted a go)) (sym e) h
 
 -- nothing that was raised is wanted
-pub not_wanted : (me : Label) (before after : List held.Event) (w : Told) (wanted : Wanted) (a : Tale) (go : ℕ → Tale) (e : Exc) → a.exc ≡ Some e →
+pub not_wanted : (me : Label) (before after : List held.Event) (w : Told) (wanted : Wanted) (a : Tale) (go : ℕ → Tale) (e : Exc) →
+    a.exc ≡ Some e →
     keep wanted e ≡ None → Tells me before w after a → Tells me before w after (tell_handled wanted a go)
 unfolding tell_handled
 not_wanted me before after w wanted a go e raised none h =
@@ -27,7 +27,8 @@ not_wanted me before after w wanted a go e raised none h =
     (subst (λ (o : Option Exc). Tells me before w after (handled_if o (drop wanted e) a go)) (sym none) h)
 
 -- something that was raised is wanted
-pub is_wanted : (me : Label) (before after : List held.Event) (w : Told) (wanted : Wanted) (a : Tale) (go : ℕ → Tale) (e m : Exc) (rest : Option Exc) →
+pub is_wanted : (me : Label) (before after : List held.Event) (w : Told) (wanted : Wanted) (a : Tale) (go : ℕ →
+    Tale) (e m : Exc) (rest : Option Exc) →
     a.exc ≡ Some e → Some m ≡ keep wanted e → rest ≡ drop wanted e → Tells me before w after (handled_by m rest a (go a.end)) →
     Tells me before w after (tell_handled wanted a go)
 unfolding tell_handled
@@ -39,18 +40,21 @@ is_wanted me before after w wanted a go e m rest raised kept dropped h =
 -- the handler ran
 pub tells_handled : (me : Label) (start mid begun now : List held.Event) (told next w : Told) (m : Exc) (rest : Option Exc) (a b : Tale) →
     Tells me start told mid a → Adds me mid begun (only told.end (handles m rest)) → Tells me begun next now b →
-    ((x : Exc) (p q : Tale) → IsTold told p → IsTold next q → IsTold w (handled_by x rest p q)) → Tells me start w now (handled_by m rest a b)
+    ((x : Exc) (p q : Tale) → IsTold told p → IsTold next q → IsTold w (handled_by x rest p q)) →
+    Tells me start w now (handled_by m rest a b)
 tells_handled me start mid begun now told next w m rest a b h k n join =
     let handling : Adds me mid begun (only a.end (handles m rest)) =
     subst (λ (t : ℕ). Adds me mid begun (only t (handles m rest))) h.told.end k in
     record {
       told = join m a b h.told n.told;
-      events = adds_then me start mid now a.story (happened a.end (handles m rest) b.story) h.events (adds_then me mid begun now _ b.story handling n.events);
+      events = adds_then me start mid now a.story (happened a.end (handles m rest) b.story) h.events
+          (adds_then me mid begun now _ b.story handling n.events);
     }
 
 -- the cleanup ran
 pub tells_cleaned : (me : Label) (start mid begun over now : List held.Event) (told next w : Told) (a : Tale) (go : ℕ → Tale) →
-    Tells me start told mid a → Adds me mid begun (only told.end (cleans (option_map exc_of told.exc))) → Tells me begun next over (go a.end) →
+    Tells me start told mid a → Adds me mid begun (only told.end (cleans (option_map exc_of told.exc))) →
+    Tells me begun next over (go a.end) →
     Adds me over now (replaced (option_map exc_of told.exc) (option_map exc_of next.exc) next.end) →
     ((p q : Tale) → IsTold told p → IsTold next q → IsTold w (cleaned_by p q)) → Tells me start w now (tell_cleaned a go)
 unfolding tell_cleaned

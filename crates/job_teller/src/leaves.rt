@@ -87,7 +87,8 @@ fn shown<'a>(
     tick: u64,
     events: &mut Vec<Event<'a>>,
 ) -> Result<Told, AllocError>
-    ensures { IfOk result (λ told. Tells here.entry.task.now events.old.items told events.new.items (tell_lines (map span_of lines.entry) tick)) }
+    ensures { IfOk result (λ told. Tells here.entry.task.now events.old.items told events.new.items
+        (tell_lines (map span_of lines.entry) tick)) }
 {
     let what = Happening::Finds {
         lines: lines.into_vec(),

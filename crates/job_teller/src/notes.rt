@@ -145,7 +145,8 @@ pub(crate) fn leave<'a>(
     events: &mut Vec<Event<'a>>,
 ) -> Result<Told, AllocError>
     ensures { IfOk result (λ w. IsLeft here.entry.task.now events.old.items events.new.items inside w (kind_of block.entry.kind)
-        block.entry.label.now (left_with (catches block.entry.from block.entry.shield (scopes_of here.entry) inside.end) (option_map exc_of inside.exc))) }
+        block.entry.label.now (left_with (catches block.entry.from block.entry.shield (scopes_of here.entry) inside.end)
+        (option_map exc_of inside.exc))) }
 {
     let Told { end, exc, .. } = inside;
     let inner = copy_of(here.alloc, &exc)?;

@@ -10,7 +10,8 @@ pub returns-in_default : goal.returns-in_default
 returns-in_default c =
     let name = c.args.name.now in
     let tick = c.args.tick in
-    misses_needed _ _ _ c.args.here.part c.bytes.result _ _ name c.args.here.task.now _ tick c.in_ok-lines.ensures.answer c.in_default.not-Lines
+    misses_needed _ _ _ c.args.here.part c.bytes.result _ _ name c.args.here.task.now _ tick c.in_ok-lines.ensures.answer
+    c.in_default.not-Lines
     c.bytes.ensures (record {
       told =
           subst (λ (l : Label). IsTold c.failed.result (failed_at (raised name l tick) tick (only tick (misses name)))) c.in_ok-task.ensures

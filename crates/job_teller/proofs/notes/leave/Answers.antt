@@ -31,7 +31,8 @@ returns c =
       open_excs = ap (map exc_of) c.new.ensures.items;
       events =
           adds_like _ _ _ _ _ c.in_ok-note.ensures
-          (ap (λ (l : Label). only end (leaves kind l (option_map exc_of c.in_ok-inner.inner) c.in_ok-left.left.caught held)) c.in_ok-label.ensures
+          (ap (λ (l : Label). only end (leaves kind l (option_map exc_of c.in_ok-inner.inner) c.in_ok-left.left.caught held))
+          c.in_ok-label.ensures
           ∙ (ap (λ (o : Option Exc). only end (leaves kind label o c.in_ok-left.left.caught held)) c.in_ok-inner.ensures
           ∙ (ap (λ (l : Left). only end (leaves kind label inner l.caught held)) is
           ∙ ap (λ (o : Option Exc). only end (leaves kind label inner left.caught o)) (c.in_ok-outside.ensures ∙ outer))));

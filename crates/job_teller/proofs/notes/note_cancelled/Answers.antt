@@ -1,6 +1,6 @@
 use Rattle.std.proofs.Common.{ap, ◌∙◌, Option}
 use Rattle.exc_groups.specs.Exceptions.{Label}
-use Rattle.job_story.specs.Story.{Story, is_cancelled}
+use Rattle.job_story.specs.Story.{is_cancelled}
 use Rattle.job_story.specs.Tell.{only}
 use Rattle.job_teller.proofs.Adding.{adds_like}
 use Rattle.job_teller.proofs.notes.note_cancelled.Goals as goal

@@ -6,7 +6,6 @@ use Rattle.buffer_parts.specs.Lines.{Range}
 use Rattle.buffer_parts.specs.Part.{range_of}
 use Rattle.exc_groups.specs.Exceptions.{Label, Exc}
 use Rattle.exc_groups.specs.Held.{exc_of}
-use Rattle.exc_groups.specs.Split.{named, keep}
 use Rattle.job_tree.specs.declared.step.Step.{Step}
 use Rattle.job_tree.specs.Tree.{Steps}
 use Rattle.job_tree.specs.Blocks.{step_of, steps_of, handled_of}
@@ -18,7 +17,7 @@ use Rattle.job_story.specs.Held.{kind_of, event_of}
 use Rattle.job_story.specs.Story.{Tale, enters, handles, cleans}
 use Rattle.job_story.specs.Tell.{only, tell, tell_block, tell_each, replaced}
 use Rattle.job_teller.specs.Heres.{HasRoom, table_of, scene_of, scene_in, scopes_of, input_of, here_of, inside, started, started_over}
-use Rattle.job_teller.specs.Tales.{Adds, Tells}
+use Rattle.job_teller.specs.Tales.{Tells}
 use Rattle.job_teller.proofs.Adding.{adds_like, adds_nothing}
 use Rattle.job_teller.proofs.Telling.{tells_joined}
 use Rattle.job_teller.proofs.Blocks.{tells_block, tells_child, tells_in, tells_at}
@@ -32,7 +31,8 @@ tell_steps-steps-init t c = at_start _ _ _ _ _ (c.at-told.ensures _) c.requires.
 
 pub tell_steps-tell_step-requires : goal.tell_steps-tell_step-requires
 tell_steps-tell_step-requires t c =
-    let at = at_item _ _ _ c.args.steps.now c.steps.step-index c.step-item.result _ _ _ c.steps.invariant c.steps-test.true c.step-item.is in
+    let at = at_item _ _ _ c.args.steps.now c.steps.step-index c.step-item.result _ _ _ c.steps.invariant c.steps-test.true c.step-item.is
+    in
     let weight = weight_at c.args.steps.now c.steps.step-index c.step-item.result c.steps-test.true c.step-item.is in (
       omega (arith, weight, c.decreases),
       (
@@ -43,19 +43,24 @@ tell_steps-tell_step-requires t c =
 
 pub tell_steps-returns-then-has_failed : goal.tell_steps-returns-then-has_failed
 tell_steps-returns-then-has_failed t c =
-    let at = at_item _ _ _ c.args.steps.now c.steps.step-index c.step-item.result _ _ _ c.steps.invariant c.steps-test.true c.step-item.is in
-    at_failed _ _ _ _ _ _ _ _ _ _ _ at _ c.end.ensures c.in_ok-next.ensures c.in_ok-told.ensures (sym c.has_failed.ensures ∙ c.if-has_failed.true)
+    let at = at_item _ _ _ c.args.steps.now c.steps.step-index c.step-item.result _ _ _ c.steps.invariant c.steps-test.true c.step-item.is
+    in
+    at_failed _ _ _ _ _ _ _ _ _ _ _ at _ c.end.ensures c.in_ok-next.ensures c.in_ok-told.ensures
+    (sym c.has_failed.ensures ∙ c.if-has_failed.true)
 
 pub tell_steps-steps-preserved : goal.tell_steps-steps-preserved
 tell_steps-steps-preserved t c =
-    let at = at_item _ _ _ c.args.steps.now c.steps.step-index c.step-item.result _ _ _ c.steps.invariant c.steps-test.true c.step-item.is in
-    at_next _ _ _ _ _ _ _ _ _ _ _ at _ c.end.ensures c.in_ok-next.ensures c.in_ok-told.ensures (sym c.has_failed.ensures ∙ c.if-has_failed.false)
+    let at = at_item _ _ _ c.args.steps.now c.steps.step-index c.step-item.result _ _ _ c.steps.invariant c.steps-test.true c.step-item.is
+    in
+    at_next _ _ _ _ _ _ _ _ _ _ _ at _ c.end.ensures c.in_ok-next.ensures c.in_ok-told.ensures
+    (sym c.has_failed.ensures ∙ c.if-has_failed.false)
 
 pub tell_steps-returns : goal.tell_steps-returns
 tell_steps-returns t c =
     let done : drop c.steps.step-index c.args.steps.now ≡ [] = drop_all c.steps.step-index c.args.steps.now c.steps-test.false in
     at_stop _ _ _ _ _ _
-    (subst (λ (ss : List Step). AtStep c.args.here c.args.tick (steps_of c.args.steps.now) (steps_of ss) c.args.events.now.items c.steps.told
+    (subst (λ (ss : List Step). AtStep c.args.here c.args.tick (steps_of c.args.steps.now)
+    (steps_of ss) c.args.events.now.items c.steps.told
     c.steps.events.items) done c.steps.invariant)
 
 pub tell_block-returns : goal.tell_block-returns
@@ -68,7 +73,8 @@ tell_block-returns t c =
     subst (λ (l : Label). Tells c.args.here.task.now c.args.events.now.items c.in_ok-told.told c.leave.new.events.items
     (tell_block (table_of c.args.here) (kind_of c.args.kind) l c.args.tick c.args.deadline c.args.shield (scopes_of c.args.here)
     (inside (kind_of c.args.kind) l c.args.shield c.args.body.now c.args.here c.args.tick))) c.in_ok-label.ensures
-    (tells_block c.args.here.task.now _ _ _ _ (table_of c.args.here) kind label c.args.tick c.args.deadline c.args.shield (scopes_of c.args.here)
+    (tells_block c.args.here.task.now _ _ _ _ (table_of c.args.here) kind label c.args.tick c.args.deadline c.args.shield
+    (scopes_of c.args.here)
     body c.in_ok-inner.inner c.in_ok-told.told c.of-from.result c.of-from.ensures entering c.in_ok-inner.ensures c.in_ok-told.ensures)
 
 pub tell_inside-returns-in-Scope : goal.tell_inside-returns-in-Scope
@@ -97,11 +103,13 @@ tell_child-returns t c =
     let inner = tells_in _ _ _ c.in_ok-told.told _ _ _ _ _ _ _ _ _ c.requires.same c.in_ok-told.ensures in
     tells_child here.task.now c.args.label home scene c.args.tick _ _ _ _ _ c.in_ok-told.told _
     (c.in_ok-add.ensures
-    ∙ ap (λ (o : Option Label). map event_of c.args.events.now.items ++ event c.args.tick c.args.label (starts o (range_of c.args.part)) ∷ [])
+    ∙ ap (λ (o : Option Label). map event_of c.args.events.now.items ++ event c.args.tick c.args.label (starts o
+    (range_of c.args.part)) ∷ [])
     (c.in_ok-home.ensures ∙ c.home.ensures))
     inner
     (c.in_ok-add-2.ensures
-    ∙ (ap (λ (n : ℕ). map event_of c.tell_steps.new.events.items ++ event n c.args.label (ends c.in_ok-home-2.home (option_map exc_of c.in_ok-exc.exc)) ∷ [])
+    ∙ (ap (λ (n : ℕ). map event_of c.tell_steps.new.events.items ++ event n c.args.label (ends c.in_ok-home-2.home
+    (option_map exc_of c.in_ok-exc.exc)) ∷ [])
     c.end.ensures
     ∙ (ap (λ (o : Option Label). map event_of c.tell_steps.new.events.items
     ++ event c.in_ok-told.told.end c.args.label (ends o (option_map exc_of c.in_ok-exc.exc)) ∷ [])
@@ -121,7 +129,8 @@ tell_children-copies-preserved t c =
     let labelled = subst (λ (l : Label). Tells here.task.now c.copies.events.items c.in_ok-child.child c.tell_child.new.events.items
     (started l (range_of c.cut-part.result) c.args.body.now here c.args.tick)) c.in_ok-label.ensures body in
     let child = subst (λ (x : Range). Tells here.task.now c.copies.events.items c.in_ok-child.child c.tell_child.new.events.items
-    (started (label_over c.args.name.now (here_of here) c.copies.i) x c.args.body.now here c.args.tick)) c.cut-part.ensures.range labelled in
+    (started (label_over c.args.name.now (here_of here) c.copies.i) x c.args.body.now here c.args.tick)) c.cut-part.ensures.range labelled
+    in
     rw (add-one c.copies.i) (tells_joined _ _ _ _ _ _ _ _ _ c.copies.invariant child c.in_ok-told.ensures)
 
 pub tell_children-returns : goal.tell_children-returns
@@ -164,7 +173,11 @@ tell_pass-returns t c =
     ∙ ap (λ (l : Label). l.indices ++ c.args.number ∷ []) c.in_ok-copy.ensures in
     subst (λ (p : List ℕ). Tells here.task.now c.args.events.now.items c.in_ok-told.told c.tell_steps.new.events.items
     (tell (table_of here) c.args.body.now
-    (record { here = record { input = input_of here; part = range_of here.part; task = here.task.now; path = p }; in_cleanup = here.in_cleanup })
+    (record {
+      here = record { input = input_of here; part = range_of here.part; task = here.task.now; path = p };
+      in_cleanup =
+          here.in_cleanup;
+    })
     (scopes_of here) c.args.tick)) path body
 
 pub tell_try-tell_handler-requires : goal.tell_try-tell_handler-requires
@@ -217,7 +230,8 @@ tell_handler-returns t c = λ start (a : Tale) h.
     ∙ ap (λ (o : Option Exc). only c.args.told.end (handles matched o)) c.in_ok-left.ensures) in
     let next = tells_at _ _ _ c.in_ok-next.next _ _ _ _ _ _ a.end c.as_slice.ensures (c.end-2.ensures ∙ h.told.end) c.in_ok-next.ensures in
     rw c.in-Some.is
-    (is_wanted _ start _ _ _ a _ _ matched _ e (sym (ap (option_map exc_of) c.in-Some-3.is) ∙ c.in_ok-kept.ensures.kept) c.in_ok-kept.ensures.dropped
+    (is_wanted _ start _ _ _ a _ _ matched _ e (sym (ap (option_map exc_of) c.in-Some-3.is) ∙ c.in_ok-kept.ensures.kept)
+    c.in_ok-kept.ensures.dropped
     (tells_handled _ start _ _ _ c.args.told c.in_ok-next.next _ matched _ a _ h handling next c.in_ok-told.ensures))
 
 pub tell_cleanup-returns-in_default : goal.tell_cleanup-returns-in_default
