@@ -26,10 +26,15 @@ pub at_first : (h : Here) (t count : ℕ) (body : Steps) (start : List held.Even
     AreModest body →
     HasRoom (count * (1 + size_of body)) h t → AtPass h t count body 0 start w start
 at_first h t count body start w told modest room =
+    let none : count ≡ count - 0 = omega arith in
     record {
-      going = going_start h.task.now start w t (λ u. tell_passes 0 count (pass body h) u) told;
+      going =
+          subst (λ (n : ℕ). Going h.task.now start w start (tell_passes 0 count (pass body h) t) (λ u. tell_passes 0 n (pass body h) u)) none
+          (going_start h.task.now start w t (λ u. tell_passes 0 count (pass body h) u) told);
       modest = modest;
-      room = subst (λ (u : ℕ). HasRoom (count * (1 + size_of body)) h u) (sym told.end) room;
+      room =
+          subst (λ (n : ℕ). HasRoom (n * (1 + size_of body)) h w.end) none
+          (subst (λ (u : ℕ). HasRoom (count * (1 + size_of body)) h u) (sym told.end) room);
     }
 
 -- the first of the passes that are left

@@ -28,13 +28,14 @@ pub fn tell<'a>(
         (story_by (table_in froms.now) job.now input.now)) }
 {
     let outside = Label::new(alloc, job.name());
+    let stack = Stack::Empty;
     let here = Here {
         alloc,
         froms,
         part: Part::whole(input),
         task: &outside,
         place: &outside,
-        stack: &Stack::Empty,
+        stack: &stack,
         in_cleanup: false,
     };
     let root = Label::new(alloc, job.name());

@@ -1,9 +1,9 @@
-use Rattle.std.proofs.Common.{ℕ, Some, ◌+◌, ap, subst, arith, ◌∙◌}
+use Rattle.std.proofs.Common.{ℕ, Some, ◌+◌, ap, subst, ◌∙◌}
 use Rattle.job_meaning.specs.Walk.{paced}
 use Rattle.job_story.specs.Tell.{tell_sleep}
 use Rattle.job_teller.specs.Heres.{scopes_of}
 use Rattle.job_teller.specs.Tales.{Tells}
-use Rattle.job_teller.proofs.Shows.{paced_is, paced_few}
+use Rattle.job_teller.proofs.Shows.{paced_is}
 use Rattle.job_teller.proofs.leaves.pace.Goals as goal
 
 pub returns : goal.returns

@@ -13,7 +13,7 @@ pub returns-then-from-tick-2 : goal.returns-then-from-tick-2
 returns-then-from-tick-2 c =
     slept_later _ _ _ _ _ _ _ _ _ _ _ (sym c.sight.ensures ∙ c.in-Some.is) c.if-from-tick.false c.if-from-tick-2.true
     c.in_ok-note_sleep-2.ensures
-    c.in_ok-note_cancelled-2.ensures c.failed-2.ensures
+    c.in_ok-note_cancelled-2.ensures c.failed-then-from-tick-2.ensures
 
 pub returns : goal.returns
 returns c =

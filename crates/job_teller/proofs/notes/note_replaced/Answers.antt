@@ -9,11 +9,11 @@ use Rattle.job_teller.proofs.notes.note_replaced.Goals as goal
 pub returns-in_default : goal.returns-in_default
 returns-in_default c = rw c.in_default.is (adds_nothing _ _)
 
-pub returns-in_default-2 : goal.returns-in_default-2
-returns-in_default-2 c = rw (c.in-Some.is, c.in_default-2.is) (adds_nothing _ _)
+pub returns-in_default-fresh : goal.returns-in_default-fresh
+returns-in_default-fresh c = rw (c.in-Some.is, c.in_default-fresh.is) (adds_nothing _ _)
 
 pub returns : goal.returns
 returns c =
-    rw (c.in-Some.is, c.in-Some-2.is) (adds_like _ _ _ _ _ c.in_ok-note.ensures
+    rw (c.in-Some.is, c.in-Some-fresh.is) (adds_like _ _ _ _ _ c.in_ok-note.ensures
     (ap (λ (x : Exc). only c.args.tick (replaces x (exc_of c.in_ok-fresh.fresh))) c.in_ok-lost.ensures
     ∙ ap (λ (x : Exc). only c.args.tick (replaces (exc_of c.in-Some.lost) x)) c.in_ok-fresh.ensures))

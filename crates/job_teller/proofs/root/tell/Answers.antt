@@ -1,10 +1,6 @@
-use Rattle.std.proofs.Common.{◌≡◌, ℕ, ap, sym, subst, ◌∙◌}
-use Rattle.job_tree.specs.Tree.{Steps}
-use Rattle.job_tree.specs.Modest.{AreModest}
-use Rattle.job_tree.specs.Names.{size_of}
+use Rattle.std.proofs.Common.{ap, ◌∙◌}
 use Rattle.job_meaning.specs.Meaning.{root_label}
-use Rattle.job_teller.specs.Heres.{HasRoom}
-use Rattle.job_teller.proofs.Rooted.{tells_root, few_steps}
+use Rattle.job_teller.proofs.Rooted.{tells_root}
 use Rattle.job_teller.proofs.root.tell.Goals as goal
 
 pub returns : goal.returns

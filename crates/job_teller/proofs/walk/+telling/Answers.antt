@@ -9,7 +9,7 @@ use Rattle.exc_groups.specs.Held.{exc_of}
 use Rattle.job_tree.specs.declared.step.Step.{Step}
 use Rattle.job_tree.specs.Tree.{Steps}
 use Rattle.job_tree.specs.Blocks.{step_of, steps_of, handled_of}
-use Rattle.job_tree.specs.Names.{size_in}
+use Rattle.job_tree.specs.Names.{size_of, size_in}
 use Rattle.job_tree.proofs.Weights.{weight_at}
 use Rattle.job_meaning.specs.Walk.{within, home_of, label_over}
 use Rattle.job_story.specs.Events.{event, starts, ends}
@@ -148,7 +148,7 @@ tell_passes-tell_pass-requires t c = (
   omega (arith, c.decreases),
   (
     c.requires.modest,
-    subst (λ (u : ℕ). HasRoom _ c.args.here u) (sym c.end.ensures) (room_pass _ _ _ _ _ _ _ _ c.passes.invariant c.passes-test.true),
+    subst (λ (u : ℕ). HasRoom (size_of c.args.body.now) c.args.here u) (sym c.end.ensures) (room_pass _ _ _ _ _ _ _ _ c.passes.invariant c.passes-test.true),
   ),
 )
 
@@ -213,24 +213,24 @@ tell_handler-returns-in_default-2 t c = λ start (a : Tale) h.
     let e : a.exc ≡ None = sym h.told.exc ∙ (sym c.in_ok-exc.ensures ∙ ap (option_map exc_of) c.in_default-2.is) in
     rw c.in-Some.is (not_raised _ _ _ c.args.told _ a _ e h)
 
-pub tell_handler-returns-in_default-3 : goal.tell_handler-returns-in_default-3
+pub tell_handler-returns-in_default-kept : goal.tell_handler-returns-in_default-kept
 unfolding tell
-tell_handler-returns-in_default-3 t c = λ start (a : Tale) h.
+tell_handler-returns-in_default-kept t c = λ start (a : Tale) h.
     let e : a.exc ≡ Some (exc_of c.in-Some-2.exc) = sym h.told.exc ∙ (sym c.in_ok-exc.ensures ∙ ap (option_map exc_of) c.in-Some-2.is) in
     rw c.in-Some.is
-    (not_wanted _ _ _ c.args.told _ a _ _ e (sym c.in_ok-kept.ensures.kept ∙ ap (option_map exc_of) c.in_default-3.is) h)
+    (not_wanted _ _ _ c.args.told _ a _ _ e (sym c.in_ok-kept.ensures.kept ∙ ap (option_map exc_of) c.in_default-kept.is) h)
 
 pub tell_handler-returns : goal.tell_handler-returns
 unfolding tell
 tell_handler-returns t c = λ start (a : Tale) h.
     let e : a.exc ≡ Some (exc_of c.in-Some-2.exc) = sym h.told.exc ∙ (sym c.in_ok-exc.ensures ∙ ap (option_map exc_of) c.in-Some-2.is) in
-    let matched = exc_of c.in-Some-3.matched in
+    let matched = exc_of c.in-Some-kept.matched in
     let handling = adds_like _ _ _ _ _ c.in_ok-note.ensures
     (ap (λ (n : ℕ). only n (handles matched (option_map exc_of c.in_ok-left.left))) c.end.ensures
     ∙ ap (λ (o : Option Exc). only c.args.told.end (handles matched o)) c.in_ok-left.ensures) in
     let next = tells_at _ _ _ c.in_ok-next.next _ _ _ _ _ _ a.end c.as_slice.ensures (c.end-2.ensures ∙ h.told.end) c.in_ok-next.ensures in
     rw c.in-Some.is
-    (is_wanted _ start _ _ _ a _ _ matched _ e (sym (ap (option_map exc_of) c.in-Some-3.is) ∙ c.in_ok-kept.ensures.kept)
+    (is_wanted _ start _ _ _ a _ _ matched _ e (sym (ap (option_map exc_of) c.in-Some-kept.is) ∙ c.in_ok-kept.ensures.kept)
     c.in_ok-kept.ensures.dropped
     (tells_handled _ start _ _ _ c.args.told c.in_ok-next.next _ matched _ a _ h handling next c.in_ok-told.ensures))
 
@@ -297,6 +297,16 @@ tell_step-returns-in-Scope t c = rw (c.in-Scope.is, ← c.due.ensures) c.tell_bl
 pub tell_step-returns-in-Nursery : goal.tell_step-returns-in-Nursery
 unfolding tell
 tell_step-returns-in-Nursery t c = rw (c.in-Nursery.is, ← c.due-in-Nursery.ensures) c.tell_block-in-Nursery.ensures
+
+pub tell_step-returns-in_ok-label-in-None : goal.tell_step-returns-in_ok-label-in-None
+unfolding tell
+tell_step-returns-in_ok-label-in-None t c =
+    let here = c.args.here in
+    rw (c.in-Start.is, c.in-None.is)
+    (subst (λ (l : Label). IfOk c.tell_child.result (λ w. Tells here.task.now c.args.events.now.items w c.tell_child.new.events.items
+    (started l (range_of here.part) c.in-Start.body here c.args.tick))) c.in_ok-label-in-None.ensures
+    (subst (λ (ss : Steps). IfOk c.tell_child.result (λ w. Tells here.task.now c.args.events.now.items w c.tell_child.new.events.items
+    (started c.in_ok-label-in-None.label (range_of here.part) ss here c.args.tick))) c.as_slice.ensures c.tell_child.ensures))
 
 pub tell_step-returns-in-Some : goal.tell_step-returns-in-Some
 unfolding tell
