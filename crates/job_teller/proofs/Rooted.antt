@@ -1,12 +1,9 @@
 -- The root of a job, as a task that is started in no nursery.
-use Rattle.std.proofs.Common.{◌≡◌, ℕ, ◌+◌, ◌*◌, ◌≤◌, false, None, List, [], ◌++◌, length, ap, subst, ◌∙◌, arith}
+use Rattle.std.proofs.Common.{◌≡◌, ℕ, false, None, List, [], ◌++◌, length, ap, subst, ◌∙◌}
 use Rattle.std.specs.Prelude.{map}
 use Rattle.buffer_parts.specs.Lines.{Range}
 use Rattle.exc_groups.specs.Exceptions.{Label}
 use Rattle.job_tree.specs.Tree.{Steps, Tree}
-use Rattle.job_tree.specs.Modest.{most_steps}
-use Rattle.job_tree.specs.declared.format.Format.{Format}
-use Rattle.job_tree.specs.declared.format.Format.TheVariants.{One, Two}
 use Rattle.job_meaning.specs.Log.{Table}
 use Rattle.job_meaning.specs.Meaning.{root_label}
 use Rattle.job_story.specs.Events.{events_of}
@@ -41,8 +38,3 @@ tells_root me before after w table job input x root lent ss none root_is steps_i
     (subst (λ (p : Range). Rooted me before w after table x root p job.steps) lent_is
     (subst (λ (s : Steps). Rooted me before w after table x root lent s) steps_is h))) in
     told.events.added ∙ ap (λ (es : List held.Event). map event_of es ++ events_of label (story_by table job input)) none
-
--- a job of any format has so few steps
-pub few_steps : (format : Format) (n : ℕ) → n ≤ most_steps format → 0 + n * 1099511627776 ≤ 4611686018427387904
-few_steps One n le = omega (arith, le)
-few_steps Two n le = omega (arith, le)
