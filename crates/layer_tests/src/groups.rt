@@ -34,7 +34,8 @@ fn split_in_two(
     exc: Exc,
     wanted: Match,
 ) -> Result<(Option<Exc>, Option<Exc>), AllocError> {
-    split(alloc, exc, &wanted)
+    let sides = split(alloc, exc, &wanted)?;
+    Ok(sides)
 }
 
 /// The texts of the two sides of a split, with a bar between them.
@@ -92,7 +93,8 @@ fn too_slow_has_its_name(rt: HostRuntime) -> Result<(), Fail> {
 
 /// A copy of an exception, of which no more is known here.
 fn copy_of(alloc: Global, exc: &Exc) -> Result<Exc, AllocError> {
-    exc.copy(alloc)
+    let copy = exc.copy(alloc)?;
+    Ok(copy)
 }
 
 /// The texts of a group and of its copy.
@@ -119,7 +121,8 @@ fn indexed(alloc: Global, name: &[u8], index: u64) -> Result<Label, Fail> {
 
 /// A copy of a label.
 fn same_label(alloc: Global, label: &Label) -> Result<Label, AllocError> {
-    label.copy(alloc)
+    let copy = label.copy(alloc)?;
+    Ok(copy)
 }
 
 /// The label of another name.
