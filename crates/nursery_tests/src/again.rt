@@ -4,8 +4,7 @@
 //!
 //! With ample memory each call is made once. tests/shortage/refused_growths.py refuses each growth in turn.
 
-ghost use Rattle.std.specs.Prelude.{◌≡◌, ◌<◌, ◌^◌, ◌×◌, [], true, None, IfOk, OnOk};
-ghost use Rattle.std.specs.Option.{ForSome};
+ghost use Rattle.std.specs.Prelude.{◌≡◌, ◌<◌, ◌^◌, [], true, None, IfOk, OnOk};
 ghost use Rattle.batch_commit.specs.Entries.{AllPlaced, NonePlaced};
 ghost use Rattle.nursery_book.specs.Nursery.{with_start, is_settled};
 ghost use Rattle.nursery_book.specs.Book.{HasNursery, Changes};
@@ -19,37 +18,30 @@ use nursery_book::{NurseryBook, NurseryId, Place};
 use std::alloc::{AllocError, Global};
 use std::test::Fail;
 
-// Opens a scope in one that is open, or an outermost one.
-fn open(
-    tree: &mut ScopeTree,
-    parent: Option<ScopeId>,
-    shield: bool,
-    deadline: Option<u64>,
-) -> Option<ScopeId>
-    requires { ForSome deadline (λ tick. tick < 2 ^ 41) }
+// Opens an outermost scope with a deadline, again where memory is refused.
+fn open_outermost(tree: &mut ScopeTree, deadline: u64) -> Result<ScopeId, AllocError>
+    requires { deadline < 2 ^ 41 }
 {
-    let Some(id) = parent else {
-        return tree.open(None, shield, deadline).ok();
-    };
-    if !tree.is_open(id) {
-        return None;
-    }
-    tree.open(Some(id), shield, deadline).ok()
-}
-
-// Opens a scope, again where memory is refused.
-fn open_again(
-    tree: &mut ScopeTree,
-    parent: Option<ScopeId>,
-    shield: bool,
-    deadline: Option<u64>,
-) -> Result<ScopeId, AllocError>
-    requires { ForSome deadline (λ tick. tick < 2 ^ 41) }
-{
-    if let Some(id) = open(tree, parent, shield, deadline) {
+    if let Ok(id) = tree.open(None, false, Some(deadline)) {
         return Ok(id);
     }
-    open(tree, parent, shield, deadline).ok_or(AllocError)
+    tree.open(None, false, Some(deadline))
+}
+
+// Opens a shielded scope in one that is open.
+fn open_shielded(tree: &mut ScopeTree, parent: ScopeId) -> Option<ScopeId> {
+    if !tree.is_open(parent) {
+        return None;
+    }
+    tree.open(Some(parent), true, None).ok()
+}
+
+// Opens a shielded scope in one that is open, again where memory is refused.
+fn open_shielded_again(tree: &mut ScopeTree, parent: ScopeId) -> Result<ScopeId, AllocError> {
+    if let Some(id) = open_shielded(tree, parent) {
+        return Ok(id);
+    }
+    open_shielded(tree, parent).ok_or(AllocError)
 }
 
 // Cancels a scope, if it is open.
@@ -87,8 +79,8 @@ fn caught_at(tree: &ScopeTree, id: ScopeId, tick: u64) -> Option<bool> {
 
 // A scope with a deadline, and a shielded one inside it.
 fn two_scopes(tree: &mut ScopeTree) -> Result<(ScopeId, ScopeId), AllocError> {
-    let outer = open_again(tree, None, false, Some(3))?;
-    let inner = open_again(tree, Some(outer), true, None)?;
+    let outer = open_outermost(tree, 3)?;
+    let inner = open_shielded_again(tree, outer)?;
     Ok((outer, inner))
 }
 
@@ -264,23 +256,31 @@ fn place_none(alloc: Global, batch: &mut ReadyBatch<'static>) -> Result<(), Allo
     Ok(())
 }
 
-// The keys of three tasks as they have their turns, as the digits of a number.
-fn keys_of_three(alloc: Global) -> Result<usize, AllocError> {
-    let mut batch = ReadyBatch::new(alloc);
-    'keys: for key in 1..4 {
-        add_again(&mut batch, key)?;
+// The key of the task that has the next turn of a batch, and 0 where none is left.
+fn key_of_next(batch: &mut ReadyBatch<'static>) -> usize
+    requires { AllPlaced batch.old.current }
+    ensures { AllPlaced batch.new.current }
+{
+    match batch.next(&mut Forward) {
+        Some((task, _wake)) => task.key(),
+        None => 0,
     }
+}
+
+// The keys of two tasks, which ask for nothing, as they have their turns, and what is told when none is left.
+fn keys_of_two(alloc: Global) -> Result<[usize; 3], AllocError> {
+    let mut batch = ReadyBatch::new(alloc);
+    add_again(&mut batch, 1)?;
+    add_again(&mut batch, 2)?;
     batch.turn_over();
     place_none(alloc, &mut batch)?;
-    let mut keys: usize = 0;
-    'turns: while let Some((task, _wake)) = batch.next(&mut Forward) {
-        keys = keys.wrapping_mul(10).wrapping_add(task.key());
-    }
-    Ok(keys)
+    let first = key_of_next(&mut batch);
+    let second = key_of_next(&mut batch);
+    Ok([first, second, key_of_next(&mut batch)])
 }
 
 #[test]
 fn tasks_are_added_again(rt: HostRuntime) -> Result<(), Fail> {
-    assert!(rt; keys_of_three(rt.alloc())? == 123);
+    assert!(rt; keys_of_two(rt.alloc())? == [1, 2, 0]);
     Ok(())
 }
