@@ -238,3 +238,7 @@ module _ (slots unmarked gone new : Slots) (key : ℕ) (s : Scope) where
       ∙ ap is_some (same.marks other ∙ ap place_of (others other away))
       ∙ marks.others other away
       ∙ sym (mark_seen tree slots other is)
+
+  -- the scope that was closed is marked no more
+  pub closed-unmarked : (id : ℕ) → key ≡ id → scope_in gone key ≡ None → SameOutlines gone new → is_changed (tree_of new) id ≡ false
+  closed-unmarked id at free same = rw (← at) (is_changed-tree_of new key ∙ ap is_some (same.marks key ∙ ap place_of free))

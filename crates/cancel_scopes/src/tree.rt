@@ -142,13 +142,15 @@ impl ScopeTree {
         }
     }
 
-    /// Closes a scope that is round no other, and tells from when it was cancelled: none is never.
+    /// Closes a scope that is around no other, and tells from when it was cancelled: none is never. It is changed no more, so
+    /// `take_changed` does not hand it out, nor another scope that is opened under its id later.
     pub fn close(&mut self, id: ScopeId) -> Option<u64>
         requires id { IsOpen self.old id }
         requires innermost { IsInnermost self.old id }
         ensures closed { stack_of self.new id ≡ None }
         ensures others { OthersKeep self.old self.new id }
         ensures from { ForSome (stack_of self.old id) (λ stack. result ≡ own_from stack) }
+        ensures unmarked { is_changed self.new id ≡ false }
         ensures marks { OtherMarksKeep self.old self.new id }
     {
         self.store.unmark(id.key);

@@ -1,17 +1,17 @@
--- Following the table of the meaning is the meaning.
+-- Following a table is the meaning of a job where the table is that of the meaning, and where it is settled.
 use Rattle.std.proofs.Common.{◌≡◌, ℕ, zero, suc, ◌<◌, ◌≤◌, Bool, true, false, Option, Some, None, List, [], ◌∷◌, ◌++◌, refl, ap, sym, ◌∙◌, subst, ◌⊎◌, inl, inr, arith}
-use Rattle.job_tree.specs.Tree.{Step, sleep, checkpoint, forever, pace, find, head, longest, need, raise, cancel, scope, nursery, start, repeat, attempt, Steps, stop, step, Handled, unhandled, except, Cleaned, uncleaned, finally}
+use Rattle.job_tree.specs.Tree.{Tree, Step, sleep, checkpoint, forever, pace, find, head, longest, need, raise, cancel, scope, nursery, start, repeat, attempt, Steps, stop, step, Handled, unhandled, except, Cleaned, uncleaned, finally}
 use Rattle.job_tree.specs.Names.{names_of, names_in, handled_names, cleaned_names}
 use Rattle.buffer_parts.specs.Cuts.{cut_of}
 use Rattle.exc_groups.specs.Exceptions.{Label, Exc}
 use Rattle.exc_groups.specs.Split.{Wanted, keep, drop}
 use Rattle.cancel_scopes.specs.Sight.{Tick, catches}
-use Rattle.job_meaning.specs.Log.{Log, nil, entry, followed_by, Result, least_sign, deadline_of, deadline_if, either, same_label, from_by, Table, table_of}
+use Rattle.job_meaning.specs.Log.{Log, nil, entry, followed_by, Result, least_sign, deadline_of, deadline_if, either, same_label, from_by, Table, table_of, entered_from}
 use Rattle.job_meaning.specs.Walk.{Stack, Mode, two_walks, by_table, Here, walk, walk_step, walk_handler, walk_cleanup, joined, and_then, then_if, Kind, block, left_from, left_as, left_with, within, signed, sign_if, home_of, gathered, child, each, passes, handled, handled_exc, handled_if, handled_by, cleaned, cleaned_by, label_here, label_over, here_in, in_pass}
 use Rattle.job_meaning.specs.Meaning.{meaning, meaning_table, root_walk, root_here}
-use Rattle.job_meaning.specs.Follow.{follow}
+use Rattle.job_meaning.specs.Follow.{follow, IsSettled}
 use Rattle.job_meaning.specs.Before.{upto, clipped, Near}
-use Rattle.job_meaning.specs.Laws.{FollowingIsMeaning, TableIsSettled}
+use Rattle.job_meaning.specs.Laws.{FollowingIsMeaning, TableIsSettled, FollowingSettledIsMeaning, OneTableIsSettled}
 use Rattle.job_meaning.proofs.Late.{Late, late, late_signed, late_gathered}
 use Rattle.job_meaning.proofs.Clips.{least_near}
 use Rattle.job_meaning.proofs.Causality.{agree, agree_logs, agree_signed, agree_gathered, near_within}
@@ -38,6 +38,12 @@ settled_and_then : (table : Table) (r q : Result) (go go' : ℕ → Result) → 
 unfolding and_then
 settled_and_then table r q go go' h k apart f =
     ap (λ (x : Result). then_if x.exc x go') (h (fits_then table r go apart r.exc f)) ∙ same_then table r go go' apart k r.exc f
+
+-- What is inside a block that is entered in a tick, walked at each from: nothing is earlier than that tick, and a from tells nothing
+-- of the ticks before it.
+record Inside (t : ℕ) (inside : Tick → Result) : Type 0 where
+  later : (f : Tick) → Late t (inside f)
+  causal : (c : ℕ) (f g : Tick) → upto c f ≡ upto c g → clipped c (inside f).log ≡ clipped c (inside g).log
 
 module _ (table : Table) (kind : Kind) (label : Label) (t : ℕ) (d : Tick) (shield : Bool) (st : Stack) (inside inside' : Tick → Result)
     (own : (f : Tick) → Gives label (inside f).log → ⊥) where
@@ -70,22 +76,56 @@ module _ (table : Table) (kind : Kind) (label : Label) (t : ℕ) (d : Tick) (shi
       h.each_label label d (ap (λ (b : Bool). either (deadline_if b d) (deadline_of label (inner_log f))) (same_label_itself label))
       ∙ ap (λ (s : Tick). from_by d s) (block_signs f label)
 
-  -- a block: the table has its from, and inside all is the same
-  settled_block : ((f : Tick) → Late t (inside f)) → ((c : ℕ) (f g : Tick) → upto c f ≡ upto c g →
-      clipped c (inside f).log ≡ clipped c (inside g).log) →
-      ((f : Tick) → Fits table (inside f).log → inside' f ≡ inside f) →
+  -- A block by two walks and by a table that fits these: the table has its from, and inside all is the same.
+  block_by_table : Inside t inside → ((f : Tick) → Fits table (inside f).log → inside' f ≡ inside f) →
       Fits table (block two_walks kind label t d shield st inside).log →
       block (by_table table) kind label t d shield st inside' ≡ block two_walks kind label t d shield st inside
   unfolding block
-  settled_block later causal same h =
+  block_by_table i same h =
       let first : Tick = least_sign label (inside d).log in
       let from : Tick = from_by d first in
       let again : least_sign label (inside from).log ≡ first =
       same_first_sign d first (least_sign label (inside from).log)
-      (λ c e. least_near c t label (inside d).log (inside from).log (later d).timed (later from).timed (causal c d from e)) in
+      (λ c e. least_near c t label (inside d).log (inside from).log (i.later d).timed (i.later from).timed (i.causal c d from e)) in
       let told : table label ≡ from = fits_label from h ∙ ap (λ (s : Tick). from_by d s) again in
       ap (λ (f : Tick). left_from kind label t d shield st f (inside' f)) told
       ∙ ap (λ (r : Result). left_from kind label t d shield st from r) (same from (fits_inside from h))
+
+  -- A block by a table that fits its own following, and by two walks: the first of these has the sign from which the table's
+  -- from follows, and inside all is the same.
+  block_by_walks : Inside t inside' → ((f : Tick) → Fits table (inside f).log → inside' f ≡ inside f) →
+      Fits table (block (by_table table) kind label t d shield st inside).log →
+      block two_walks kind label t d shield st inside' ≡ block (by_table table) kind label t d shield st inside
+  unfolding block
+  block_by_walks i same h =
+      let from : Tick = table label in
+      let inner : inside' from ≡ inside from = same from (fits_inside from h) in
+      let first : Tick = least_sign label (inside' from).log in
+      let told : from ≡ from_by d first =
+      fits_label from h ∙ ap (λ (r : Result). from_by d (least_sign label r.log)) (sym inner) in
+      let again : least_sign label (inside' d).log ≡ first =
+      same_first_sign d first (least_sign label (inside' d).log)
+      (λ c e. least_near c t label (inside' from).log (inside' d).log (i.later from).timed (i.later d).timed
+      (i.causal c from d (ap (λ (x : Tick). upto c x) told ∙ sym e))) in
+      let found : from_by d (least_sign label (inside' d).log) ≡ from = ap (λ (s : Tick). from_by d s) again ∙ sym told in
+      ap (λ (f : Tick). left_from kind label t d shield st f (inside' f)) found
+      ∙ ap (λ (r : Result). left_from kind label t d shield st from r) inner
+
+-- A block comes to the same by two modes, where the table fits it by the first and its inside comes to the same.
+abbrev SameBlocks : Table → Mode → Mode → Type 0
+SameBlocks table m other =
+    (kind : Kind) (label : Label) (t : ℕ) (d : Tick) (shield : Bool) (st : Stack) (inside inside' : Tick → Result) →
+    ((f : Tick) → Gives label (inside f).log → ⊥) → Inside t inside → Inside t inside' →
+    ((f : Tick) → Fits table (inside f).log → inside' f ≡ inside f) → Fits table (block m kind label t d shield st inside).log →
+    block other kind label t d shield st inside' ≡ block m kind label t d shield st inside
+
+same_by_table : (table : Table) → SameBlocks table two_walks (by_table table)
+same_by_table table kind label t d shield st inside inside' own i j same h =
+    block_by_table table kind label t d shield st inside inside' own i same h
+
+same_by_walks : (table : Table) → SameBlocks table (by_table table) two_walks
+same_by_walks table kind label t d shield st inside inside' own i j same h =
+    block_by_walks table kind label t d shield st inside inside' own j same h
 
 -- a sign for the home of a stack is for no label that a walk on it enters
 home_apart : (st : Stack) (P : Label → Type 0) (r : Result) → Tidy st P r → ((l : Label) → OnStack l st → P l → ⊥) →
@@ -244,138 +284,154 @@ near_same c (l ∷ ls) = (refl, refl, refl, near_same c ls)
 abbrev nursery_inside : Mode → Steps → Label → Here → Stack → ℕ → Result
 nursery_inside m body label here inner t = gathered label (signed inner (walk m body here inner t))
 
-tidy_nursery : (body : Steps) (label : Label) (here : Here) (inner : Stack) (t : ℕ) →
-    Tidy inner (Belongs (names_of body) here.path) (nursery_inside two_walks body label here inner t)
-tidy_nursery body label here inner t = tidy_gathered inner _ label _ (tidy_signed inner _ _ (tidy two_walks body here inner t))
+-- the inside of a scope, and of a nursery, by any mode
+scope_is_inside : (m : Mode) (body : Steps) (label : Label) (here : Here) (shield : Bool) (st : Stack) (t : ℕ) →
+    Inside t (λ f. walk m body here (within label shield f st) t)
+scope_is_inside m body label here shield st t =
+    record {
+      later = λ f. late m body here (within label shield f st) t;
+      causal = λ c f g e. agree_logs (agree c m body here _ _ t (near_within c label shield f g st st e (near_same c st)));
+    }
 
-late_nursery : (body : Steps) (label : Label) (here : Here) (inner : Stack) (t : ℕ) →
-    Late t (nursery_inside two_walks body label here inner t)
-late_nursery body label here inner t = late_gathered t label _ (late_signed t inner _ (late two_walks body here inner t))
+tidy_nursery : (m : Mode) (body : Steps) (label : Label) (here : Here) (inner : Stack) (t : ℕ) →
+    Tidy inner (Belongs (names_of body) here.path) (nursery_inside m body label here inner t)
+tidy_nursery m body label here inner t = tidy_gathered inner _ label _ (tidy_signed inner _ _ (tidy m body here inner t))
 
-agree_nursery : (c : ℕ) (body : Steps) (label : Label) (here : Here) (inner other : Stack) (t : ℕ) → Near c inner other →
-    clipped c (nursery_inside two_walks body label here inner t).log ≡ clipped c (nursery_inside two_walks body label here other t).log
-agree_nursery c body label here inner other t near =
-    agree_logs (agree_gathered c label _ _ (agree_signed c inner other _ _ near (agree c two_walks body here inner other t near)))
+late_nursery : (m : Mode) (body : Steps) (label : Label) (here : Here) (inner : Stack) (t : ℕ) →
+    Late t (nursery_inside m body label here inner t)
+late_nursery m body label here inner t = late_gathered t label _ (late_signed t inner _ (late m body here inner t))
+
+agree_nursery : (c : ℕ) (m : Mode) (body : Steps) (label : Label) (here : Here) (inner outer : Stack) (t : ℕ) → Near c inner outer →
+    clipped c (nursery_inside m body label here inner t).log ≡ clipped c (nursery_inside m body label here outer t).log
+agree_nursery c m body label here inner outer t near =
+    agree_logs (agree_gathered c label _ _ (agree_signed c inner outer _ _ near (agree c m body here inner outer t near)))
+
+nursery_is_inside : (m : Mode) (body : Steps) (label : Label) (here : Here) (shield : Bool) (st : Stack) (t : ℕ) →
+    Inside t (λ f. nursery_inside m body label here (within label shield f st) t)
+nursery_is_inside m body label here shield st t =
+    record {
+      later = λ f. late_nursery m body label here (within label shield f st) t;
+      causal = λ c f g e. agree_nursery c m body label here _ _ t (near_within c label shield f g st st e (near_same c st));
+    }
 
 mutual
   unfolding walk
 
-  -- every walk by a table that fits its meaning is that meaning
-  settled : (table : Table) (b : Steps) (here : Here) (st : Stack) (t : ℕ) → Distinct (names_of b) → Fresh st (names_of b) →
-      Fits table (walk two_walks b here st t).log → walk (by_table table) b here st t ≡ walk two_walks b here st t
-  settled table stop here st t distinct fresh f = refl
-  settled table (step s ss) here st t distinct fresh f =
-      settled_and_then table (walk_step two_walks s here st t) (walk_step (by_table table) s here st t)
-      (λ u. walk two_walks ss here st u) (λ u. walk (by_table table) ss here st u)
-      (λ g. settled_step table s here st t (distinct_left (names_in s) (names_of ss) distinct)
+  -- a walk by one mode is that by another, where a table fits the first and blocks come to the same
+  settled : (table : Table) (m other : Mode) → SameBlocks table m other → (b : Steps) (here : Here) (st : Stack) (t : ℕ) → Distinct (names_of b) → Fresh st (names_of b) →
+      Fits table (walk m b here st t).log → walk other b here st t ≡ walk m b here st t
+  settled table m other blocks stop here st t distinct fresh f = refl
+  settled table m other blocks (step s ss) here st t distinct fresh f =
+      settled_and_then table (walk_step m s here st t) (walk_step other s here st t)
+      (λ u. walk m ss here st u) (λ u. walk other ss here st u)
+      (λ g. settled_step table m other blocks s here st t (distinct_left (names_in s) (names_of ss) distinct)
       (fresh_left st (names_in s) (names_of ss) fresh) g)
-      (λ u g. settled table ss here st u (distinct_right (names_in s) (names_of ss) distinct)
+      (λ u g. settled table m other blocks ss here st u (distinct_right (names_in s) (names_of ss) distinct)
       (fresh_right st (names_in s) (names_of ss) fresh) g)
-      (λ u. side_by_side st (names_in s) (names_of ss) here.path (walk_step two_walks s here st t) (walk two_walks ss here st u) distinct
-      fresh (tidy_step two_walks s here st t) (tidy two_walks ss here st u))
+      (λ u. side_by_side st (names_in s) (names_of ss) here.path (walk_step m s here st t) (walk m ss here st u) distinct
+      fresh (tidy_step m s here st t) (tidy m ss here st u))
       f
 
-  settled_step : (table : Table) (s : Step) (here : Here) (st : Stack) (t : ℕ) → Distinct (names_in s) → Fresh st (names_in s) →
-      Fits table (walk_step two_walks s here st t).log → walk_step (by_table table) s here st t ≡ walk_step two_walks s here st t
-  settled_step table (sleep n) here st t distinct fresh f = refl
-  settled_step table checkpoint here st t distinct fresh f = refl
-  settled_step table forever here st t distinct fresh f = refl
-  settled_step table (pace k) here st t distinct fresh f = refl
-  settled_step table (find text) here st t distinct fresh f = refl
-  settled_step table (head n) here st t distinct fresh f = refl
-  settled_step table longest here st t distinct fresh f = refl
-  settled_step table (need text name) here st t distinct fresh f = refl
-  settled_step table (raise name) here st t distinct fresh f = refl
-  settled_step table (cancel name) here st t distinct fresh f = refl
-  settled_step table (scope name d shield fail body) here st t distinct fresh f =
-      settled_block table _ (label_here name here) t _ shield st _ _
-      (λ g e. not_inside name (names_of body) here here.path distinct ((tidy two_walks body here _ t).gives _ e))
-      (λ g. late two_walks body here _ t)
-      (λ c g k e. agree_logs (agree c two_walks body here _ _ t (near_within c (label_here name here) shield g k st st e (near_same c st))))
-      (λ g h. settled table body here _ t distinct.1 (fresh_within name (names_of body) here shield g st distinct fresh) h)
+  settled_step : (table : Table) (m other : Mode) → SameBlocks table m other → (s : Step) (here : Here) (st : Stack) (t : ℕ) → Distinct (names_in s) → Fresh st (names_in s) →
+      Fits table (walk_step m s here st t).log → walk_step other s here st t ≡ walk_step m s here st t
+  settled_step table m other blocks (sleep n) here st t distinct fresh f = refl
+  settled_step table m other blocks checkpoint here st t distinct fresh f = refl
+  settled_step table m other blocks forever here st t distinct fresh f = refl
+  settled_step table m other blocks (pace k) here st t distinct fresh f = refl
+  settled_step table m other blocks (find text) here st t distinct fresh f = refl
+  settled_step table m other blocks (head n) here st t distinct fresh f = refl
+  settled_step table m other blocks longest here st t distinct fresh f = refl
+  settled_step table m other blocks (need text name) here st t distinct fresh f = refl
+  settled_step table m other blocks (raise name) here st t distinct fresh f = refl
+  settled_step table m other blocks (cancel name) here st t distinct fresh f = refl
+  settled_step table m other blocks (scope name d shield fail body) here st t distinct fresh f =
+      blocks _ (label_here name here) t _ shield st _ _
+      (λ g e. not_inside name (names_of body) here here.path distinct ((tidy m body here _ t).gives _ e))
+      (scope_is_inside m body (label_here name here) here shield st t)
+      (scope_is_inside other body (label_here name here) here shield st t)
+      (λ g h. settled table m other blocks body here _ t distinct.1 (fresh_within name (names_of body) here shield g st distinct fresh) h)
       f
-  settled_step table (nursery name d shield body) here st t distinct fresh f =
-      settled_block table _ (label_here name here) t _ shield st _ _
+  settled_step table m other blocks (nursery name d shield body) here st t distinct fresh f =
+      blocks _ (label_here name here) t _ shield st _ _
       (λ g e. not_inside name (names_of body) here here.path distinct
-      ((tidy_nursery body (label_here name here) here (within (label_here name here) shield g st) t).gives _ e))
-      (λ g. late_nursery body (label_here name here) here (within (label_here name here) shield g st) t)
-      (λ c g k e. agree_nursery c body (label_here name here) here (within (label_here name here) shield g st)
-      (within (label_here name here) shield k st) t
-      (near_within c (label_here name here) shield g k st st e (near_same c st)))
+      ((tidy_nursery m body (label_here name here) here (within (label_here name here) shield g st) t).gives _ e))
+      (nursery_is_inside m body (label_here name here) here shield st t)
+      (nursery_is_inside other body (label_here name here) here shield st t)
       (λ g h. settled_gathered table (label_here name here) _ _
       (settled_signed table (within (label_here name here) shield g st) (Belongs (names_of body) here.path) _ _
-      (tidy two_walks body here (within (label_here name here) shield g st) t)
+      (tidy m body here (within (label_here name here) shield g st) t)
       (λ l o b. (fresh_within name (names_of body) here shield g st distinct fresh).none l o b.named)
-      (λ i. settled table body here (within (label_here name here) shield g st) t distinct.1
+      (λ i. settled table m other blocks body here (within (label_here name here) shield g st) t distinct.1
       (fresh_within name (names_of body) here shield g st distinct fresh) i))
       h)
       f
-  settled_step table (start name None body) here st t distinct fresh f =
+  settled_step table m other blocks (start name None body) here st t distinct fresh f =
       settled_child table (label_here name here) t _ _
-      (settled_signed table st (Belongs (names_of body) here.path) _ _ (tidy two_walks body _ st t)
+      (settled_signed table st (Belongs (names_of body) here.path) _ _ (tidy m body _ st t)
       (λ l o b. fresh.none l o (inr b.named))
-      (λ g. settled table body _ st t distinct.1 (fresh_in st (names_of body) (name ∷ names_of body) (λ n i. inr i) fresh) g))
+      (λ g. settled table m other blocks body _ st t distinct.1 (fresh_in st (names_of body) (name ∷ names_of body) (λ n i. inr i) fresh) g))
       f
-  settled_step table (start name (Some k) body) here st t distinct fresh f =
+  settled_step table m other blocks (start name (Some k) body) here st t distinct fresh f =
       settled_each table st (name ∷ names_of body) here.path k _ _ t fresh
-      (λ i. tidy_over two_walks name body here (cut_of here.input here.part k i) i st t)
+      (λ i. tidy_over m name body here (cut_of here.input here.part k i) i st t)
       (λ i g. settled_child table (label_over name here i) t _ _
       (settled_signed table st (Belongs (names_of body) (here.path ++ i ∷ [])) _ _
-      (tidy two_walks body (here_in (label_over name here i) (cut_of here.input here.part k i) here) st t)
+      (tidy m body (here_in (label_over name here i) (cut_of here.input here.part k i) here) st t)
       (λ l o b. fresh.none l o (inr b.named))
-      (λ h. settled table body (here_in (label_over name here i) (cut_of here.input here.part k i) here) st t distinct.1
+      (λ h. settled table m other blocks body (here_in (label_over name here i) (cut_of here.input here.part k i) here) st t distinct.1
       (fresh_in st (names_of body) (name ∷ names_of body) (λ n j. inr j) fresh) h))
       g)
       f
-  settled_step table (repeat count body) here st t distinct fresh f =
-      settled_passes table st (names_of body) here.path count 0 _ _ t fresh (λ i u. tidy two_walks body (in_pass i here) st u)
-      (λ i u g. settled table body (in_pass i here) st u distinct fresh g) f
-  settled_step table (attempt body handler cleanup) here st t distinct fresh f =
+  settled_step table m other blocks (repeat count body) here st t distinct fresh f =
+      settled_passes table st (names_of body) here.path count 0 _ _ t fresh (λ i u. tidy m body (in_pass i here) st u)
+      (λ i u g. settled table m other blocks body (in_pass i here) st u distinct fresh g) f
+  settled_step table m other blocks (attempt body handler cleanup) here st t distinct fresh f =
       let names : List (List ℕ) = names_of body ++ handled_names handler in
-      let first : Result = walk two_walks body here st t in
-      let second : Result = walk_handler two_walks handler here st first in
-      let tidy_first : Tidy st (Belongs (names_of body) here.path) first = tidy two_walks body here st t in
-      let cleanup_same = settled_cleanup table cleanup here st second names
-      (tidy_handler two_walks handler here st first (names_of body) tidy_first) distinct fresh f in
-      let handler_same = settled_handler table handler here st first (names_of body) tidy_first
+      let first : Result = walk m body here st t in
+      let second : Result = walk_handler m handler here st first in
+      let tidy_first : Tidy st (Belongs (names_of body) here.path) first = tidy m body here st t in
+      let cleanup_same = settled_cleanup table m other blocks cleanup here st second names
+      (tidy_handler m handler here st first (names_of body) tidy_first) distinct fresh f in
+      let handler_same = settled_handler table m other blocks handler here st first (names_of body) tidy_first
       (distinct_left names (cleaned_names cleanup) distinct) (fresh_left st names (cleaned_names cleanup) fresh) cleanup_same.0 in
-      let body_same = settled table body here st t
+      let body_same = settled table m other blocks body here st t
       (distinct_left (names_of body) (handled_names handler) (distinct_left names (cleaned_names cleanup) distinct))
       (fresh_left st (names_of body) (handled_names handler) (fresh_left st names (cleaned_names cleanup) fresh)) handler_same.0 in
-      ap (λ (r : Result). walk_cleanup (by_table table) cleanup here st (walk_handler (by_table table) handler here st r)) body_same
-      ∙ (ap (λ (r : Result). walk_cleanup (by_table table) cleanup here st r) handler_same.1 ∙ cleanup_same.1)
+      ap (λ (r : Result). walk_cleanup other cleanup here st (walk_handler other handler here st r)) body_same
+      ∙ (ap (λ (r : Result). walk_cleanup other cleanup here st r) handler_same.1 ∙ cleanup_same.1)
 
   -- a handler behind a body that is the same
-  settled_handler : (table : Table) (x : Handled) (here : Here) (st : Stack) (r : Result) (names : List (List ℕ)) →
+  settled_handler : (table : Table) (m other : Mode) → SameBlocks table m other → (x : Handled) (here : Here) (st : Stack) (r : Result) (names : List (List ℕ)) →
       Tidy st (Belongs names here.path) r →
-      Distinct (names ++ handled_names x) → Fresh st (names ++ handled_names x) → Fits table (walk_handler two_walks x here st r).log →
-      Fits table r.log × (walk_handler (by_table table) x here st r ≡ walk_handler two_walks x here st r)
-  settled_handler table unhandled here st r names h distinct fresh f = (f, refl)
-  settled_handler table (except name body) here st r names h distinct fresh f =
-      settled_handled table _ r (λ u. walk two_walks body here st u) (λ u. walk (by_table table) body here st u)
-      (λ u. side_by_side st names (names_of body) here.path r (walk two_walks body here st u) distinct fresh h
-      (tidy two_walks body here st u))
-      (λ u g. settled table body here st u (distinct_right names (names_of body) distinct) (fresh_right st names (names_of body) fresh) g)
+      Distinct (names ++ handled_names x) → Fresh st (names ++ handled_names x) → Fits table (walk_handler m x here st r).log →
+      Fits table r.log × (walk_handler other x here st r ≡ walk_handler m x here st r)
+  settled_handler table m other blocks unhandled here st r names h distinct fresh f = (f, refl)
+  settled_handler table m other blocks (except name body) here st r names h distinct fresh f =
+      settled_handled table _ r (λ u. walk m body here st u) (λ u. walk other body here st u)
+      (λ u. side_by_side st names (names_of body) here.path r (walk m body here st u) distinct fresh h
+      (tidy m body here st u))
+      (λ u g. settled table m other blocks body here st u (distinct_right names (names_of body) distinct) (fresh_right st names (names_of body) fresh) g)
       f
 
   -- a cleanup behind what is the same
-  settled_cleanup : (table : Table) (x : Cleaned) (here : Here) (st : Stack) (r : Result) (names : List (List ℕ)) →
+  settled_cleanup : (table : Table) (m other : Mode) → SameBlocks table m other → (x : Cleaned) (here : Here) (st : Stack) (r : Result) (names : List (List ℕ)) →
       Tidy st (Belongs names here.path) r →
-      Distinct (names ++ cleaned_names x) → Fresh st (names ++ cleaned_names x) → Fits table (walk_cleanup two_walks x here st r).log →
-      Fits table r.log × (walk_cleanup (by_table table) x here st r ≡ walk_cleanup two_walks x here st r)
-  settled_cleanup table uncleaned here st r names h distinct fresh f = (f, refl)
-  settled_cleanup table (finally body) here st r names h distinct fresh f =
-      settled_cleaned table r (λ u. walk two_walks body here st u) (λ u. walk (by_table table) body here st u)
-      (λ u. side_by_side st names (names_of body) here.path r (walk two_walks body here st u) distinct fresh h
-      (tidy two_walks body here st u))
-      (λ u g. settled table body here st u (distinct_right names (names_of body) distinct) (fresh_right st names (names_of body) fresh) g)
+      Distinct (names ++ cleaned_names x) → Fresh st (names ++ cleaned_names x) → Fits table (walk_cleanup m x here st r).log →
+      Fits table r.log × (walk_cleanup other x here st r ≡ walk_cleanup m x here st r)
+  settled_cleanup table m other blocks uncleaned here st r names h distinct fresh f = (f, refl)
+  settled_cleanup table m other blocks (finally body) here st r names h distinct fresh f =
+      settled_cleaned table r (λ u. walk m body here st u) (λ u. walk other body here st u)
+      (λ u. side_by_side st names (names_of body) here.path r (walk m body here st u) distinct fresh h
+      (tidy m body here st u))
+      (λ u g. settled table m other blocks body here st u (distinct_right names (names_of body) distinct) (fresh_right st names (names_of body) fresh) g)
       f
 
 -- where names are given once, following the table of the meaning is the meaning
 pub following_is_meaning : FollowingIsMeaning
 unfolding follow meaning
 following_is_meaning job input once =
-    settled (meaning_table job input) job.steps (root_here job input) [] 0
+    settled (meaning_table job input) two_walks (by_table (meaning_table job input)) (same_by_table (meaning_table job input))
+    job.steps (root_here job input) [] 0
     (distinct_by_bytes (job.name ∷ names_of job.steps) once).1
     (record { none = λ l o i. o })
     (fits_own (root_walk two_walks job input).log)
@@ -383,3 +439,25 @@ following_is_meaning job input once =
 -- so the table of the meaning is settled
 pub table_is_settled : TableIsSettled
 table_is_settled job input once l = ap (λ (r : Result). table_of r.log l) (sym (following_is_meaning job input once))
+
+-- a settled table fits its own following
+fits_settled : (table : Table) (job : Tree) (input : List ℕ) → IsSettled table job input → Fits table (follow table job input).log
+fits_settled table job input h =
+    record {
+      each_label = λ l d e. h l ∙ ap (λ (o : Option Tick). entered_from o (least_sign l (follow table job input).log)) e;
+    }
+
+-- and following whichever settled table is the meaning
+pub settled_is_meaning : FollowingSettledIsMeaning
+unfolding follow meaning
+settled_is_meaning table job input once h =
+    sym (settled table (by_table table) two_walks (same_by_walks table) job.steps (root_here job input) [] 0
+    (distinct_by_bytes (job.name ∷ names_of job.steps) once).1
+    (record { none = λ l o i. o })
+    (fits_settled table job input h))
+
+-- so there is one settled table
+pub one_table_is_settled : OneTableIsSettled
+one_table_is_settled table second job input once h k l =
+    h l ∙ (ap (λ (r : Result). table_of r.log l)
+    (settled_is_meaning table job input once h ∙ sym (settled_is_meaning second job input once k)) ∙ sym (k l))

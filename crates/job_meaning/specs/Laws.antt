@@ -6,7 +6,7 @@ use Rattle.job_tree.specs.Names.{GivesNamesOnce}
 use Rattle.exc_groups.specs.Exceptions.{Label, Exc, holds_cancelled}
 use Rattle.cancel_scopes.specs.Sight.{Tick, seen}
 use Rattle.job_meaning.specs.Walk.{Stack, Mode, Here, walk}
-use Rattle.job_meaning.specs.Log.{times_given}
+use Rattle.job_meaning.specs.Log.{Table, times_given}
 use Rattle.job_meaning.specs.Meaning.{root_walk, root_log, meaning, meaning_table, meaning_records, meaning_end, meaning_froms}
 use Rattle.job_meaning.specs.Follow.{follow, IsSettled}
 use Rattle.job_meaning.specs.Before.{Near, Agree}
@@ -63,6 +63,18 @@ FollowingIsMeaning =
 -- so that table is settled
 abbrev pub TableIsSettled : Type 0
 TableIsSettled = (job : Tree) (input : List ℕ) → GivesNamesOnce job → IsSettled (meaning_table job input) job input
+
+-- following whichever settled table is the meaning
+abbrev pub FollowingSettledIsMeaning : Type 0
+FollowingSettledIsMeaning =
+    (table : Table) (job : Tree) (input : List ℕ) → GivesNamesOnce job → IsSettled table job input →
+    follow table job input ≡ meaning job input
+
+-- so there is one settled table: any two agree on every label
+abbrev pub OneTableIsSettled : Type 0
+OneTableIsSettled =
+    (table other : Table) (job : Tree) (input : List ℕ) → GivesNamesOnce job → IsSettled table job input → IsSettled other job input →
+    (l : Label) → table l ≡ other l
 
 -- where names are given once, no label of a scope, a nursery or a task is given twice: by the meaning, and by any table
 abbrev pub LabelsAreGivenOnce : Type 0

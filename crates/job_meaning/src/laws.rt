@@ -3,10 +3,12 @@
 ghost use Rattle.job_meaning.specs.Laws.{
   CancelledIsSeen,
   FollowingIsMeaning,
+  FollowingSettledIsMeaning,
   LabelsAreGivenOnce,
   LoweringShows,
   NoneReachesTheRoot,
   NothingBeforeItsCause,
+  OneTableIsSettled,
   StaysSeen,
   TableIsSettled,
   UpgradingKeepsTheMeaning,
@@ -36,9 +38,14 @@ pub fn law_causality()
 /// scope and nursery is cancelled, and one walk that reads the table comes to the same: so the table is that of its own
 /// following. Names have to be given once, as they are in each job that was read: of two scopes of one name, the
 /// first of which is cancelled, a table could not tell one from the other.
+///
+/// It is the only table of which that is so. Following whichever table is settled is the meaning, and any two settled tables
+/// agree on every label: what a design does is the only thing that fits.
 pub fn law_settled_table()
     ensures follow { FollowingIsMeaning }
     ensures settled { TableIsSettled }
+    ensures all { FollowingSettledIsMeaning }
+    ensures one { OneTableIsSettled }
 {}
 
 /// Each label of a run is given once: to one scope, one nursery or one task, the root's own included. It holds of the

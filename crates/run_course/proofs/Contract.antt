@@ -106,7 +106,7 @@ module _ (t : ℕ) (f : Table) (wake : Wake) (q : Started) (o : Move) (s : Stopp
       rest_comes_to (by_table k) told q.rest q.here (stack_at k q.places) q.stop
       ≡ behind told o.made (rest_comes_to (by_table k) told rest_after q.here (stack_at k o.places) t)
   keeps_to k told near inside all come =
-      w.keeps k told come near inside all
+      w.keeps k told come near (inr inside) all
       ∙ ap (λ (x : Option Stopped). behind told o.made (stop_comes_to x k told q.here t o.frames o.places o.exc)) e
 
   -- the frames that are left fit the places

@@ -33,3 +33,4 @@ pub mod Wakens
 pub mod Children
 pub mod TurnGoes
 pub mod WholeTurn
+pub mod Waiters

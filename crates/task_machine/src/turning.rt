@@ -10,6 +10,7 @@ ghost use Rattle.task_machine.specs.declared.frame.Frame.TheVariants.{Steps};
 ghost use Rattle.task_machine.specs.Fitting.{Fits, waits_of, frames_behind};
 ghost use Rattle.task_machine.specs.Frames.{frames_of};
 ghost use Rattle.task_machine.specs.Standing.{waits_by, GoesOn, StepsAs, BlockStepsAs, RunsAs, StopsAfter, TurnsAs};
+ghost use Rattle.task_machine.specs.Waiters.{OpenedBy};
 ghost use Rattle.task_machine.specs.Waking.{WakesFrom, IsModestHalt};
 
 use crate::entering::Block;
@@ -62,6 +63,7 @@ impl<'a> Task<'a> {
         }) }
         ensures halt { OnOk result (IsModestHalt self.new.halt) }
         ensures fits { OnOk result (Fits self.new.frames.items self.new world.new (waits_of self.new.halt)) }
+        ensures waiters { OnOk result (OpenedBy me world.old.book world.new.book) }
         ensures turn { IfOk result (λ stop. TurnsAs self.old self.new world.old world.new wake.entry stop) }
     {
         match self.wake(wake, world)? {
@@ -98,6 +100,7 @@ impl<'a> Task<'a> {
         }) }
         ensures halt { OnOk result (IsModestHalt self.new.halt) }
         ensures fits { OnOk result (Fits self.new.frames.items self.new world.new (waits_of self.new.halt)) }
+        ensures waiters { OnOk result (OpenedBy me world.old.book world.new.book) }
         ensures steps { IfOk result (λ stop. StopsAfter self.old self.new world.old world.new (option_map exc_of exc) stop) }
     {
         let mut exc = exc;
@@ -136,6 +139,7 @@ impl<'a> Task<'a> {
         ensures fits { IfOk result (λ moved. Fits self.new.frames.items self.new world.new (waits_by moved self.new.halt)) }
         ensures shorter { IfOk result (λ moved. GoesOn moved → frames_length (frames_of (λ id. []) self.new.frames.items)
             < frames_length (frames_of (λ id. []) self.old.frames.items)) }
+        ensures waiters { OnOk result (OpenedBy me world.old.book world.new.book) }
         ensures step { IfOk result (λ moved. StepsAs self.old self.new world.old world.new (option_map exc_of exc) moved) }
     {
         stacks_are_chains(&world.scopes);
@@ -196,6 +200,7 @@ impl<'a> Task<'a> {
         ensures fits { IfOk result (λ moved. Fits self.new.frames.items self.new world.new (waits_by moved self.new.halt)) }
         ensures shorter { IfOk result (λ moved. GoesOn moved → frames_length (frames_of (λ id. []) self.new.frames.items)
             < frames_length (frames_of (λ id. []) (self.old.frames.items ++ Steps steps.entry ∷ []))) }
+        ensures waiters { OnOk result (OpenedBy me world.old.book world.new.book) }
         ensures step { IfOk result (λ moved. BlockStepsAs steps.entry self.old self.new world.old world.new (option_map exc_of exc) moved) }
     {
         if let Some(exc) = exc {
@@ -238,6 +243,7 @@ impl<'a> Task<'a> {
         ensures waits { IfOk result (λ moved. waits_by moved self.new.halt ≡ None) }
         ensures length { OnOk result (frames_length (frames_of (λ id. []) self.new.frames.items)
             < step_length (step_of step.now) + frames_length (frames_of (λ id. []) self.old.frames.items)) }
+        ensures waiters { OnOk result (OpenedBy me world.old.book world.new.book) }
         ensures step { IfOk result (λ moved. RunsAs self.old self.new world.old world.new step.now moved) }
     {
         stacks_are_chains(&world.scopes);

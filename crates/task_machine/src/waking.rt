@@ -12,6 +12,7 @@ ghost use Rattle.task_turns.specs.Wakes.{has_answer, settles};
 ghost use Rattle.task_machine.specs.Fitting.{Fits, waits_of};
 ghost use Rattle.task_machine.specs.Standing.{waits_by, Wakens};
 ghost use Rattle.task_machine.specs.Tasks.{scope_of};
+ghost use Rattle.task_machine.specs.Waiters.{SameWaiters};
 ghost use Rattle.task_machine.specs.Waking.{WakesFrom, wake_in, answer_in, settled_exc, IsModestHalt, IsModestPurpose};
 
 use crate::entry::Entry;
@@ -42,6 +43,7 @@ impl<'a> Task<'a> {
             ≡ record world.old { scopes = world.new.scopes; labels = world.new.labels; book = world.new.book }) }
         ensures halt { OnOk result (IsModestHalt self.new.halt) }
         ensures fits { IfOk result (λ moved. Fits self.new.frames.items self.new world.new (waits_by moved self.new.halt)) }
+        ensures waiters { OnOk result (SameWaiters world.old.book world.new.book) }
         ensures wakes { IfOk result (λ moved. Wakens self.old self.new world.old world.new moved
             (wake_in world.old.book self.old.halt wake.entry)) }
     {
@@ -137,6 +139,7 @@ impl<'a> Task<'a> {
         ensures world { OnOk result (world.new
             ≡ record world.old { scopes = world.new.scopes; labels = world.new.labels; book = world.new.book }) }
         ensures fits { IfOk result (λ moved. Fits self.new.frames.items self.new world.new (waits_by moved self.new.halt)) }
+        ensures waiters { OnOk result (SameWaiters world.old.book world.new.book) }
         ensures wakes { IfOk result (λ moved. Wakens self.old self.new world.old world.new moved
             (settles (settled_exc world.old.book self.old.halt))) }
     {

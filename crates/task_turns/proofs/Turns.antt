@@ -1,5 +1,5 @@
 -- A whole turn keeps what the task comes to, and what its steps promise.
-use Rattle.std.proofs.Common.{◌≡◌, inr, ℕ, zero, suc, ◌+◌, Option, Some, None, List, ◌++◌, length, refl, ap, sym, ◌∙◌, subst, length-append, arith}
+use Rattle.std.proofs.Common.{◌≡◌, inl, inr, ℕ, zero, suc, ◌+◌, Option, Some, None, List, ◌++◌, length, refl, ap, sym, ◌∙◌, subst, length-append, arith}
 use Rattle.exc_groups.specs.Exceptions.{Label}
 use Rattle.job_meaning.specs.Log.{Log, nil, entry, sign, entered, task, followed_by, Result, Table}
 use Rattle.job_meaning.specs.Walk.{Here}
@@ -8,7 +8,7 @@ use Rattle.job_meaning.proofs.Finish.{followed_assoc, fill_append}
 use Rattle.task_turns.specs.Midway.{Place, Midway, Move, moved, unmoved, then_move, behind, left_of, left_after, stop_comes_to}
 use Rattle.task_turns.specs.Steps.{froms_after, step_of, turn_of}
 use Rattle.task_turns.specs.Placed.{Placed, PlacedAfter, home_after, KidsAfter, HasChildAfter, AllHoused}
-use Rattle.task_turns.specs.Turned.{AgreesOn, AgreesIn, AllTold, Known, labels_of, AllKnown, known_after, StopsAt, BegunIn, Turned, Goes}
+use Rattle.task_turns.specs.Turned.{AgreesOn, AgreesIn, AgreesAhead, AllTold, Known, labels_of, AllKnown, known_after, StopsAt, BegunIn, Turned, Goes}
 use Rattle.task_turns.proofs.Keeps.{told_first, told_second, step_keeps}
 use Rattle.task_turns.proofs.Events.{known_append, known_grows, place_known, all_own, all_grow, known_stays, made_append, made_grows, begun_append, begun_grow, starts_append, froms_append, weight_append, agrees_after}
 use Rattle.task_turns.proofs.Cases.{step_cases}
@@ -153,27 +153,35 @@ module _ (t : ℕ) (here : Here) (froms : Table) (Given : Table → Telling → 
         known : (l : Label) → Known l (labels_of o.places) → Known l between
         known l k = place_known between o.places x.places l k
 
-        keeps : (table : Table) (told : Telling) → Given table told → AgreesOn t table froms ps → AgreesIn t table (before table told).log →
-            AllTold t table told (o.begun ++ q.begun) →
+        on : (table : Table) (told : Telling) → left_after table told here t o ≡ left_of table told here t after
+        on table told = ap (λ (z : Option Stopped). stop_comes_to z table told here t o.frames o.places o.exc) s
+
+        -- by a table that agrees with what both moves enter
+        both : (table : Table) (told : Telling) → Given table told → AgreesOn t table froms ps → AgreesIn t table (fill told o.made) →
+            AgreesAhead t table (fill told o.made) (before table told).log →
+            AgreesAhead t table (fill told q.made) (left_of table told here t after).log → AllTold t table told (o.begun ++ q.begun) →
             before table told ≡ behind told (o.made ++ q.made) (left_after table told here t q)
-        keeps table told g a b h = first ∙ (ap (λ (r : Result). behind told o.made r) second
-            ∙ sym (behind_append told o.made q.made (left_after table told here t q)))
-          where
-            on : left_after table told here t o ≡ left_of table told here t after
-            on = ap (λ (z : Option Stopped). stop_comes_to z table told here t o.frames o.places o.exc) s
+        both table told g a made ahead more h =
+            x.keeps table told g a ahead (told_first t table told o.begun q.begun h)
+            ∙ ap (λ (r : Result). behind told o.made r) (on table told
+            ∙ y.keeps table told tt (turned_agrees o x table told a made) more (told_second t table told o.begun q.begun h))
+            ∙ sym (behind_append told o.made q.made (left_after table told here t q))
 
-            first : before table told ≡ behind told o.made (left_of table told here t after)
-            first = x.keeps table told g a b (told_first t table told o.begun q.begun h) ∙ ap (λ (r : Result). behind told o.made r) on
-
-            parts : AgreesIn t table (followed_by (fill told o.made) (left_of table told here t after).log)
-            parts = subst (λ (r : Result). AgreesIn t table r.log) first b
-
-            second : left_of table told here t after ≡ behind told q.made (left_after table told here t q)
-            second =
-                y.keeps table told tt
-                (turned_agrees o x table told a (agrees_in_first t table (fill told o.made) (left_of table told here t after).log parts))
-                (agrees_in_second t table (fill told o.made) (left_of table told here t after).log parts)
-                (told_second t table told o.begun q.begun h)
+        keeps : (table : Table) (told : Telling) → Given table told → AgreesOn t table froms ps →
+            AgreesAhead t table (fill told (o.made ++ q.made)) (before table told).log → AllTold t table told (o.begun ++ q.begun) →
+            before table told ≡ behind told (o.made ++ q.made) (left_after table told here t q)
+        keeps table told g a (inl b) h =
+            let parts = subst (λ (l : Log). AgreesIn t table l) (fill_append told o.made q.made) b in
+            let made = agrees_in_first t table (fill told o.made) (fill told q.made) parts in
+            both table told g a made (inl made) (inl (agrees_in_second t table (fill told o.made) (fill told q.made) parts)) h
+        keeps table told g a (inr b) h =
+            let left = (left_of table told here t after).log in
+            let first : before table told ≡ behind told o.made (left_of table told here t after) =
+            x.keeps table told g a (inr b) (told_first t table told o.begun q.begun h)
+            ∙ ap (λ (r : Result). behind told o.made r) (on table told) in
+            let parts : AgreesIn t table (followed_by (fill told o.made) left) = subst (λ (r : Result). AgreesIn t table r.log) first b in
+            both table told g a (agrees_in_first t table (fill told o.made) left parts) (inr b)
+            (inr (agrees_in_second t table (fill told o.made) left parts)) h
 
     -- a move, and then a turn from there
     pub turned_on : (s : Option Stopped) (o q : Move) → o.stopped ≡ s → Turned t here froms Given before bound was fs ps n o →

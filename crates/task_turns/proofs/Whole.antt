@@ -5,12 +5,12 @@ use Rattle.job_tree.specs.Starting.{StartsIn}
 use Rattle.exc_groups.specs.Exceptions.{Label}
 use Rattle.job_meaning.specs.Log.{Result, Table}
 use Rattle.job_meaning.specs.Walk.{by_table, Here}
-use Rattle.job_meaning.specs.Rest.{Event, Telling, steps_left, Stopped, to_begin, Rest, rest_comes_to, task_comes_to, rest_at_start}
+use Rattle.job_meaning.specs.Rest.{Event, Telling, fill, steps_left, Stopped, to_begin, Rest, rest_comes_to, task_comes_to, rest_at_start}
 use Rattle.job_meaning.proofs.Finish.{finish_begin}
 use Rattle.task_turns.specs.Midway.{Place, stack_at, Begun, Move, behind, left_after, stop_comes_to, begun_comes_to, none_told}
 use Rattle.task_turns.specs.Placed.{PlacedStop}
 use Rattle.task_turns.specs.Wakes.{Wake, WakesBy}
-use Rattle.task_turns.specs.Turned.{AgreesOn, AgreesIn, AllTold, BegunIn, TurnsOver}
+use Rattle.task_turns.specs.Turned.{AgreesOn, AgreesAhead, AllTold, BegunIn, TurnsOver}
 use Rattle.task_turns.proofs.Turns.{behind_append}
 
 -- A whole turn leaves what the task comes to as it was: with what it made before, its stop and its frames before the
@@ -19,7 +19,8 @@ pub turn_comes_to : (u t : ℕ) (here : Here) (froms : Table) (w : Wake) (rest :
     (made : List Event) (s : Stopped) →
     TurnsOver u t here froms w rest ps count o → o.stopped ≡ Some s → (table : Table) (told : Telling) →
     WakesBy table told here u t w rest.stopped ps →
-    AgreesOn t table froms ps → AgreesIn t table (rest_comes_to (by_table table) told rest here (stack_at table ps) u).log →
+    AgreesOn t table froms ps →
+    AgreesAhead t table (fill told o.made) (rest_comes_to (by_table table) told rest here (stack_at table ps) u).log →
     AllTold t table told o.begun →
     task_comes_to (by_table table) told made rest here (stack_at table ps) u
     ≡ task_comes_to (by_table table) told (made ++ o.made) (record { stopped = s; frames = o.frames }) here (stack_at table o.places) t

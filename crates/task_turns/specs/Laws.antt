@@ -6,12 +6,12 @@ use Rattle.exc_groups.specs.Exceptions.{Label}
 use Rattle.cancel_scopes.specs.Sight.{Tick}
 use Rattle.job_meaning.specs.Log.{Table, from_by}
 use Rattle.job_meaning.specs.Walk.{by_table, Here}
-use Rattle.job_meaning.specs.Rest.{steps_left, Event, Telling, Stopped, Rest, rest_comes_to, task_comes_to}
+use Rattle.job_meaning.specs.Rest.{steps_left, Event, Telling, fill, Stopped, Rest, rest_comes_to, task_comes_to}
 use Rattle.task_turns.specs.Midway.{Place, stack_at, Midway, Move}
 use Rattle.task_turns.specs.Steps.{froms_after, step_of}
 use Rattle.task_turns.specs.Placed.{Placed, PlacedStop, places_behind}
 use Rattle.task_turns.specs.Wakes.{Wake, wake_of, turn_from, WakesBy, CanWake}
-use Rattle.task_turns.specs.Turned.{AgreesOn, AgreesIn, AllTold, Known, MadeAt, made_sign, EntersIn, EntersOnceWith, IsSome, Goes, TurnsOver}
+use Rattle.task_turns.specs.Turned.{AgreesOn, AgreesAhead, AllTold, Known, MadeAt, made_sign, EntersIn, EntersOnceWith, IsSome, Goes, TurnsOver}
 use Rattle.task_turns.specs.Bound.{frames_length}
 use Rattle.task_turns.specs.Names.{names_at, OwnNames, NewIn, StaysNew}
 
@@ -40,7 +40,8 @@ TaskComesToTheSame =
     (s : Stopped) →
     TurnsOver u t here froms w rest ps count o → o.stopped ≡ Some s → (table : Table) (told : Telling) →
     WakesBy table told here u t w rest.stopped ps →
-    AgreesOn t table froms ps → AgreesIn t table (rest_comes_to (by_table table) told rest here (stack_at table ps) u).log →
+    AgreesOn t table froms ps →
+    AgreesAhead t table (fill told o.made) (rest_comes_to (by_table table) told rest here (stack_at table ps) u).log →
     AllTold t table told o.begun →
     task_comes_to (by_table table) told made rest here (stack_at table ps) u
     ≡ task_comes_to (by_table table) told (made ++ o.made) (record { stopped = s; frames = o.frames }) here (stack_at table o.places) t

@@ -6,7 +6,7 @@ use Rattle.job_meaning.specs.Log.{Log, nil, entry, sign, entered, task, Result, 
 use Rattle.job_meaning.specs.Walk.{by_table, Here}
 use Rattle.job_meaning.specs.Before.{upto}
 use Rattle.job_tree.specs.Starting.{StartsIn}
-use Rattle.job_meaning.specs.Rest.{Event, noted, signs, enters, starts, Telling, Frame, Stopped, to_begin, asking, asleep, awaiting, at_end, Rest, rest_comes_to, rest_at_start, rest_weight, frames_weight, stop_weight}
+use Rattle.job_meaning.specs.Rest.{Event, noted, signs, enters, starts, Telling, fill, Frame, Stopped, to_begin, asking, asleep, awaiting, at_end, Rest, rest_comes_to, rest_at_start, rest_weight, frames_weight, stop_weight}
 use Rattle.task_turns.specs.Midway.{Place, stack_at, Midway, Begun, Move, behind, left_of, left_after, begun_comes_to}
 use Rattle.task_turns.specs.Placed.{PlacedAfter, places_behind, home_after, KidsAfter, HasChild, HasChildAfter, AllHoused}
 use Rattle.task_turns.specs.Wakes.{Wake, WakesBy}
@@ -26,6 +26,11 @@ AgreesIn t table (entry u e rest) = AgreesIn t table rest
 AgreesIn t table (sign l u rest) = AgreesIn t table rest
 AgreesIn t table (entered l u d rest) = (upto (suc t) (table l) ≡ upto (suc t) d) × AgreesIn t table rest
 AgreesIn t table (task l s u e own rest) = AgreesIn t table rest
+
+-- A table agrees at tick t with the deadlines of these labels that a move enters; or with those of all labels that the task enters
+-- on its way from before the move, which is known of a table that is settled, before it is known what the move enters.
+abbrev pub AgreesAhead : ℕ → Table → Log → Log → Type 0
+AgreesAhead t table made ahead = AgreesIn t table made ⊎ AgreesIn t table ahead
 
 -- what is told of each child begun in tick t is what following the table from its start gives
 abbrev pub AllTold : ℕ → Table → Telling → List Begun → Type 0
@@ -140,12 +145,12 @@ pub record Turned
     (t : ℕ) (here : Here) (froms : Table) (Given : Table → Telling → Type 0) (before : Table → Telling → Result) (bound : ℕ)
     (stop_before : Option Stopped) (frames_before : List Frame) (places_before : List Place) (count : ℕ) (o : Move) : Type 0
   where
-    -- For each table that agrees at t with the froms on the task's places, and with the deadlines of what the task enters
-    -- on its way, and each telling that fits the children begun: what was left comes to the events made, and then to what
-    -- is left after the move.
+    -- For each table that agrees at t with the froms on the task's places, and with the deadlines of what the move enters, and
+    -- each telling that fits the children begun: what was left comes to the events made, and then to what is left after the
+    -- move. That asks no more of the table than to agree at t with the froms after the move: a sign made at t acts from t + 1 on.
     pub keeps :
         (table : Table) (told : Telling) → Given table told → AgreesOn t table froms places_before →
-        AgreesIn t table (before table told).log →
+        AgreesAhead t table (fill told o.made) (before table told).log →
         AllTold t table told o.begun → before table told ≡ behind told o.made (left_after table told here t o)
     -- the frames that are left fit the places
     pub placed : PlacedAfter o.stopped o.frames o.places

@@ -8,7 +8,7 @@ use Rattle.cancel_scopes.proofs.StackLemmas.{kept_where_open, kept_stack, stack_
 use Rattle.cancel_scopes.proofs.MarkLemmas.{same_find, same-tree, family-same}
 use Rattle.cancel_scopes.proofs.LeaveLemmas.{lost}
 use Rattle.cancel_scopes.proofs.CloseLemmas.{Closes, closes, childless, innermost_kept, tree_closed, closed-others}
-use Rattle.cancel_scopes.proofs.ReadyLemmas.{closed-finds, closed-ready, closed-marks}
+use Rattle.cancel_scopes.proofs.ReadyLemmas.{closed-finds, closed-ready, closed-marks, closed-unmarked}
 use Rattle.cancel_scopes.proofs.tree.ScopeTree.close.Goals as goal
 
 pub unmark-requires-clause-kept : goal.unmark-requires-clause-kept
@@ -99,3 +99,9 @@ returns-clause-marks c =
     c.remove_child.new.self.scopes.slots
     c.id.inside.key c.remove-scope.result c.args.self.now c.args.id c.self.view_is c.id.view_is
     c.unmark.ensures.marks c.remove-scope.ensures.updates.others c.remove_child.ensures.same
+
+pub returns-clause-unmarked : goal.returns-clause-unmarked
+returns-clause-unmarked c =
+    closed-unmarked c.self.inside.store.scopes.slots c.unmark.new.self.scopes.slots c.remove-scope.new.self.slots
+    c.remove_child.new.self.scopes.slots c.id.inside.key c.remove-scope.result
+    c.args.id c.id.view_is c.remove-scope.ensures.updates.changed c.remove_child.ensures.same

@@ -19,6 +19,8 @@ use Rattle.task_machine.specs.Worlds.{label_at}
 use Rattle.task_machine.proofs.Fits.{ready_scope}
 use Rattle.task_machine.proofs.TaskFits.{exited_fits, waits_fits, frame_off, modest_with, starts_with, popped_fits, popped_length, popped_body, pass_shorter, passed_fits, try_shorter, tried_fits, handled_fits}
 use Rattle.task_machine.proofs.Advances.{takes_end, takes_exit, takes_body, takes_pass, takes_try, takes_handler, takes_cleanup}
+use Rattle.task_machine.specs.declared.world.World.{World}
+use Rattle.task_machine.proofs.Waiters.{same_book, opened_none, opened_still, ended_waiters}
 use Rattle.task_machine.proofs.task.Task.advance.Goals as goal
 
 pub exit-requires-clause-some : goal.exit-requires-clause-some
@@ -234,3 +236,32 @@ returns-in_ok-exc-in-Repeat-clause-step c =
     c.next_pass.new.self c.args.world.now c.args.exc c.in_ok-exc-in-Repeat.exc (c.in-Some.ensures.items
     ∙ ap (λ (f : Frame). c.pop.new.self.items ++ f ∷ []) c.in-Repeat.is)
     refl e.stays e.step
+
+pub returns-in_default-clause-waiters : goal.returns-in_default-clause-waiters
+returns-in_default-clause-waiters c =
+    opened_none c.args.me c.args.world.now.book c.end.new.world.book (same_book _ _ (ap (λ (w : World). w.book) c.end.ensures.rest))
+
+pub returns-in_ok-moved-in-Steps-clause-waiters : goal.returns-in_ok-moved-in-Steps-clause-waiters
+returns-in_ok-moved-in-Steps-clause-waiters c = c.in_ok-moved-in-Steps.ensures.waiters
+
+pub returns-in_ok-exc-in-Scope-clause-waiters : goal.returns-in_ok-exc-in-Scope-clause-waiters
+returns-in_ok-exc-in-Scope-clause-waiters c =
+    opened_none c.args.me c.args.world.now.book c.exit.new.world.book
+    (same_book _ _ (ap (λ (w : World). w.book) c.in_ok-exc-in-Scope.ensures.world))
+
+pub returns-in-Nursery-clause-waiters : goal.returns-in-Nursery-clause-waiters
+returns-in-Nursery-clause-waiters c =
+    opened_none c.args.me c.args.world.now.book c.end_body.new.world.book
+    (ended_waiters c.args.world.now.book c.end_body.new.world.book c.in-Nursery.id _ c.end_body.ensures.ended)
+
+pub returns-in_ok-exc-in-Repeat-clause-waiters : goal.returns-in_ok-exc-in-Repeat-clause-waiters
+returns-in_ok-exc-in-Repeat-clause-waiters c = opened_still c.args.me c.args.world.now.book
+
+pub returns-in_ok-exc-in-Try-clause-waiters : goal.returns-in_ok-exc-in-Try-clause-waiters
+returns-in_ok-exc-in-Try-clause-waiters c = opened_still c.args.me c.args.world.now.book
+
+pub returns-in_ok-exc-in-Handler-clause-waiters : goal.returns-in_ok-exc-in-Handler-clause-waiters
+returns-in_ok-exc-in-Handler-clause-waiters c = opened_still c.args.me c.args.world.now.book
+
+pub returns-in-Cleanup-clause-waiters : goal.returns-in-Cleanup-clause-waiters
+returns-in-Cleanup-clause-waiters c = opened_still c.args.me c.args.world.now.book

@@ -14,6 +14,7 @@ use Rattle.task_machine.proofs.TaskFits.{frame_off, pushed_fits, modest_with, st
 use Rattle.std.proofs.lemmas.List.{nil_from_length}
 use Rattle.task_machine.specs.declared.task.Task.{Task}
 use Rattle.task_machine.proofs.Advances.{takes_skipped, takes_last, takes_well}
+use Rattle.task_machine.proofs.Waiters.{opened_still}
 use Rattle.task_machine.proofs.task.Task.go_on.Goals as goal
 
 pub returns-in-Some-clause-fits : goal.returns-in-Some-clause-fits
@@ -104,3 +105,12 @@ returns-clause-step c =
       held = c.in_ok-push.ensures.items;
       same = c.in_ok-push.ensures.stays ∙ ap (λ (t : Task). record t { frames = c.push.new.self.frames }) same;
     }))
+
+pub returns-in-Some-clause-waiters : goal.returns-in-Some-clause-waiters
+returns-in-Some-clause-waiters c = opened_still c.args.me c.args.world.now.book
+
+pub returns-in_default-split_first-clause-waiters : goal.returns-in_default-split_first-clause-waiters
+returns-in_default-split_first-clause-waiters c = opened_still c.args.me c.args.world.now.book
+
+pub returns-clause-waiters : goal.returns-clause-waiters
+returns-clause-waiters c = c.in_ok-moved.ensures.waiters

@@ -7,6 +7,7 @@ use Rattle.task_machine.specs.declared.world.World.{World}
 use Rattle.task_machine.specs.Fitting.{Fits}
 use Rattle.task_machine.specs.Standing.{waits_by}
 use Rattle.task_machine.proofs.TurnGoes.{MoreGone, goes_further, goes_on, goes_nothing}
+use Rattle.task_machine.proofs.Waiters.{opened_still, opened_then}
 use Rattle.task_machine.proofs.task.Task.go_to_stop.Goals as goal
 
 pub steps-init : goal.steps-init
@@ -15,6 +16,7 @@ steps-init c = (
   c.requires.halt,
   refl,
   refl,
+  opened_still c.args.me c.args.world.now.book,
   λ froms numbers ps count stands.
       goes_nothing c.args.self.now c.args.world.now c.args.exc froms numbers ps count stands,
 )
@@ -47,8 +49,9 @@ steps-preserved c =
             book = c.advance.new.world.book;
             started = c.advance.new.world.started;
           }) i.3,
+      opened_then c.args.me world.book c.steps.world.book c.advance.new.world.book i.4 e.waiters,
       λ froms numbers ps count stands.
-          let g = i.4 froms numbers ps count stands in
+          let g = i.5 froms numbers ps count stands in
           goes_on self c.advance.new.self world c.advance.new.world (option_map exc_of c.args.exc) c.in-On.next froms numbers ps count
           (suc g.steps)
           (subst (λ (m : Moved). MoreGone self c.advance.new.self world c.advance.new.world (option_map exc_of c.args.exc) m froms numbers
@@ -64,7 +67,7 @@ returns-in-Stops-clause-steps c =
     let world = c.args.world.now in
     let i = c.steps.invariant in
     λ froms numbers ps count stands.
-    let g = i.4 froms numbers ps count stands in
+    let g = i.5 froms numbers ps count stands in
     let m =
     subst (λ (m : Moved). MoreGone self c.advance.new.self world c.advance.new.world (option_map exc_of c.args.exc) m froms numbers ps count
     (suc g.steps)) c.in-Stops.is
@@ -72,3 +75,7 @@ returns-in-Stops-clause-steps c =
     c.in_ok-next.field-0 froms numbers ps count
     (ap (λ (t : Task). t.part) i.2) (ap (λ (t : Task). t.label) i.2) (ap (λ (w : World). w.tick) i.3) g c.in_ok-next.ensures.step) in
     record { steps = suc g.steps; took = m.took }
+
+pub returns-in-Stops-clause-waiters : goal.returns-in-Stops-clause-waiters
+returns-in-Stops-clause-waiters c =
+    opened_then c.args.me c.args.world.now.book c.steps.world.book c.advance.new.world.book c.steps.invariant.4 c.in_ok-next.ensures.waiters

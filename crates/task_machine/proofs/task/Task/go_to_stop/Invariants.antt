@@ -10,6 +10,7 @@ use Rattle.std.specs.Prelude.{None}
 use Rattle.task_turns.specs.Bound.{frames_length}
 use Rattle.task_machine.specs.Fitting.{Fits}
 use Rattle.task_machine.specs.Frames.{frames_of}
+use Rattle.task_machine.specs.Waiters.{OpenedBy}
 use Rattle.task_machine.specs.Waking.{IsModestHalt}
 use Rattle.task_machine.proofs.task.Task.go_to_stop.Given as goal
 
@@ -31,6 +32,7 @@ invariant-steps l =
       started =
           l.world.started;
     })
+    × OpenedBy l.initial.me l.initial.world.book l.world.book
     × ((froms : Table) (numbers : Numbers) (ps : List Place) (count : ℕ) →
     Stands l.initial.self.frames.items l.initial.self l.initial.world froms numbers None ps →
     GoneOn l.initial.self l.self l.initial.world l.world (option_map exc_of l.initial.exc) l.exc froms numbers ps count)

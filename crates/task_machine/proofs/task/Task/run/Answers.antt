@@ -12,6 +12,8 @@ use Rattle.task_machine.specs.Frames.{frames_of}
 use Rattle.task_machine.proofs.Children.{takes_children}
 use Rattle.task_machine.proofs.TaskFits.{signed_fits, scope_fits, nursery_fits, scope_length, nursery_length, repeat_fits, repeat_length}
 use Rattle.task_machine.proofs.AdvancesSteps.{takes_sleep, takes_checkpoint, takes_forever, takes_pace, takes_find, takes_head, takes_longest, takes_need, takes_raise, takes_cancel, takes_scope, takes_nursery, takes_repeat, takes_attempt}
+use Rattle.task_machine.specs.declared.world.World.{World}
+use Rattle.task_machine.proofs.Waiters.{same_book, opened_none, opened_still, opened_one, started_waiters}
 use Rattle.task_machine.proofs.task.Task.run.Goals as goal
 
 pub returns-in-Cancel-clause-fits : goal.returns-in-Cancel-clause-fits
@@ -153,3 +155,57 @@ returns-in_ok-begin_passes-in-Repeat-clause-step c =
     λ frames task a.
     takes_repeat frames c.args.step.now task c.args.self.now c.begin_passes.new.self c.args.world.now c.in-Repeat.count c.in-Repeat.body a
     c.in-Repeat.is e.stays e.blocks e.step
+
+pub returns-in-Sleep-clause-waiters : goal.returns-in-Sleep-clause-waiters
+returns-in-Sleep-clause-waiters c = opened_still c.args.me c.args.world.now.book
+
+pub returns-in-Checkpoint-clause-waiters : goal.returns-in-Checkpoint-clause-waiters
+returns-in-Checkpoint-clause-waiters c = opened_still c.args.me c.args.world.now.book
+
+pub returns-in-Forever-clause-waiters : goal.returns-in-Forever-clause-waiters
+returns-in-Forever-clause-waiters c = opened_still c.args.me c.args.world.now.book
+
+pub returns-in-Pace-clause-waiters : goal.returns-in-Pace-clause-waiters
+returns-in-Pace-clause-waiters c = opened_still c.args.me c.args.world.now.book
+
+pub returns-in-Find-clause-waiters : goal.returns-in-Find-clause-waiters
+returns-in-Find-clause-waiters c = opened_still c.args.me c.args.world.now.book
+
+pub returns-in-Head-clause-waiters : goal.returns-in-Head-clause-waiters
+returns-in-Head-clause-waiters c = opened_still c.args.me c.args.world.now.book
+
+pub returns-in-Longest-clause-waiters : goal.returns-in-Longest-clause-waiters
+returns-in-Longest-clause-waiters c = opened_still c.args.me c.args.world.now.book
+
+pub returns-in-Need-clause-waiters : goal.returns-in-Need-clause-waiters
+returns-in-Need-clause-waiters c = opened_still c.args.me c.args.world.now.book
+
+pub returns-in_ok-moved-in-Raise-clause-waiters : goal.returns-in_ok-moved-in-Raise-clause-waiters
+returns-in_ok-moved-in-Raise-clause-waiters c = opened_still c.args.me c.args.world.now.book
+
+pub returns-in_ok-begin_try-in-Try-clause-waiters : goal.returns-in_ok-begin_try-in-Try-clause-waiters
+returns-in_ok-begin_try-in-Try-clause-waiters c = opened_still c.args.me c.args.world.now.book
+
+pub returns-in_ok-begin_passes-in-Repeat-clause-waiters : goal.returns-in_ok-begin_passes-in-Repeat-clause-waiters
+returns-in_ok-begin_passes-in-Repeat-clause-waiters c = opened_still c.args.me c.args.world.now.book
+
+pub returns-in-Cancel-clause-waiters : goal.returns-in-Cancel-clause-waiters
+returns-in-Cancel-clause-waiters c =
+    opened_none c.args.me c.args.world.now.book c.cancel.new.world.book
+    (same_book _ _ (ap (λ (w : World). w.book) c.cancel.ensures.rest))
+
+pub returns-in_ok-enter_scope-in-Scope-clause-waiters : goal.returns-in_ok-enter_scope-in-Scope-clause-waiters
+returns-in_ok-enter_scope-in-Scope-clause-waiters c =
+    opened_none c.args.me c.args.world.now.book c.enter_scope.new.world.book
+    (same_book _ _ (ap (λ (w : World). w.book) c.in_ok-enter_scope-in-Scope.ensures.world))
+
+pub returns-in_ok-enter_nursery-in-Nursery-clause-waiters : goal.returns-in_ok-enter_nursery-in-Nursery-clause-waiters
+returns-in_ok-enter_nursery-in-Nursery-clause-waiters c =
+    opened_one c.args.me c.args.self.now c.enter_nursery.new.self c.args.world.now c.enter_nursery.new.world _ _
+    c.in_ok-enter_nursery-in-Nursery.ensures.nursery
+
+pub returns-in_ok-begin_children-in-Start-clause-waiters : goal.returns-in_ok-begin_children-in-Start-clause-waiters
+returns-in_ok-begin_children-in-Start-clause-waiters c =
+    opened_none c.args.me c.args.world.now.book c.begin_children.new.world.book
+    (started_waiters c.args.self.now c.args.world.now c.begin_children.new.world c.in-Start.name c.in-Start.over _
+    c.in_ok-begin_children-in-Start.ensures.children)

@@ -16,6 +16,10 @@ use Rattle.task_machine.specs.Worlds.{label_at}
 use Rattle.task_machine.proofs.Apart.{apart_awaited, has_scope}
 use Rattle.task_machine.proofs.Wakens.{wakes_settled}
 use Rattle.task_machine.proofs.Wakes.{raised_is}
+use Rattle.nursery_book.specs.declared.book.NurseryBook.{NurseryBook}
+use Rattle.task_machine.specs.declared.world.World.{World}
+use Rattle.task_machine.specs.Waiters.{SameWaiters}
+use Rattle.task_machine.proofs.Waiters.{closed_waiters}
 use Rattle.task_machine.proofs.task.Task.settle.Goals as goal
 
 pub exit-requires-clause-some : goal.exit-requires-clause-some
@@ -61,3 +65,8 @@ returns-clause-wakes c =
     (λ n at other.
     has_scope (label_at world) world.book (blocks_of self.frames.items) self.own.items (Some c.in-Awaits.nursery) c.in-Awaits.nursery n
     (subst (λ (h : Halt). Fits self.frames.items self world (waits_of h)) c.in-Awaits.is c.requires.fits).opened (inr refl) at other.1))
+
+pub returns-clause-waiters : goal.returns-clause-waiters
+returns-clause-waiters c =
+    let closed = closed_waiters c.args.world.now.book c.close.new.self c.in-Awaits.nursery c.in_ok-exc.ensures.closed in
+    subst (λ (b : NurseryBook). SameWaiters c.args.world.now.book b) (sym (ap (λ (w : World). w.book) c.in_ok-exc-2.ensures.world)) closed

@@ -5,6 +5,7 @@ use Rattle.task_machine.specs.declared.world.World.{World}
 use Rattle.task_machine.specs.Standing.{Took, wake_at}
 use Rattle.task_machine.specs.Waking.{wake_in}
 use Rattle.task_machine.proofs.WholeTurn.{can_wake, turns_at_once, turns_later}
+use Rattle.task_machine.proofs.Waiters.{opened_none, opened_then}
 use Rattle.task_machine.proofs.task.Task.turn.Goals as goal
 
 pub returns-in_ok-stop-in-On-clause-turn : goal.returns-in_ok-stop-in-On-clause-turn
@@ -30,3 +31,11 @@ returns-in-Stops-clause-turn c =
     (subst (λ (m : Moved). Took self.frames.items self c.wake.new.self world c.wake.new.world m froms numbers
     (wake_at self world (wake_in world.book self.halt c.args.wake) stopped froms numbers ps)) c.in-Stops.is
     (c.in_ok-exc.ensures.wakes froms numbers stopped ps stands halt))
+
+pub returns-in_ok-stop-in-On-clause-waiters : goal.returns-in_ok-stop-in-On-clause-waiters
+returns-in_ok-stop-in-On-clause-waiters c =
+    opened_then c.args.me c.args.world.now.book c.wake.new.world.book c.go_to_stop.new.world.book
+    (opened_none c.args.me c.args.world.now.book c.wake.new.world.book c.in_ok-exc.ensures.waiters) c.in_ok-stop-in-On.ensures.waiters
+
+pub returns-in-Stops-clause-waiters : goal.returns-in-Stops-clause-waiters
+returns-in-Stops-clause-waiters c = opened_none c.args.me c.args.world.now.book c.wake.new.world.book c.in_ok-exc.ensures.waiters

@@ -5,6 +5,7 @@ use Rattle.task_machine.specs.declared.stop.Wake as held
 use Rattle.task_machine.specs.Standing.{Wakens}
 use Rattle.task_machine.specs.Waking.{wake_in}
 use Rattle.task_machine.proofs.Wakens.{wakes_begin, wakes_due, wakes_seen}
+use Rattle.task_machine.proofs.Waiters.{same_book}
 use Rattle.task_machine.proofs.task.Task.wake.Goals as goal
 
 pub returns-in-Begin-clause-wakes : goal.returns-in-Begin-clause-wakes
@@ -41,3 +42,15 @@ returns-in_ok-moved-in-Settled-clause-wakes c =
     let world = c.args.world.now in
     subst (λ (w : held.Wake). Wakens self c.settle.new.self world c.settle.new.world c.in_ok-moved-in-Settled.moved
     (wake_in world.book self.halt w)) (sym c.in-Settled.is) (c.in_ok-moved-in-Settled.ensures.wakes)
+
+pub returns-in-Begin-clause-waiters : goal.returns-in-Begin-clause-waiters
+returns-in-Begin-clause-waiters c = same_book c.args.world.now.book c.args.world.now.book refl
+
+pub returns-in-Due-clause-waiters : goal.returns-in-Due-clause-waiters
+returns-in-Due-clause-waiters c = same_book c.args.world.now.book c.args.world.now.book refl
+
+pub returns-in-Seen-clause-waiters : goal.returns-in-Seen-clause-waiters
+returns-in-Seen-clause-waiters c = same_book c.args.world.now.book c.args.world.now.book refl
+
+pub returns-in_ok-moved-in-Answer-clause-waiters : goal.returns-in_ok-moved-in-Answer-clause-waiters
+returns-in_ok-moved-in-Answer-clause-waiters c = same_book c.args.world.now.book c.args.world.now.book refl

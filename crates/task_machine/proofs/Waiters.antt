@@ -1,0 +1,88 @@
+-- The waiters of nurseries, move by move.
+use Rattle.std.proofs.Common.{◌≡◌, ◌≢◌, ◌⊎◌, inl, inr, ℕ, ◌==◌, Bool, true, false, Option, Some, None, List, refl, ap, sym, ◌∙◌, subst}
+use Rattle.std.specs.Prelude.{IsSomeAnd}
+use Rattle.std.proofs.lemmas.Bool.{eqb-true, eq-eqb}
+use Rattle.std.proofs.lemmas.Option.{same_Some, none-some}
+use Rattle.exc_groups.specs.Exceptions.{Label, Exc}
+use Rattle.job_tree.specs.Tree.{Steps}
+use Rattle.nursery_book.specs.Book.{nursery_at, Updates, Changes}
+use Rattle.nursery_book.specs.Nursery.{Nursery, with_body}
+use Rattle.nursery_book.specs.declared.book.NurseryBook.{NurseryBook}
+use Rattle.task_machine.specs.Entered.{EntersNursery}
+use Rattle.task_machine.specs.Started.{StartsAll, StartsChildren}
+use Rattle.task_machine.specs.Waiters.{HadWaiter, SameWaiters, OpenedBy}
+use Rattle.task_machine.specs.declared.task.Task.{Task}
+use Rattle.task_machine.specs.declared.world.World.{World}
+
+-- a nursery that stands there has its own waiter
+itself : (book : NurseryBook) (id : ℕ) (n : Nursery) → nursery_at book id ≡ Some n → HadWaiter book id n.waiter
+itself book id n at = subst (λ (o : Option Nursery). IsSomeAnd o (λ m. m.waiter ≡ n.waiter)) (sym at) refl
+
+pub same_book : (old new : NurseryBook) → new ≡ old → SameWaiters old new
+same_book old new e id n at = itself old id n (ap (λ (b : NurseryBook). nursery_at b id) (sym e) ∙ at)
+
+-- one nursery changed, was opened or was closed, and the others stay
+updated : (P : ℕ → Nursery → Type 0) (old new : NurseryBook) (key : ℕ) (o : Option Nursery) → Updates old new key o →
+    ((n : Nursery) → o ≡ Some n → P key n) → ((id : ℕ) (n : Nursery) → HadWaiter old id n.waiter → P id n) →
+    (id : ℕ) (n : Nursery) → nursery_at new id ≡ Some n → P id n
+updated P old new key o u this others id n at = by_test (id == key) refl
+  where
+    by_test : (b : Bool) → (id == key) ≡ b → P id n
+    by_test true e =
+        let same : id ≡ key = eqb-true id key e in
+        subst (λ (k : ℕ). P k n) (sym same) (this n (sym u.changed ∙ (ap (λ (k : ℕ). nursery_at new k) (sym same) ∙ at)))
+    by_test false e =
+        others id n (itself old id n (sym (u.others id (λ same. absurd (let f : false ≡ true = sym e ∙ eq-eqb id key same in cc))) ∙ at))
+
+pub closed_waiters : (old new : NurseryBook) (key : ℕ) → Updates old new key None → SameWaiters old new
+closed_waiters old new key u =
+    updated (λ id n. HadWaiter old id n.waiter) old new key None u (λ n e. absurd (none-some n e)) (λ id n h. h)
+
+-- a nursery that has more children, or whose body ended, has its old waiter
+pub grown_waiters : (old new : NurseryBook) (key : ℕ) (before after : Nursery) → nursery_at old key ≡ Some before →
+    Updates old new key (Some after) → after.waiter ≡ before.waiter → SameWaiters old new
+grown_waiters old new key before after at u same =
+    updated (λ id n. HadWaiter old id n.waiter) old new key (Some after) u
+    (λ n e. subst (λ (w : ℕ). HadWaiter old key w) (sym same ∙ ap (λ (m : Nursery). m.waiter) (same_Some after n e)) (itself old key before at))
+    (λ id n h. h)
+
+pub ended_waiters : (old new : NurseryBook) (key : ℕ) (exc : Option Exc) → Changes old new key (with_body exc) → SameWaiters old new
+ended_waiters old new key exc h = by_nursery (nursery_at old key) refl h
+  where
+    by_nursery : (o : Option Nursery) → nursery_at old key ≡ o →
+        IsSomeAnd o (λ n. Updates old new key (Some (with_body exc n))) → SameWaiters old new
+    by_nursery None e u = absurd u
+    by_nursery (Some n) e u = grown_waiters old new key n (with_body exc n) e u refl
+
+pub started_waiters : (self : Task) (old new : World) (name : List ℕ) (over : Option ℕ) (body : Steps) →
+    StartsChildren self old new name over body → SameWaiters old.book new.book
+started_waiters self old new name over body h = by_over over h.started
+  where
+    by_over : (o : Option ℕ) → StartsAll self old new h.id name o body → SameWaiters old.book new.book
+    by_over None s = grown_waiters old.book new.book h.id s.nursery _ s.was s.book refl
+    by_over (Some k) s = grown_waiters old.book new.book h.id s.nursery _ s.was s.book refl
+
+-- where no nursery was opened, none was by another task
+pub opened_none : (me : ℕ) (old new : NurseryBook) → SameWaiters old new → OpenedBy me old new
+opened_none me old new h id n at = inr (h id n at)
+
+pub opened_still : (me : ℕ) (book : NurseryBook) → OpenedBy me book book
+opened_still me book = opened_none me book book (same_book book book refl)
+
+pub opened_one : (me : ℕ) (before after : Task) (old new : World) (label : Label) (body : Steps) →
+    EntersNursery me before after old new label body → OpenedBy me old.book new.book
+opened_one me before after old new label body h =
+    updated (λ id n. (n.waiter ≡ me) ⊎ HadWaiter old.book id n.waiter) old.book new.book h.id _ h.stands
+    (λ n e. inl (sym (ap (λ (m : Nursery). m.waiter) (same_Some _ n e)))) (λ id n w. inr w)
+
+-- one move after another
+pub opened_then : (me : ℕ) (old mid new : NurseryBook) → OpenedBy me old mid → OpenedBy me mid new → OpenedBy me old new
+opened_then me old mid new h k id n at = by_case (k id n at)
+  where
+    had : (o : Option Nursery) → nursery_at mid id ≡ o → IsSomeAnd o (λ m. m.waiter ≡ n.waiter) → (n.waiter ≡ me) ⊎ HadWaiter old id n.waiter
+    had None e w = absurd w
+    had (Some m) e w = subst (λ (x : ℕ). (x ≡ me) ⊎ HadWaiter old id x) w (h id m e)
+
+    by_case : (n.waiter ≡ me) ⊎ HadWaiter mid id n.waiter → (n.waiter ≡ me) ⊎ HadWaiter old id n.waiter
+    by_case (inl e) = inl e
+    by_case (inr w) = had (nursery_at mid id) refl w
