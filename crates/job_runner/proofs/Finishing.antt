@@ -6,10 +6,13 @@ use Rattle.std.proofs.lemmas.Option.{same_Some, none-some, slice_get_within}
 use Rattle.batch_commit.specs.declared.entry.Entry.{Entry}
 use Rattle.batch_commit.specs.declared.live.Live.{Live}
 use Rattle.batch_commit.specs.Live.{live_at}
-use Rattle.job_meaning.specs.Log.{Table}
-use Rattle.job_meaning.specs.Meaning.{meaning_end, meaning_table}
+use Rattle.cancel_scopes.specs.Sight.{Tick}
+use Rattle.exc_groups.specs.Exceptions.{Label}
+use Rattle.job_meaning.specs.Follow.{follow}
+use Rattle.job_meaning.specs.Log.{Result, Table}
+use Rattle.job_meaning.specs.Meaning.{From, meaning, meaning_end, meaning_table, root_log, records_of, all_entered, froms_by}
 use Rattle.job_meaning.specs.Shown.{row_of, shown}
-use Rattle.job_meaning.proofs.Settled.{table_is_settled}
+use Rattle.job_meaning.proofs.Settled.{table_is_settled, settled_is_meaning, one_table_is_settled}
 use Rattle.task_machine.specs.declared.world.World.{World}
 use Rattle.task_roster.specs.declared.record.Record.{Record}
 use Rattle.task_machine.specs.declared.entry.ScopeFrom.{ScopeFrom}
@@ -30,7 +33,7 @@ use Rattle.job_runner.specs.declared.runner.Runner.{Runner}
 use Rattle.job_runner.specs.Phases.{phase_by, phase_of}
 use Rattle.task_roster.specs.Roster.{children_by, crew_of, gone_by, gone_from, gone_of, many, row_at, running_at, start_by, task_by, task_in, task_of, task_unless}
 use Rattle.task_roster.specs.Rows.{AreShown, EndIsShown, IsShown, ShowRecords}
-use Rattle.job_runner.specs.Runs.{IsRun, froms_in, name_of, records_in}
+use Rattle.job_runner.specs.Runs.{IsRun, FollowsEach, froms_in, name_of, records_in}
 use Rattle.job_runner.specs.Shelves.{crew_in, IsUnderway}
 use Rattle.job_runner.proofs.Places.{all_by_place}
 
@@ -84,6 +87,13 @@ row_shown input roster world turns s row held e h =
       end = end_shown input row held.end h.gone (sym (ap gone_by e) ∙ h.is) h.label h.end h.exc h.entries h.slices h.froms;
     }
 
+-- two tables that agree on every label have the same froms
+froms_alike : (table other : Table) → ((l : Label) → table l ≡ other l) → (ls : List Label) → froms_by table ls ≡ froms_by other ls
+froms_alike table other same [] = refl
+froms_alike table other same (l ∷ ls) =
+    ap (λ (t : Tick). record { label = l; seen = t } ∷ froms_by table ls) (same l)
+    ∙ ap (λ (fs : List From). record { label = l; seen = other l } ∷ fs) (froms_alike table other same ls)
+
 -- ---- a run that is over
 
 module _ (r : Runner) (w : IsUnderway r) (over : phase_of r ≡ phases.Over) where
@@ -135,6 +145,22 @@ module _ (r : Runner) (w : IsUnderway r) (over : phase_of r ≡ phases.Over) whe
           rows = ap (map row_in) rs ∙ told.records ∙ ap (map (row_of r.input.now)) (is_over.records told.taken told.order);
           slices = subst (AreSlices r.input.now) (sym rs) told.slices;
           froms = ap (map from_of) fs ∙ told.froms ∙ is_over.froms told.taken told.order;
+        }
+
+    -- so it is what following each settled table comes to
+    pub follows_each : (run : Run) → IsRun r.job.now r.input.now run → FollowsEach r.job.now r.input.now run
+    follows_each run is table settled =
+        let job = r.job.now in
+        let input = r.input.now in
+        let names = w.going.sound.names in
+        let same : meaning job input ≡ follow table job input = sym (settled_is_meaning table job input names settled) in
+        record {
+          rows = is.rows ∙ ap (λ (x : Result). map (row_of input) (records_of (root_log job x))) same;
+          froms =
+              is.froms
+              ∙ froms_alike (meaning_table job input) table (one_table_is_settled (meaning_table job input) table job input names
+              (table_is_settled job input names) settled) (all_entered (root_log job (meaning job input)))
+              ∙ ap (λ (x : Result). froms_by table (all_entered (root_log job x))) same;
         }
 
     -- and by its meaning the job ends within the limit

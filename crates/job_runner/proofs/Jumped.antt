@@ -35,7 +35,7 @@ use Rattle.run_crew.proofs.Jumped.{crew_jumps}
 use Rattle.task_roster.specs.declared.roster.Roster.{Roster}
 use Rattle.task_roster.specs.declared.roster.Running.{Running}
 use Rattle.job_runner.specs.declared.runner.Runner.{Runner}
-use Rattle.job_runner.specs.Jumps.{sight_by, sight_in, Slept, IsAnyNow, IsWaking}
+use Rattle.job_runner.specs.Jumps.{sight_by, sight_in, Wakes, IsNextTick, Slept, IsAnyNow, IsWaking}
 use Rattle.sleeper_sights.specs.Sleeping.{IsFirst}
 use Rattle.task_roster.specs.Roster.{running_at, task_of, gone_of, id_of, many, crew_of, IsRoster}
 use Rattle.task_roster.specs.Rows.{times}
@@ -242,6 +242,30 @@ module _ (r : Runner) (w : IsUnderway r) (none : r.batch.current ≡ []) where
     -- ---- the next tick
 
     module _ (t : ℕ) (next : IsNext r.clock first t) where
+      -- it is the first in which a sleeper goes on
+      pub is_next_tick : IsNextTick r t
+      is_next_tick = record { someone = some_wakes next.is_one; first = none_wakes }
+        where
+          some_wakes : (first ≡ Some t) ⊎ ((task : ℕ) × (due_of r.clock task ≡ Some t)) → Wakes r t
+          some_wakes (inl e) =
+              let z = seer t e in
+              record { id = z.0; due = z.1; timer = z.3; on = inr (ap (sight_by r.world) z.4 ∙ z.5) }
+          some_wakes (inr h) = record { id = h.0; due = t; timer = h.1; on = inl refl }
+
+          none_wakes : (u : ℕ) → Wakes r u → t ≤ u
+          none_wakes u h = by_case h.on
+            where
+              by_case : (h.due ≡ u) ⊎ (sight_in r.roster r.world h.id ≡ Some u) → t ≤ u
+              by_case (inl e) = let le = next.by_timers h.id h.due h.timer in omega (arith, le, e)
+              by_case (inr e) =
+                  let d = dozer h.id h.due h.timer in
+                  let f = some_is first (λ (v : ℕ). v ≤ u) (is_first.least h.id u
+                  (sees_from r.roster r.world r.clock r.sleepers w.going.shelved.known w.unchanged h.id h.due d.0 u h.timer d.1
+                  (sym (ap (sight_by r.world) d.1) ∙ e))) in
+                  let le : t ≤ f.0 = next.by_cancel f.0 f.1 in
+                  let more : f.0 ≤ u = f.2 in
+                  omega (arith, le, more)
+
       -- the next tick is later than the present one
       pub next_later : r.world.tick < t
       next_later = let now : now_of r.clock ≡ r.world.tick = w.going.shelved.now in by_one now next.is_one

@@ -15,12 +15,12 @@ use Rattle.run_crew.specs.Crew.{Gone}
 use Rattle.job_runner.specs.declared.runner.Phase.TheVariants as phases
 use Rattle.sleeper_sights.specs.Sleeping.{IsFirst}
 use Rattle.job_runner.specs.declared.runner.Runner.{Runner}
-use Rattle.job_runner.specs.Jumps.{IsWaking, WakesOnly}
+use Rattle.job_runner.specs.Jumps.{IsNextTick, IsPast, IsWaking, WakesOnly}
 use Rattle.job_runner.specs.Phases.{phase_by, phase_of}
 use Rattle.task_roster.specs.Roster.{running_at, task_of, gone_of}
 use Rattle.task_roster.specs.Rows.{times}
 use Rattle.job_runner.specs.Shelves.{IsCalled, AreShelved, AreOnCourse, IsSound, IsUnderway, NoneChanged, running_times, times_shelved}
-use Rattle.job_runner.proofs.Jumped.{timers_later, cancel_later, has_timer, root_lives, next_later, course_jumps, ends_later, has_jumped}
+use Rattle.job_runner.proofs.Jumped.{timers_later, cancel_later, has_timer, root_lives, is_next_tick, next_later, course_jumps, ends_later, has_jumped}
 
 -- ---- the batch
 
@@ -100,7 +100,20 @@ module _ (r : Runner) (w : IsUnderway r) (blocked : phase_of r ≡ phases.Blocke
         let limit : limit_of r.clock ≡ r.limit = w.going.shelved.limit in
         (refl, omega (arith, le, late, limit))
 
+    -- which the next tick is, by the limit that the run began with
+    pub past_next : (clock : Clock) (limit : ℕ) → limit ≡ r.limit → MeetsLimit r.clock cancel clock → IsPast r limit
+    past_next clock limit is m =
+        let late : limit_of r.clock < m.next = m.late in
+        let same : limit_of r.clock ≡ r.limit = w.going.shelved.limit in
+        record { is = is; next = m.next; is_next = is_next_tick r w none cancel is_first m.next m.is_next; late = omega (arith, late, same) }
+
     module _ (clock : Clock) (t : ℕ) (jumps : JumpsTo r.clock cancel t clock) where
+      -- the clock jumped to the next tick
+      pub next_tick : (world : World) → world ≡ record r.world { tick = t } → (woken : Runner) → woken.world ≡ world →
+          IsNextTick r woken.world.tick
+      next_tick world is woken same =
+          subst (IsNextTick r) (sym (ap (λ (v : World). v.tick) (same ∙ is))) (is_next_tick r w none cancel is_first t jumps.next)
+
       -- the jump takes the world to no earlier tick
       pub no_earlier : r.world.tick ≤ t
       no_earlier = let lt = next_later r w none cancel is_first t jumps.next in omega (arith, lt)

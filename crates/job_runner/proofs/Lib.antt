@@ -13,6 +13,7 @@ pub mod FewRequests
 pub mod Rounds
 pub mod Starting
 pub mod Turning
+pub mod Turns
 pub mod Committing
 pub mod Finishing
 pub mod Opening

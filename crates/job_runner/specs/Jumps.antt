@@ -13,6 +13,8 @@ use Rattle.job_runner.specs.declared.limits.TheConstants.{GREATEST_LIMIT}
 use Rattle.task_roster.specs.Roster.{running_at, parent_of, IsRoster}
 use Rattle.task_roster.specs.declared.roster.Roster.{Roster}
 use Rattle.task_roster.specs.declared.roster.Running.{Running}
+use Rattle.job_runner.specs.declared.fault.RunFault.{RunFault}
+use Rattle.job_runner.specs.declared.fault.RunFault.TheVariants.{Limit, NoMemory}
 use Rattle.job_runner.specs.declared.runner.Runner.{Runner}
 use Rattle.job_runner.specs.Shelves.{IsCalled, AreKnown, NoneChanged, times_shelved, running_times, crew_in}
 
@@ -23,6 +25,29 @@ sight_by world (Some x) = sight (outer_of world.scopes (scope_of x.task))
 
 abbrev pub sight_in : Roster → World → ℕ → Tick
 sight_in roster world id = sight_by world (running_at roster id)
+
+-- a sleeper goes on in this tick: it is due then, or sees a cancellation from then on
+pub record Wakes (r : Runner) (t : ℕ) : Type 0 where
+  pub id : ℕ
+  pub due : ℕ
+  pub timer : due_of r.clock id ≡ Some due
+  pub on : (due ≡ t) ⊎ (sight_in r.roster r.world id ≡ Some t)
+
+-- The tick of the next jump: a sleeper goes on in it, and none earlier. There is only one.
+pub record IsNextTick (r : Runner) (t : ℕ) : Type 0 where
+  pub someone : Wakes r t
+  pub first : (u : ℕ) → Wakes r u → t ≤ u
+
+-- the limit is answered where the next tick is later
+pub record IsPast (r : Runner) (limit : ℕ) : Type 0 where
+  pub is : limit ≡ r.limit
+  pub next : ℕ
+  pub is_next : IsNextTick r next
+  pub late : r.limit < next
+
+abbrev pub PassesLimit : Runner → RunFault → Type 0
+PassesLimit r (Limit limit) = IsPast r limit
+PassesLimit r NoMemory = Unit {0}
 
 -- A task slept to a tick until the clock came to this one, which is not after it.
 pub record Slept (world : World) (due : ℕ) (task : Task) : Type 0 where

@@ -1,8 +1,10 @@
 -- What clauses read of a run.
 use Rattle.std.specs.Prelude.{◌≡◌, ℕ, ◌<◌, List, map}
 use Rattle.job_tree.specs.Tree.{Tree}
-use Rattle.job_meaning.specs.Meaning.{From, meaning_end, meaning_froms}
-use Rattle.job_meaning.specs.Shown.{Row, meaning_rows}
+use Rattle.job_meaning.specs.Log.{Table}
+use Rattle.job_meaning.specs.Meaning.{From, root_log, records_of, all_entered, froms_by, meaning_end, meaning_froms}
+use Rattle.job_meaning.specs.Follow.{follow, IsSettled}
+use Rattle.job_meaning.specs.Shown.{Row, row_of, meaning_rows}
 use Rattle.task_roster.specs.declared.record.Record.{Record}
 use Rattle.task_machine.specs.declared.entry.ScopeFrom.{ScopeFrom}
 use Rattle.task_machine.specs.Noted.{from_of}
@@ -37,6 +39,15 @@ pub record IsRun (job : Tree) (input : List ℕ) (run : Run) : Type 0 where
   pub rows : rows_of run ≡ meaning_rows job input
   pub slices : AreSlices input (records_in run)
   pub froms : scope_froms_of run ≡ meaning_froms job input
+
+-- And it is what following a table comes to: its records, and the froms that the table has.
+pub record IsFollowed (table : Table) (job : Tree) (input : List ℕ) (run : Run) : Type 0 where
+  pub rows : rows_of run ≡ map (row_of input) (records_of (root_log job (follow table job input)))
+  pub froms : scope_froms_of run ≡ froms_by table (all_entered (root_log job (follow table job input)))
+
+-- whichever settled table it is
+abbrev pub FollowsEach : Tree → List ℕ → Run → Type 0
+FollowsEach job input run = (table : Table) → IsSettled table job input → IsFollowed table job input run
 
 -- the limit is answered where the meaning ends later
 abbrev pub IsLate : Tree → List ℕ → ℕ → RunFault → Type 0

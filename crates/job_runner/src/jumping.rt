@@ -1,6 +1,6 @@
 ghost use Rattle.std.specs.Prelude.{◌≡◌, ◌≢◌, [], None, IfOk, IfErr, OnOk};
 ghost use Rattle.job_runner.specs.declared.runner.Phase.TheVariants.{Ready, Blocked};
-ghost use Rattle.job_runner.specs.Jumps.{IsWaking, NoneSees, WakesOnly};
+ghost use Rattle.job_runner.specs.Jumps.{IsNextTick, IsWaking, PassesLimit, NoneSees, WakesOnly};
 ghost use Rattle.job_runner.specs.Phases.{phase_of};
 ghost use Rattle.job_runner.specs.Runs.{IsLate};
 ghost use Rattle.job_runner.specs.Shelves.{AreShelved, IsSameJob, IsUnderway};
@@ -12,9 +12,9 @@ use batch_commit::Call;
 use std::alloc::AllocError;
 
 impl<'a> Runner<'a> {
-    /// The clock jumps to the next tick in which a task goes on, and whoever is due there or sees a cancellation is ready. The
-    /// caller sees to it that every task is blocked. `Limit` exactly where that tick is past the limit, and then the job's
-    /// meaning ends later; otherwise want of memory is the only error.
+    /// The clock jumps to the next tick in which a task goes on: the first in which a sleeper is due, or sees a cancellation.
+    /// Whoever does is ready. The caller sees to it that every task is blocked. `Limit` exactly where that tick is past the
+    /// limit, and then the job's meaning ends later; otherwise want of memory is the only error.
     pub fn jump(self) -> Result<Runner<'a>, RunFault>
         requires underway { IsUnderway self }
         requires blocked { phase_of self ≡ Blocked }
@@ -22,6 +22,8 @@ impl<'a> Runner<'a> {
         ensures ready { IfOk result (λ r. phase_of r ≡ Ready) }
         ensures same { IfOk result (IsSameJob self.entry) }
         ensures turns { IfOk result (λ r. r.turns ≡ self.entry.turns) }
+        ensures tick { IfOk result (λ r. IsNextTick self.entry r.world.tick) }
+        ensures limit { IfErr result (PassesLimit self.entry) }
         ensures late { IfErr result (IsLate self.entry.job.now self.entry.input.now self.entry.limit) }
     {
         let mut runner = self;

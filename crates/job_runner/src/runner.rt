@@ -8,9 +8,10 @@ ghost use Rattle.task_roster.specs.Roster.{running_at, many, IsRoster};
 ghost use Rattle.job_runner.specs.declared.limits.TheConstants.{GREATEST_LIMIT};
 ghost use Rattle.job_runner.specs.declared.runner.Phase.TheVariants.{Ready, Over};
 ghost use Rattle.job_runner.specs.Phases.{phase_of};
-ghost use Rattle.job_runner.specs.Runs.{IsRun, turns_of};
+ghost use Rattle.job_runner.specs.Runs.{IsRun, FollowsEach, turns_of};
 ghost use Rattle.job_runner.specs.Shelves.{IsGoing, IsSameJob, IsUnderway, NoneChanged};
 ghost use Rattle.job_runner.specs.Steps.{SeesOnly, TakesStarted, IsStopping};
+ghost use Rattle.job_runner.specs.Turns.{GoesOn, TakesTurn, Commits};
 
 use crate::finished::Run;
 use autojump_clock::{MockClock, TaskId};
@@ -118,8 +119,8 @@ impl<'a> Runner<'a> {
         self.batch.requests()
     }
 
-    /// Each ready task has one turn, in the order that the picker picks. The caller sees to it that each answer is that of the
-    /// request at its place. Want of memory is the only error.
+    /// Each ready task has one turn, in the order that the picker picks, and the tick stays. The caller sees to it that each
+    /// answer is that of the request at its place. Want of memory is the only error.
     pub fn commit<P: Pick>(
         self,
         answers: Vec<Answer<'a>>,
@@ -130,6 +131,7 @@ impl<'a> Runner<'a> {
         ensures underway { IfOk result IsUnderway }
         ensures same { IfOk result (IsSameJob self.entry) }
         ensures turns { IfOk result (λ r. r.turns ≡ self.entry.turns + length self.entry.batch.current) }
+        ensures commits { IfOk result (λ r. Commits P.picks self.entry r answers.entry.items picker.old picker.new) }
     {
         let mut runner = self;
         runner.batch.place(answers);
@@ -161,13 +163,15 @@ impl<'a> Runner<'a> {
         requires going { IsGoing (Some id) self.old }
         requires goes { IsSomeAnd (running_at self.old.roster id) (λ x. MayGo self.old.world x.task wake) }
         ensures going { OnOk result (IsGoing None self.new) }
+        ensures takes { OnOk result (TakesTurn id wake.entry self.old self.new) }
         ensures same { OnOk result (IsSameJob self.old self.new) }
         ensures current { OnOk result (self.new.batch.current ≡ self.old.batch.current) }
         ensures turns { OnOk result (self.new.turns ≡ self.old.turns + 1) }
     {
         let row = self.roster.row(id);
         let stop = self.go(id, row, wake)?;
-        self.stopped(id, row, stop)
+        self.stopped(id, row, stop)?;
+        Ok(())
     }
 
     // The task under an id, of that row, goes on to its next stop, and those that it started are ready to begin.
@@ -176,6 +180,7 @@ impl<'a> Runner<'a> {
         requires goes { IsSomeAnd (running_at self.old.roster id) (λ x. MayGo self.old.world x.task wake) }
         requires row { IsSomeAnd (running_at self.old.roster id) (λ x. x.row ≡ row) }
         ensures stopping { IfOk result (λ stop. IsStopping id row stop self.new) }
+        ensures goes { IfOk result (λ stop. GoesOn id wake.entry stop self.old self.new) }
         ensures same { OnOk result (IsSameJob self.old self.new) }
         ensures current { OnOk result (self.new.batch.current ≡ self.old.batch.current) }
         ensures turns { OnOk result (self.new.turns ≡ self.old.turns + 1) }
@@ -201,11 +206,13 @@ impl<'a> Runner<'a> {
         Ok(())
     }
 
-    /// The records of a run that is over. Want of memory is the only error.
+    /// The records of a run that is over: those of the job's meaning, which are those of following whichever settled table.
+    /// Want of memory is the only error.
     pub fn finish(self) -> Result<Run<'a>, AllocError>
         requires underway { IsUnderway self }
         requires over { phase_of self ≡ Over }
         ensures run { IfOk result (IsRun self.entry.job.now self.entry.input.now) }
+        ensures follows { IfOk result (FollowsEach self.entry.job.now self.entry.input.now) }
         ensures in_time { IfOk result (λ _. meaning_end self.entry.job.now self.entry.input.now ≤ self.entry.limit) }
         ensures turns { IfOk result (λ run. turns_of run ≡ self.entry.turns) }
     {

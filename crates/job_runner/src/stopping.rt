@@ -6,6 +6,7 @@ ghost use Rattle.task_machine.specs.declared.stop.Stop.TheVariants.{Ask, Sleep, 
 ghost use Rattle.task_roster.specs.Roster.{parent_of, id_of, many};
 ghost use Rattle.job_runner.specs.Shelves.{IsGoing};
 ghost use Rattle.job_runner.specs.Steps.{IsStopping, IsSameTurn, TellsEnd};
+ghost use Rattle.job_runner.specs.Turns.{ComesOf};
 
 use crate::runner::Runner;
 use autojump_clock::TaskId;
@@ -26,6 +27,7 @@ impl<'a> Runner<'a> {
     ) -> Result<(), AllocError>
         requires { IsStopping id row stop self.old }
         ensures going { OnOk result (IsGoing None self.new) }
+        ensures comes { OnOk result (ComesOf id stop.entry self.old self.new) }
         ensures same { OnOk result (IsSameTurn self.old self.new) }
     {
         match stop {
@@ -41,6 +43,7 @@ impl<'a> Runner<'a> {
     fn asks(&mut self, id: TaskId, row: usize, request: Request<'a>) -> Result<(), AllocError>
         requires { IsStopping id row (Ask request) self.old }
         ensures going { OnOk result (IsGoing None self.new) }
+        ensures comes { OnOk result (ComesOf id (Ask request.entry) self.old self.new) }
         ensures same { OnOk result (IsSameTurn self.old self.new) }
     {
         let _row = row;
@@ -52,6 +55,7 @@ impl<'a> Runner<'a> {
     fn falls_asleep(&mut self, id: TaskId, row: usize, due: u64) -> Result<(), AllocError>
         requires { IsStopping id row (Sleep due) self.old }
         ensures going { OnOk result (IsGoing None self.new) }
+        ensures comes { OnOk result (ComesOf id (Sleep due) self.old self.new) }
         ensures same { OnOk result (IsSameTurn self.old self.new) }
     {
         let _row = row;
@@ -67,6 +71,7 @@ impl<'a> Runner<'a> {
     fn waits(&mut self, id: TaskId, row: usize, nursery: NurseryId) -> Result<(), AllocError>
         requires { IsStopping id row (Wait nursery) self.old }
         ensures going { OnOk result (IsGoing None self.new) }
+        ensures comes { OnOk result (ComesOf id (Wait nursery) self.old self.new) }
         ensures same { OnOk result (IsSameTurn self.old self.new) }
     {
         let _row = row;
@@ -80,6 +85,7 @@ impl<'a> Runner<'a> {
     fn ends(&mut self, id: TaskId, row: usize, exc: Option<Exc>) -> Result<(), AllocError>
         requires { IsStopping id row (Ended exc) self.old }
         ensures going { OnOk result (IsGoing None self.new) }
+        ensures comes { OnOk result (ComesOf id (Ended exc) self.old self.new) }
         ensures same { OnOk result (IsSameTurn self.old self.new) }
     {
         let home = self.roster.home(id);

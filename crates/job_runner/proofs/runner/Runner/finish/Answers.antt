@@ -1,5 +1,5 @@
 use Rattle.std.proofs.Common.{ap, ◌∙◌}
-use Rattle.job_runner.proofs.Finishing.{all_ended, ends_in_time, is_run}
+use Rattle.job_runner.proofs.Finishing.{all_ended, ends_in_time, follows_each, is_run}
 use Rattle.job_runner.proofs.runner.Runner.finish.Goals as goal
 
 pub records_of-requires-clause-ended : goal.records_of-requires-clause-ended
@@ -17,3 +17,12 @@ returns-clause-in_time c =
     ends_in_time c.args.self c.requires.underway c.requires.over c.into_rows.result.items (ap (λ v. v.items) c.into_rows.ensures)
     c.in_ok-records.records.items c.in_ok-records.froms.items
     c.in_ok-records.ensures
+
+pub returns-clause-follows : goal.returns-clause-follows
+returns-clause-follows c =
+    follows_each c.args.self c.requires.underway c.requires.over c.into_rows.result.items (ap (λ v. v.items) c.into_rows.ensures)
+    c.in_ok-records.records.items c.in_ok-records.froms.items
+    c.in_ok-records.ensures c.new.result
+    (is_run c.args.self c.requires.underway c.requires.over c.into_rows.result.items (ap (λ v. v.items) c.into_rows.ensures)
+    c.in_ok-records.records.items c.in_ok-records.froms.items
+    c.in_ok-records.ensures c.new.result (c.new.ensures.name ∙ c.name.ensures) c.new.ensures.records c.new.ensures.froms)

@@ -1,5 +1,6 @@
 use Rattle.std.proofs.Common.{arith}
 use Rattle.job_runner.proofs.Turning.{may_turn, turns_few, row_within, goes_stopping, scopes_sound}
+use Rattle.job_runner.proofs.Turns.{goes_on}
 use Rattle.job_runner.proofs.runner.Runner.go.Goals as goal
 
 pub turn-requires-clause-may : goal.turn-requires-clause-may
@@ -24,3 +25,8 @@ returns-clause-stopping c =
     c.in_ok-stop.stop c.requires.going c.requires.goes c.requires.row
     c.in_ok-stop.ensures.turn (scopes_sound c.scopes.result.now c.args.self.now.world.scopes c.scopes.ensures e.own e.chain e.apart)
     (scopes_sound c.scopes-2.result.now c.turn.new.world.scopes c.scopes-2.ensures f.own f.chain f.apart) c.in_ok-take_started.ensures
+
+pub returns-clause-goes : goal.returns-clause-goes
+returns-clause-goes c =
+    goes_on c.args.id c.args.row c.args.self.now c.take_started.new.self c.turn.new.self c.turn.new.world c.args.wake c.in_ok-stop.stop
+    c.requires.row c.in_ok-stop.ensures.turn c.in_ok-take_started.ensures

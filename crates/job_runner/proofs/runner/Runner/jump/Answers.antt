@@ -1,5 +1,7 @@
-use Rattle.job_runner.proofs.Landing.{none_due, some_timer, next_cancel_later, past_limit, no_earlier, jumped, both_woken, landed, ready_some}
+use Rattle.job_runner.proofs.Landing.{none_due, some_timer, next_cancel_later, past_limit, past_next, next_tick, no_earlier, jumped, both_woken, landed, ready_some}
+use Rattle.std.proofs.Common.{refl, ap, ◌∙◌}
 use Rattle.task_roster.specs.Roster.{gone_of}
+use Rattle.job_runner.specs.declared.runner.Runner.{Runner}
 use Rattle.job_runner.proofs.runner.Runner.jump.Goals as goal
 
 pub jump-requires-clause-none_due : goal.jump-requires-clause-none_due
@@ -40,3 +42,13 @@ returns-clause-underway c =
 pub returns-clause-ready : goal.returns-clause-ready
 returns-clause-ready c = ready_some c.turn_over.new.self.current c.wake_due.new.self.batch.next (gone_of c.wake_due.new.self.roster 0)
     c.turn_over.ensures.current c.in_ok-wake_due-in-To.ensures.some
+
+pub returns-in-Limit-clause-limit : goal.returns-in-Limit-clause-limit
+returns-in-Limit-clause-limit c = past_next c.args.self c.requires.underway c.requires.blocked c.first-next_cancel.result
+    c.first-next_cancel.ensures c.jump.new.self c.args.self.limit refl c.in-Limit.ensures
+
+pub returns-clause-tick : goal.returns-clause-tick
+returns-clause-tick c =
+    next_tick c.args.self c.requires.underway c.requires.blocked c.first-next_cancel.result c.first-next_cancel.ensures c.jump.new.self
+    c.in-To.tick c.in-To.ensures c.set_now.new.self c.set_now.ensures c.wake_due.new.self
+    (ap (λ (x : Runner). x.world) c.in_ok-wake_due-in-To.ensures.rest ∙ ap (λ (x : Runner). x.world) c.in_ok-wake_seen-in-To.ensures.rest)

@@ -1,0 +1,96 @@
+-- The turns of a batch, one after the other.
+use Rattle.std.proofs.Common.{◌≡◌, ℕ, ◌+◌, Option, List, [], map, refl, ap, sym, ◌∙◌, subst}
+use Rattle.std.specs.Prelude.{IsSomeAnd}
+use Rattle.exc_groups.specs.Exceptions.{Exc}
+use Rattle.exc_groups.specs.declared.exc.Exc as held
+use Rattle.batch_commit.specs.Batch.{Batches, HandsOut}
+use Rattle.batch_commit.specs.declared.entry.Entry.{Entry}
+use Rattle.batch_commit.specs.Entries.{Added, placed, unplaced}
+use Rattle.line_kernels.specs.declared.answers.Answer.{Answer}
+use Rattle.task_machine.specs.declared.stop.Stop.{Stop}
+use Rattle.task_machine.specs.declared.stop.Stop.TheVariants.{Ask, Sleep, Wait, Ended}
+use Rattle.task_machine.specs.declared.stop.Wake.{Wake}
+use Rattle.task_machine.specs.declared.world.World.{World}
+use Rattle.task_roster.specs.declared.roster.Roster.{Roster}
+use Rattle.task_roster.specs.declared.roster.Running.{Running}
+use Rattle.task_roster.specs.Roster.{running_at, HasTurn, Ends}
+use Rattle.job_runner.specs.declared.runner.Runner.{Runner}
+use Rattle.job_runner.specs.Steps.{TakesStarted, TellsEnd, SeesOnly}
+use Rattle.job_runner.specs.Turns.{GoesOn, IsSameCrew, ComesOf, TakesTurn, TakesTurns, no_turn, and_turn, with_answers, Commits}
+use Rattle.job_runner.proofs.Turning.{row_is}
+
+-- a task that had its turn, whose started tasks were taken, went on
+pub goes_on : (id row : ℕ) (r new : Runner) (ro : Roster) (w : World) (wake : Wake) (stop : Stop) →
+    IsSomeAnd (running_at r.roster id) (λ (x : Running). x.row ≡ row) → HasTurn r.roster ro r.world w id wake stop →
+    TakesStarted (record r { world = w; roster = ro; turns = r.turns + 1 }) new row → GoesOn id wake stop r new
+goes_on id row r new ro w wake stop at turn takes =
+    record {
+      roster = ro;
+      world = w;
+      turn = turn;
+      started =
+          subst (λ (n : ℕ). TakesStarted (record r { world = w; roster = ro; turns = r.turns + 1 }) new n)
+          (sym (row_is id row r ro w wake stop at turn)) takes;
+    }
+
+-- a task that has ended left, and its nursery was told
+pub told_comes : (r new : Runner) (ro : Roster) (id : ℕ) (exc : Option held.Exc) (nursery place : ℕ) (told : Option Exc) (waiter : ℕ) →
+    Ends r.roster ro id r.world.tick exc → TellsEnd (record r { roster = ro }) new nursery place told waiter →
+    ComesOf id (Ended exc) r new
+told_comes r new ro id exc nursery place told waiter ends tells = (
+  subst (λ (x : Roster). Ends r.roster x id r.world.tick exc) (sym (ap (λ (x : Runner). x.roster) tells.rest)) ends,
+  ap (λ (x : Runner). x.world) tells.rest,
+)
+
+-- ---- the tick stays
+
+-- what comes of a stop keeps the tick
+comes_tick : (id : ℕ) (stop : Stop) (old new : Runner) → ComesOf id stop old new → new.world.tick ≡ old.world.tick
+comes_tick id (Ask request) old new h = ap (λ (w : World). w.tick) h.1
+comes_tick id (Sleep due) old new h = ap (λ (w : World). w.tick) h.1
+comes_tick id (Wait nursery) old new h = ap (λ (w : World). w.tick) h.1
+comes_tick id (Ended exc) old new h = ap (λ (w : World). w.tick) h.1
+
+turn_tick : (id : ℕ) (wake : Wake) (old new : Runner) → TakesTurn id wake old new → new.world.tick ≡ old.world.tick
+turn_tick id wake old new h =
+    comes_tick id h.stop h.went new h.stopped ∙ ap (λ (w : World). w.tick) h.goes.started.world ∙ ap (λ (w : World). w.tick) h.goes.turn.world
+
+turns_tick : {P : Type 0} (picks : P → ℕ → ℕ → P → Type 0) (old new : Runner) (before after : P) → TakesTurns picks old before new after →
+    new.world.tick ≡ old.world.tick
+turns_tick picks old new before after (no_turn r p) = refl
+turns_tick picks old new before after (and_turn first last next p q s batch id wake turns out takes) =
+    turn_tick id wake (record last { batch = batch }) next takes ∙ turns_tick picks first last p q turns
+
+-- ---- the batch is over
+
+-- once its answers are placed no task had its turn yet
+pub first_turns : {P : Type 0} (picks : P → ℕ → ℕ → P → Type 0) (r : Runner) (b : Batches) (answers : List Answer) (picker : P) →
+    b.current ≡ placed r.batch.current answers → b.next ≡ r.batch.next →
+    TakesTurns picks (with_answers r answers) picker (record r { batch = b }) picker
+first_turns picks r b answers picker current next =
+    subst (λ (x : Batches). TakesTurns picks (with_answers r answers) picker (record r { batch = x }) picker)
+    (sym (same b current next)) (no_turn (with_answers r answers) picker)
+  where
+    same : (x : Batches) → x.current ≡ placed r.batch.current answers → x.next ≡ r.batch.next →
+        x ≡ record { current = placed r.batch.current answers; next = r.batch.next }
+    same x e f =
+        ap (λ (es : List Entry). record { current = es; next = x.next }) e
+        ∙ ap (λ (xs : List Added). record { current = placed r.batch.current answers; next = xs }) f
+
+-- and once none is left every entry had one
+pub all_turns : {P : Type 0} (picks : P → ℕ → ℕ → P → Type 0) (was r told : Runner) (answers : List Answer) (left b : Batches)
+    (before after : P) → TakesTurns picks (with_answers was answers) before r after → left ≡ r.batch → r.batch.current ≡ [] →
+    SeesOnly (record r { batch = left }) told → b.current ≡ map unplaced told.batch.next →
+    Commits picks was (record told { batch = b }) answers before after
+all_turns picks was r told answers left b before after turns same over only current =
+    let world : told.world ≡ record r.world { scopes = record (r.world.scopes) { changed = told.world.scopes.changed } } =
+    ap (λ (x : Runner). x.world) only in
+    record {
+      last = r;
+      turns = turns;
+      none_left = over;
+      roster = ap (λ (x : Runner). x.roster) only;
+      world = world;
+      ready = current ∙ ap (λ (x : Batches). map unplaced x.next) (ap (λ (x : Runner). x.batch) only ∙ same);
+      tick = ap (λ (w : World). w.tick) world ∙ turns_tick picks (with_answers was answers) r before after turns;
+    }

@@ -1,0 +1,65 @@
+-- The words in which worked stories are written, and one of them, by computing: a sibling fails, and its cleanup has a shield.
+use Rattle.std.specs.Prelude.{◌≡◌, ℕ, None, Some, List, [], ◌∷◌, ◌++◌, codes, refl, true, false}
+use Rattle.std.specs.Fmt.{digits}
+use Rattle.job_tree.specs.declared.deadline.Deadline.TheVariants.{Never, After}
+use Rattle.job_tree.specs.declared.format.Format.TheVariants.{Two}
+use Rattle.job_tree.specs.Tree.{Step, sleep, forever, raise, Tree}
+use Rattle.job_meaning.specs.Meaning.{meaning, meaning_table}
+use Rattle.job_meaning.specs.Walk.{walk, and_then, sleeping, showing, needing, cancelling, block, signed, gathered, child, handled, cleaned}
+use Rattle.job_meaning.specs.Examples.{block_of, nursery_of, start_of, timed_shield, try_finally}
+use Rattle.job_story.specs.Tell.{tell, then_tale, tell_sleep, tell_lines, tell_need, tell_raise, tell_cancel, tell_block, tell_wait, tell_gathered, tell_child, tell_handled, tell_cleaned, tale_by}
+use Rattle.job_story.specs.Sentences.{story_text}
+
+-- a job of that name
+abbrev pub job_named : List ℕ → List Step → Tree
+job_named name ss = record { format = Two; name = name; steps = block_of ss }
+
+-- each of these on a line
+abbrev pub lines_of : List (List ℕ) → List ℕ
+lines_of [] = []
+lines_of (l ∷ ls) = l ++ codes "\n" ++ lines_of ls
+
+-- the story of the meaning
+unfoldable pub told : Tree → List ℕ → List ℕ
+unfolding meaning walk and_then sleeping showing needing cancelling block signed gathered child handled cleaned tell then_tale tell_sleep tell_lines tell_need tell_raise tell_cancel tell_block tell_wait tell_gathered tell_child tell_handled tell_cleaned tale_by
+told job input = story_text (meaning_table job input) job input
+
+-- job supervisor { nursery workers {
+--   start reader { try { forever; } finally { scope flush after 5 shield { sleep 3; } } }
+--   start writer { sleep 4; raise DiskFull; }
+-- } }
+abbrev pub supervisor : Tree
+supervisor =
+    job_named (codes "supervisor")
+    (nursery_of (codes "workers")
+    (start_of (codes "reader") (try_finally (forever ∷ []) (timed_shield (codes "flush") 5 (sleep 3 ∷ []) ∷ []) ∷ [])
+    ∷ start_of (codes "writer") (sleep 4 ∷ raise (codes "DiskFull") ∷ [])
+    ∷ []) ∷ [])
+
+pub a_sibling_fails :
+    told supervisor []
+    ≡ lines_of
+    (codes "tick 0"
+    ∷ codes "  supervisor  starts"
+    ∷ codes "  supervisor  enters nursery workers"
+    ∷ codes "  reader      starts in nursery workers"
+    ∷ codes "  reader      sleeps forever"
+    ∷ codes "  writer      starts in nursery workers"
+    ∷ codes "  writer      sleeps until 4"
+    ∷ codes "  supervisor  waits for nursery workers"
+    ∷ codes "tick 4"
+    ∷ codes "  writer      raises DiskFull"
+    ∷ codes "  writer      ends: raised DiskFull(writer@4); nursery workers is cancelled from 5"
+    ∷ codes "tick 5"
+    ∷ codes "  reader      is cancelled while sleeping since 0 by nursery workers (writer failed at 4)"
+    ∷ codes "  reader      runs cleanup after Cancelled"
+    ∷ codes "  reader      enters scope flush (deadline 10, shielded)"
+    ∷ codes "  reader      sleeps until 8"
+    ∷ codes "tick 8"
+    ∷ codes "  reader      leaves scope flush: completed"
+    ∷ codes "  reader      ends: cancelled"
+    ∷ codes "  supervisor  leaves nursery workers: cancellation caught, workers[DiskFull(writer@4)] propagates"
+    ∷ codes "  supervisor  ends: raised workers[DiskFull(writer@4)]"
+    ∷ [])
+unfolding told digits
+a_sibling_fails = refl

@@ -1,0 +1,20 @@
+-- The laws of stories. They are the contract of a function that does nothing.
+use Rattle.std.specs.Prelude.{◌≡◌, ℕ, List}
+use Rattle.job_tree.specs.Tree.{Tree}
+use Rattle.job_tree.specs.Names.{GivesNamesOnce}
+use Rattle.job_meaning.specs.Log.{Table}
+use Rattle.job_meaning.specs.Meaning.{root_log, meaning, meaning_table}
+use Rattle.job_meaning.specs.Follow.{follow, IsSettled}
+use Rattle.job_story.specs.Story.{result_of, erased}
+use Rattle.job_story.specs.Tell.{tale_by, story_by}
+
+-- Telling by a table is following it: with all erased that a log does not hold, its story is the log.
+abbrev pub TellingIsFollowing : Type 0
+TellingIsFollowing = (table : Table) (job : Tree) (input : List ℕ) → result_of (tale_by table job input) ≡ follow table job input
+
+-- So the story by a settled table is true: its starts, ends, outcomes and entries are the records of the meaning, and its deadlines
+-- and signs give the table of the meaning.
+abbrev pub StoriesAreTrue : Type 0
+StoriesAreTrue =
+    (table : Table) (job : Tree) (input : List ℕ) → GivesNamesOnce job → IsSettled table job input →
+    erased (story_by table job input) ≡ root_log job (meaning job input)

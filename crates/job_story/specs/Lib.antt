@@ -1,0 +1,11 @@
+pub mod Story
+pub mod Tell
+pub mod Events
+pub mod Causes
+pub mod Sentences
+pub mod Limit
+pub mod Laws
+pub mod Examples
+pub mod ExamplesCleanups
+pub mod ExamplesCauses
+pub mod ExamplesLimit

@@ -1,0 +1,73 @@
+-- The story up to a limit, of a job that does not end by it.
+use Rattle.std.specs.Prelude.{ℕ, Bool, true, false, ◌&&◌, ◌||◌, not, Option, Some, None, List, [], ◌∷◌, ◌++◌, codes, decimal, length, nat_le, if◌then◌else◌}
+use Rattle.exc_groups.specs.Exceptions.{Label}
+use Rattle.job_tree.specs.Tree.{Tree}
+use Rattle.job_meaning.specs.Log.{Table, same_label}
+use Rattle.job_meaning.specs.Meaning.{root_label}
+use Rattle.job_story.specs.Story.{Happening, enters, sleeps, is_cancelled, finds, misses, raises, cancels, handles, cleans, replaces, waits, leaves}
+use Rattle.job_story.specs.Tell.{story_by}
+use Rattle.job_story.specs.Events.{What, starts, happens, ends, Event, events_of, in_order}
+use Rattle.job_story.specs.Sentences.{label_text, until_text, padded, widest, lines_text}
+
+-- the events up to a tick
+abbrev pub by_limit : ℕ → List Event → List Event
+by_limit limit [] = []
+by_limit limit (e ∷ es) = if nat_le e.tick limit then e ∷ by_limit limit es else by_limit limit es
+
+-- ---- who still runs
+
+abbrev pub is_end : What → Bool
+is_end (starts home lent) = false
+is_end (happens what) = false
+is_end (ends home exc) = true
+
+-- whether a task has ended, by these events
+abbrev pub has_ended : Label → List Event → Bool
+has_ended l [] = false
+has_ended l (e ∷ es) = (is_end e.what && same_label l e.task) || has_ended l es
+
+abbrev pub start_if : Bool → Label → List Label → List Label
+start_if true l ls = l ∷ ls
+start_if false l ls = ls
+
+abbrev pub is_start : What → Bool
+is_start (starts home lent) = true
+is_start (happens what) = false
+is_start (ends home exc) = false
+
+-- the tasks that were started and have not ended, in the order of the events
+abbrev pub running_in : List Event → List Event → List Label
+running_in all [] = []
+running_in all (e ∷ es) = start_if (is_start e.what && not (has_ended e.task all)) e.task (running_in all es)
+
+-- ---- what they do
+
+-- A task that has not ended sleeps, or waits for a nursery.
+abbrev pub doing_text : ℕ → What → List ℕ
+doing_text t (happens (sleeps until)) = codes "sleeping " ++ until_text until ++ codes " since " ++ decimal t
+doing_text t (happens (waits nursery exc)) = codes "waiting for nursery " ++ label_text nursery ++ codes " since " ++ decimal t
+doing_text t _ = []
+
+-- by the last thing that happened to it
+abbrev pub last_of : Label → List Event → List ℕ → List ℕ
+last_of l [] text = text
+last_of l (e ∷ es) text = last_of l es (if same_label l e.task then doing_text e.tick e.what else text)
+
+abbrev pub running_text : ℕ → List Event → List Label → List ℕ
+running_text width es [] = []
+running_text width es (l ∷ ls) =
+    codes "  " ++ padded width (label_text l) ++ codes "  " ++ last_of l es [] ++ codes "\n" ++ running_text width es ls
+
+-- ---- the text
+
+-- the events in order, and those of the walk
+abbrev pub limited_text : Table → ℕ → List Event → List Event → List ℕ
+limited_text table limit sorted walked =
+    lines_text table sorted (widest sorted) None sorted ++ codes "limit " ++ decimal limit ++ codes "\n"
+    ++ running_text (widest sorted) sorted (running_in walked walked)
+
+-- the story of a job by a table up to a limit, and what the tasks do that have not ended by then
+abbrev pub story_to : Table → ℕ → Tree → List ℕ → List ℕ
+story_to table limit job input =
+    let walked = by_limit limit (events_of (root_label job.name) (story_by table job input)) in
+    limited_text table limit (in_order walked) walked

@@ -1,0 +1,183 @@
+-- The text of a story.
+use Rattle.std.specs.Prelude.{ℕ, zero, suc, ◌+◌, ◌-◌, ◌==◌, Bool, true, false, Option, Some, None, List, [], ◌∷◌, ◌++◌, length, codes, decimal, max, if◌then◌else◌, replicate}
+use Rattle.exc_groups.specs.Exceptions.{Label, Whose, by_nursery, by_handler, Exc, cancelled, raised, too_slow, group, Excs, no_parts, part}
+use Rattle.exc_groups.specs.Split.{is_cancelled as by_cancelled, drop}
+use Rattle.cancel_scopes.specs.Sight.{Tick}
+use Rattle.job_tree.specs.Tree.{Tree}
+use Rattle.job_meaning.specs.Log.{Table}
+use Rattle.job_meaning.specs.Meaning.{root_label}
+use Rattle.job_meaning.specs.Walk.{Kind, a_scope, a_nursery}
+use Rattle.job_story.specs.Story.{Happening, enters, sleeps, is_cancelled, finds, misses, raises, cancels, handles, cleans, replaces, waits, leaves}
+use Rattle.job_story.specs.Tell.{is_from, story_by}
+use Rattle.job_story.specs.Events.{What, starts, happens, ends, Event, events_of, in_order}
+use Rattle.job_story.specs.Causes.{Cause, by_deadline, by_task, by_failure, by_cancellation, Entering, entering_of, cause_of}
+
+-- ---- labels and exceptions, as in a report
+
+abbrev pub indices_text : List ℕ → List ℕ
+indices_text [] = []
+indices_text (i ∷ is) = codes "." ++ decimal i ++ indices_text is
+
+abbrev pub label_text : Label → List ℕ
+label_text l = l.name ++ indices_text l.indices
+
+abbrev pub at_text : Label → ℕ → List ℕ
+at_text label tick = codes "(" ++ label_text label ++ codes "@" ++ decimal tick ++ codes ")"
+
+abbrev pub whose_text : Whose → List ℕ
+whose_text (by_nursery label) = label_text label
+whose_text by_handler = codes "*"
+
+abbrev mutual
+  pub exc_text : Exc → List ℕ
+  exc_text cancelled = codes "Cancelled"
+  exc_text (raised name task tick) = name ++ at_text task tick
+  exc_text (too_slow scope tick) = codes "TooSlow" ++ at_text scope tick
+  exc_text (group whose parts) = whose_text whose ++ codes "[" ++ parts_text parts ++ codes "]"
+
+  pub parts_text : Excs → List ℕ
+  parts_text no_parts = []
+  parts_text (part e es) = exc_text e ++ more_text es
+
+  pub more_text : Excs → List ℕ
+  more_text no_parts = []
+  more_text (part e es) = codes ", " ++ exc_text e ++ more_text es
+
+-- ---- sentences
+
+abbrev pub kind_text : Kind → List ℕ
+kind_text (a_scope fail) = codes "scope "
+kind_text a_nursery = codes "nursery "
+
+-- what is told of an exception, where there is one
+abbrev pub with_exc : List ℕ → Option Exc → List ℕ → List ℕ
+with_exc before None after = []
+with_exc before (Some e) after = before ++ exc_text e ++ after
+
+abbrev pub entering_text : Tick → Bool → List ℕ
+entering_text None false = []
+entering_text None true = codes " (shielded)"
+entering_text (Some d) false = codes " (deadline " ++ decimal d ++ codes ")"
+entering_text (Some d) true = codes " (deadline " ++ decimal d ++ codes ", shielded)"
+
+abbrev pub until_text : Tick → List ℕ
+until_text None = codes "forever"
+until_text (Some t) = codes "until " ++ decimal t
+
+abbrev pub since_text : Tick → List ℕ
+since_text None = codes " at a checkpoint"
+since_text (Some t) = codes " while sleeping since " ++ decimal t
+
+abbrev pub cleanup_text : Bool → List ℕ
+cleanup_text true = codes " during cleanup"
+cleanup_text false = []
+
+abbrev pub cause_text : Option Cause → List ℕ
+cause_text None = []
+cause_text (Some by_deadline) = codes " (deadline)"
+cause_text (Some (by_task task t)) = codes " (cancelled by " ++ label_text task ++ codes " at " ++ decimal t ++ codes ")"
+cause_text (Some (by_failure task t)) = codes " (" ++ label_text task ++ codes " failed at " ++ decimal t ++ codes ")"
+cause_text (Some (by_cancellation task t)) = codes " (" ++ label_text task ++ codes " was cancelled at " ++ decimal t ++ codes ")"
+
+-- a scope or nursery, with the word for what it is
+abbrev pub entered_text : Option Entering → Label → List ℕ
+entered_text None l = label_text l
+entered_text (Some e) l = kind_text e.kind ++ label_text l
+
+abbrev pub count_text : ℕ → List ℕ
+count_text n = decimal n ++ (if n == 1 then codes " line" else codes " lines")
+
+-- what goes on where a cancellation was caught: what is left of the exception, or a `TooSlow` where nothing is
+abbrev pub caught_text : Option Exc → Option Exc → List ℕ
+caught_text left None = []
+caught_text None (Some e) = codes ", raises " ++ exc_text e
+caught_text (Some x) (Some e) = codes ", " ++ exc_text e ++ codes " propagates"
+
+abbrev pub leaving_text : Option Exc → Bool → Option Exc → List ℕ
+leaving_text None caught outside = codes "completed"
+leaving_text (Some e) false outside = exc_text e ++ codes " propagates"
+leaving_text (Some e) true outside = codes "cancellation caught" ++ caught_text (drop by_cancelled e) outside
+
+abbrev pub end_text : Option Exc → List ℕ
+end_text None = codes "done"
+end_text (Some cancelled) = codes "cancelled"
+end_text (Some e) = codes "raised " ++ exc_text e
+
+-- who ends with an exception cancels its nursery from the next tick on, if the table says so
+abbrev pub sign_text : Table → Option Label → Option Exc → ℕ → List ℕ
+sign_text table None e t = []
+sign_text table (Some l) None t = []
+sign_text table (Some l) (Some e) t =
+    if is_from (table l) (t + 1) then codes "; nursery " ++ label_text l ++ codes " is cancelled from " ++ decimal (t + 1) else []
+
+-- a `cancel` of what is cancelled already changes nothing
+abbrev pub cancel_text : Table → List Event → Option Label → ℕ → List ℕ
+cancel_text table es None t = []
+cancel_text table es (Some l) t =
+    codes "cancels " ++ entered_text (entering_of l es) l
+    ++ (if is_from (table l) (t + 1) then codes " from " ++ decimal (t + 1) else codes ", which is cancelled already")
+
+abbrev pub cancelled_text : Table → List Event → Option Label → List ℕ
+cancelled_text table es None = []
+cancelled_text table es (Some l) = codes " by " ++ entered_text (entering_of l es) l ++ cause_text (cause_of table es l)
+
+abbrev pub happening_text : Table → List Event → ℕ → Happening → List ℕ
+happening_text table es t (enters kind label deadline shield) =
+    codes "enters " ++ kind_text kind ++ label_text label ++ entering_text deadline shield
+happening_text table es t (sleeps until) = codes "sleeps " ++ until_text until
+happening_text table es t (is_cancelled by since in_cleanup) =
+    codes "is cancelled" ++ cleanup_text in_cleanup ++ since_text since ++ cancelled_text table es by
+happening_text table es t (finds lines) = codes "finds " ++ count_text (length lines)
+happening_text table es t (misses name) = codes "misses " ++ name
+happening_text table es t (raises name) = codes "raises " ++ name
+happening_text table es t (cancels label) = cancel_text table es label t
+happening_text table es t (handles matched rest) = codes "handles " ++ exc_text matched ++ with_exc (codes ", ") rest (codes " propagates")
+happening_text table es t (cleans exc) = codes "runs cleanup" ++ with_exc (codes " after ") exc []
+happening_text table es t (replaces lost fresh) = codes "replaces " ++ exc_text lost ++ codes " with " ++ exc_text fresh
+happening_text table es t (waits nursery exc) =
+    codes "waits for nursery " ++ label_text nursery ++ with_exc (codes " after ") exc [] ++ sign_text table (Some nursery) exc t
+happening_text table es t (leaves kind label inside caught outside) =
+    codes "leaves " ++ kind_text kind ++ label_text label ++ codes ": " ++ leaving_text inside caught outside
+
+abbrev pub home_text : Option Label → List ℕ
+home_text None = []
+home_text (Some l) = codes " in nursery " ++ label_text l
+
+abbrev pub what_text : Table → List Event → ℕ → What → List ℕ
+what_text table es t (starts home lent) = codes "starts" ++ home_text home
+what_text table es t (happens what) = happening_text table es t what
+what_text table es t (ends home exc) = codes "ends: " ++ end_text exc ++ sign_text table home exc t
+
+-- ---- lines
+
+-- the length of the longest label
+abbrev pub widest : List Event → ℕ
+widest [] = 0
+widest (e ∷ es) = max (length (label_text e.task)) (widest es)
+
+abbrev pub padded : ℕ → List ℕ → List ℕ
+padded width text = text ++ replicate (width - length text) 32
+
+abbrev pub line_text : Table → List Event → ℕ → Event → List ℕ
+line_text table es width e =
+    codes "  " ++ padded width (label_text e.task) ++ codes "  " ++ what_text table es e.tick e.what ++ codes "\n"
+
+-- a line for each tick in which something happens, and then one for each event
+abbrev pub tick_text : Tick → ℕ → List ℕ
+tick_text before t = if is_from before t then [] else codes "tick " ++ decimal t ++ codes "\n"
+
+abbrev pub lines_text : Table → List Event → ℕ → Tick → List Event → List ℕ
+lines_text table es width before [] = []
+lines_text table es width before (e ∷ rest) =
+    tick_text before e.tick ++ line_text table es width e ++ lines_text table es width (Some e.tick) rest
+
+-- the events of a job by a table, in order
+abbrev pub job_events : Table → Tree → List ℕ → List Event
+job_events table job input = in_order (events_of (root_label job.name) (story_by table job input))
+
+abbrev pub events_text : Table → List Event → List ℕ
+events_text table es = lines_text table es (widest es) None es
+
+-- the text of a job's story by a table
+abbrev pub story_text : Table → Tree → List ℕ → List ℕ
+story_text table job input = events_text table (job_events table job input)
