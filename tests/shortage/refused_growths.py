@@ -4,10 +4,10 @@
     python3 tests/shortage/refused_growths.py PROGRAM [CRATES]
 
 PROGRAM is the built executable, CRATES the folder of the crates with their built tests. It wants a C compiler for the shim that
-refuses (tests/shortage/refuse_growth.c), and Python 3.10. Of each job, with 1 and with 3 workers, the growth 0, 1, 2 and so on is refused until a run
-meets none: each time the program gives the job's own bytes and status, or `no memory`, status 5 and nothing on standard output. Where the growth that is refused is one
-of the system's for a thread, the others do its work, and the answer is the job's own; where it is one for the sentence that explains a
-refused text on standard error, the refusal stands without it.
+refuses (tests/shortage/refuse_growth.c), and Python 3.10. Of each job, with 1 and with 3 workers, the growth 0, 1, 2 and so on is
+refused until a run meets none: each time the program gives the job's own bytes and status, or `no memory`, status 5 and nothing on
+standard output. Where the growth that is refused is one of the system's for a thread, the others do its work, and the answer is the
+job's own; where it is one for the sentence that explains a refused text on standard error, the refusal stands without it.
 
 With CRATES the same is done with each crate's tests, each growth of each: each time a test passes, or ends with want of memory. The
 growths of a test are refused by several processes beside one another.
