@@ -116,7 +116,7 @@ WANT_OF_MEMORY = [b"AllocError", b"AllocFailed", b"NoMemory"]
 # What a test says that wants two threads at once, where the second could not be started.
 ALONE = b"assertion failed: gate."
 
-# How many processes share the growths of a test.
+# Into how many lanes the growths of a test are dealt, so that several processes share them.
 LANES = 8
 
 
