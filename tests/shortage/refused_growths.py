@@ -4,13 +4,13 @@
     python3 tests/shortage/refused_growths.py PROGRAM [CRATES]
 
 PROGRAM is the built executable, CRATES the folder of the crates with their built tests. It wants a C compiler for the shim that
-refuses (tests/shortage/refuse_growth.c), and Python 3.10. Of each job, with 1 and with 3 workers, the growth 0, 1, 2 and so on is refused until a run
-meets none: each time the program gives the job's own bytes and status, or `no memory`, status 5 and nothing on standard output. Where the growth that is refused is one
-of the system's for a thread, the others do its work, and the answer is the job's own; where it is one for the sentence that explains a
-refused text on standard error, the refusal stands without it.
+refuses (tests/shortage/refuse_growth.c), and Python 3.10. Of each job, with 1 and with 3 workers, the growth 0, 1, 2 and so on is
+refused until a run meets none: each time the program gives the job's own bytes and status, or `no memory`, status 5 and nothing on
+standard output. Where the growth that is refused is one of the system's for a thread, the others do its work, and the answer is the
+job's own; where it is one for the sentence that explains a refused text on standard error, the refusal stands without it.
 
-With CRATES the same is done with each crate's tests: each time a test passes, or ends with want of memory. Of a test with more than
-500 growths, one in a hundred is refused behind them.
+With CRATES the same is done with each crate's tests, each growth of each: each time a test passes, or ends with want of memory. The
+growths of a test are refused by several processes beside one another.
 """
 
 import glob
@@ -18,7 +18,8 @@ import os
 import subprocess
 import sys
 import tempfile
-from concurrent.futures import ThreadPoolExecutor
+import time
+from concurrent.futures import ProcessPoolExecutor
 
 HERE = os.path.dirname(os.path.abspath(__file__))
 TEN_BYTES = b"aa\nb\ncccc\n"
@@ -112,8 +113,11 @@ def refuse_each(shim, words, status, right, told):
 # What a test says that ends for want of memory.
 WANT_OF_MEMORY = [b"AllocError", b"AllocFailed", b"NoMemory"]
 
-# Growths that are refused of a test, before one in so many is.
-EACH, ONE_IN = 500, 100
+# What a test says that wants two threads at once, where the second could not be started.
+ALONE = b"assertion failed: gate."
+
+# Into how many lanes the growths of a test are dealt, so that several processes share them.
+LANES = 8
 
 
 def tests_of(crates):
@@ -123,61 +127,86 @@ def tests_of(crates):
         listed = subprocess.run([built, "--list"], cwd=folder, capture_output=True, check=True).stdout.decode()
         for line in listed.splitlines():
             name, colon, kind = line.rpartition(": ")
-            # That two threads run at once wants the second of them.
-            if kind == "test" and not name.endswith("_at_once"):
+            if kind == "test":
                 yield folder, built, name
 
 
-def refuse_in_test(shim, folder, built, name):
-    """Refuses growths of one test. Gives how many."""
-    growth, count = 0, 0
+def is_excused(name, status, told):
+    """Whether a test ended for want of the memory that was refused."""
+    if name.endswith("_at_once") and ALONE in told:
+        return True
+    return status == 101 and any(word in told for word in WANT_OF_MEMORY)
+
+
+def refuse_in_test(shim, test, lane):
+    """Refuses the growths of one test that fall to a lane, until a run meets none. Gives how many, and the seconds."""
+    folder, built, name = test
+    growth, began = lane, time.monotonic()
     while True:
-        was_refused, (got, out, err) = shim.run([built, name], growth, folder)
-        told = out + err
-        if got != 0 and not (was_refused and got == 101 and any(word in told for word in WANT_OF_MEMORY)):
-            raise Wrong(f"{os.path.basename(folder)} {name}, growth {growth}: status {got}, {told!r}")
+        was_refused, (status, out, err) = shim.run([built, name], growth, folder)
+        if status != 0 and not (was_refused and is_excused(name, status, out + err)):
+            raise Wrong(f"{os.path.basename(folder)} {name}, growth {growth}: status {status}, {out + err!r}")
         if not was_refused:
-            return count
-        growth, count = growth + (1 if growth < EACH else ONE_IN), count + 1
+            return growth // LANES, time.monotonic() - began
+        growth += LANES
 
 
-def refuse_in_tests(shim, crates):
-    """Refuses growths of all tests, several at a time."""
+def refuse_in_tests(shim, crates, pool):
+    """Refuses each growth of all tests, several at a time."""
     tests = list(tests_of(crates))
-    with ThreadPoolExecutor(os.cpu_count()) as pool:
-        counts = list(pool.map(lambda test: refuse_in_test(shim, *test), tests))
-    for (folder, _, name), count in zip(tests, counts):
-        print(f"{os.path.basename(folder)} {name}: {count} growths refused")
-    print(f"{len(tests)} tests: {sum(counts)} growths refused")
+    lanes = [[pool.submit(refuse_in_test, shim, test, lane) for lane in range(LANES)] for test in tests]
+    total = 0
+    for (folder, _, name), runs in zip(tests, lanes):
+        counts, seconds = zip(*(run.result() for run in runs))
+        print(f"{os.path.basename(folder)} {name}: {sum(counts)} growths refused, {sum(seconds):.1f} s")
+        total += sum(counts)
+    print(f"{len(tests)} tests: {total} growths refused")
+
+
+def written(folder, name, content):
+    """The path of a file with that content."""
+    path = os.path.join(folder, name)
+    with open(path, "wb") as file:
+        file.write(content)
+    return path
+
+
+def runs_of_program(folder):
+    """The runs of the program: what is shown of each, its words, its status, its bytes, and whether it tells something."""
+    for number, (name, steps, buffer, status, right) in enumerate(ROWS):
+        job = written(folder, f"job_{number}", b"trio-job 1\njob main { " + steps + b" }")
+        data = written(folder, f"input_{number}", buffer)
+        for workers in ["1", "3"]:
+            words = ["run", job, data, "--limit", "100", "--workers", workers]
+            yield f"{name}, run with {workers} workers", words, status, right, status == 2
+        if name in CHECKS:
+            yield f"{name}, check", ["check", job], status, CHECKS[name], status == 2
+
+
+def refuse_in_program(shim, program, pool):
+    """Refuses each growth of all runs of the program, several at a time."""
+    runs = list(runs_of_program(shim.folder))
+    found = [pool.submit(refuse_each, shim, [program, *words], *answer) for _, words, *answer in runs]
+    for (shown, *_), counts in zip(runs, found):
+        try:
+            growths, without = counts.result()
+        except Wrong as wrong:
+            raise Wrong(f"{shown}: {wrong}")
+        print(f"{shown}: {growths} growths refused, {without} times no memory")
 
 
 def main():
     program = os.path.abspath(sys.argv[1])
-    with tempfile.TemporaryDirectory() as folder:
+    with tempfile.TemporaryDirectory() as folder, ProcessPoolExecutor(os.cpu_count()) as pool:
         shim = Shim(folder)
-        job, data = os.path.join(folder, "job"), os.path.join(folder, "input")
-        for name, steps, buffer, status, right in ROWS:
-            for path, content in [(job, b"trio-job 1\njob main { " + steps + b" }"), (data, buffer)]:
-                with open(path, "wb") as file:
-                    file.write(content)
-            runs = [["run", job, data, "--limit", "100", "--workers", workers] for workers in ["1", "3"]]
-            if name in CHECKS:
-                runs.append(["check", job])
-            for words in runs:
-                bytes_of_run = CHECKS[name] if words[0] == "check" else right
-                shown = f"{name}, {words[0]}" + (f" with {words[-1]} workers" if words[0] == "run" else "")
-                try:
-                    growths, without = refuse_each(shim, [program, *words], status, bytes_of_run, status == 2)
-                except Wrong as wrong:
-                    print(f"{shown}: {wrong}")
-                    return 1
-                print(f"{shown}: {growths} growths refused, {without} times no memory")
-        if len(sys.argv) > 2:
-            try:
-                refuse_in_tests(shim, sys.argv[2])
-            except Wrong as wrong:
-                print(wrong)
-                return 1
+        try:
+            refuse_in_program(shim, program, pool)
+            if len(sys.argv) > 2:
+                refuse_in_tests(shim, sys.argv[2], pool)
+        except Wrong as wrong:
+            print(wrong)
+            pool.shutdown(cancel_futures=True)
+            return 1
     return 0
 
 

@@ -194,7 +194,7 @@ cleaned_is a r go walked e h =
 mutual
   unfolding tell walk
 
-  -- telling the steps of a block comes to what walking them does
+  -- telling the steps of a block gives what walking them does
   pub tell_is : (k : Table) (b : Steps) (scene : Scene) (st : Stack) (t : ℕ) →
       result_of (tell k b scene st t) ≡ walk (by_table k) b scene.here st t
   tell_is k stop scene st t = refl

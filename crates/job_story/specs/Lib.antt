@@ -4,6 +4,7 @@ pub mod Events
 pub mod Causes
 pub mod Sentences
 pub mod Limit
+pub mod Focus
 pub mod Held
 pub mod Froms
 pub mod Laws
@@ -11,3 +12,4 @@ pub mod Examples
 pub mod ExamplesCleanups
 pub mod ExamplesCauses
 pub mod ExamplesLimit
+pub mod ExamplesFocus

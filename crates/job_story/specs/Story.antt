@@ -19,7 +19,7 @@ pub data Happening : Type 0 where
   -- `need` found no line, and raised this name
   misses : (name : List ℕ) → Happening
   raises : (name : List ℕ) → Happening
-  -- a `cancel` step, of the scope or nursery of its name round the task
+  -- a `cancel` step, of the scope or nursery of its name around the task
   cancels : (label : Option Label) → Happening
   -- a handler begins: what matched, and what is left of the exception
   handles : (matched : Exc) → (rest : Option Exc) → Happening
@@ -66,7 +66,7 @@ erased no_more = nil
 erased (happened t what rest) = erased_one t what (erased rest)
 erased (started l home part s u e own rest) = task l s u e (followed_by (erased own) (sign_if e home u)) (erased rest)
 
--- what telling comes to: as a `Result`, with a story in the place of the log
+-- the result of telling: as a `Result`, with a story in the place of the log
 pub record Tale : Type 0 where
   pub end : ℕ
   pub exc : Option Exc

@@ -1,10 +1,9 @@
 //! `batch_commit`: the turns of a batch come as the picker picks, with the answers to their requests, and ids are given out again.
 
-ghost use Rattle.std.specs.Prelude.{◌≡◌, [], Some, IsSome, IfOk, OnOk, length};
-ghost use Rattle.batch_commit.specs.Live.{live_at, Updates};
+ghost use Rattle.std.specs.Prelude.{◌≡◌, ◌<◌, [], IfOk, OnOk, length};
 ghost use Rattle.batch_commit.specs.Entries.{AllPlaced, NonePlaced};
 
-use crate::fixtures::{push_bytes, push_number};
+use crate::fixtures::{push_bytes, push_number, same};
 use autojump_clock::TaskId;
 use batch_commit::{Call, Forward, Live, Pick, ReadyBatch, Reverse, Turn};
 use buffer_parts::Part;
@@ -84,114 +83,228 @@ fn push_wake(text: &mut Vec<u8>, wake: &Wake<'_>) -> Result<(), AllocError> {
 }
 
 /// Appends a task's key and how it goes on, as `2:20 `.
-fn push_turn(text: &mut Vec<u8>, task: TaskId, wake: &Wake<'_>) -> Result<(), AllocError> {
-    push_number(text, task.key() as u64)?;
+fn push_turn(text: &mut Vec<u8>, turn: &(TaskId, Wake<'_>)) -> Result<(), AllocError> {
+    push_number(text, turn.0.key() as u64)?;
     push_bytes(text, b":")?;
-    push_wake(text, wake)?;
+    push_wake(text, &turn.1)?;
     push_bytes(text, b" ")
+}
+
+/// One of the three orders of turns.
+#[derive(Clone, Copy, Drop)]
+enum Order {
+    Forward,
+    Reverse,
+    InTurn,
+}
+
+/// A picker that picks as the one of its order does. It is one type, so that what is generic in pickers is proved here at it alone.
+#[derive(Drop)]
+struct Chosen {
+    order: Order,
+    turn: Turn,
+}
+
+/// The picker of an order.
+fn picker_of(order: Order) -> Chosen {
+    Chosen {
+        order,
+        turn: Turn { calls: 0 },
+    }
+}
+
+impl Pick for Chosen {
+    fn pick(&mut self, left: usize) -> usize
+        requires { 0 < left }
+        ensures { result < left }
+    {
+        match self.order {
+            Order::Forward => Forward.pick(left),
+            Order::Reverse => Reverse.pick(left),
+            Order::InTurn => self.turn.pick(left),
+        }
+    }
 }
 
 /// The turns of the current batch, which is over then.
 fn turns(
     alloc: Global,
     batch: &mut ReadyBatch<'static>,
-    picker: &mut impl Pick,
+    picker: &mut Chosen,
 ) -> Result<Vec<u8>, AllocError>
     requires { AllPlaced batch.old.current }
     ensures { OnOk result (batch.new.current ≡ []) }
 {
     let mut text = Vec::new(alloc);
-    'turns: while let Some((task, wake)) = batch.next(picker) {
-        push_turn(&mut text, task, &wake)?;
+    'turns: while let Some(turn) = batch.next(picker) {
+        push_turn(&mut text, &turn)?;
     }
     Ok(text)
 }
 
-/// The turns of four tasks, of which the second and the fourth ask.
-fn four_turns(alloc: Global, picker: &mut impl Pick) -> Result<Vec<u8>, AllocError> {
+/// A batch of these calls, which is the current one and has no answer yet.
+fn called(
+    alloc: Global,
+    calls: &[(usize, Call<'static>)],
+) -> Result<ReadyBatch<'static>, AllocError>
+    ensures { IfOk result (λ batch. NonePlaced batch.current) }
+{
     let mut batch = ReadyBatch::new(alloc);
-    batch.add(TaskId::of(1), Call::Begin)?;
-    batch.add(TaskId::of(2), Call::Ask(numbered(20)))?;
-    batch.add(TaskId::of(3), Call::Settled)?;
-    batch.add(TaskId::of(4), Call::Ask(numbered(40)))?;
+    'calls: for (key, call) in calls {
+        batch.add(TaskId::of(*key), *call)?;
+    }
     batch.turn_over();
+    Ok(batch)
+}
+
+/// The turns of four tasks, of which the second and the fourth ask.
+fn four_turns(alloc: Global, picker: &mut Chosen) -> Result<Vec<u8>, AllocError> {
+    let calls = [
+        (1, Call::Begin),
+        (2, Call::Ask(numbered(20))),
+        (3, Call::Settled),
+        (4, Call::Ask(numbered(40))),
+    ];
+    let mut batch = called(alloc, &calls)?;
     answer_all(alloc, &mut batch)?;
     turns(alloc, &mut batch, picker)
 }
 
-#[test]
-fn turns_come_as_the_picker_picks(rt: HostRuntime) -> Result<(), Fail> {
-    let alloc = rt.alloc();
-    let forward = four_turns(alloc, &mut Forward)?;
-    assert_eq!(rt;
-        forward.as_slice(),
-        b"1:begin 2:20 3:settled 4:40 ".as_slice()
-    );
-    let reverse = four_turns(alloc, &mut Reverse)?;
-    assert_eq!(rt;
-        reverse.as_slice(),
-        b"4:40 3:settled 2:20 1:begin ".as_slice()
-    );
-    let mut turn = Turn { calls: 0 };
-    let in_turn = four_turns(alloc, &mut turn)?;
-    assert_eq!(rt;
-        in_turn.as_slice(),
-        b"1:begin 3:settled 2:20 4:40 ".as_slice()
-    );
-    assert_eq!(rt; turn.calls, 4);
-    Ok(())
+/// Whether four tasks have these turns in an order, and the picker in turn was called so often.
+fn have_turns(alloc: Global, order: Order, wanted: &[u8], calls: u64) -> Result<bool, AllocError> {
+    let mut picker = picker_of(order);
+    let found = four_turns(alloc, &mut picker)?;
+    Ok(found.as_slice() == wanted && picker.turn.calls == calls)
 }
 
 #[test]
-fn requests_come_in_the_order_of_their_tasks(rt: HostRuntime) -> Result<(), Fail> {
-    let alloc = rt.alloc();
+fn turns_come_as_the_picker_picks(rt: HostRuntime) -> Result<(), Fail> {
+    let forward = b"1:begin 2:20 3:settled 4:40 ";
+    assert!(rt; have_turns(rt.alloc(), Order::Forward, forward, 0)?);
+    let reverse = b"4:40 3:settled 2:20 1:begin ";
+    assert!(rt; have_turns(rt.alloc(), Order::Reverse, reverse, 0)?);
+    let in_turn = b"1:begin 3:settled 2:20 4:40 ";
+    assert!(rt; have_turns(rt.alloc(), Order::InTurn, in_turn, 4)?);
+    Ok(())
+}
+
+/// The turns of three tasks that begin, and how many requests they make.
+fn three_begin(alloc: Global, order: Order) -> Result<(Vec<u8>, usize), AllocError> {
+    let calls = [(0, Call::Begin), (1, Call::Begin), (2, Call::Begin)];
+    let mut batch = called(alloc, &calls)?;
+    let requests = batch.requests()?.len();
+    answer_all(alloc, &mut batch)?;
+    let text = turns(alloc, &mut batch, &mut picker_of(order))?;
+    Ok((text, requests))
+}
+
+/// Whether three tasks that begin make no request, and have these turns in an order.
+fn begin_so(alloc: Global, order: Order, wanted: &[u8]) -> Result<bool, AllocError> {
+    let (text, requests) = three_begin(alloc, order)?;
+    Ok(requests == 0 && text.as_slice() == wanted)
+}
+
+#[test]
+fn three_tasks_begin_as_the_picker_picks(rt: HostRuntime) -> Result<(), Fail> {
+    let forward = b"0:begin 1:begin 2:begin ";
+    assert!(rt; begin_so(rt.alloc(), Order::Forward, forward)?);
+    let reverse = b"2:begin 1:begin 0:begin ";
+    assert!(rt; begin_so(rt.alloc(), Order::Reverse, reverse)?);
+    let in_turn = b"0:begin 2:begin 1:begin ";
+    assert!(rt; begin_so(rt.alloc(), Order::InTurn, in_turn)?);
+    Ok(())
+}
+
+/// How many requests there are before a batch is the current one, and then their numbers.
+fn numbers_asked(alloc: Global) -> Result<(usize, Vec<u8>), AllocError> {
     let mut batch = ReadyBatch::new(alloc);
     batch.add(TaskId::of(1), Call::Due)?;
     batch.add(TaskId::of(2), Call::Ask(numbered(20)))?;
     batch.add(TaskId::of(3), Call::Seen)?;
     batch.add(TaskId::of(4), Call::Ask(numbered(40)))?;
-    let before = batch.requests()?;
-    assert_eq!(rt; before.len(), 0);
+    let before = batch.requests()?.len();
     batch.turn_over();
     let requests = batch.requests()?;
-    let shown = numbers(alloc, requests.as_slice())?;
-    assert_eq!(rt; shown.as_slice(), b"20 40 ".as_slice());
-    Ok(())
+    Ok((before, numbers(alloc, requests.as_slice())?))
+}
+
+#[test]
+fn requests_come_in_the_order_of_their_tasks(rt: HostRuntime) -> Result<(), Fail> {
+    let (before, then) = numbers_asked(rt.alloc())?;
+    assert!(rt; before == 0);
+    same(then.as_slice(), b"20 40 ")
+}
+
+/// The turns of a batch to whose next one a task is added meanwhile.
+fn turns_before(alloc: Global, batch: &mut ReadyBatch<'static>) -> Result<Vec<u8>, AllocError>
+    requires { NonePlaced batch.old.current }
+    ensures { OnOk result (batch.new.current ≡ []) }
+{
+    answer_all(alloc, batch)?;
+    batch.add(TaskId::of(2), Call::Seen)?;
+    turns(alloc, batch, &mut picker_of(Order::Forward))
+}
+
+/// Whether the batch is over, and not once the next one is the current one; and the turns of that one.
+fn turns_after(
+    alloc: Global,
+    batch: &mut ReadyBatch<'static>,
+) -> Result<(bool, bool, Vec<u8>), AllocError>
+    requires { batch.old.current ≡ [] }
+{
+    let before = batch.is_empty();
+    batch.turn_over();
+    let then = batch.is_empty();
+    answer_all(alloc, batch)?;
+    let text = turns(alloc, batch, &mut picker_of(Order::Forward))?;
+    Ok((before, then, text))
+}
+
+/// Fails where what is added does not wait for the next batch.
+fn waits(alloc: Global) -> Result<(), Fail> {
+    let mut batch = called(alloc, &[(1, Call::Due)])?;
+    let first = turns_before(alloc, &mut batch)?;
+    same(first.as_slice(), b"1:due ")?;
+    let (before, then, second) = turns_after(alloc, &mut batch)?;
+    if !before || then {
+        return Err("a batch is over once it has no turn left")?;
+    }
+    same(second.as_slice(), b"2:seen ")
 }
 
 #[test]
 fn what_is_added_waits_for_the_next_batch(rt: HostRuntime) -> Result<(), Fail> {
-    let alloc = rt.alloc();
-    let mut batch = ReadyBatch::new(alloc);
-    batch.add(TaskId::of(1), Call::Due)?;
-    batch.turn_over();
-    answer_all(alloc, &mut batch)?;
-    batch.add(TaskId::of(2), Call::Seen)?;
-    let first = turns(alloc, &mut batch, &mut Forward)?;
-    assert_eq!(rt; first.as_slice(), b"1:due ".as_slice());
-    assert!(rt; batch.is_empty());
-    batch.turn_over();
-    assert!(rt; !batch.is_empty());
-    answer_all(alloc, &mut batch)?;
-    let second = turns(alloc, &mut batch, &mut Forward)?;
-    assert_eq!(rt; second.as_slice(), b"2:seen ".as_slice());
-    Ok(())
+    waits(rt.alloc())
 }
 
-/// A sum of the keys of so many tasks, which tells the order of their turns where the picker picks in turn.
-fn order_in_turn(alloc: Global, count: usize) -> Result<u64, AllocError> {
+/// A batch of so many tasks that begin.
+fn begun(alloc: Global, count: usize) -> Result<ReadyBatch<'static>, AllocError>
+    ensures { IfOk result (λ batch. NonePlaced batch.current) }
+{
     let mut batch = ReadyBatch::new(alloc);
     'keys: for key in 0..count {
         batch.add(TaskId::of(key), Call::Begin)?;
     }
     batch.turn_over();
-    answer_all(alloc, &mut batch)?;
-    let mut picker = Turn { calls: 0 };
+    Ok(batch)
+}
+
+/// A sum of the keys of tasks, which tells the order of their turns.
+fn order_of(batch: &mut ReadyBatch<'static>, picker: &mut Chosen) -> u64
+    requires { AllPlaced batch.old.current }
+{
     let mut sum: u64 = 0;
-    'turns: while let Some((task, _wake)) = batch.next(&mut picker) {
-        sum = sum.wrapping_mul(31).wrapping_add(task.key() as u64);
+    'turns: while let Some(turn) = batch.next(picker) {
+        sum = sum.wrapping_mul(31).wrapping_add(turn.0.key() as u64);
     }
-    Ok(sum)
+    sum
+}
+
+/// The sum of so many tasks, where the picker picks in turn.
+fn order_in_turn(alloc: Global, count: usize) -> Result<u64, AllocError> {
+    let mut batch = begun(alloc, count)?;
+    answer_all(alloc, &mut batch)?;
+    Ok(order_of(&mut batch, &mut picker_of(Order::InTurn)))
 }
 
 #[test]
@@ -201,28 +314,45 @@ fn a_hundred_thousand_turns(rt: HostRuntime) -> Result<(), Fail> {
     Ok(())
 }
 
-/// Writes what lives under the id, and under no other.
-fn write(live: &mut Live<u64>, id: TaskId, value: u64)
-    requires { IsSome (live_at live.old id) }
-    ensures { Updates live.old live.new id (Some value) }
-{
+/// Whether a value could be written under an id.
+fn write(live: &mut Live<u64>, id: TaskId, value: u64) -> bool {
     match live.get_mut(id) {
-        Some(place) => *place = value,
-        None => unreachable!(),
+        Some(place) => {
+            *place = value;
+            true
+        }
+        None => false,
     }
+}
+
+/// Whether this value lives under an id.
+fn has(live: &Live<u64>, id: TaskId, value: u64) -> bool {
+    match live.get(id) {
+        Some(found) => *found == value,
+        None => false,
+    }
+}
+
+/// Whether this value is taken from an id, and nothing is there then.
+fn takes_once(live: &mut Live<u64>, id: TaskId, value: u64) -> bool {
+    let taken = live.take(id);
+    let again = live.take(id);
+    taken == Some(value) && again == None && live.get(id).is_none()
+}
+
+/// Whether what lives under ids is what was put there last, and an id is given out again.
+fn gives_ids_again(alloc: Global) -> Result<bool, AllocError> {
+    let mut live = Live::new(alloc);
+    let first = live.put(10)?;
+    let second = live.put(20)?;
+    let is_taken = takes_once(&mut live, first, 10);
+    let is_written = write(&mut live, second, 21) && has(&live, second, 21);
+    let third = live.put(30)?;
+    Ok(is_taken && is_written && third == first && has(&live, first, 30))
 }
 
 #[test]
 fn ids_are_given_out_again(rt: HostRuntime) -> Result<(), Fail> {
-    let mut live = Live::new(rt.alloc());
-    let first = live.put(10)?;
-    let second = live.put(20)?;
-    assert_eq!(rt; live.take(first), Some(10));
-    assert_eq!(rt; live.take(first), None);
-    assert_eq!(rt; live.get(first), None);
-    write(&mut live, second, 21);
-    assert_eq!(rt; live.get(second), Some(&21));
-    assert_eq!(rt; live.put(30)?, first);
-    assert_eq!(rt; live.get(first), Some(&30));
+    assert!(rt; gives_ids_again(rt.alloc())?);
     Ok(())
 }

@@ -1,6 +1,6 @@
 //! `job_checks`: names given twice, a `cancel` of nothing around it, reserved names, and the sizes of jobs.
 
-use crate::fixtures::word;
+use crate::fixtures::{word, wrong};
 use job_checks::{given_twice, reserved_name, size_of, stray_cancel};
 use job_syntax::Role;
 use job_tokens::{Shape, Token};
@@ -74,19 +74,28 @@ fn place_of_twice(alloc: Global, third: Role, fourth: Role) -> Result<Option<usi
     Ok(given_twice(alloc, &tokens, &roles)?)
 }
 
-#[test]
-fn a_name_is_given_once(rt: HostRuntime) -> Result<(), Fail> {
-    let rows = [
-        (Role::Given, Role::Given, Some(4)),
-        (Role::Raised, Role::Given, Some(6)),
-        (Role::Raised, Role::Handled, None),
-        (Role::Target, Role::Plain, None),
-    ];
-    for (third, fourth, wanted) in rows {
-        let found = place_of_twice(rt.alloc(), third, fourth)?;
-        assert!(rt; found == wanted);
+/// The roles of the third and the fourth name, and where a name is given twice then.
+const TWICE: &[(Role, Role, Option<usize>)] = &[
+    (Role::Given, Role::Given, Some(4)),
+    (Role::Raised, Role::Given, Some(6)),
+    (Role::Raised, Role::Handled, None),
+    (Role::Target, Role::Plain, None),
+];
+
+/// Fails at the first row with another place.
+fn twice_is_found(alloc: Global) -> Result<(), Fail> {
+    for i in 0..TWICE.len() {
+        let (third, fourth, wanted) = TWICE[i];
+        if place_of_twice(alloc, third, fourth)? != wanted {
+            return Err(wrong(i));
+        }
     }
     Ok(())
+}
+
+#[test]
+fn a_name_is_given_once(rt: HostRuntime) -> Result<(), Fail> {
+    twice_is_found(rt.alloc())
 }
 
 /// A `cancel` of a scope in a child that is started inside the scope.
@@ -136,21 +145,25 @@ fn place_of_reserved(text: &[u8], role: Role) -> Result<Option<usize>, Fail> {
     Ok(reserved_name(&tokens, &[role]))
 }
 
+/// A name, its role, and where it is reserved.
+const RESERVED: &[(&'static [u8], Role, Option<usize>)] = &[
+    (b"TooSlow", Role::Handled, None),
+    (b"TooSlow", Role::Raised, Some(5)),
+    (b"TooSlow", Role::Given, Some(5)),
+    (b"Cancelled", Role::Handled, Some(5)),
+    (b"over", Role::Handled, Some(5)),
+    (b"over", Role::Target, Some(5)),
+    (b"over", Role::Plain, None),
+    (b"Over", Role::Given, None),
+];
+
 #[test]
-fn reserved_names(rt: HostRuntime) -> Result<(), Fail> {
-    let rows = [
-        (b"TooSlow".as_slice(), Role::Handled, None),
-        (b"TooSlow".as_slice(), Role::Raised, Some(5)),
-        (b"TooSlow".as_slice(), Role::Given, Some(5)),
-        (b"Cancelled".as_slice(), Role::Handled, Some(5)),
-        (b"over".as_slice(), Role::Handled, Some(5)),
-        (b"over".as_slice(), Role::Target, Some(5)),
-        (b"over".as_slice(), Role::Plain, None),
-        (b"Over".as_slice(), Role::Given, None),
-    ];
-    for (text, role, wanted) in rows {
-        let found = place_of_reserved(text, role)?;
-        assert!(rt; found == wanted);
+fn reserved_names() -> Result<(), Fail> {
+    for i in 0..RESERVED.len() {
+        let (text, role, wanted) = RESERVED[i];
+        if place_of_reserved(text, role)? != wanted {
+            return Err(wrong(i));
+        }
     }
     Ok(())
 }
@@ -183,12 +196,16 @@ fn attempt_and_checkpoint(alloc: Global) -> Result<Body, Fail> {
     block_of_two(alloc, attempt, Step::Checkpoint)
 }
 
+/// The size of a block.
+fn size_in(body: &Body) -> u64 {
+    size_of(body.as_slice())
+}
+
 #[test]
 fn sizes(rt: HostRuntime) -> Result<(), Fail> {
-    let alloc = rt.alloc();
-    assert!(rt; size_of(three_nurseries(alloc)?.as_slice()) == 532_609);
-    assert!(rt; size_of(many_children(alloc)?.as_slice()) == u64::MAX);
-    assert!(rt; size_of(attempt_and_checkpoint(alloc)?.as_slice()) == 5);
+    assert!(rt; size_in(&three_nurseries(rt.alloc())?) == 532_609);
+    assert!(rt; size_in(&many_children(rt.alloc())?) == u64::MAX);
+    assert!(rt; size_in(&attempt_and_checkpoint(rt.alloc())?) == 5);
     assert!(rt; size_of(&[]) == 0);
     Ok(())
 }

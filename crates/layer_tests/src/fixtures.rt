@@ -48,6 +48,22 @@ pub(crate) fn raised(alloc: Global, exc: &[u8], task: &[u8]) -> Result<Exc, Fail
     })
 }
 
+/// The failure of a row of a table, which tells its number from 0 on.
+pub(crate) fn wrong(row: usize) -> Fail {
+    Fail::from(("row", row))
+}
+
+/// Fails where a text is not as expected, and tells it.
+pub(crate) fn same(found: &[u8], expected: &[u8]) -> Result<(), Fail> {
+    if found == expected {
+        return Ok(());
+    }
+    match str::from_utf8(found) {
+        Ok(text) => Err(("found", text))?,
+        Err(_) => Err("found no text")?,
+    }
+}
+
 /// Appends bytes, and tells nothing of the text then, so that a proof carries no facts of it.
 pub(crate) fn push_bytes(text: &mut Vec<u8>, bytes: &[u8]) -> Result<(), AllocError> {
     text.extend_from_slice(bytes)

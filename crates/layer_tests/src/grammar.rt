@@ -1,214 +1,290 @@
 //! `job_grammar`: which texts are jobs, by which fault and at which place others are refused, and the canonical texts of
 //! jobs.
 
-use crate::fixtures::{job, push_bytes, push_digit};
-use job_grammar::{JobFault, JobKind, read_job, to_format_2, write_job};
+use crate::fixtures::{job, push_bytes, push_digit, wrong};
+use job_grammar::{Job, JobFault, JobKind, read_job, to_format_2, write_job};
 use std::alloc::{AllocError, Global};
 use std::test::Fail;
 
-/// The number of a refusal and its place, and two zeros for a job. Want of memory is an error.
+/// A text, and the number and the place of its refusal: two zeros for a job.
+type Row = (&'static [u8], u64, usize);
+
+/// A text, and its canonical text.
+type Pair = (&'static [u8], &'static [u8]);
+
+/// The number of a refusal and its place. Want of memory is an error.
+fn told(fault: JobFault) -> Result<(u64, usize), JobFault> {
+    match fault.kind {
+        JobKind::NoMemory => Err(fault),
+        kind => Ok((kind.number(), fault.at)),
+    }
+}
+
+/// The number and the place of a text's refusal, and two zeros for a job. Want of memory is an error.
 fn answer(alloc: Global, text: &[u8]) -> Result<(u64, usize), JobFault> {
     match read_job(alloc, text) {
         Ok(_) => Ok((0, 0)),
-        Err(fault) if matches!(fault.kind, JobKind::NoMemory) => Err(fault),
-        Err(fault) => Ok((fault.kind.number(), fault.at)),
+        Err(fault) => told(fault),
     }
 }
+
+/// Whether a text has that answer.
+fn is_answered(alloc: Global, text: &[u8], number: u64, at: usize) -> Result<bool, Fail> {
+    let (kind, place) = answer(alloc, text)?;
+    Ok(kind == number && place == at)
+}
+
+/// Fails at the first row whose text has another answer.
+fn are_answered(alloc: Global, rows: &[Row]) -> Result<(), Fail> {
+    for i in 0..rows.len() {
+        let (text, number, at) = rows[i];
+        if !is_answered(alloc, text, number, at)? {
+            return Err(wrong(i));
+        }
+    }
+    Ok(())
+}
+
+/// Refusals of texts up to their grammar.
+const REFUSALS: &[Row] = &[
+    (b"", 3, 0),
+    (b"trio-job 3\njob main { }", 3, 0),
+    (b"trio-job 1\njob main \xff", 2, 20),
+    (b"trio-job 1\njob main { find \"a }", 4, 27),
+    (b"trio-job 1\njob main { find \"\"; }", 4, 27),
+    (b"trio-job 1\njob main { find \"\\x4G\"; }", 4, 27),
+    (b"trio-job 1\njob main { sleep 5a; }", 4, 28),
+    (
+        b"trio-job 1\njob aaaaaaaaaaaaaaaaaaaaaaaaaaaaaaaaa { }",
+        4,
+        15,
+    ),
+    (
+        b"trio-job 1\njob main { nursery n { start p over 65 { } } }",
+        5,
+        47,
+    ),
+    (
+        b"trio-job 1\njob main { nursery n { start p over 064 { } } }",
+        5,
+        47,
+    ),
+    (b"trio-job 1\njob main { pace 0; }", 5, 27),
+    (b"trio-job 1\njob main { sleep 1000000001; }", 5, 28),
+    (b"trio-job 1\njob main { start a { } }", 6, 22),
+    (b"trio-job 1\njob main { repeat 2 { } }", 6, 22),
+    (b"trio-job 1\njob main { sleep", 6, 27),
+    (b"trio-job 1\njob main { } }", 6, 24),
+];
 
 #[test]
 fn refusals(rt: HostRuntime) -> Result<(), Fail> {
-    let rows = [
-        (b"".as_slice(), 3, 0),
-        (b"trio-job 3\njob main { }".as_slice(), 3, 0),
-        (b"trio-job 1\njob main \xff".as_slice(), 2, 20),
-        (b"trio-job 1\njob main { find \"a }".as_slice(), 4, 27),
-        (b"trio-job 1\njob main { find \"\"; }".as_slice(), 4, 27),
-        (
-            b"trio-job 1\njob main { find \"\\x4G\"; }".as_slice(),
-            4,
-            27,
-        ),
-        (b"trio-job 1\njob main { sleep 5a; }".as_slice(), 4, 28),
-        (
-            b"trio-job 1\njob aaaaaaaaaaaaaaaaaaaaaaaaaaaaaaaaa { }".as_slice(),
-            4,
-            15,
-        ),
-        (
-            b"trio-job 1\njob main { nursery n { start p over 65 { } } }".as_slice(),
-            5,
-            47,
-        ),
-        (
-            b"trio-job 1\njob main { nursery n { start p over 064 { } } }".as_slice(),
-            5,
-            47,
-        ),
-        (b"trio-job 1\njob main { pace 0; }".as_slice(), 5, 27),
-        (
-            b"trio-job 1\njob main { sleep 1000000001; }".as_slice(),
-            5,
-            28,
-        ),
-        (b"trio-job 1\njob main { start a { } }".as_slice(), 6, 22),
-        (b"trio-job 1\njob main { repeat 2 { } }".as_slice(), 6, 22),
-        (b"trio-job 1\njob main { sleep".as_slice(), 6, 27),
-        (b"trio-job 1\njob main { } }".as_slice(), 6, 24),
-    ];
-    for (text, number, at) in rows {
-        assert!(rt; answer(rt.alloc(), text)? == (number, at));
-    }
-    Ok(())
+    are_answered(rt.alloc(), REFUSALS)
 }
+
+/// Refusals of names.
+const NAMES: &[Row] = &[
+    (b"trio-job 1\njob main { scope s { } scope s { } }", 8, 40),
+    (
+        b"trio-job 1\njob main { nursery n { start main { } } }",
+        8,
+        40,
+    ),
+    (b"trio-job 1\njob main { raise job; scope main { } }", 8, 39),
+    (b"trio-job 1\njob main { cancel x; }", 9, 29),
+    (b"trio-job 1\njob main { cancel main; }", 9, 29),
+    (b"trio-job 1\njob main { scope s { } cancel s; }", 9, 41),
+    (b"trio-job 1\njob main { raise Cancelled; }", 10, 28),
+    (b"trio-job 1\njob main { raise TooSlow; }", 10, 28),
+    (b"trio-job 1\njob over { raise raise; }", 10, 15),
+    (
+        b"trio-job 1\njob main { try { } except Cancelled { } }",
+        10,
+        37,
+    ),
+];
 
 #[test]
 fn refusals_of_names(rt: HostRuntime) -> Result<(), Fail> {
-    let rows = [
-        (
-            b"trio-job 1\njob main { scope s { } scope s { } }".as_slice(),
-            8,
-            40,
-        ),
-        (
-            b"trio-job 1\njob main { nursery n { start main { } } }".as_slice(),
-            8,
-            40,
-        ),
-        (
-            b"trio-job 1\njob main { raise job; scope main { } }".as_slice(),
-            8,
-            39,
-        ),
-        (b"trio-job 1\njob main { cancel x; }".as_slice(), 9, 29),
-        (b"trio-job 1\njob main { cancel main; }".as_slice(), 9, 29),
-        (
-            b"trio-job 1\njob main { scope s { } cancel s; }".as_slice(),
-            9,
-            41,
-        ),
-        (
-            b"trio-job 1\njob main { raise Cancelled; }".as_slice(),
-            10,
-            28,
-        ),
-        (
-            b"trio-job 1\njob main { raise TooSlow; }".as_slice(),
-            10,
-            28,
-        ),
-        (b"trio-job 1\njob over { raise raise; }".as_slice(), 10, 15),
-        (
-            b"trio-job 1\njob main { try { } except Cancelled { } }".as_slice(),
-            10,
-            37,
-        ),
-    ];
-    for (text, number, at) in rows {
-        assert!(rt; answer(rt.alloc(), text)? == (number, at));
-    }
-    Ok(())
+    are_answered(rt.alloc(), NAMES)
 }
+
+/// A job of 270,465 step instances.
+const LARGE: &[Row] = &[(
+    b"trio-job 1\njob main { nursery n { start a over 64 { nursery m { start b over 64 { nursery q { start c over 64 { } } } } } } }",
+    11,
+    0,
+)];
 
 #[test]
 fn too_large(rt: HostRuntime) -> Result<(), Fail> {
-    let text =
-        b"trio-job 1\njob main { nursery n { start a over 64 { nursery m { start b over 64 { nursery q { start c over 64 { } } } } } } }".as_slice();
-    assert!(rt; answer(rt.alloc(), text)? == (11, 0));
-    Ok(())
+    are_answered(rt.alloc(), LARGE)
 }
+
+/// Texts that are jobs.
+const JOBS: &[Row] = &[
+    (
+        b"trio-job 1\njob main{sleep 5;find\"\\x00\\\\\";raise A;}",
+        0,
+        0,
+    ),
+    (b"trio-job 1\njob main { scope a { raise a; } }", 0, 0),
+    (b"trio-job 1\njob main { try { } except TooSlow { } }", 0, 0),
+    (
+        b"trio-job 1\njob main { scope s { nursery n { start a { cancel s; cancel n; } } } }",
+        0,
+        0,
+    ),
+];
 
 #[test]
 fn accepted(rt: HostRuntime) -> Result<(), Fail> {
-    let rows = [
-        b"trio-job 1\njob main{sleep 5;find\"\\x00\\\\\";raise A;}".as_slice(),
-        b"trio-job 1\njob main { scope a { raise a; } }".as_slice(),
-        b"trio-job 1\njob main { try { } except TooSlow { } }".as_slice(),
-        b"trio-job 1\njob main { scope s { nursery n { start a { cancel s; cancel n; } } } }".as_slice(),
-    ];
-    for text in rows {
-        assert!(rt; answer(rt.alloc(), text)? == (0, 0));
+    are_answered(rt.alloc(), JOBS)
+}
+
+/// Appends so many times these bytes.
+fn push_times(text: &mut Vec<u8>, count: usize, bytes: &[u8]) -> Result<(), AllocError> {
+    for _ in 0..count {
+        push_bytes(text, bytes)?;
     }
     Ok(())
 }
 
 /// A job of so many blocks in one another, each with these bytes before and after it.
 fn nested(alloc: Global, depth: usize, front: &[u8], behind: &[u8]) -> Result<Vec<u8>, AllocError> {
-    let mut text = Vec::from_slice(alloc, b"trio-job 1\njob main {")?;
-    for _ in 0..depth {
-        push_bytes(&mut text, front)?;
-    }
-    for _ in 0..depth {
-        push_bytes(&mut text, behind)?;
-    }
+    let mut text = Vec::new(alloc);
+    push_bytes(&mut text, b"trio-job 1\njob main {")?;
+    push_times(&mut text, depth, front)?;
+    push_times(&mut text, depth, behind)?;
     push_bytes(&mut text, b" }")?;
+    Ok(text)
+}
+
+/// How many blocks stand in one another inside the job's own, and the answer then.
+const DEPTHS: &[(usize, u64, usize)] = &[(31, 0, 0), (32, 7, 212), (3_000, 7, 212)];
+
+/// Fails at the first of those depths with another answer.
+fn depths_are_answered(alloc: Global) -> Result<(), Fail> {
+    for i in 0..DEPTHS.len() {
+        let (depth, number, at) = DEPTHS[i];
+        let text = nested(alloc, depth, b" try {", b" } finally { }")?;
+        if !is_answered(alloc, text.as_slice(), number, at)? {
+            return Err(wrong(i));
+        }
+    }
+    Ok(())
+}
+
+/// Appends the front of a scope whose name has that number.
+fn push_scope(text: &mut Vec<u8>, number: u64) -> Result<(), AllocError> {
+    push_bytes(text, b" scope s")?;
+    push_digit(text, number / 10)?;
+    push_digit(text, number % 10)?;
+    push_bytes(text, b" {")
+}
+
+/// A job of 32 scopes in one another.
+fn nested_scopes(alloc: Global) -> Result<Vec<u8>, AllocError> {
+    let mut text = Vec::new(alloc);
+    push_bytes(&mut text, b"trio-job 1\njob main {")?;
+    for i in 1..33u64 {
+        push_scope(&mut text, i)?;
+    }
+    push_times(&mut text, 33, b" }")?;
     Ok(text)
 }
 
 #[test]
 fn depth(rt: HostRuntime) -> Result<(), Fail> {
-    let rows = [(31, 0, 0), (32, 7, 212), (3_000, 7, 212)];
-    for (depth, number, at) in rows {
-        let text = nested(rt.alloc(), depth, b" try {", b" } finally { }")?;
-        assert!(rt; answer(rt.alloc(), &text)? == (number, at));
-    }
-    let mut scopes = Vec::from_slice(rt.alloc(), b"trio-job 1\njob main {")?;
-    for i in 1..33u64 {
-        push_bytes(&mut scopes, b" scope s")?;
-        push_digit(&mut scopes, i / 10)?;
-        push_digit(&mut scopes, i % 10)?;
-        push_bytes(&mut scopes, b" {")?;
-    }
-    for _ in 0..33u64 {
-        push_bytes(&mut scopes, b" }")?;
-    }
-    assert!(rt; answer(rt.alloc(), &scopes)? == (7, 404));
+    depths_are_answered(rt.alloc())?;
+    let scopes = nested_scopes(rt.alloc())?;
+    assert!(rt; is_answered(rt.alloc(), scopes.as_slice(), 7, 404)?);
     Ok(())
 }
 
-/// So many spaces.
-fn spaces(alloc: Global, count: usize) -> Result<Vec<u8>, AllocError> {
+/// How many spaces a text has, and its answer.
+const LENGTHS: &[(usize, u64, usize)] = &[(65_537, 1, 65_536), (65_536, 3, 0)];
+
+/// Whether a text of so many spaces has that answer.
+fn spaces_are_answered(alloc: Global, count: usize, number: u64, at: usize) -> Result<bool, Fail> {
     let mut text = Vec::new(alloc);
-    for _ in 0..count {
-        push_bytes(&mut text, b" ")?;
+    push_times(&mut text, count, b" ")?;
+    is_answered(alloc, text.as_slice(), number, at)
+}
+
+/// Fails at the first of those lengths with another answer.
+fn lengths_are_answered(alloc: Global) -> Result<(), Fail> {
+    for i in 0..LENGTHS.len() {
+        let (count, number, at) = LENGTHS[i];
+        if !spaces_are_answered(alloc, count, number, at)? {
+            return Err(wrong(i));
+        }
     }
-    Ok(text)
+    Ok(())
 }
 
 #[test]
 fn too_long(rt: HostRuntime) -> Result<(), Fail> {
-    for (count, number, at) in [(65_537, 1, 65_536), (65_536, 3, 0)] {
-        let text = spaces(rt.alloc(), count)?;
-        assert!(rt; answer(rt.alloc(), text.as_slice())? == (number, at));
+    lengths_are_answered(rt.alloc())
+}
+
+/// The answer for the first so many bytes of the text below.
+fn answer_for_prefix(len: usize) -> (u64, usize) {
+    match len {
+        0..11 => (3, 0),
+        11..14 => (6, 11),
+        14..21 => (6, len),
+        21..24 => (6, 20),
+        24 => (6, 24),
+        25..28 => (4, 24),
+        28..30 => (6, len),
+        _ => (0, 0),
+    }
+}
+
+/// Fails at the first length of a front of the text that has another answer.
+fn prefixes_are_answered(alloc: Global) -> Result<(), Fail> {
+    let whole = b"trio-job 1\njob main{find\"er\";}".as_slice();
+    for len in 0..31 {
+        let (number, at) = answer_for_prefix(len);
+        if !is_answered(alloc, &whole[..len], number, at)? {
+            return Err(wrong(len));
+        }
     }
     Ok(())
 }
 
 #[test]
 fn prefixes(rt: HostRuntime) -> Result<(), Fail> {
-    let whole = b"trio-job 1\njob main{find\"er\";}".as_slice();
-    for len in 0..31 {
-        let wanted = match len {
-            0..11 => (3, 0),
-            11..14 => (6, 11),
-            14..21 => (6, len),
-            21..24 => (6, 20),
-            24 => (6, 24),
-            25..28 => (4, 24),
-            28..30 => (6, len),
-            _ => (0, 0),
-        };
-        assert!(rt; answer(rt.alloc(), &whole[..len])? == wanted);
-    }
-    Ok(())
+    prefixes_are_answered(rt.alloc())
+}
+
+/// The job, as it is or in format 2.
+fn upgraded(job: Job, upgrades: bool) -> Job {
+    if upgrades { to_format_2(job) } else { job }
 }
 
 /// The canonical text of a job, as it is or in format 2.
 fn canonical(alloc: Global, text: &[u8], upgrades: bool) -> Result<Vec<u8>, Fail> {
-    let mut job = job(alloc, text)?;
-    if upgrades {
-        job = to_format_2(job);
-    }
+    let job = upgraded(job(alloc, text)?, upgrades);
     Ok(write_job(alloc, &job)?)
+}
+
+/// Whether a text has that canonical text, as it is or in format 2.
+fn is_canonical(alloc: Global, text: &[u8], wanted: &[u8], upgrades: bool) -> Result<bool, Fail> {
+    let written = canonical(alloc, text, upgrades)?;
+    Ok(written.as_slice() == wanted)
+}
+
+/// Fails at the first row whose text has another canonical text.
+fn are_canonical(alloc: Global, rows: &[Pair], upgrades: bool) -> Result<(), Fail> {
+    for i in 0..rows.len() {
+        let (text, wanted) = rows[i];
+        if !is_canonical(alloc, text, wanted, upgrades)? {
+            return Err(wrong(i));
+        }
+    }
+    Ok(())
 }
 
 /// The format of a job, how many steps its block has, and its size.
@@ -228,35 +304,33 @@ fn is_named(alloc: Global, text: &[u8], name: &[u8]) -> Result<bool, Fail> {
     Ok(found.bytes() == name)
 }
 
+/// Texts with their canonical texts.
+const CANONICAL: &[Pair] = &[
+    (
+        b"trio-job 1\njob main { find \"er\"; }",
+        b"trio-job 1\njob main{find\"er\";}",
+    ),
+    (
+        b"trio-job 1\n\tjob  m{sleep 0 ;raise B_2; find \"\\\"\\\\\\x41\\x0a\";}\r\n",
+        b"trio-job 1\njob m{sleep 0;raise B_2;find\"\\\"\\\\A\\x0a\";}",
+    ),
+    (
+        b"trio-job 1\njob m { scope s after 5 shield fail { checkpoint; } scope t at 7 { cancel t; head 2; longest; } }",
+        b"trio-job 1\njob m{scope s after 5 shield fail{checkpoint;}scope t at 7{cancel t;head 2;longest;}}",
+    ),
+    (
+        b"trio-job 1\njob m { nursery n { start p over 3 { pace 2; } start q { need \"x\" Gone; } } }",
+        b"trio-job 1\njob m{nursery n{start p over 3{pace 2;}start q{need\"x\"Gone;}}}",
+    ),
+    (
+        b"trio-job 1\njob m { try { raise A; } except A { forever; } finally { } try { } finally { } }",
+        b"trio-job 1\njob m{try{raise A;}except A{forever;}finally{}try{}finally{}}",
+    ),
+];
+
 #[test]
 fn canonical_texts(rt: HostRuntime) -> Result<(), Fail> {
-    let rows = [
-        (
-            b"trio-job 1\njob main { find \"er\"; }".as_slice(),
-            b"trio-job 1\njob main{find\"er\";}".as_slice(),
-        ),
-        (
-            b"trio-job 1\n\tjob  m{sleep 0 ;raise B_2; find \"\\\"\\\\\\x41\\x0a\";}\r\n".as_slice(),
-            b"trio-job 1\njob m{sleep 0;raise B_2;find\"\\\"\\\\A\\x0a\";}".as_slice(),
-        ),
-        (
-            b"trio-job 1\njob m { scope s after 5 shield fail { checkpoint; } scope t at 7 { cancel t; head 2; longest; } }".as_slice(),
-            b"trio-job 1\njob m{scope s after 5 shield fail{checkpoint;}scope t at 7{cancel t;head 2;longest;}}".as_slice(),
-        ),
-        (
-            b"trio-job 1\njob m { nursery n { start p over 3 { pace 2; } start q { need \"x\" Gone; } } }".as_slice(),
-            b"trio-job 1\njob m{nursery n{start p over 3{pace 2;}start q{need\"x\"Gone;}}}".as_slice(),
-        ),
-        (
-            b"trio-job 1\njob m { try { raise A; } except A { forever; } finally { } try { } finally { } }".as_slice(),
-            b"trio-job 1\njob m{try{raise A;}except A{forever;}finally{}try{}finally{}}".as_slice(),
-        ),
-    ];
-    for (text, wanted) in rows {
-        let written = canonical(rt.alloc(), text, false)?;
-        assert_eq!(rt; written.as_slice(), wanted);
-    }
-    Ok(())
+    are_canonical(rt.alloc(), CANONICAL, false)
 }
 
 #[test]
@@ -279,81 +353,59 @@ fn line_of_a_refusal(rt: HostRuntime) -> Result<(), Fail> {
     Ok(())
 }
 
+/// Texts that the two formats answer each in its way.
+const FORMATS: &[Row] = &[
+    (b"trio-job 1\njob main { repeat 1001 { } }", 6, 22),
+    (b"trio-job 2\njob main { repeat 1001 { } }", 5, 29),
+    (b"trio-job 2\njob main { repeat 1000 { } }", 0, 0),
+    (b"trio-job 1\njob main { nursery n after 3 { } }", 6, 32),
+    (b"trio-job 2\njob main { nursery n after 3 { } }", 0, 0),
+    (
+        b"trio-job 2\njob main { nursery n after 3 shield { } }",
+        0,
+        0,
+    ),
+    (b"trio-job 2\njob main { nursery n at 3 { } }", 6, 32),
+    (b"trio-job 2\njob main { repeat 2 { start a { } } }", 6, 33),
+    (
+        b"trio-job 2\njob main { repeat 1000 { repeat 1000 { } } }",
+        11,
+        0,
+    ),
+    (b"trio-job 2", 3, 0),
+];
+
 #[test]
 fn two_formats(rt: HostRuntime) -> Result<(), Fail> {
-    let rows = [
-        (
-            b"trio-job 1\njob main { repeat 1001 { } }".as_slice(),
-            6,
-            22,
-        ),
-        (
-            b"trio-job 2\njob main { repeat 1001 { } }".as_slice(),
-            5,
-            29,
-        ),
-        (b"trio-job 2\njob main { repeat 1000 { } }".as_slice(), 0, 0),
-        (
-            b"trio-job 1\njob main { nursery n after 3 { } }".as_slice(),
-            6,
-            32,
-        ),
-        (
-            b"trio-job 2\njob main { nursery n after 3 { } }".as_slice(),
-            0,
-            0,
-        ),
-        (
-            b"trio-job 2\njob main { nursery n after 3 shield { } }".as_slice(),
-            0,
-            0,
-        ),
-        (
-            b"trio-job 2\njob main { nursery n at 3 { } }".as_slice(),
-            6,
-            32,
-        ),
-        (
-            b"trio-job 2\njob main { repeat 2 { start a { } } }".as_slice(),
-            6,
-            33,
-        ),
-        (
-            b"trio-job 2\njob main { repeat 1000 { repeat 1000 { } } }".as_slice(),
-            11,
-            0,
-        ),
-        (b"trio-job 2".as_slice(), 3, 0),
-    ];
-    for (text, number, at) in rows {
-        assert!(rt; answer(rt.alloc(), text)? == (number, at));
-    }
-    Ok(())
+    are_answered(rt.alloc(), FORMATS)
 }
+
+/// A job of format 2.
+const PASSES: &[u8] = b"trio-job 2\njob main { repeat 1000 { repeat 100 { } } }";
 
 #[test]
 fn a_job_of_format_2(rt: HostRuntime) -> Result<(), Fail> {
-    let text = b"trio-job 2\njob main { repeat 1000 { repeat 100 { } } }".as_slice();
-    assert!(rt; numbers(rt.alloc(), text)? == (2, 1, 102_001));
-    let written = canonical(rt.alloc(), text, false)?;
-    let shortest = b"trio-job 2\njob main{repeat 1000{repeat 100{}}}".as_slice();
-    assert_eq!(rt; written.as_slice(), shortest);
+    assert!(rt; numbers(rt.alloc(), PASSES)? == (2, 1, 102_001));
+    let shortest = b"trio-job 2\njob main{repeat 1000{repeat 100{}}}";
+    assert!(rt; is_canonical(rt.alloc(), PASSES, shortest, false)?);
     Ok(())
 }
 
+/// A job of format 1.
+const PLAIN: &[u8] = b"trio-job 1\njob main { find \"er\"; }";
+
+/// Texts with their canonical texts in format 2. The job of the second row is of format 2, and comes back as it was.
+const UPGRADES: &[Pair] = &[
+    (PLAIN, b"trio-job 2\njob main{find\"er\";}"),
+    (
+        b"trio-job 2\njob main { find \"er\"; }",
+        b"trio-job 2\njob main{find\"er\";}",
+    ),
+];
+
 #[test]
 fn upgrades(rt: HostRuntime) -> Result<(), Fail> {
-    // The job of the second row is of format 2, and comes back as it was.
-    let rows = [
-        b"trio-job 1\njob main { find \"er\"; }".as_slice(),
-        b"trio-job 2\njob main { find \"er\"; }",
-    ];
-    let shortest = b"trio-job 2\njob main{find\"er\";}".as_slice();
-    for text in rows {
-        let written = canonical(rt.alloc(), text, true)?;
-        assert_eq!(rt; written.as_slice(), shortest);
-    }
-    assert!(rt; numbers(rt.alloc(), rows[0])?.0 == 1);
-    assert!(rt; format_of_upgraded(rt.alloc(), rows[0])? == 2);
-    Ok(())
+    assert!(rt; numbers(rt.alloc(), PLAIN)?.0 == 1);
+    assert!(rt; format_of_upgraded(rt.alloc(), PLAIN)? == 2);
+    are_canonical(rt.alloc(), UPGRADES, true)
 }

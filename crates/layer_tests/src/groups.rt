@@ -1,6 +1,6 @@
 //! `exc_groups`: splits of exceptions and groups, copies, and the labels of what raised them.
 
-use crate::fixtures::{label, push_bytes, push_exc, push_label, raised, word};
+use crate::fixtures::{label, push_bytes, push_exc, push_label, raised, same, word};
 use exc_groups::{Exc, Label, Match, Parts, Whose, group, holds_cancelled, split};
 use std::alloc::{AllocError, Global};
 use std::test::Fail;
@@ -34,7 +34,8 @@ fn split_in_two(
     exc: Exc,
     wanted: Match,
 ) -> Result<(Option<Exc>, Option<Exc>), AllocError> {
-    split(alloc, exc, &wanted)
+    let sides = split(alloc, exc, &wanted)?;
+    Ok(sides)
 }
 
 /// The texts of the two sides of a split, with a bar between them.
@@ -56,8 +57,7 @@ fn sides_by_cancelled(alloc: Global) -> Result<Vec<u8>, Fail> {
 #[test]
 fn groups_split_by_cancelled(rt: HostRuntime) -> Result<(), Fail> {
     let found = sides_by_cancelled(rt.alloc())?;
-    assert_eq!(rt; found.as_slice(), b"n[!;]|n[A@a@0;]".as_slice());
-    Ok(())
+    same(found.as_slice(), b"n[!;]|n[A@a@0;]")
 }
 
 /// The two sides of what was raised as `A` that is split by a name.
@@ -69,12 +69,10 @@ fn sides_by_name(alloc: Global, name: &[u8]) -> Result<Vec<u8>, Fail> {
 
 #[test]
 fn leaves_split_by_name(rt: HostRuntime) -> Result<(), Fail> {
-    let rows = [(b"B".as_slice(), b"|A@a@0".as_slice()), (b"A", b"A@a@0|")];
-    for (name, expected) in rows {
-        let found = sides_by_name(rt.alloc(), name)?;
-        assert!(rt; found.as_slice() == expected);
-    }
-    Ok(())
+    let other = sides_by_name(rt.alloc(), b"B")?;
+    same(other.as_slice(), b"|A@a@0")?;
+    let its_own = sides_by_name(rt.alloc(), b"A")?;
+    same(its_own.as_slice(), b"A@a@0|")
 }
 
 /// The two sides of a `TooSlow` that is split by its name.
@@ -90,13 +88,13 @@ fn sides_of_too_slow(alloc: Global) -> Result<Vec<u8>, Fail> {
 #[test]
 fn too_slow_has_its_name(rt: HostRuntime) -> Result<(), Fail> {
     let found = sides_of_too_slow(rt.alloc())?;
-    assert_eq!(rt; found.as_slice(), b"@s@2|".as_slice());
-    Ok(())
+    same(found.as_slice(), b"@s@2|")
 }
 
 /// A copy of an exception, of which no more is known here.
 fn copy_of(alloc: Global, exc: &Exc) -> Result<Exc, AllocError> {
-    exc.copy(alloc)
+    let copy = exc.copy(alloc)?;
+    Ok(copy)
 }
 
 /// The texts of a group and of its copy.
@@ -113,8 +111,7 @@ fn text_of_copies(alloc: Global) -> Result<Vec<u8>, Fail> {
 #[test]
 fn copies_are_equal(rt: HostRuntime) -> Result<(), Fail> {
     let found = text_of_copies(rt.alloc())?;
-    assert_eq!(rt; found.as_slice(), b"n[A@a@0;!;]|n[A@a@0;!;]".as_slice());
-    Ok(())
+    same(found.as_slice(), b"n[A@a@0;!;]|n[A@a@0;!;]")
 }
 
 /// The label of that name with one index, of which no more is known here.
@@ -124,7 +121,8 @@ fn indexed(alloc: Global, name: &[u8], index: u64) -> Result<Label, Fail> {
 
 /// A copy of a label.
 fn same_label(alloc: Global, label: &Label) -> Result<Label, AllocError> {
-    label.copy(alloc)
+    let copy = label.copy(alloc)?;
+    Ok(copy)
 }
 
 /// The label of another name.
@@ -149,8 +147,7 @@ fn text_of_labels(alloc: Global) -> Result<Vec<u8>, Fail> {
 #[test]
 fn labels_keep_their_indices(rt: HostRuntime) -> Result<(), Fail> {
     let found = text_of_labels(rt.alloc())?;
-    assert_eq!(rt; found.as_slice(), b"p.1 p.1 q.1".as_slice());
-    Ok(())
+    same(found.as_slice(), b"p.1 p.1 q.1")
 }
 
 #[test]

@@ -1,6 +1,6 @@
 //! `line_kernels`: the lines, the count or the want that each kernel answers on a whole buffer.
 
-use crate::fixtures::{push_bytes, push_number};
+use crate::fixtures::{push_bytes, push_number, wrong};
 use buffer_parts::Part;
 use line_kernels::{Answer, Kernel, answer};
 use std::alloc::{AllocError, Global};
@@ -12,6 +12,15 @@ const BUFFER: &[u8] = b"aa\nb\ncccc\n";
 /// Four lines of 32 bytes with their newlines, and 3 bytes more.
 const LONG: &[u8] =
     b"-------------------------------\n-------------------------------\n-------------------------------\n-------------------------------\nend";
+
+/// Appends a line by its place and its length.
+fn push_line(text: &mut Vec<u8>, at: u64, length: u64) -> Result<(), AllocError> {
+    push_bytes(text, b"[")?;
+    push_number(text, at)?;
+    push_bytes(text, b"+")?;
+    push_number(text, length)?;
+    push_bytes(text, b"]")
+}
 
 /// The lines that a kernel answers on a whole buffer, each as `[3+6]` by its place and its length.
 fn shown(alloc: Global, kernel: Kernel<'_>, buffer: &[u8]) -> Result<Vec<u8>, Fail> {
@@ -26,13 +35,10 @@ fn shown(alloc: Global, kernel: Kernel<'_>, buffer: &[u8]) -> Result<Vec<u8>, Fa
     Ok(text)
 }
 
-/// Appends a line by its place and its length.
-fn push_line(text: &mut Vec<u8>, at: u64, length: u64) -> Result<(), AllocError> {
-    push_bytes(text, b"[")?;
-    push_number(text, at)?;
-    push_bytes(text, b"+")?;
-    push_number(text, length)?;
-    push_bytes(text, b"]")
+/// Whether a kernel answers those lines on a whole buffer.
+fn shows(alloc: Global, kernel: Kernel<'_>, buffer: &[u8], expected: &[u8]) -> Result<bool, Fail> {
+    let found = shown(alloc, kernel, buffer)?;
+    Ok(found.as_slice() == expected)
 }
 
 /// The count that `Count` answers on a whole buffer.
@@ -49,74 +55,111 @@ fn is_missing(alloc: Global, needle: &[u8], buffer: &[u8]) -> Result<bool, Fail>
     Ok(matches!(answer, Answer::Missing))
 }
 
+/// A string, a buffer, and the lines of the buffer that have the string.
+const FINDS: &[(&'static [u8], &'static [u8], &'static [u8])] = &[
+    (b"c", BUFFER, b"[5+4]"),
+    (b"ab", b"ab\nxab ab\nb\nab", b"[0+2][3+6][12+2]"),
+    (b"", b"a\n\n", b"[0+1][2+0]"),
+    (b"a\nb", b"a\nb\n", b""),
+];
+
+/// Fails at the first row of which `Find` answers other lines.
+fn finds_are_shown(alloc: Global) -> Result<(), Fail> {
+    for i in 0..FINDS.len() {
+        let (needle, buffer, expected) = FINDS[i];
+        if !shows(alloc, Kernel::Find(needle), buffer, expected)? {
+            return Err(wrong(i));
+        }
+    }
+    Ok(())
+}
+
 #[test]
 fn find_and_need_answer_lines_with_a_string(rt: HostRuntime) -> Result<(), Fail> {
-    let rows = [
-        (b"c".as_slice(), BUFFER, b"[5+4]".as_slice()),
-        (b"ab", b"ab\nxab ab\nb\nab", b"[0+2][3+6][12+2]"),
-        (b"", b"a\n\n", b"[0+1][2+0]"),
-        (b"a\nb", b"a\nb\n", b""),
-    ];
-    for (needle, buffer, expected) in rows {
-        let found = shown(rt.alloc(), Kernel::Find(needle), buffer)?;
-        assert!(rt; found.as_slice() == expected);
+    finds_are_shown(rt.alloc())?;
+    assert!(rt; shows(rt.alloc(), Kernel::Need(b"b"), b"a\nab\nb\n", b"[2+2]")?);
+    Ok(())
+}
+
+/// How many lines are asked for, a buffer, and the lines answered.
+const HEADS: &[(u64, &'static [u8], &'static [u8])] = &[
+    (0, BUFFER, b""),
+    (2, BUFFER, b"[0+2][3+1]"),
+    (5, b"\n", b"[0+0]"),
+];
+
+/// Fails at the first row of which `Head` answers other lines.
+fn heads_are_shown(alloc: Global) -> Result<(), Fail> {
+    for i in 0..HEADS.len() {
+        let (count, buffer, expected) = HEADS[i];
+        if !shows(alloc, Kernel::Head(count), buffer, expected)? {
+            return Err(wrong(i));
+        }
     }
-    let found = shown(rt.alloc(), Kernel::Need(b"b"), b"a\nab\nb\n")?;
-    assert!(rt; found.as_slice() == b"[2+2]".as_slice());
     Ok(())
 }
 
 #[test]
 fn head_answers_the_first_lines(rt: HostRuntime) -> Result<(), Fail> {
-    let rows = [
-        (0, BUFFER, b"".as_slice()),
-        (2, BUFFER, b"[0+2][3+1]"),
-        (5, b"\n", b"[0+0]"),
-    ];
-    for (count, buffer, expected) in rows {
-        let found = shown(rt.alloc(), Kernel::Head(count), buffer)?;
-        assert!(rt; found.as_slice() == expected);
+    heads_are_shown(rt.alloc())
+}
+
+/// A buffer, and the first of its longest lines.
+const LONGEST: &[(&'static [u8], &'static [u8])] = &[
+    (BUFFER, b"[5+4]"),
+    (b"aa\nb\ncc\n", b"[0+2]"),
+    (b"", b""),
+    (b"\n\n", b"[0+0]"),
+    (b"a\nb\n\nccc\ndd\neee\nffff", b"[16+4]"),
+];
+
+/// Fails at the first row of which `Longest` answers another line.
+fn longest_are_shown(alloc: Global) -> Result<(), Fail> {
+    for i in 0..LONGEST.len() {
+        let (buffer, expected) = LONGEST[i];
+        if !shows(alloc, Kernel::Longest, buffer, expected)? {
+            return Err(wrong(i));
+        }
     }
     Ok(())
 }
 
 #[test]
 fn longest_answers_the_first_of_the_longest_lines(rt: HostRuntime) -> Result<(), Fail> {
-    let rows = [
-        (BUFFER, b"[5+4]".as_slice()),
-        (b"aa\nb\ncc\n", b"[0+2]"),
-        (b"", b""),
-        (b"\n\n", b"[0+0]"),
-        (b"a\nb\n\nccc\ndd\neee\nffff", b"[16+4]"),
-    ];
-    for (buffer, expected) in rows {
-        let found = shown(rt.alloc(), Kernel::Longest, buffer)?;
-        assert!(rt; found.as_slice() == expected);
+    longest_are_shown(rt.alloc())
+}
+
+/// A buffer, and how many lines it has.
+const COUNTS: &[(&'static [u8], u64)] = &[(BUFFER, 3), (b"", 0), (b"\n\nlast", 3), (LONG, 5)];
+
+/// Fails at the first row with another count.
+fn counts_are_right(alloc: Global) -> Result<(), Fail> {
+    for i in 0..COUNTS.len() {
+        let (buffer, expected) = COUNTS[i];
+        if counted(alloc, buffer)? != expected {
+            return Err(wrong(i));
+        }
     }
     Ok(())
 }
 
+/// The count of the lines of so many newlines.
+fn counted_newlines(alloc: Global, count: usize) -> Result<u64, Fail> {
+    let newlines = Vec::from_elem(alloc, b'\n', count)?;
+    counted(alloc, newlines.as_slice())
+}
+
 #[test]
 fn lines_are_counted(rt: HostRuntime) -> Result<(), Fail> {
-    // The last row has more newlines than the lanes of a count hold.
-    let newlines = vec![in rt.alloc(); b'\n'; 20000]?;
-    let rows = [
-        (BUFFER, 3),
-        (b"", 0),
-        (b"\n\nlast", 3),
-        (LONG, 5),
-        (newlines.as_slice(), 20000),
-    ];
-    for (buffer, expected) in rows {
-        assert!(rt; counted(rt.alloc(), buffer)? == expected);
-    }
+    counts_are_right(rt.alloc())?;
+    // There are more newlines than the lanes of a count hold.
+    assert!(rt; counted_newlines(rt.alloc(), 20000)? == 20000);
     Ok(())
 }
 
 #[test]
 fn a_needed_line_may_be_missing(rt: HostRuntime) -> Result<(), Fail> {
-    for (needle, buffer) in [(b"zz".as_slice(), BUFFER), (b"", b"")] {
-        assert!(rt; is_missing(rt.alloc(), needle, buffer)?);
-    }
+    assert!(rt; is_missing(rt.alloc(), b"zz", BUFFER)?);
+    assert!(rt; is_missing(rt.alloc(), b"", b"")?);
     Ok(())
 }

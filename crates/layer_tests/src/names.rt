@@ -1,77 +1,104 @@
 //! `job_tree`: which bytes are names and strings, what names, strings and blocks keep, and what the formats allow.
 
-use crate::fixtures::word;
+use crate::fixtures::{word, wrong};
 use job_tree::{Body, Format, Name, Step, Text, is_digit, is_letter, is_word_byte};
+use std::alloc::{AllocError, Global};
 use std::test::Fail;
 
-#[test]
-fn words_are_names(rt: HostRuntime) {
-    let rows = [
-        (b"a_1".as_slice(), true),
-        (b"job".as_slice(), true),
-        (b"aaaaaaaaaaaaaaaaaaaaaaaaaaaaaaaa".as_slice(), true),
-        (b"aaaaaaaaaaaaaaaaaaaaaaaaaaaaaaaaa".as_slice(), false),
-        (b"9a".as_slice(), false),
-        (b"_a".as_slice(), false),
-        (b"".as_slice(), false),
-    ];
-    for (text, is_name) in rows {
-        assert!(rt; Name::new(text).is_some() == is_name);
-    }
-}
+/// Bytes, and whether they are a name.
+const WORDS: &[(&'static [u8], bool)] = &[
+    (b"a_1", true),
+    (b"job", true),
+    (b"aaaaaaaaaaaaaaaaaaaaaaaaaaaaaaaa", true),
+    (b"aaaaaaaaaaaaaaaaaaaaaaaaaaaaaaaaa", false),
+    (b"9a", false),
+    (b"_a", false),
+    (b"", false),
+];
 
 #[test]
-fn bytes_of_words_are_told(rt: HostRuntime) {
-    let rows = [
-        (b'a', true, false, true),
-        (b'Z', true, false, true),
-        (b'0', false, true, true),
-        (b'_', false, false, true),
-        (b'[', false, false, false),
-        (b':', false, false, false),
-        (0xe4, false, false, false),
-    ];
-    for (byte, letter, digit, in_word) in rows {
-        let found = (is_letter(byte), is_digit(byte), is_word_byte(byte));
-        assert!(rt; found == (letter, digit, in_word));
+fn words_are_names() -> Result<(), Fail> {
+    for i in 0..WORDS.len() {
+        let (text, is_name) = WORDS[i];
+        if Name::new(text).is_some() != is_name {
+            return Err(wrong(i));
+        }
     }
+    Ok(())
+}
+
+/// A byte, and whether it is a letter, a digit and a byte of words.
+const BYTES: &[(u8, bool, bool, bool)] = &[
+    (b'a', true, false, true),
+    (b'Z', true, false, true),
+    (b'0', false, true, true),
+    (b'_', false, false, true),
+    (b'[', false, false, false),
+    (b':', false, false, false),
+    (0xe4, false, false, false),
+];
+
+#[test]
+fn bytes_of_words_are_told() -> Result<(), Fail> {
+    for i in 0..BYTES.len() {
+        let (byte, letter, digit, in_word) = BYTES[i];
+        if is_letter(byte) != letter || is_digit(byte) != digit || is_word_byte(byte) != in_word {
+            return Err(wrong(i));
+        }
+    }
+    Ok(())
+}
+
+/// Whether names and strings keep their bytes, and names are equal where their bytes are.
+fn keep_bytes() -> Result<bool, Fail> {
+    let first = word(b"a_1")?;
+    let text = Text::new(b"\x00\\\xff").ok_or("a string")?;
+    let is_kept = first.bytes() == b"a_1".as_slice() && text.bytes() == b"\x00\\\xff".as_slice();
+    Ok(is_kept && Name::new(b"a_1") == Some(first) && Name::new(b"a_2") != Some(first))
 }
 
 #[test]
 fn names_and_texts_keep_their_bytes(rt: HostRuntime) -> Result<(), Fail> {
-    let first = word(b"a_1")?;
-    assert_eq!(rt; first.bytes(), b"a_1".as_slice());
-    assert!(rt; Name::new(b"a_1") == Some(first));
-    assert!(rt; Name::new(b"a_2") != Some(first));
-    let text = Text::new(b"\x00\\\xff").ok_or("a string")?;
-    assert_eq!(rt; text.bytes(), b"\x00\\\xff".as_slice());
+    assert!(rt; keep_bytes()?);
     Ok(())
 }
 
+/// How many bytes a string has, and whether it is a text.
+const LENGTHS: &[(usize, bool)] = &[(0, false), (1, true), (64, true), (65, false)];
+
 #[test]
-fn strings_have_1_to_64_bytes(rt: HostRuntime) {
+fn strings_have_1_to_64_bytes() -> Result<(), Fail> {
     let bytes = [b'a'; 65];
-    for (length, is_text) in [(0, false), (1, true), (64, true), (65, false)] {
-        assert!(rt; Text::new(&bytes[..length]).is_some() == is_text);
+    for i in 0..LENGTHS.len() {
+        let (length, is_text) = LENGTHS[i];
+        let Some(text) = bytes.get(..length) else {
+            return Err(wrong(i));
+        };
+        if Text::new(text).is_some() != is_text {
+            return Err(wrong(i));
+        }
     }
+    Ok(())
+}
+
+/// A block of two steps.
+fn two_steps(alloc: Global) -> Result<Body, AllocError> {
+    let mut steps = Vec::new(alloc);
+    steps.push(Step::Sleep(1))?;
+    steps.push(Step::Sleep(2))?;
+    Ok(Body::new(steps))
 }
 
 #[test]
 fn blocks_keep_their_steps(rt: HostRuntime) -> Result<(), Fail> {
-    let body = Body::new(vec![in rt.alloc(); Step::Sleep(1), Step::Sleep(2)]?);
-    assert_eq!(rt; body.as_slice().len(), 2);
-    assert_eq!(rt; body.into_vec().len(), 2);
+    let body = two_steps(rt.alloc())?;
+    assert!(rt; body.as_slice().len() == 2);
+    assert!(rt; body.into_vec().len() == 2);
     Ok(())
 }
 
 #[test]
 fn formats(rt: HostRuntime) {
-    assert_eq!(rt;
-        (Format::One.number(), Format::One.most_steps()),
-        (1, 100_000)
-    );
-    assert_eq!(rt;
-        (Format::Two.number(), Format::Two.most_steps()),
-        (2, 1_000_000)
-    );
+    assert!(rt; Format::One.number() == 1 && Format::One.most_steps() == 100_000);
+    assert!(rt; Format::Two.number() == 2 && Format::Two.most_steps() == 1_000_000);
 }

@@ -1,35 +1,79 @@
 //! `nursery_book`: a nursery ends with its last member, and raises its members' exceptions in the order of their starts.
 
-use crate::fixtures::{label, push_exc, raised};
+ghost use Rattle.std.specs.Prelude.{◌≡◌, true, None, [], ◌∷◌, IfOk, OnOk};
+ghost use Rattle.nursery_book.specs.Nursery.{is_settled};
+ghost use Rattle.nursery_book.specs.Book.{HasNursery};
+
+use crate::fixtures::{label, push_exc, raised, same};
 use autojump_clock::TaskId;
-use cancel_scopes::ScopeTree;
-use exc_groups::Exc;
-use nursery_book::NurseryBook;
+use cancel_scopes::{ScopeId, ScopeTree};
+use exc_groups::{Exc, Label};
+use nursery_book::{NurseryBook, NurseryId};
 use std::alloc::{AllocError, Global};
 use std::test::Fail;
 
-/// What a nursery raises whose second child ends before its first. A value that is not as it was given is an error.
-fn raised_by_two(alloc: Global) -> Result<Option<Exc>, Fail> {
-    let mut book = NurseryBook::new(alloc);
-    let scope = ScopeTree::new(alloc).open(None, false, None)?;
+/// The id of a scope.
+fn scope(alloc: Global) -> Result<ScopeId, AllocError> {
+    ScopeTree::new(alloc).open(None, false, None)
+}
+
+/// Opens a nursery in a scope, and starts two children.
+fn open_with_two(book: &mut NurseryBook, scope: ScopeId, label: Label) -> Result<NurseryId, Fail>
+    ensures { IfOk result (λ id. HasNursery book.new id (λ n. (n.body ≡ None) × (n.children ≡ None ∷ None ∷ []))) }
+{
     let waiter = TaskId::of(4);
-    let id = book.open(scope, waiter, label(alloc, b"n")?)?;
-    if book.start(id)? != 0 || book.start(id)? != 1 {
+    let id = book.open(scope, waiter, label)?;
+    let first = book.start(id)?;
+    let second = book.start(id)?;
+    if first != 0 || second != 1 {
         return Err("children have their places in the order of their starts")?;
-    }
-    book.child_ended(id, 1, Some(raised(alloc, b"B", b"b")?));
-    book.body_ended(id, None);
-    if book.settled(id) {
-        return Err("the first child has not ended")?;
-    }
-    book.child_ended(id, 0, Some(raised(alloc, b"A", b"a")?));
-    if !book.settled(id) {
-        return Err("all members have ended")?;
     }
     if book.scope(id) != scope || book.waiter(id) != waiter {
         return Err("a nursery keeps its scope and its waiter")?;
     }
+    Ok(id)
+}
+
+/// The second child ends, then the body, and then the first child.
+fn end_out_of_order(
+    book: &mut NurseryBook,
+    id: NurseryId,
+    first: Exc,
+    second: Exc,
+) -> Result<(), Fail>
+    requires { HasNursery book.old id (λ n. (n.body ≡ None) × (n.children ≡ None ∷ None ∷ [])) }
+    ensures { OnOk result (HasNursery book.new id (λ n. is_settled n ≡ true)) }
+{
+    book.child_ended(id, 1, Some(second));
+    book.body_ended(id, None);
+    let early = book.settled(id);
+    book.child_ended(id, 0, Some(first));
+    if early || !book.settled(id) {
+        return Err("a nursery is settled once all members have ended")?;
+    }
+    Ok(())
+}
+
+/// What a nursery raises whose second child ends before its first.
+fn raised_in(
+    alloc: Global,
+    scope: ScopeId,
+    label: Label,
+    first: Exc,
+    second: Exc,
+) -> Result<Option<Exc>, Fail> {
+    let mut book = NurseryBook::new(alloc);
+    let id = open_with_two(&mut book, scope, label)?;
+    end_out_of_order(&mut book, id, first, second)?;
     Ok(book.close(id)?)
+}
+
+/// The same of two exceptions.
+fn raised_by_two(alloc: Global) -> Result<Option<Exc>, Fail> {
+    let scope = scope(alloc)?;
+    let first = raised(alloc, b"A", b"a")?;
+    let second = raised(alloc, b"B", b"b")?;
+    raised_in(alloc, scope, label(alloc, b"n")?, first, second)
 }
 
 /// The text of an exception, and no bytes for none.
@@ -43,17 +87,14 @@ fn text_of(alloc: Global, exc: Option<Exc>) -> Result<Vec<u8>, AllocError> {
 
 #[test]
 fn group_of_children_that_end_out_of_order(rt: HostRuntime) -> Result<(), Fail> {
-    let exc = raised_by_two(rt.alloc())?;
-    let text = text_of(rt.alloc(), exc)?;
-    assert_eq!(rt; text.as_slice(), b"n[A@a@0;B@b@0;]".as_slice());
-    Ok(())
+    let text = text_of(rt.alloc(), raised_by_two(rt.alloc())?)?;
+    same(text.as_slice(), b"n[A@a@0;B@b@0;]")
 }
 
 /// Whether a nursery whose body ended well, and which has no child, is settled and raises nothing.
-fn raises_nothing(alloc: Global) -> Result<bool, Fail> {
+fn raises_nothing(alloc: Global, scope: ScopeId, label: Label) -> Result<bool, Fail> {
     let mut book = NurseryBook::new(alloc);
-    let scope = ScopeTree::new(alloc).open(None, false, None)?;
-    let id = book.open(scope, TaskId::of(4), label(alloc, b"n")?)?;
+    let id = book.open(scope, TaskId::of(4), label)?;
     book.body_ended(id, None);
     if !book.settled(id) {
         return Ok(false);
@@ -61,8 +102,14 @@ fn raises_nothing(alloc: Global) -> Result<bool, Fail> {
     Ok(book.close(id)?.is_none())
 }
 
+/// The same of a nursery of some scope and label.
+fn some_raises_nothing(alloc: Global) -> Result<bool, Fail> {
+    let scope = scope(alloc)?;
+    raises_nothing(alloc, scope, label(alloc, b"n")?)
+}
+
 #[test]
 fn group_of_nothing(rt: HostRuntime) -> Result<(), Fail> {
-    assert!(rt; raises_nothing(rt.alloc())?);
+    assert!(rt; some_raises_nothing(rt.alloc())?);
     Ok(())
 }

@@ -13,19 +13,30 @@ fn three_keys(alloc: Global) -> Result<TickQueue, AllocError> {
     Ok(queue)
 }
 
-#[test]
-fn the_earliest_tick_comes_first(rt: HostRuntime) -> Result<(), Fail> {
-    assert!(rt; TickQueue::new(rt.alloc()).first() == None);
-    let mut queue = three_keys(rt.alloc())?;
-    assert!(rt; queue.first() == Some((5, 2)));
+/// The first key with its tick, at the start and after each change of a queue of three keys.
+fn firsts(queue: &mut TickQueue) -> Result<[Option<(u64, usize)>; 4], AllocError> {
+    let first = queue.first();
     queue.set(2, 7)?;
-    assert!(rt; queue.first() == Some((5, 3)));
+    let second = queue.first();
     queue.set(3, 5)?;
     queue.set(6, 1)?;
-    assert!(rt; queue.first() == Some((1, 6)));
+    let third = queue.first();
     queue.remove(6);
     queue.remove(3);
     queue.remove(3);
-    assert!(rt; queue.first() == Some((7, 2)));
+    Ok([first, second, third, queue.first()])
+}
+
+/// The same of three keys.
+fn firsts_of_three(alloc: Global) -> Result<[Option<(u64, usize)>; 4], AllocError> {
+    let mut queue = three_keys(alloc)?;
+    firsts(&mut queue)
+}
+
+#[test]
+fn the_earliest_tick_comes_first(rt: HostRuntime) -> Result<(), Fail> {
+    assert!(rt; TickQueue::new(rt.alloc()).first() == None);
+    let found = firsts_of_three(rt.alloc())?;
+    assert!(rt; found == [Some((5, 2)), Some((5, 3)), Some((1, 6)), Some((7, 2))]);
     Ok(())
 }

@@ -1,8 +1,11 @@
 //! `task_roster`: tasks come and go under their ids, and the rows of a run that is over are told depth first.
 
-ghost use Rattle.std.specs.Prelude.{◌≡◌, ◌<◌, IsSome, IfOk};
+ghost use Rattle.std.specs.Prelude.{◌≡◌, ◌≢◌, ◌<◌, ◌++◌, [], ◌∷◌, All, IsSome, IfOk, OnOk};
+ghost use Rattle.task_roster.specs.Roster.{many, parent_of, running_at, IsRoster};
+ghost use Rattle.task_roster.specs.Rows.{ChildrenAreApart};
+ghost use Rattle.task_roster.specs.declared.rows.Row.{Row};
 
-use crate::fixtures::{job, push_bytes, push_number, root, word};
+use crate::fixtures::{job, push_bytes, push_number, root, same, word};
 use autojump_clock::TaskId;
 use exc_groups::Label;
 use job_grammar::Job;
@@ -13,12 +16,12 @@ use task_machine::ScopeFrom;
 use task_roster::{Ended, Record, Roster, Row, records_of};
 
 /// The row of a task that was started in one tick and ended well in another.
-fn ended(
+fn ended<'a>(
     alloc: Global,
     name: Name,
     start: u64,
     children: &[usize],
-) -> Result<Row<'static>, AllocError>
+) -> Result<Row<'a>, AllocError>
     requires { start < 10 }
     ensures children { IfOk result (λ row. row.children.items ≡ children.now) }
     ensures end { IfOk result (λ row. IsSome row.end) }
@@ -41,15 +44,41 @@ fn ended(
     })
 }
 
-/// The records of four rows, of which the first started the second and the third, and the second the fourth.
-fn records_of_four(alloc: Global) -> Result<(Vec<Record<'static>>, Vec<ScopeFrom>), Fail> {
-    let name = word(b"main")?;
+/// Adds a row, as `ended` makes it.
+fn push_ended<'a>(
+    alloc: Global,
+    rows: &mut Vec<Row<'a>>,
+    name: Name,
+    start: u64,
+    children: &[usize],
+) -> Result<(), AllocError>
+    requires { start < 10 }
+    ensures { OnOk result ((row : Row) × (rows.new.items ≡ rows.old.items ++ row ∷ []) × (row.children.items ≡ children.now)
+        × IsSome row.end) }
+{
+    let row = ended(alloc, name, start, children)?;
+    rows.push(row)?;
+    Ok(())
+}
+
+/// Four rows, of which the first started the second and the third, and the second the fourth.
+fn four_rows<'a>(alloc: Global, name: Name) -> Result<Vec<Row<'a>>, AllocError>
+    ensures ended { IfOk result (λ rows. All (λ r. IsSome r.end) rows.items) }
+    ensures tree { IfOk result (λ rows. ChildrenAreApart rows.items) }
+{
     let mut rows = Vec::new(alloc);
-    rows.push(ended(alloc, name, 0, &[1, 2])?)?;
-    rows.push(ended(alloc, name, 1, &[3])?)?;
-    rows.push(ended(alloc, name, 2, &[])?)?;
-    rows.push(ended(alloc, name, 3, &[])?)?;
-    Ok(records_of(alloc, rows)?)
+    push_ended(alloc, &mut rows, name, 0, &[1, 2])?;
+    push_ended(alloc, &mut rows, name, 1, &[3])?;
+    push_ended(alloc, &mut rows, name, 2, &[])?;
+    push_ended(alloc, &mut rows, name, 3, &[])?;
+    Ok(rows)
+}
+
+/// The records of four rows.
+fn records_of_four(alloc: Global) -> Result<(Vec<Record<'static>>, Vec<ScopeFrom>), Fail> {
+    let rows = four_rows(alloc, word(b"main")?)?;
+    let told = records_of(alloc, rows)?;
+    Ok(told)
 }
 
 /// When the tasks of records were started, each tick with a space after it.
@@ -62,52 +91,115 @@ fn starts(alloc: Global, records: &[Record<'_>]) -> Result<Vec<u8>, AllocError> 
     Ok(text)
 }
 
+/// When the tasks of those records were started, and whether no scope is among their froms.
+fn starts_of_four(alloc: Global) -> Result<(Vec<u8>, bool), Fail> {
+    let (records, froms) = records_of_four(alloc)?;
+    let text = starts(alloc, records.as_slice())?;
+    Ok((text, froms.is_empty()))
+}
+
 #[test]
 fn rows_come_depth_first(rt: HostRuntime) -> Result<(), Fail> {
-    let (records, froms) = records_of_four(rt.alloc())?;
-    let found = starts(rt.alloc(), records.as_slice())?;
-    assert!(rt; found.as_slice() == b"0 1 3 2 ".as_slice());
-    assert!(rt; froms.is_empty());
-    Ok(())
+    let (found, is_empty) = starts_of_four(rt.alloc())?;
+    assert!(rt; is_empty);
+    same(found.as_slice(), b"0 1 3 2 ")
+}
+
+/// A roster of a job's root, which lives under that id.
+fn rooted<'a>(alloc: Global, job: &'a Job) -> Result<(Roster<'a>, TaskId), Fail>
+    ensures agree { IfOk result (λ r. IsRoster r.0) }
+    ensures one { IfOk result (λ r. many r.0 ≡ 1) }
+    ensures lives { IfOk result (λ r. IsSome (running_at r.0 r.1)) }
+{
+    let task = root(alloc, job)?;
+    let begun = Roster::of_root(alloc, task)?;
+    Ok(begun)
+}
+
+/// Starts a child of the root at tick 3, which lives under another id.
+fn start_child<'a>(
+    alloc: Global,
+    roster: &mut Roster<'a>,
+    root_id: TaskId,
+    job: &'a Job,
+) -> Result<TaskId, Fail>
+    requires agree { IsRoster roster.old }
+    requires one { many roster.old ≡ 1 }
+    requires lives { IsSome (running_at roster.old root_id) }
+    ensures agree { OnOk result (IsRoster roster.new) }
+    ensures two { OnOk result (many roster.new ≡ 2) }
+    ensures parent { OnOk result (parent_of roster.new 1 ≡ 0) }
+    ensures apart { IfOk result (λ id. id ≢ root_id) }
+    ensures child { IfOk result (λ id. IsSome (running_at roster.new id)) }
+    ensures lives { OnOk result (IsSome (running_at roster.new root_id)) }
+{
+    let task = root(alloc, job)?;
+    let child = roster.start(0, task, 3)?;
+    if child.key() == root_id.key() {
+        return Err("a child has an id of its own")?;
+    }
+    Ok(child)
 }
 
 /// Whether the root has the first row, and is in no scope and no nursery.
 fn begins_with_root(alloc: Global, job: &Job) -> Result<bool, Fail> {
-    let task = root(alloc, job)?;
-    let (roster, id) = Roster::of_root(alloc, task)?;
+    let begun = rooted(alloc, job)?;
+    let (roster, id) = begun;
     Ok(roster.row(id) == 0 && roster.scope(id).is_none() && roster.home(id).is_none())
 }
 
 /// Whether a task that the root started has the second row, and the root as its parent.
 fn starts_a_child(alloc: Global, job: &Job) -> Result<bool, Fail> {
-    let task = root(alloc, job)?;
-    let second = root(alloc, job)?;
-    let begun = Roster::of_root(alloc, task)?;
+    let begun = rooted(alloc, job)?;
     let (mut roster, id) = begun;
-    let child = roster.start(0, second, 3)?;
+    let child = start_child(alloc, &mut roster, id, job)?;
     Ok(roster.row(child) == 1 && roster.parent(1) == id)
 }
 
-/// Whether a run is over once its child has ended and once its root has, and how many rows it has then.
-fn ends(alloc: Global, job: &Job) -> Result<(bool, bool, usize), Fail> {
-    let task = root(alloc, job)?;
-    let second = root(alloc, job)?;
-    let begun = Roster::of_root(alloc, task)?;
-    let (mut roster, root) = begun;
-    let child = roster.start(0, second, 3)?;
+/// Whether a run is over once its child has ended and once its root has.
+fn over_by_turns(
+    roster: &mut Roster<'_>,
+    root_id: TaskId,
+    child: TaskId,
+) -> Result<(bool, bool), AllocError>
+    requires agree { IsRoster roster.old }
+    requires two { many roster.old ≡ 2 }
+    requires apart { child ≢ root_id }
+    requires child { IsSome (running_at roster.old child) }
+    requires lives { IsSome (running_at roster.old root_id) }
+{
     roster.end(child, 5, None)?;
     let before = roster.is_over();
-    roster.end(root, 6, None)?;
-    let then = roster.is_over();
+    roster.end(root_id, 6, None)?;
+    Ok((before, roster.is_over()))
+}
+
+/// The same of a job, and how many rows it has then.
+fn ends(alloc: Global, job: &Job) -> Result<(bool, bool, usize), Fail> {
+    let begun = rooted(alloc, job)?;
+    let (mut roster, id) = begun;
+    let child = start_child(alloc, &mut roster, id, job)?;
+    let (before, then) = over_by_turns(&mut roster, id, child)?;
     let rows = roster.into_rows();
     Ok((before, then, rows.len()))
+}
+
+/// Fails where a task does not come or go as it has to.
+fn come_and_go(alloc: Global, job: &Job) -> Result<(), Fail> {
+    if !begins_with_root(alloc, job)? {
+        return Err("the root has the first row, and is in no scope and no nursery")?;
+    }
+    if !starts_a_child(alloc, job)? {
+        return Err("a child has the second row, and the root as its parent")?;
+    }
+    if ends(alloc, job)? != (false, true, 2) {
+        return Err("a run of two tasks is over once its root has ended")?;
+    }
+    Ok(())
 }
 
 #[test]
 fn tasks_come_and_go(rt: HostRuntime) -> Result<(), Fail> {
     let job = job(rt.alloc(), b"trio-job 1\njob main { sleep 5; }")?;
-    assert!(rt; begins_with_root(rt.alloc(), &job)?);
-    assert!(rt; starts_a_child(rt.alloc(), &job)?);
-    assert!(rt; ends(rt.alloc(), &job)? == (false, true, 2));
-    Ok(())
+    come_and_go(rt.alloc(), &job)
 }

@@ -23,20 +23,42 @@ fn three_sleepers(alloc: Global, outer: ScopeId, inner: ScopeId) -> Result<Sleep
     Ok(sleepers)
 }
 
+/// The first sight, who sees a cancellation by 3, who does by 4 when the second sleeper is gone, and the first sight then.
+fn seen(sleepers: &mut Sleepers) -> (Option<u64>, Option<TaskId>, Option<TaskId>, Option<u64>) {
+    let before = sleepers.first();
+    let early = sleepers.take_seen(3);
+    sleepers.remove(TaskId::of(2));
+    let then = sleepers.take_seen(4);
+    (before, early, then, sleepers.first())
+}
+
+/// The first sight, as the outer scope sees a cancellation from 6 on, then the inner one, in which nobody sleeps, from 1 on, and
+/// the outer one none.
+fn first_sights(
+    sleepers: &mut Sleepers,
+    outer: ScopeId,
+    inner: ScopeId,
+) -> Result<[Option<u64>; 3], AllocError> {
+    sleepers.see(outer, Some(6))?;
+    let first = sleepers.first();
+    sleepers.see(inner, Some(1))?;
+    let second = sleepers.first();
+    sleepers.see(outer, None)?;
+    Ok([first, second, sleepers.first()])
+}
+
+/// Whether sleepers are found by the sights of their scopes.
+fn are_found(alloc: Global) -> Result<bool, AllocError> {
+    let (outer, inner) = two_scopes(alloc)?;
+    let mut sleepers = three_sleepers(alloc, outer, inner)?;
+    if seen(&mut sleepers) != (Some(4), None, Some(TaskId::of(3)), Some(9)) {
+        return Ok(false);
+    }
+    Ok(first_sights(&mut sleepers, outer, inner)? == [Some(6), Some(6), None])
+}
+
 #[test]
 fn sleepers_are_found_by_what_their_scopes_see(rt: HostRuntime) -> Result<(), Fail> {
-    let (outer, inner) = two_scopes(rt.alloc())?;
-    let mut sleepers = three_sleepers(rt.alloc(), outer, inner)?;
-    assert!(rt; sleepers.first() == Some(4));
-    assert!(rt; sleepers.take_seen(3) == None);
-    sleepers.remove(TaskId::of(2));
-    assert!(rt; sleepers.take_seen(4) == Some(TaskId::of(3)));
-    assert!(rt; sleepers.first() == Some(9));
-    sleepers.see(outer, Some(6))?;
-    assert!(rt; sleepers.first() == Some(6));
-    sleepers.see(inner, Some(1))?;
-    assert!(rt; sleepers.first() == Some(6));
-    sleepers.see(outer, None)?;
-    assert!(rt; sleepers.first() == None);
+    assert!(rt; are_found(rt.alloc())?);
     Ok(())
 }

@@ -1,36 +1,67 @@
 //! `job_syntax`: a job is followed to its end, and tokens leave the grammar where no job goes on with them.
 
+use crate::fixtures::wrong;
 use job_syntax::{depth_fault, follow, job_at, number_fault};
 use job_tokens::lex;
 use job_tree::Format;
+use std::alloc::Global;
 use std::test::Fail;
+
+/// Whether a text is a job, as far as its grammar, its numbers and its depth go.
+fn is_followed(alloc: Global, text: &[u8]) -> Result<bool, Fail> {
+    let lexed = lex(alloc, text, text.len())?;
+    let tokens = lexed.tokens.as_slice();
+    let course = follow(alloc, Format::One, tokens, text.len())?;
+    Ok(
+        course.fault == None
+            && course.roles.len() == tokens.len()
+            && number_fault(Format::One, tokens) == None
+            && depth_fault(tokens) == None,
+    )
+}
+
+/// Whether the tokens of a text come to a job.
+fn is_job(alloc: Global, text: &[u8]) -> Result<bool, Fail> {
+    let lexed = lex(alloc, text, text.len())?;
+    let job = job_at(alloc, lexed.tokens.as_slice())?;
+    Ok(job.is_some())
+}
 
 #[test]
 fn a_job_is_followed_to_its_end(rt: HostRuntime) -> Result<(), Fail> {
-    let text = b"job main { sleep 3; }".as_slice();
-    let lexed = lex(rt.alloc(), text, text.len())?;
-    let tokens = lexed.tokens.as_slice();
-    let course = follow(rt.alloc(), Format::One, tokens, text.len())?;
-    assert_eq!(rt; course.fault, None);
-    assert_eq!(rt; course.roles.len(), tokens.len());
-    assert_eq!(rt; number_fault(Format::One, tokens), None);
-    assert_eq!(rt; depth_fault(tokens), None);
-    let job = job_at(rt.alloc(), tokens)?;
-    assert!(rt; job.is_some());
+    let text = b"job main { sleep 3; }";
+    assert!(rt; is_followed(rt.alloc(), text)?);
+    assert!(rt; is_job(rt.alloc(), text)?);
+    Ok(())
+}
+
+/// A text, and where its tokens leave the grammar.
+const FAULTS: &[(&'static [u8], Option<usize>)] = &[
+    (b"job main { sleep", Some(16)),
+    (b"job main { start a { } }", Some(11)),
+    (b"job main { } ;", Some(13)),
+    (b"", Some(0)),
+];
+
+/// Where the tokens of a text leave the grammar.
+fn fault(alloc: Global, text: &[u8]) -> Result<Option<usize>, Fail> {
+    let lexed = lex(alloc, text, text.len())?;
+    let course = follow(alloc, Format::One, lexed.tokens.as_slice(), text.len())?;
+    Ok(course.fault)
+}
+
+/// Fails at the first row whose tokens leave the grammar elsewhere.
+fn faults_are_found(alloc: Global) -> Result<(), Fail> {
+    for i in 0..FAULTS.len() {
+        let (text, expected) = FAULTS[i];
+        if fault(alloc, text)? != expected {
+            return Err(wrong(i));
+        }
+    }
     Ok(())
 }
 
 #[test]
 fn tokens_leave_the_grammar(rt: HostRuntime) -> Result<(), Fail> {
-    for (text, fault) in [
-        (b"job main { sleep".as_slice(), Some(16)),
-        (b"job main { start a { } }", Some(11)),
-        (b"job main { } ;", Some(13)),
-        (b"", Some(0)),
-    ] {
-        let lexed = lex(rt.alloc(), text, text.len())?;
-        let course = follow(rt.alloc(), Format::One, lexed.tokens.as_slice(), text.len())?;
-        assert_eq!(rt; course.fault, fault);
-    }
-    Ok(())
+    faults_are_found(rt.alloc())
 }

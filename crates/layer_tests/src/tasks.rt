@@ -1,8 +1,12 @@
 //! `task_machine`: what a new world and a root task are, and what a root's first turn notes, opens and starts.
 
-ghost use Rattle.std.specs.Prelude.{◌≤◌, ◌^◌};
+ghost use Rattle.std.specs.Prelude.{◌≡◌, ℕ, ◌≤◌, ◌^◌, IfOk};
+ghost use Rattle.task_machine.specs.Fitting.{Fits, waits_of};
+ghost use Rattle.task_machine.specs.Waking.{IsModestHalt, WakesFrom};
+ghost use Rattle.task_machine.specs.declared.stop.Stop.TheVariants as stops;
+ghost use Rattle.task_machine.specs.declared.stop.Wake.TheVariants as wakes;
 
-use crate::fixtures::{job, label, push_bytes, push_exc, push_label, push_number, root};
+use crate::fixtures::{job, label, push_bytes, push_exc, push_label, push_number, root, wrong};
 use autojump_clock::TaskId;
 use buffer_parts::Part;
 use cancel_scopes::ScopeId;
@@ -21,9 +25,14 @@ struct Turned<'a> {
     stop: Stop<'a>,
 }
 
-/// The first turn of a job's root, in a new world at that tick.
+/// The first turn of a job's root, in a new world at that tick. A root that fell asleep may go on.
 fn first_turn<'a>(alloc: Global, job: &'a Job, tick: u64) -> Result<Turned<'a>, Fail>
     requires { tick ≤ 2 ^ 40 }
+    ensures tick { IfOk result (λ t. t.world.tick ≡ tick) }
+    ensures modest { IfOk result (λ t. IsModestHalt t.task.halt) }
+    ensures fits { IfOk result (λ t. Fits t.task.frames.items t.task t.world (waits_of t.task.halt)) }
+    ensures asleep { IfOk result (λ t. (due : ℕ) → t.stop ≡ stops.Sleep due →
+        WakesFrom t.task.halt t.task.part t.world.book wakes.Due) }
 {
     let part = Part::whole(b"one\ntwo\n");
     if part.text().len() > MOST_INPUT {
@@ -183,54 +192,110 @@ fn a_root_is_in_no_scope(rt: HostRuntime) -> Result<(), Fail> {
     Ok(())
 }
 
-#[test]
-fn passes_are_numbered_from_0_until_an_exception(rt: HostRuntime) -> Result<(), Fail> {
-    let rows = [
-        (
-            b"trio-job 2\njob main { repeat 2 { scope s { } } }".as_slice(),
-            b"s.0@0;s.1@0;|s.0=-;s.1=-;|end".as_slice(),
-        ),
-        (
-            b"trio-job 2\njob main { repeat 5 { scope s { raise A; } } }",
-            b"s.0@0;|s.0=-;|A@main@0",
-        ),
-        (b"trio-job 2\njob main { repeat 0 { raise A; } }", b"||end"),
-    ];
-    for (text, expected) in rows {
-        assert_eq!(rt; shown(rt.alloc(), text, 0)?.as_slice(), expected);
+/// A job, and the text of the first turn of its root.
+type Pair = (&'static [u8], &'static [u8]);
+
+/// Whether the first turn of a job's root at that tick has that text.
+fn is_shown(alloc: Global, text: &[u8], tick: u64, expected: &[u8]) -> Result<bool, Fail>
+    requires { tick ≤ 2 ^ 40 }
+{
+    let found = shown(alloc, text, tick)?;
+    Ok(found.as_slice() == expected)
+}
+
+/// Fails at the first row whose job has another first turn at tick 0.
+fn are_shown(alloc: Global, rows: &[Pair]) -> Result<(), Fail> {
+    for i in 0..rows.len() {
+        let (text, expected) = rows[i];
+        if !is_shown(alloc, text, 0, expected)? {
+            return Err(wrong(i));
+        }
     }
     Ok(())
 }
 
+/// Jobs with passes.
+const PASSES: &[Pair] = &[
+    (
+        b"trio-job 2\njob main { repeat 2 { scope s { } } }",
+        b"s.0@0;s.1@0;|s.0=-;s.1=-;|end",
+    ),
+    (
+        b"trio-job 2\njob main { repeat 5 { scope s { raise A; } } }",
+        b"s.0@0;|s.0=-;|A@main@0",
+    ),
+    (b"trio-job 2\njob main { repeat 0 { raise A; } }", b"||end"),
+];
+
+#[test]
+fn passes_are_numbered_from_0_until_an_exception(rt: HostRuntime) -> Result<(), Fail> {
+    are_shown(rt.alloc(), PASSES)
+}
+
+/// Jobs that cancel one of two scopes.
+const SIGNED: &[Pair] = &[
+    (
+        b"trio-job 1\njob main { scope a { cancel a; checkpoint; } }",
+        b"a@0;|a=1;|end",
+    ),
+    (
+        b"trio-job 1\njob main { scope a { scope b shield { cancel a; } } }",
+        b"b@0;a@0;|a=1;b=-;|end",
+    ),
+    (
+        b"trio-job 1\njob main { scope a { scope b shield { cancel b; } } }",
+        b"b@0;a@0;|a=-;b=1;|end",
+    ),
+];
+
 #[test]
 fn a_scope_is_found_by_its_name_and_signed(rt: HostRuntime) -> Result<(), Fail> {
-    let rows = [
-        (
-            b"trio-job 1\njob main { scope a { cancel a; checkpoint; } }".as_slice(),
-            b"a@0;|a=1;|end".as_slice(),
-        ),
-        (
-            b"trio-job 1\njob main { scope a { scope b shield { cancel a; } } }",
-            b"b@0;a@0;|a=1;b=-;|end",
-        ),
-        (
-            b"trio-job 1\njob main { scope a { scope b shield { cancel b; } } }",
-            b"b@0;a@0;|a=-;b=1;|end",
-        ),
-    ];
-    for (text, expected) in rows {
-        assert_eq!(rt; shown(rt.alloc(), text, 0)?.as_slice(), expected);
-    }
-    Ok(())
+    are_shown(rt.alloc(), SIGNED)
 }
 
 #[test]
 fn a_scope_is_seen_and_catches_from_its_tick_on(rt: HostRuntime) -> Result<(), Fail> {
     let text = b"trio-job 1\njob main { checkpoint; scope a at 1 { checkpoint; } }";
-    let before = shown(rt.alloc(), text, 0)?;
-    assert_eq!(rt; before.as_slice(), b"a@0;|a=1;|end".as_slice());
-    let then = shown(rt.alloc(), text, 1)?;
-    assert_eq!(rt; then.as_slice(), b"a@1!;|a=1;|end".as_slice());
+    assert!(rt; is_shown(rt.alloc(), text, 0, b"a@0;|a=1;|end")?);
+    assert!(rt; is_shown(rt.alloc(), text, 1, b"a@1!;|a=1;|end")?);
+    Ok(())
+}
+
+/// Where the next turn of a task stops that slept until that tick.
+fn stop_when_due<'a>(
+    task: &mut Task<'a>,
+    world: &mut World<'a>,
+    due: u64,
+) -> Result<Stop<'a>, AllocError>
+    requires fits { Fits task.old.frames.items task.old world.old (waits_of task.old.halt) }
+    requires modest { IsModestHalt task.old.halt }
+    requires asleep { WakesFrom task.old.halt task.old.part world.old.book wakes.Due }
+    requires later { world.old.tick ≤ due }
+    requires bounded { due ≤ 2 ^ 40 }
+{
+    world.set_now(due);
+    task.turn(TaskId::of(0), Wake::Due, world)
+}
+
+/// Until when a job's root sleeps that begins at tick 0, and whether it ends well in its next turn, at tick 2.
+fn sleeps_and_ends(alloc: Global, job: &Job) -> Result<(u64, bool), Fail> {
+    let turned = first_turn(alloc, job, 0)?;
+    let Turned {
+        mut task,
+        mut world,
+        stop,
+    } = turned;
+    let Stop::Sleep(due) = stop else {
+        return Err("the root does not sleep")?;
+    };
+    let stop = stop_when_due(&mut task, &mut world, 2)?;
+    Ok((due, matches!(stop, Stop::Ended(None))))
+}
+
+#[test]
+fn a_root_sleeps_and_ends(rt: HostRuntime) -> Result<(), Fail> {
+    let job = job(rt.alloc(), b"trio-job 1\njob main { sleep 2; }")?;
+    assert!(rt; sleeps_and_ends(rt.alloc(), &job)? == (2, true));
     Ok(())
 }
 

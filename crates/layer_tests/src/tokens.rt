@@ -1,5 +1,6 @@
 //! `job_tokens`: the places of tokens, where no token can be read, and what a shape is.
 
+use crate::fixtures::{same, wrong};
 use job_tokens::{Mark, Shape, Token, lex, push_canon};
 use std::alloc::{AllocError, Global};
 use std::test::Fail;
@@ -29,24 +30,40 @@ fn tokens_have_their_places(rt: HostRuntime) -> Result<(), Fail> {
     let lexed = lex(rt.alloc(), b"find  \"er\";\n{ 7", 26)?;
     assert!(rt; lexed.fault == None);
     let places = places(rt.alloc(), lexed.tokens.as_slice())?;
-    assert_eq!(rt; places.as_slice(), [11, 17, 21, 23, 25].as_slice());
+    assert!(rt; places.as_slice() == [11, 17, 21, 23, 25].as_slice());
     let text = canonical(rt.alloc(), lexed.tokens.as_slice())?;
-    assert_eq!(rt; text.as_slice(), b"find\"er\";{7".as_slice());
+    same(text.as_slice(), b"find\"er\";{7")
+}
+
+/// Bytes, how many tokens can be read, and where no other can.
+const ENDS: &[(&'static [u8], usize, Option<usize>)] = &[
+    (b"find #", 1, Some(5)),
+    (b"7a", 0, Some(0)),
+    (b"{ \"a", 1, Some(2)),
+    (b"", 0, None),
+];
+
+/// How many tokens can be read, and where no other can.
+fn end(alloc: Global, bytes: &[u8]) -> Result<(usize, Option<usize>), AllocError> {
+    let lexed = lex(alloc, bytes, bytes.len())?;
+    Ok((lexed.tokens.len(), lexed.fault))
+}
+
+/// Fails at the first row with another end.
+fn ends_are_right(alloc: Global) -> Result<(), Fail> {
+    for i in 0..ENDS.len() {
+        let (bytes, tokens, fault) = ENDS[i];
+        let (read, place) = end(alloc, bytes)?;
+        if read != tokens || place != fault {
+            return Err(wrong(i));
+        }
+    }
     Ok(())
 }
 
 #[test]
 fn tokens_end_where_none_can_be_read(rt: HostRuntime) -> Result<(), Fail> {
-    for (bytes, tokens, fault) in [
-        (b"find #".as_slice(), 1, Some(5)),
-        (b"7a", 0, Some(0)),
-        (b"{ \"a", 1, Some(2)),
-        (b"", 0, None),
-    ] {
-        let lexed = lex(rt.alloc(), bytes, bytes.len())?;
-        assert!(rt; lexed.tokens.len() == tokens && lexed.fault == fault);
-    }
-    Ok(())
+    ends_are_right(rt.alloc())
 }
 
 #[test]

@@ -1,6 +1,6 @@
 //! `scoped_workers`: the workers' answers come in the order of the requests, for every number of workers and every gate.
 
-use crate::fixtures::{push_bytes, push_number};
+use crate::fixtures::{push_bytes, push_number, same};
 use buffer_parts::Part;
 use line_kernels::{Answer, Kernel, Request};
 use scoped_workers::{Bench, Content, Gate, NoGate, Slot, work};
@@ -46,7 +46,7 @@ fn workers_answer_in_the_order_of_the_requests(rt: HostRuntime) -> Result<(), Fa
     for workers in [1, 2, 3, 64] {
         let answers = work(&rt, rt.alloc(), workers, &requests, &NoGate)?;
         let text = shown(rt.alloc(), answers.as_slice())?;
-        assert_eq!(rt; text.as_slice(), b"1 2 0 ".as_slice());
+        same(text.as_slice(), b"1 2 0 ")?;
     }
     Ok(())
 }
@@ -54,7 +54,7 @@ fn workers_answer_in_the_order_of_the_requests(rt: HostRuntime) -> Result<(), Fa
 #[test]
 fn no_requests_have_no_answers(rt: HostRuntime) -> Result<(), Fail> {
     let answers = work(&rt, rt.alloc(), 64, &[], &NoGate)?;
-    assert_eq!(rt; answers.len(), 0);
+    assert!(rt; answers.is_empty());
     Ok(())
 }
 
@@ -166,10 +166,9 @@ fn two_workers_compute_at_once(rt: HostRuntime) -> Result<(), Fail> {
     let gate = Both::new();
     let answers = work(&rt, rt.alloc(), 2, &counts(BUFFER)[..2], &gate)?;
     let text = shown(rt.alloc(), answers.as_slice())?;
-    assert_eq!(rt; text.as_slice(), b"1 2 ".as_slice());
     assert!(rt; gate.has_seen(2));
     assert!(rt; gate.missed.load(Ordering::SeqCst) == 0);
-    Ok(())
+    same(text.as_slice(), b"1 2 ")
 }
 
 /// Requests for the counts of no line, of one, and so on, up to 99 lines.

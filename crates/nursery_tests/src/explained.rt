@@ -1,10 +1,10 @@
 //! Refused job texts, and what `explain` tells of them.
 
 /// A job text, and what its refusal shows, where the file is named `f`.
-pub type Row = (&'static str, &'static str);
+pub(crate) type Row = (&'static str, &'static str);
 
 /// Texts that go on wrongly: what the grammar expected.
-pub const EXPECTED: &[Row] = &[
+pub(crate) const EXPECTED: &[Row] = &[
     (
         "trio-job 1\njob main { sleep }\n",
         "f:2:18: expected a number\njob main { sleep }\n                 ^\n",
@@ -60,7 +60,7 @@ pub const EXPECTED: &[Row] = &[
 ];
 
 /// Texts that are refused for another reason: what is wrong.
-pub const WRONG: &[Row] = &[
+pub(crate) const WRONG: &[Row] = &[
     (
         "trio-job 1\njob a {\n\tfind \"ä\"; }",
         "f:3:8: this byte is not ASCII\n find \"??\"; }\n       ^\n",
@@ -116,7 +116,7 @@ pub const WRONG: &[Row] = &[
 ];
 
 /// Texts for which something may help: the last line of what is shown, and the newline before it.
-pub const HELPED: &[Row] = &[
+pub(crate) const HELPED: &[Row] = &[
     ("trio-job 1\njob a { slep 1; }", "\ndid you mean `sleep`?\n"),
     (
         "trio-job 1\njob a { sleeep 1; }",

@@ -3,32 +3,32 @@
 use job_grammar::Job;
 use job_report::{MemOut, Out};
 use job_runner::{Forward, Gate, MOST_INPUT, NoGate, Pick, Reverse, Run, Settings, Turn, run};
-use nursery_app::{ServeFault, Verdict, serve};
+use nursery_app::{CheckVerdict, ServeFault, Verdict, check, serve, upgrade};
 use std::alloc::{AllocError, Global};
 use std::process::Abort;
 use std::test::Fail;
 use std::thread::Threads;
 
 /// A worked job: the steps of the job `main`, its input, and its report.
-pub type Row = (&'static str, &'static [u8], &'static [u8]);
+pub(crate) type Row = (&'static str, &'static [u8], &'static [u8]);
 
 /// The first line of a job text of format 1.
-pub const FORMAT_1: &[u8] = b"trio-job 1\n";
+pub(crate) const FORMAT_1: &[u8] = b"trio-job 1\n";
 
 /// The first line of a job text of format 2.
-pub const FORMAT_2: &[u8] = b"trio-job 2\n";
+pub(crate) const FORMAT_2: &[u8] = b"trio-job 2\n";
 
 /// Two lines, of which the first holds `er`.
-pub const TWO_LINES: &[u8] = b"error\nok\n";
+pub(crate) const TWO_LINES: &[u8] = b"error\nok\n";
 
 /// Three lines, of which each half begins with its longest.
-pub const HALVES: &[u8] = b"aa\nb\ncccc\n";
+pub(crate) const HALVES: &[u8] = b"aa\nb\ncccc\n";
 
 /// The tick after which the jobs of these tests may not end.
-pub const LIMIT: u64 = 100;
+pub(crate) const LIMIT: u64 = 100;
 
 /// The pieces of a text, one after the other.
-pub fn joined(alloc: Global, pieces: &[&[u8]]) -> Result<Vec<u8>, AllocError> {
+pub(crate) fn joined(alloc: Global, pieces: &[&[u8]]) -> Result<Vec<u8>, AllocError> {
     let mut text = Vec::new(alloc);
     for piece in pieces {
         text.extend_from_slice(piece)?;
@@ -37,12 +37,16 @@ pub fn joined(alloc: Global, pieces: &[&[u8]]) -> Result<Vec<u8>, AllocError> {
 }
 
 /// The text of the job `main` of these steps, after the first line of its format.
-pub fn job_text(alloc: Global, first_line: &[u8], steps: &[u8]) -> Result<Vec<u8>, AllocError> {
+pub(crate) fn job_text(
+    alloc: Global,
+    first_line: &[u8],
+    steps: &[u8],
+) -> Result<Vec<u8>, AllocError> {
     joined(alloc, &[first_line, b"job main { ", steps, b" }"])
 }
 
 /// The run of a job by some workers.
-pub fn run_of<'a, R: Abort + Threads + Sync + AllocGlobal, P: Pick, G: Gate + Sync>(
+pub(crate) fn run_of<'a, R: Abort + Threads + Sync + AllocGlobal, P: Pick, G: Gate + Sync>(
     rt: &R,
     job: &'a Job,
     input: &'a [u8],
@@ -57,7 +61,7 @@ pub fn run_of<'a, R: Abort + Threads + Sync + AllocGlobal, P: Pick, G: Gate + Sy
 }
 
 /// Calls `serve` with a writer that has not failed.
-pub fn serve_into<R: Abort + Threads + Sync + AllocGlobal, P: Pick, G: Gate + Sync, W: Out>(
+pub(crate) fn serve_into<R: Abort + Threads + Sync + AllocGlobal, P: Pick, G: Gate + Sync, W: Out>(
     rt: &R,
     text: &[u8],
     input: &[u8],
@@ -72,7 +76,7 @@ pub fn serve_into<R: Abort + Threads + Sync + AllocGlobal, P: Pick, G: Gate + Sy
 }
 
 /// Serves a text. Where memory is refused nothing was sent, and the text is served again.
-pub fn serve_again<R: Abort + Threads + Sync + AllocGlobal, P: Pick>(
+pub(crate) fn serve_again<R: Abort + Threads + Sync + AllocGlobal, P: Pick>(
     rt: &R,
     text: &[u8],
     input: &[u8],
@@ -89,7 +93,7 @@ pub fn serve_again<R: Abort + Threads + Sync + AllocGlobal, P: Pick>(
 }
 
 /// What `serve` writes for a text with these settings, and the status of its verdict, which is 5 for a fault.
-pub fn served<R: Abort + Threads + Sync + AllocGlobal, P: Pick>(
+pub(crate) fn served<R: Abort + Threads + Sync + AllocGlobal, P: Pick>(
     rt: &R,
     text: &[u8],
     input: &[u8],
@@ -105,13 +109,62 @@ pub fn served<R: Abort + Threads + Sync + AllocGlobal, P: Pick>(
     Ok((status, out))
 }
 
+/// Which job text is asked for.
+#[derive(Clone, Copy)]
+pub(crate) enum Asked {
+    /// The canonical text.
+    Checked,
+    /// The canonical text of the same job in format 2.
+    Upgraded,
+}
+
+// Calls `check` or `upgrade` with a writer that has not failed.
+fn written_into(
+    rt: &(impl Abort + AllocGlobal),
+    asked: Asked,
+    text: &[u8],
+    out: &mut MemOut,
+) -> Result<CheckVerdict, ServeFault> {
+    assert!(rt; out.failures() == 0);
+    match asked {
+        Asked::Checked => check(rt.alloc(), text, out),
+        Asked::Upgraded => upgrade(rt.alloc(), text, out),
+    }
+}
+
+/// Asks for a job text. Where memory is refused nothing was sent, and it is asked for again.
+pub(crate) fn written_again(
+    rt: &(impl Abort + AllocGlobal),
+    asked: Asked,
+    text: &[u8],
+    out: &mut MemOut,
+) -> Result<CheckVerdict, ServeFault> {
+    let verdict = written_into(rt, asked, text, out);
+    if !matches!(verdict, Err(ServeFault::NoMemory)) {
+        return verdict;
+    }
+    assert!(rt; out.taken().is_empty());
+    written_into(rt, asked, text, out)
+}
+
+/// What `check` or `upgrade` writes for a text, and the status of its verdict.
+pub(crate) fn written(
+    rt: &(impl Abort + AllocGlobal),
+    asked: Asked,
+    text: &[u8],
+) -> Result<(u8, MemOut), Fail> {
+    let mut out = MemOut::new(rt.alloc(), 65_537, 100, None)?;
+    let verdict = written_again(rt, asked, text, &mut out)?;
+    Ok((verdict.status(), out))
+}
+
 /// Checks what was written, with the name of what was asked.
-pub fn assert_written(rt: &impl Abort, name: &str, out: &MemOut, expected: &[u8]) {
+pub(crate) fn assert_written(rt: &impl Abort, name: &str, out: &MemOut, expected: &[u8]) {
     assert_eq!(rt; out.taken(), expected, "{name}");
 }
 
 /// Checks what `serve` writes for a text with the limit 100, by 1 and 64 workers in each order of picks.
-pub fn assert_serves<R: Abort + Threads + Sync + AllocGlobal>(
+pub(crate) fn assert_serves<R: Abort + Threads + Sync + AllocGlobal>(
     rt: &R,
     name: &str,
     text: &[u8],
@@ -131,7 +184,7 @@ pub fn assert_serves<R: Abort + Threads + Sync + AllocGlobal>(
 }
 
 /// Checks the reports of worked jobs in a format.
-pub fn assert_rows<R: Abort + Threads + Sync + AllocGlobal>(
+pub(crate) fn assert_rows<R: Abort + Threads + Sync + AllocGlobal>(
     rt: &R,
     first_line: &[u8],
     rows: &[Row],
@@ -144,7 +197,7 @@ pub fn assert_rows<R: Abort + Threads + Sync + AllocGlobal>(
 }
 
 /// Checks the reports of worked jobs, which are the same in both formats.
-pub fn assert_rows_in_both_formats<R: Abort + Threads + Sync + AllocGlobal>(
+pub(crate) fn assert_rows_in_both_formats<R: Abort + Threads + Sync + AllocGlobal>(
     rt: &R,
     rows: &[Row],
 ) -> Result<(), Fail> {
@@ -153,7 +206,7 @@ pub fn assert_rows_in_both_formats<R: Abort + Threads + Sync + AllocGlobal>(
 }
 
 /// Checks what `serve` writes for a text, and the status of its verdict.
-pub fn assert_answers<R: Abort + Threads + Sync + AllocGlobal>(
+pub(crate) fn assert_answers<R: Abort + Threads + Sync + AllocGlobal>(
     rt: &R,
     text: &str,
     input: &[u8],

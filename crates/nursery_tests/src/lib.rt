@@ -1,9 +1,14 @@
 //! The tests of the crates `job_runner`, `job_report` and `nursery_app`, through what these make public.
 //!
 //! They show what no clause says: that the reports of worked jobs, worked out by hand, are what the definitions give; how words and
-//! refused texts are answered; and what becomes of readers and writers that fail.
+//! refused texts are answered; what becomes of readers and writers that fail; and, of the layers below too, that a call which was
+//! refused memory gives its answer when it is made again.
 #![tactic(auto)]
 
+#[cfg(test)]
+mod again;
+#[cfg(test)]
+mod batchwise;
 #[cfg(test)]
 mod explained;
 #[cfg(test)]
@@ -19,7 +24,11 @@ mod reports;
 #[cfg(test)]
 mod scale;
 #[cfg(test)]
+mod sizes;
+#[cfg(test)]
 mod streams;
+#[cfg(test)]
+mod upgraded;
 #[cfg(test)]
 mod words;
 #[cfg(test)]

@@ -19,7 +19,7 @@ fn push_numbered(
 }
 
 /// Appends the numbers from 01 to 31, each between two texts.
-pub fn push_up(out: &mut Vec<u8>, front: &[u8], behind: &[u8]) -> Result<(), AllocError> {
+pub(crate) fn push_up(out: &mut Vec<u8>, front: &[u8], behind: &[u8]) -> Result<(), AllocError> {
     for i in 0..DEEPEST {
         push_numbered(out, front, i.wrapping_add(1), behind)?;
     }
@@ -27,7 +27,7 @@ pub fn push_up(out: &mut Vec<u8>, front: &[u8], behind: &[u8]) -> Result<(), All
 }
 
 /// Appends the numbers from 31 down to 01, each between two texts.
-pub fn push_down(out: &mut Vec<u8>, front: &[u8], behind: &[u8]) -> Result<(), AllocError> {
+pub(crate) fn push_down(out: &mut Vec<u8>, front: &[u8], behind: &[u8]) -> Result<(), AllocError> {
     for i in 0..DEEPEST {
         push_numbered(out, front, DEEPEST.wrapping_sub(i), behind)?;
     }
@@ -35,7 +35,7 @@ pub fn push_down(out: &mut Vec<u8>, front: &[u8], behind: &[u8]) -> Result<(), A
 }
 
 /// Appends a text 31 times.
-pub fn push_each(out: &mut Vec<u8>, text: &[u8]) -> Result<(), AllocError> {
+pub(crate) fn push_each(out: &mut Vec<u8>, text: &[u8]) -> Result<(), AllocError> {
     for _ in 0..DEEPEST {
         out.extend_from_slice(text)?;
     }
@@ -43,7 +43,7 @@ pub fn push_each(out: &mut Vec<u8>, text: &[u8]) -> Result<(), AllocError> {
 }
 
 /// The steps within 31 blocks that begin so, each with a number after its name.
-pub fn nested(alloc: Global, block: &[u8], steps: &[u8]) -> Result<Vec<u8>, AllocError> {
+pub(crate) fn nested(alloc: Global, block: &[u8], steps: &[u8]) -> Result<Vec<u8>, AllocError> {
     let mut text = Vec::new(alloc);
     push_up(&mut text, block, b" { ")?;
     text.extend_from_slice(steps)?;

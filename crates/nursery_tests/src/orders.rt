@@ -6,7 +6,9 @@ use crate::fixtures::{FORMAT_1, HALVES, LIMIT, assert_written, job_text, run_of,
 use crate::nested::nested;
 use job_grammar::read_job;
 use job_report::MemOut;
-use job_runner::{Forward, Gate, NoGate, Pick, Record, Reverse, ScopeFrom, Settings, Turn};
+use job_runner::{
+    Forward, Gate, NoGate, Outcome, Pick, Record, Reverse, ScopeFrom, Settings, Turn,
+};
 use std::process::Abort;
 use std::sync::atomic::{AtomicU64, Ordering};
 use std::test::Fail;
@@ -29,20 +31,38 @@ fn ticks_of(record: Option<&Record<'_>>) -> (u64, u64) {
     }
 }
 
-// Checks how many turns a job takes in the order of a picker, and the ticks of its tasks.
+// Whether a task of that name with these indices ended well.
+fn is_done(record: Option<&Record<'_>>, name: &[u8], indices: &[u64]) -> bool {
+    match record {
+        Some(record) => {
+            *record.label.name().bytes() == *name
+                && *record.label.indices() == *indices
+                && matches!(record.outcome, Outcome::Done)
+        }
+        None => false,
+    }
+}
+
+// Checks how many turns a job takes in the order of a picker, with 64 workers, and the ticks of its tasks, of which the last
+// ends well.
 fn assert_turns<R: Abort + Threads + Sync + AllocGlobal, P: Pick>(
     rt: &R,
     text: &[u8],
     picker: &mut P,
     turns: u64,
     ticks: &[(u64, u64)],
+    (name, indices): (&[u8], &[u64]),
 ) -> Result<(), Fail> {
     let job = read_job(rt.alloc(), text)?;
-    let done = run_of(rt, &job, b"", 1, picker, &NoGate)?;
+    let done = run_of(rt, &job, b"", 64, picker, &NoGate)?;
     assert_eq!(rt; done.turns(), turns);
     assert_ticks(rt, done.records(), ticks);
+    assert!(rt; is_done(done.records().last(), name, indices));
     Ok(())
 }
+
+// The name and the indices of the root.
+const MAIN: (&[u8], &[u64]) = (b"main", &[]);
 
 const SIBLING_FAILS: &[u8] = b"trio-job 1
 job main { nursery n {
@@ -52,10 +72,11 @@ job main { nursery n {
 #[test]
 fn each_order_takes_the_same_turns(rt: HostRuntime) -> Result<(), Fail> {
     let ticks = &[(0, 3), (0, 2), (0, 3), (0, 2)];
-    assert_turns(&rt, SIBLING_FAILS, &mut Forward, 8, ticks)?;
-    assert_turns(&rt, SIBLING_FAILS, &mut Reverse, 8, ticks)?;
+    let last = (b"c".as_slice(), [].as_slice());
+    assert_turns(&rt, SIBLING_FAILS, &mut Forward, 8, ticks, last)?;
+    assert_turns(&rt, SIBLING_FAILS, &mut Reverse, 8, ticks, last)?;
     let mut turn = Turn { calls: 0 };
-    assert_turns(&rt, SIBLING_FAILS, &mut turn, 8, ticks)?;
+    assert_turns(&rt, SIBLING_FAILS, &mut turn, 8, ticks, last)?;
     assert!(rt; turn.calls == 8);
     Ok(())
 }
@@ -63,7 +84,14 @@ fn each_order_takes_the_same_turns(rt: HostRuntime) -> Result<(), Fail> {
 #[test]
 fn a_nursery_without_tasks_takes_two_turns(rt: HostRuntime) -> Result<(), Fail> {
     let text = b"trio-job 1\njob main { nursery n { } }";
-    assert_turns(&rt, text, &mut Forward, 2, &[(0, 0)])
+    assert_turns(&rt, text, &mut Forward, 2, &[(0, 0)], MAIN)
+}
+
+#[test]
+fn nested_scopes_take_no_turn(rt: HostRuntime) -> Result<(), Fail> {
+    let steps = nested(rt.alloc(), b"scope s", b"sleep 1;")?;
+    let text = job_text(rt.alloc(), FORMAT_1, steps.as_slice())?;
+    assert_turns(&rt, text.as_slice(), &mut Forward, 2, &[(0, 1)], MAIN)
 }
 
 #[test]
@@ -73,7 +101,8 @@ job main { nursery n { start a over 64 { nursery m {
   start b over 64 { sleep 1; sleep 1; sleep 1; }
 } } } }";
     let ticks = vec![in rt.alloc(); (0, 3); 4161]?;
-    assert_turns(&rt, text, &mut Forward, 16_514, ticks.as_slice())
+    let last = (b"b".as_slice(), [63, 63].as_slice());
+    assert_turns(&rt, text, &mut Forward, 16_514, ticks.as_slice(), last)
 }
 
 #[test]

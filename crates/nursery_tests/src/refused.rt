@@ -1,10 +1,10 @@
 //! Job texts that are refused: the line that tells it, what `check` and `upgrade` write, and how `explain` shows the place.
 
 use crate::explained::{EXPECTED, HELPED, Row, WRONG};
-use crate::fixtures::{assert_answers, assert_written};
+use crate::fixtures::{Asked, assert_answers, assert_written, written, written_again};
 use job_grammar::{JobFault, JobKind, read_job};
 use job_report::MemOut;
-use nursery_app::{CheckVerdict, check, explain, upgrade};
+use nursery_app::{CheckVerdict, explain};
 use std::alloc::Global;
 use std::process::Abort;
 use std::test::Fail;
@@ -85,10 +85,9 @@ const CHECKS: &[(&str, u8, &[u8], &[u8])] = &[
 #[test]
 fn check_writes_the_canonical_text(rt: HostRuntime) -> Result<(), Fail> {
     for &(text, status, checked, _upgraded) in CHECKS {
-        let mut out = MemOut::new(rt.alloc(), 100, 100, None)?;
-        let verdict = check(rt.alloc(), text.as_bytes(), &mut out)?;
+        let (told, out) = written(&rt, Asked::Checked, text.as_bytes())?;
         assert_written(&rt, text, &out, checked);
-        assert!(rt; verdict.status() == status, "{text}");
+        assert!(rt; told == status, "{text}");
     }
     Ok(())
 }
@@ -96,10 +95,9 @@ fn check_writes_the_canonical_text(rt: HostRuntime) -> Result<(), Fail> {
 #[test]
 fn upgrade_writes_the_job_in_format_2(rt: HostRuntime) -> Result<(), Fail> {
     for &(text, status, _checked, upgraded) in CHECKS {
-        let mut out = MemOut::new(rt.alloc(), 100, 100, None)?;
-        let verdict = upgrade(rt.alloc(), text.as_bytes(), &mut out)?;
+        let (told, out) = written(&rt, Asked::Upgraded, text.as_bytes())?;
         assert_written(&rt, text, &out, upgraded);
-        assert!(rt; verdict.status() == status, "{text}");
+        assert!(rt; told == status, "{text}");
     }
     Ok(())
 }
@@ -107,8 +105,9 @@ fn upgrade_writes_the_job_in_format_2(rt: HostRuntime) -> Result<(), Fail> {
 #[test]
 fn check_tells_the_fault_of_a_refused_text(rt: HostRuntime) -> Result<(), Fail> {
     let mut out = MemOut::new(rt.alloc(), 100, 100, None)?;
-    let CheckVerdict::JobRefused(fault) = check(
-        rt.alloc(),
+    let CheckVerdict::JobRefused(fault) = written_again(
+        &rt,
+        Asked::Checked,
         b"trio-job 1\njob main { sleep",
         &mut out,
     )?
@@ -127,7 +126,7 @@ fn a_text_that_nests_thousands_deep_is_refused(rt: HostRuntime) -> Result<(), Fa
         text.extend_from_slice(b"try{")?;
     }
     let mut out = MemOut::new(rt.alloc(), 100, 100, None)?;
-    let verdict = check(rt.alloc(), text.as_slice(), &mut out)?;
+    let verdict = written_again(&rt, Asked::Checked, text.as_slice(), &mut out)?;
     assert!(rt; matches!(verdict, CheckVerdict::JobRefused(_)));
     Ok(())
 }

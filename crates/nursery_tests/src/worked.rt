@@ -45,7 +45,7 @@ pqrstuvwxyz{|}~\\x7f\
 ";
 
 /// The plain steps, the limit, and how bytes of a line are shown.
-pub const PLAIN: &[Row] = &[
+pub(crate) const PLAIN: &[Row] = &[
     (
         "find \"er\";",
         TWO_LINES,
@@ -101,7 +101,7 @@ task main 0 0 done
 ];
 
 /// Scopes, deadlines and shields.
-pub const SCOPES: &[Row] = &[
+pub(crate) const SCOPES: &[Row] = &[
     (
         "scope s after 5 { sleep 5; }",
         b"",
@@ -206,7 +206,7 @@ task main 0 5 done
 ];
 
 /// Handlers and cleanup.
-pub const HANDLERS: &[Row] = &[
+pub(crate) const HANDLERS: &[Row] = &[
     (
         "try { raise A; } except A { sleep 2; }",
         b"",
@@ -253,7 +253,7 @@ task main 0 1 done
 ];
 
 /// Nurseries, their members that fail, and the groups of what these raised.
-pub const NURSERIES: &[Row] = &[
+pub(crate) const NURSERIES: &[Row] = &[
     (
         "nursery n { start a { sleep 2; raise Boom; } start b { sleep 10; } start c { sleep 2; } }",
         b"",
@@ -358,7 +358,7 @@ task main 0 0 done
 ];
 
 /// Tasks over parts of the input, and what tasks ask of their lines.
-pub const PARTS: &[Row] = &[
+pub(crate) const PARTS: &[Row] = &[
     (
         "nursery n { start p over 3 { find \"x\"; } }",
         b"",
@@ -444,7 +444,7 @@ task main 0 0 done
 ];
 
 /// Jobs that format 2 alone has.
-pub const OF_FORMAT_2: &[Row] = &[
+pub(crate) const OF_FORMAT_2: &[Row] = &[
     (
         "repeat 3 { scope s after 2 { sleep 5; } }",
         b"",

@@ -3,7 +3,7 @@ use Rattle.batch_commit.specs.Entries.{AllPlaced}
 use Rattle.layer_tests.proofs.batches.turns.Given as goal
 
 abbrev pub invariant-turns : goal.invariant-turns
-invariant-turns g l = AllPlaced l.batch.current
+invariant-turns l = AllPlaced l.batch.current
 
 abbrev pub decreases-turns : goal.decreases-turns
-decreases-turns g l = length l.batch.current
+decreases-turns l = length l.batch.current

@@ -1,9 +1,6 @@
-use Rattle.std.proofs.Common.{◌≡◌, [], length}
+use Rattle.std.proofs.Common.{length}
 use Rattle.batch_commit.specs.Entries.{AllPlaced}
-use Rattle.layer_tests.proofs.batches.order_in_turn.Given as goal
-
-abbrev pub invariant-keys : goal.invariant-keys
-invariant-keys l = l.batch.current ≡ []
+use Rattle.layer_tests.proofs.batches.order_of.Given as goal
 
 abbrev pub invariant-turns : goal.invariant-turns
 invariant-turns l = AllPlaced l.batch.current

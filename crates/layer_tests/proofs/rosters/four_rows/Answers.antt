@@ -1,11 +1,11 @@
 use Rattle.std.proofs.Common.{◌≡◌, ◌<◌, ◌≤◌, ◌+◌, ℕ, true, false, inl, inr, List, [], ◌∷◌, ◌++◌, refl, ap, sym, ◌∙◌, subst, arith}
-use Rattle.std.specs.Prelude.{◌==◌, ◌⊎◌, ◌≢◌, All}
+use Rattle.std.specs.Prelude.{◌==◌, ◌⊎◌, ◌≢◌, All, IsSome}
 use Rattle.std.proofs.lemmas.Bool.Decides.{eqb_tells}
 use Rattle.std.proofs.lemmas.List.Elements.{All-nil, All-cons}
 use Rattle.task_roster.specs.declared.rows.Row.{Row}
 use Rattle.task_roster.specs.Rows.{times, times_child, ChildrenAreApart}
 use Rattle.task_roster.proofs.Apart.{one_if}
-use Rattle.layer_tests.proofs.rosters.records_of_four.Goals as goal
+use Rattle.layer_tests.proofs.rosters.four_rows.Goals as goal
 
 -- a number is one of two at most
 one_of_two : (j k x : ℕ) → (j ≡ k → ⊥) → one_if (j == x) + one_if (k == x) ≤ 1
@@ -47,14 +47,32 @@ four_apart a b c d as_a as_b as_c as_d = record {
     In : Row → Type 0
     In r = All P r.children.items
 
-pub records_of-requires-clause-tree : goal.records_of-requires-clause-tree
-records_of-requires-clause-tree c =
-    let items : c.push-4.new.self.items ≡ c.in_ok-ended.field-0 ∷ c.in_ok-ended-2.field-0 ∷ c.in_ok-ended-3.field-0
-    ∷ c.in_ok-ended-4.field-0 ∷ [] =
-    c.in_ok-push-4.ensures.items
-    ∙ ap (λ (x : List Row). x ++ c.in_ok-ended-4.field-0 ∷ []) (c.in_ok-push-3.ensures.items
-    ∙ ap (λ (x : List Row). x ++ c.in_ok-ended-3.field-0 ∷ []) (c.in_ok-push-2.ensures.items
-    ∙ ap (λ (x : List Row). x ++ c.in_ok-ended-2.field-0 ∷ []) (c.in_ok-push.ensures.items
-    ∙ ap (λ (x : List Row). x ++ c.in_ok-ended.field-0 ∷ []) c.new-rows.ensures.items))) in
-    rw items (four_apart _ _ _ _ c.in_ok-ended.ensures.children c.in_ok-ended-2.ensures.children c.in_ok-ended-3.ensures.children
-    c.in_ok-ended-4.ensures.children)
+-- rows that were pushed one after the other
+four_pushed : (before one two three after : List Row) (a b c d : Row) → before ≡ [] → one ≡ before ++ a ∷ [] → two ≡ one ++ b ∷ [] →
+    three ≡ two ++ c ∷ [] → after ≡ three ++ d ∷ [] → after ≡ a ∷ b ∷ c ∷ d ∷ []
+four_pushed _ _ _ _ _ a b c d none of_a of_b of_c of_d =
+    of_d ∙ ap (λ (x : List Row). x ++ d ∷ []) (of_c ∙ ap (λ (x : List Row). x ++ c ∷ []) (of_b ∙ ap (λ (x : List Row). x ++ b ∷ [])
+    (of_a ∙ ap (λ (x : List Row). x ++ a ∷ []) none)))
+
+pub returns-clause-ended : goal.returns-clause-ended
+returns-clause-ended c =
+    let first = c.in_ok-push_ended.ensures in
+    let second = c.in_ok-push_ended-2.ensures in
+    let third = c.in_ok-push_ended-3.ensures in
+    let fourth = c.in_ok-push_ended-4.ensures in
+    let items = four_pushed _ _ _ _ _ first.0 second.0 third.0 fourth.0 c.new-rows.ensures.items first.1 second.1 third.1 fourth.1 in
+    subst (All Ends) (sym items) (All-cons Ends first.0 (second.0 ∷ third.0 ∷ fourth.0 ∷ []) first.3
+    (All-cons Ends second.0 (third.0 ∷ fourth.0 ∷ []) second.3 (All-cons Ends third.0 (fourth.0 ∷ []) third.3
+    (All-cons Ends fourth.0 [] fourth.3 (All-nil Ends)))))
+  where
+    Ends : Row → Type 0
+    Ends r = IsSome r.end
+
+pub returns-clause-tree : goal.returns-clause-tree
+returns-clause-tree c =
+    let first = c.in_ok-push_ended.ensures in
+    let second = c.in_ok-push_ended-2.ensures in
+    let third = c.in_ok-push_ended-3.ensures in
+    let fourth = c.in_ok-push_ended-4.ensures in
+    let items = four_pushed _ _ _ _ _ first.0 second.0 third.0 fourth.0 c.new-rows.ensures.items first.1 second.1 third.1 fourth.1 in
+    subst ChildrenAreApart (sym items) (four_apart _ _ _ _ first.2 second.2 third.2 fourth.2)

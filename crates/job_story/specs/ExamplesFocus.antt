@@ -1,0 +1,40 @@
+-- The part of a worked story that concerns one task, by computing.
+use Rattle.std.specs.Prelude.{◌≡◌, ℕ, None, List, [], ◌∷◌, codes, refl}
+use Rattle.std.specs.Fmt.{digits}
+use Rattle.job_tree.specs.Tree.{Tree}
+use Rattle.exc_groups.specs.Exceptions.{Label}
+use Rattle.job_meaning.specs.Examples.{label_named}
+use Rattle.job_meaning.specs.Meaning.{meaning, meaning_table}
+use Rattle.job_meaning.specs.Walk.{walk, and_then, sleeping, showing, needing, cancelling, block, signed, gathered, child, handled, cleaned}
+use Rattle.job_story.specs.Examples.{lines_of}
+use Rattle.job_story.specs.ExamplesCauses.{race}
+use Rattle.job_story.specs.Focus.{events_for}
+use Rattle.job_story.specs.Sentences.{job_events, lines_text, widest}
+use Rattle.job_story.specs.Tell.{tell, then_tale, tell_sleep, tell_lines, tell_need, tell_raise, tell_cancel, tell_block, tell_wait, tell_gathered, tell_child, tell_handled, tell_cleaned, tale_by}
+
+-- the events of the meaning that concern a task
+unfoldable pub told_for : Tree → List ℕ → Label → List ℕ
+unfolding meaning walk and_then sleeping showing needing cancelling block signed gathered child handled cleaned tell then_tale tell_sleep tell_lines tell_need tell_raise tell_cancel tell_block tell_wait tell_gathered tell_child tell_handled tell_cleaned tale_by
+told_for job input task =
+    let all = job_events (meaning_table job input) job input in
+    let kept = events_for (meaning_table job input) all task in
+    lines_text (meaning_table job input) all (widest kept) None kept
+
+-- `late` of the race: it is cancelled by `stop`
+pub who_cancelled_late :
+    told_for race (lines_of (codes "GET /a" ∷ codes "PUT /b" ∷ [])) (label_named (codes "late"))
+    ≡ lines_of
+    (codes "tick 0"
+    ∷ codes "  stop  starts in nursery calls"
+    ∷ codes "  stop  sleeps until 5"
+    ∷ codes "  late  starts in nursery calls"
+    ∷ codes "  late  sleeps until 6"
+    ∷ codes "tick 5"
+    ∷ codes "  stop  cancels nursery calls from 6"
+    ∷ codes "  stop  ends: done"
+    ∷ codes "tick 6"
+    ∷ codes "  late  is cancelled while sleeping since 0 by nursery calls (cancelled by stop at 5)"
+    ∷ codes "  late  ends: cancelled"
+    ∷ [])
+unfolding told_for digits
+who_cancelled_late = refl

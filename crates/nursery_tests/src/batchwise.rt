@@ -1,0 +1,172 @@
+//! A run batch by batch: what the calls of `Runner` answer to a caller that has the requests of each batch answered.
+//!
+//! Helpers ask for the phase before the calls that want one, so that the tests have nothing to prove.
+
+ghost use Rattle.std.specs.Prelude.{◌≤◌, IfOk};
+ghost use Rattle.job_runner.specs.Shelves.{IsUnderway};
+
+use crate::fixtures::{LIMIT, TWO_LINES};
+use job_grammar::{Job, read_job};
+use job_runner::{Entry, Forward, MOST_INPUT, NoGate, Phase, Run, RunFault, Runner};
+use line_kernels::{Kernel, Request};
+use scoped_workers::work;
+use std::alloc::{AllocError, Global};
+use std::test::Fail;
+use std::thread::Threads;
+
+// The run of a job at its beginning.
+fn opened<'a>(alloc: Global, job: &'a Job, input: &'a [u8]) -> Result<Runner<'a>, Fail>
+    ensures { IfOk result IsUnderway }
+{
+    if input.len() > MOST_INPUT {
+        return Err("the input is too long")?;
+    }
+    let runner = Runner::open(alloc, job, input, LIMIT)?;
+    Ok(runner)
+}
+
+// The requests of a run. Where memory is refused they are asked for again.
+fn requests_again<'a>(runner: &Runner<'a>) -> Result<Vec<Request<'a>>, AllocError> {
+    if let Ok(requests) = runner.requests() {
+        return Ok(requests);
+    }
+    runner.requests()
+}
+
+// Whether a run is ready, and none of its tasks asks.
+fn asks_nothing(runner: &Runner<'_>) -> Result<bool, AllocError>
+    requires { IsUnderway runner.now }
+{
+    let requests = requests_again(runner)?;
+    Ok(requests.is_empty() && runner.phase() == Phase::Ready)
+}
+
+// Whether a request searches the whole of that input for a string.
+fn is_search(request: &Request<'_>, needle: &[u8], input: &[u8]) -> bool {
+    let Kernel::Find(found) = request.kernel else {
+        return false;
+    };
+    found == needle && request.part.at() == 0 && request.part.text() == input
+}
+
+// Whether a run is ready, and one of its tasks searches the whole of that input for a string, and no other asks.
+fn asks_for(runner: &Runner<'_>, needle: &[u8], input: &[u8]) -> Result<bool, AllocError>
+    requires { IsUnderway runner.now }
+{
+    let requests = requests_again(runner)?;
+    if requests.len() != 1 || runner.phase() != Phase::Ready {
+        return Ok(false);
+    }
+    match requests.as_slice().first() {
+        Some(request) => Ok(is_search(request, needle, input)),
+        None => Ok(false),
+    }
+}
+
+// A run after the turns of its batch, which makes one request or none, as is told. A worker answers it.
+fn committed<'a, R: Threads + Sync + AllocGlobal>(
+    rt: &R,
+    runner: Runner<'a>,
+    count: usize,
+) -> Result<Runner<'a>, Fail>
+    requires few { count ≤ 1 }
+    requires underway { IsUnderway runner }
+    ensures { IfOk result IsUnderway }
+{
+    let requests = runner.requests()?;
+    let asked = requests.as_slice();
+    if asked.len() != count {
+        return Err("so many requests are made")?;
+    }
+    let answers = work(rt, rt.alloc(), 1, asked, &NoGate)?;
+    let runner = runner.commit(answers, &mut Forward)?;
+    Ok(runner)
+}
+
+// A run after the jump of its clock.
+fn jumped<'a>(runner: Runner<'a>) -> Result<Runner<'a>, Fail>
+    requires { IsUnderway runner }
+    ensures { IfOk result IsUnderway }
+{
+    let Phase::Blocked = runner.phase() else {
+        return Err("no task sleeps")?;
+    };
+    let runner = runner.jump()?;
+    Ok(runner)
+}
+
+// The limit that the jump of a run's clock would pass, and 0 where it passes none.
+fn limit_of_jump(runner: Runner<'_>) -> Result<u64, Fail>
+    requires { IsUnderway runner }
+{
+    let Phase::Blocked = runner.phase() else {
+        return Err("no task sleeps")?;
+    };
+    match runner.jump() {
+        Ok(_runner) => Ok(0),
+        Err(RunFault::Limit { limit }) => Ok(limit),
+        Err(RunFault::NoMemory) => Err(AllocError)?,
+    }
+}
+
+// A run whose root has ended, finished.
+fn finished<'a>(runner: Runner<'a>) -> Result<Run<'a>, Fail>
+    requires { IsUnderway runner }
+{
+    let Phase::Over = runner.phase() else {
+        return Err("the root has not ended")?;
+    };
+    let run = runner.finish()?;
+    Ok(run)
+}
+
+// Whether an entry is that line.
+fn is_line(entry: Option<&Entry<'_>>, at: usize, text: &[u8]) -> bool {
+    match entry {
+        Some(Entry::Line(line)) => line.at() == at && line.text() == text,
+        _other => false,
+    }
+}
+
+// Whether the first thing that the root of a run noted is that line.
+fn noted_line(run: &Run<'_>, at: usize, text: &[u8]) -> bool {
+    match run.records().first() {
+        Some(root) => is_line(root.entries.first(), at, text),
+        None => false,
+    }
+}
+
+#[test]
+fn a_search_has_two_batches(rt: HostRuntime) -> Result<(), Fail> {
+    let job = read_job(rt.alloc(), b"trio-job 1\njob main { find \"er\"; }")?;
+    let runner = opened(rt.alloc(), &job, TWO_LINES)?;
+    assert!(rt; asks_nothing(&runner)?);
+    let runner = committed(&rt, runner, 0)?;
+    assert!(rt; asks_for(&runner, b"er", TWO_LINES)?);
+    let runner = committed(&rt, runner, 1)?;
+    assert!(rt; runner.turns() == 2);
+    let run = finished(runner)?;
+    assert!(rt; run.turns() == 2);
+    assert!(rt; noted_line(&run, 0, b"error"));
+    Ok(())
+}
+
+#[test]
+fn a_jump_past_the_limit_is_refused(rt: HostRuntime) -> Result<(), Fail> {
+    let job = read_job(rt.alloc(), b"trio-job 1\njob main { sleep 101; }")?;
+    let runner = opened(rt.alloc(), &job, b"")?;
+    let runner = committed(&rt, runner, 0)?;
+    assert!(rt; limit_of_jump(runner)? == 100);
+    Ok(())
+}
+
+#[test]
+fn a_jump_to_the_limit_is_made(rt: HostRuntime) -> Result<(), Fail> {
+    let job = read_job(rt.alloc(), b"trio-job 1\njob main { sleep 100; }")?;
+    let runner = opened(rt.alloc(), &job, b"")?;
+    let runner = committed(&rt, runner, 0)?;
+    let runner = jumped(runner)?;
+    let runner = committed(&rt, runner, 0)?;
+    assert!(rt; finished(runner)?.turns() == 2);
+    Ok(())
+}
