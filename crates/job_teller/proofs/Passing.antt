@@ -29,7 +29,8 @@ at_first h t count body start w told modest room =
     let none : count ≡ count - 0 = omega arith in
     record {
       going =
-          subst (λ (n : ℕ). Going h.task.now start w start (tell_passes 0 count (pass body h) t) (λ u. tell_passes 0 n (pass body h) u)) none
+          subst (λ (n : ℕ). Going h.task.now start w start (tell_passes 0 count (pass body h) t) (λ u. tell_passes 0 n
+          (pass body h) u)) none
           (going_start h.task.now start w t (λ u. tell_passes 0 count (pass body h) u) told);
       modest = modest;
       room =

@@ -148,7 +148,8 @@ tell_passes-tell_pass-requires t c = (
   omega (arith, c.decreases),
   (
     c.requires.modest,
-    subst (λ (u : ℕ). HasRoom (size_of c.args.body.now) c.args.here u) (sym c.end.ensures) (room_pass _ _ _ _ _ _ _ _ c.passes.invariant c.passes-test.true),
+    subst (λ (u : ℕ). HasRoom (size_of c.args.body.now) c.args.here u) (sym c.end.ensures)
+        (room_pass _ _ _ _ _ _ _ _ c.passes.invariant c.passes-test.true),
   ),
 )
 
