@@ -65,7 +65,7 @@ impl MockClock {
     pub fn sleep_until(&mut self, task: TaskId, due: u64) -> Result<(), AllocError>
         requires awake { due_of self.old task ≡ None }
         requires later { now_of self.old < due }
-        requires bounded { due < 2 ^ 41 }
+        requires bounded { due < 2 ^ 63 }
         ensures timers { OnOk result (Updates self.old self.new task (Some due)) }
         ensures time { OnOk result (SameTime self.old self.new) }
         ensures err { OnErr result (IsUnchanged self.old self.new) }

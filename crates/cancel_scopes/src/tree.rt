@@ -60,7 +60,7 @@ impl ScopeTree {
         deadline: Option<u64>,
     ) -> Result<ScopeId, AllocError>
         requires parent_open { ForSome parent (IsOpen self.old) }
-        requires deadline { ForSome deadline (λ tick. tick < 2 ^ 41) }
+        requires deadline { ForSome deadline (λ tick. tick < 2 ^ 63) }
         ensures fresh { IfOk result (λ id. stack_of self.old id ≡ None) }
         ensures opened { IfOk result (λ id. stack_of self.new id ≡
             Some (record { label = id; shield = shield; from = deadline } ∷ outer_of self.old parent)) }
@@ -98,7 +98,7 @@ impl ScopeTree {
     /// earlier. Each scope whose sight this lowers is changed until it is handed out or closed. Takes no memory.
     pub fn cancel(&mut self, id: ScopeId, tick: u64)
         requires id { IsOpen self.old id }
-        requires tick { tick + 1 < 2 ^ 41 }
+        requires tick { tick + 1 < 2 ^ 63 }
         ensures stacks { (key : ℕ) →
             stack_of self.new key ≡ option_map (after_cancel id tick) (stack_of self.old key) }
         ensures marks { (key : ℕ) → ForSome (stack_of self.old key) (λ stack. is_changed self.new key

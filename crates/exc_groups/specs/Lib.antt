@@ -1,4 +1,5 @@
 pub mod Exceptions
+pub mod Labels
 pub mod Split
 pub mod ExcCode
 pub mod Weigh

@@ -1,8 +1,14 @@
 ghost use Rattle.std.specs.Prelude.{◌≡◌, [], ◌∷◌, ◌++◌, IfOk};
+ghost use Rattle.std.specs.Hash as fed;
+ghost use Rattle.std.specs.Cmp.{partial_equiv_from_equiv};
+ghost use Rattle.std.specs.Cmp.Rules.{hashing};
+ghost use Rattle.std.proofs.Common.{rules};
+ghost use Rattle.exc_groups.specs.Labels.{same_label, same_label_equiv};
 
 use job_tree::Name;
 use smallvec::SmallVec;
 use std::alloc::{AllocError, Global};
+use std::hash::{Hash, Hasher};
 use std::marker::Model;
 
 /// Which task, scope or nursery: its name, and the index of each `start .. over` that it stands in, outermost first.
@@ -74,5 +80,30 @@ impl Label {
             name: self.name,
             indices,
         })
+    }
+}
+
+impl PartialEq for Label {
+    ghost eq = { same_label };
+
+    ghost laws = { partial_equiv_from_equiv same_label_equiv };
+
+    fn eq(&self, other: &Label) -> bool {
+        self.name() == other.name() && self.indices() == other.indices()
+    }
+}
+
+impl Eq for Label {
+    ghost laws = { same_label_equiv };
+}
+
+impl Hash for Label {
+    ghost hash_input = { λ label. fed.slice fed.u8 label.name ++ fed.slice fed.u64 label.indices };
+
+    ghost respects_eq = { Prim.search (hashing, rules) };
+
+    fn hash<H: Hasher>(&self, state: &mut H) {
+        self.name().hash(state);
+        self.indices().hash(state);
     }
 }

@@ -12,3 +12,4 @@ pub mod Settled
 pub mod Finish
 pub mod Once
 pub mod LateRest
+pub mod Ends

@@ -1,8 +1,9 @@
 -- The laws of the definitions. Each is the contract of a function that does nothing.
-use Rattle.std.specs.Prelude.{◌≡◌, ℕ, ◌≤◌, Bool, false, IsTrue, Option, Some, None, List, [], ◌∷◌}
+use Rattle.std.specs.Prelude.{◌≡◌, ℕ, ◌≤◌, Bool, false, IsTrue, Option, Some, None, List, [], ◌∷◌, length}
 use Rattle.job_tree.specs.declared.format.Format.TheVariants.{Two}
 use Rattle.job_tree.specs.Tree.{Steps, Tree}
 use Rattle.job_tree.specs.Names.{GivesNamesOnce}
+use Rattle.job_tree.specs.Modest.{IsModest}
 use Rattle.exc_groups.specs.Exceptions.{Label, Exc, holds_cancelled}
 use Rattle.cancel_scopes.specs.Sight.{Tick, seen}
 use Rattle.job_meaning.specs.Walk.{Stack, Mode, Here, walk}
@@ -10,6 +11,7 @@ use Rattle.job_meaning.specs.Log.{Table, times_given}
 use Rattle.job_meaning.specs.Meaning.{root_walk, root_log, meaning, meaning_table, meaning_records, meaning_end, meaning_froms}
 use Rattle.job_meaning.specs.Follow.{follow, IsSettled}
 use Rattle.job_meaning.specs.Before.{Near, Agree}
+use Rattle.job_meaning.specs.declared.limits.TheConstants.{MOST_INPUT, LAST_TICK}
 
 -- one tick is at most another, where each may be never
 abbrev pub AtMost : Tick → Tick → Type 0
@@ -92,3 +94,7 @@ UpgradingKeepsTheMeaning =
     (job : Tree) (input : List ℕ) →
     (meaning (in_format_2 job) input ≡ meaning job input) × (meaning_records (in_format_2 job) input ≡ meaning_records job input)
     × (meaning_end (in_format_2 job) input ≡ meaning_end job input) × (meaning_froms (in_format_2 job) input ≡ meaning_froms job input)
+
+-- a job whose numbers are in their ranges ends by the last tick
+abbrev pub EndsByTheLastTick : Type 0
+EndsByTheLastTick = (job : Tree) (input : List ℕ) → IsModest job → length input ≤ MOST_INPUT → meaning_end job input ≤ LAST_TICK

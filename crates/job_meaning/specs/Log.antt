@@ -1,8 +1,8 @@
 -- What a walk comes to: its end, its exception, and the log of what was done on the way.
-use Rattle.std.specs.Prelude.{ℕ, ◌+◌, Bool, true, false, ◌&&◌, if◌then◌else◌, Option, Some, None, List}
-use Rattle.std.specs.Str.{bytes_eq}
+use Rattle.std.specs.Prelude.{ℕ, ◌+◌, Bool, true, false, if◌then◌else◌, Option, Some, None, List}
 use Rattle.buffer_parts.specs.Lines.{Span}
 use Rattle.exc_groups.specs.Exceptions.{Label, Exc}
+pub use Rattle.exc_groups.specs.Labels.{same_label}
 use Rattle.cancel_scopes.specs.Sight.{Tick, earlier, next}
 
 -- what a task notes: a line that it borrowed, and the scopes and nurseries that it left, with whether they caught
@@ -40,9 +40,6 @@ pub record Result : Type 0 where
   pub exc : Option Exc
   pub members : List Member
   pub log : Log
-
-abbrev pub same_label : Label → Label → Bool
-same_label l m = bytes_eq l.name m.name && bytes_eq l.indices m.indices
 
 -- a tick where a test holds
 abbrev pub tick_if : Bool → ℕ → Tick

@@ -2,6 +2,7 @@
 
 ghost use Rattle.job_meaning.specs.Laws.{
   CancelledIsSeen,
+  EndsByTheLastTick,
   FollowingIsMeaning,
   FollowingSettledIsMeaning,
   LabelsAreGivenOnce,
@@ -58,4 +59,10 @@ pub fn law_labels()
 /// the job does.
 pub fn law_upgrade()
     ensures { UpgradingKeepsTheMeaning }
+{}
+
+/// Every job ends by the last tick: a task that waits forever goes on at tick two to the 40, and a job has at most a million step
+/// instances. So a run that has no other limit always ends, and its table is complete.
+pub fn law_end()
+    ensures { EndsByTheLastTick }
 {}

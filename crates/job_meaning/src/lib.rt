@@ -1,8 +1,8 @@
 //! What a job means: the definitions that every contract above cites, and the laws that hold of them. It does nothing
 //! at run time.
 //!
-//! The layer promises six laws of these definitions: monotone sight, the root, causality, the settled table, that labels
-//! are given once, and that a job means the same in format 2. It stands on the definitions of the tree, the input's parts,
+//! The layer promises seven laws of these definitions: monotone sight, the root, causality, the settled table, that labels
+//! are given once, that a job means the same in format 2, and a tick by which every job has ended. It stands on the definitions of the tree, the input's parts,
 //! the kernels, the exceptions and the sight.
 #![tactic(auto)]
 
@@ -10,6 +10,6 @@ mod laws;
 mod limits;
 
 pub use laws::{
-    law_causality, law_labels, law_monotone_sight, law_root, law_settled_table, law_upgrade,
+    law_causality, law_end, law_labels, law_monotone_sight, law_root, law_settled_table, law_upgrade,
 };
-pub use limits::MOST_INPUT;
+pub use limits::{LAST_TICK, MOST_INPUT};

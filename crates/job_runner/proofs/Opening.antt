@@ -22,7 +22,7 @@ use Rattle.run_crew.specs.Crew.{IsCrew}
 use Rattle.run_crew.specs.Ready.{AreHomesOf, IsTimely, MayGo}
 use Rattle.run_crew.proofs.Begun.{crew_begun}
 use Rattle.sleeper_sights.specs.Sleeping.{scope_in}
-use Rattle.job_runner.specs.declared.limits.TheConstants.{GREATEST_LIMIT}
+use Rattle.job_meaning.specs.declared.limits.TheConstants.{LAST_TICK}
 use Rattle.task_roster.specs.declared.roster.Running.{Running}
 use Rattle.job_runner.specs.declared.runner.Runner.{Runner}
 use Rattle.task_roster.specs.Roster.{many, parent_of, running_at, task_of, HasRoot, IsRoster}
@@ -67,7 +67,7 @@ module _ (r : Runner) (root : Task) (id : ℕ) (sound : IsSound r.job.now) (smal
           let more : n + 1 ≡ suc n = omega arith in
           none-some task (sym (has.none n) ∙ ap (task_of r.roster) more ∙ e)
 
-  module _ (agree : IsRoster r.roster) (now : now_of r.clock ≡ 0) (limit : limit_of r.clock ≡ r.limit) (bounded : r.limit ≤ GREATEST_LIMIT)
+  module _ (agree : IsRoster r.roster) (now : now_of r.clock ≡ 0) (limit : limit_of r.clock ≡ r.limit) (bounded : r.limit ≤ LAST_TICK)
       (timers : (task : ℕ) → due_of r.clock task ≡ None)
       (asleep : (task : ℕ) → scope_in r.sleepers task ≡ None) (unchanged : NoneChanged r.world) (before added : List Added)
       (none_before : before ≡ []) (was_added : added ≡ before ++ (id, Begin) ∷ []) (current : r.batch.current ≡ map unplaced added)

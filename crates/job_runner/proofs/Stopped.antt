@@ -33,7 +33,7 @@ use Rattle.run_crew.proofs.ActsKeep.{same_or}
 use Rattle.run_crew.proofs.OtherScopes.{open_stack}
 use Rattle.sleeper_sights.specs.Sleeping.{Sleeping, scope_in, sight_of, Moves, Sees}
 use Rattle.run_crew.specs.Step.{Asks, FallsAsleep, AwaitsNow, StopSays}
-use Rattle.job_runner.specs.declared.limits.TheConstants.{GREATEST_LIMIT}
+use Rattle.job_meaning.specs.declared.limits.TheConstants.{LAST_TICK}
 use Rattle.task_roster.specs.declared.roster.Running.{Running}
 use Rattle.job_runner.specs.declared.runner.Runner.{Runner}
 use Rattle.task_roster.specs.Roster.{running_at, many}
@@ -98,13 +98,13 @@ falls_dozing world due task h =
     }
 
 -- the clock's timer is below 2 to the 41, and there was none
-pub due_bounded : (id row due : ℕ) (r : Runner) → IsStopping id row (stops.Sleep due) r → due < 2 ^ 41
+pub due_bounded : (id row due : ℕ) (r : Runner) → IsStopping id row (stops.Sleep due) r → due < 2 ^ 63
 due_bounded id row due r h =
     let x = some_is (running_at r.roster id) (λ (y : Running). (y.row ≡ row) × StopSays r.world y.task (stops.Sleep due)) h.lives in
     let due_is : due ≡ r.world.tick + x.2.1.ticks = x.2.1.due_is in
     let short : x.2.1.ticks ≤ 2 ^ 40 = x.2.1.short in
     let within : r.world.tick ≤ r.limit = h.shelved.within in
-    let bounded : r.limit ≤ GREATEST_LIMIT = h.shelved.bounded in
+    let bounded : r.limit ≤ LAST_TICK = h.shelved.bounded in
     omega (arith, due_is, short, within, bounded)
 
 -- one that stands nowhere has no timer

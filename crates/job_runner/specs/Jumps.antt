@@ -9,7 +9,7 @@ use Rattle.task_machine.specs.declared.task.Task.{Task}
 use Rattle.task_machine.specs.declared.world.World.{World}
 use Rattle.task_machine.specs.Tasks.{scope_of}
 use Rattle.run_crew.specs.Ready.{AreHomesOf}
-use Rattle.job_runner.specs.declared.limits.TheConstants.{GREATEST_LIMIT}
+use Rattle.job_meaning.specs.declared.limits.TheConstants.{LAST_TICK}
 use Rattle.task_roster.specs.Roster.{running_at, parent_of, IsRoster}
 use Rattle.task_roster.specs.declared.roster.Roster.{Roster}
 use Rattle.task_roster.specs.declared.roster.Running.{Running}
@@ -72,7 +72,7 @@ pub record IsWaking (r : Runner) : Type 0 where
   pub now : now_of r.clock ≡ r.world.tick
   pub limit : limit_of r.clock ≡ r.limit
   pub within : r.world.tick ≤ r.limit
-  pub bounded : r.limit ≤ GREATEST_LIMIT
+  pub bounded : r.limit ≤ LAST_TICK
   pub none_started : r.world.started.items ≡ []
   pub slept : (id due : ℕ) → due_of r.clock id ≡ Some due → IsSomeAnd (running_at r.roster id) (λ (x : Running). Slept r.world due x.task)
   pub known : AreKnown r.roster r.world r.clock r.sleepers

@@ -31,7 +31,7 @@ use Rattle.run_crew.specs.Crew.{Crew, IsCrew}
 use Rattle.run_crew.specs.Ready.{MayGo, AreHomesOf}
 use Rattle.run_crew.specs.Sights.{Shows}
 use Rattle.sleeper_sights.specs.Sleeping.{Sleeping, scope_in, sight_of}
-use Rattle.job_runner.specs.declared.limits.TheConstants.{GREATEST_LIMIT}
+use Rattle.job_meaning.specs.declared.limits.TheConstants.{LAST_TICK}
 use Rattle.task_roster.specs.declared.roster.Roster.{Roster}
 use Rattle.task_roster.specs.declared.roster.Running.{Running}
 use Rattle.job_runner.specs.declared.runner.Runner.{Runner}
@@ -134,7 +134,7 @@ pub record AreShelved (turning : Option ℕ) (r : Runner) : Type 0 where
   pub now : now_of r.clock ≡ r.world.tick
   pub limit : limit_of r.clock ≡ r.limit
   pub within : r.world.tick ≤ r.limit
-  pub bounded : r.limit ≤ GREATEST_LIMIT
+  pub bounded : r.limit ≤ LAST_TICK
   pub none_started : r.world.started.items ≡ []
   pub doze : AllDoze r.roster r.world r.clock
   pub known : AreKnown r.roster r.world r.clock r.sleepers

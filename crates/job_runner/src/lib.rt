@@ -1,9 +1,9 @@
 //! Runs a job over an input: the records of the job's meaning, or the limit.
 //!
 //! The layer promises that `run` answers the records of the one-thread meaning (`job_meaning`), for every number of
-//! workers, every picker and every gate, or the limit exactly where the meaning ends later. `Runner` is a run batch by batch:
-//! its tasks have their turns (`task_machine`), stand in a roster (`task_roster`), and the clock jumps where every task is
-//! blocked. That it comes to the meaning is the law of crews (`run_crew`).
+//! workers, every picker and every gate, or the limit exactly where the meaning ends later. `run_to_end` has no limit. `Runner`
+//! is a run batch by batch: its tasks have their turns (`task_machine`), stand in a roster (`task_roster`), and the clock jumps
+//! where every task is blocked. That its records are those of the meaning is the law of crews (`run_crew`).
 #![tactic(auto)]
 
 mod fault;
@@ -18,10 +18,10 @@ mod stopping;
 pub use batch_commit::{Forward, Pick, Reverse, Turn};
 pub use fault::RunFault;
 pub use finished::Run;
-pub use job_meaning::MOST_INPUT;
+pub use job_meaning::{LAST_TICK, MOST_INPUT};
 pub use limits::{GREATEST_LIMIT, MOST_WORKERS};
 pub use runner::{Phase, Runner};
-pub use running::run;
+pub use running::{run, run_to_end};
 pub use scoped_workers::{Gate, NoGate};
 pub use settings::Settings;
 pub use task_machine::{Entry, ScopeFrom};

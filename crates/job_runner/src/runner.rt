@@ -1,11 +1,10 @@
 ghost use Rattle.std.specs.Prelude.{◌≡◌, ◌+◌, ◌≤◌, ◌<◌, None, Some, IsSomeAnd, IfOk, OnOk, length};
 ghost use Rattle.batch_commit.specs.Entries.{requests_of};
-ghost use Rattle.job_meaning.specs.declared.limits.TheConstants.{MOST_INPUT};
+ghost use Rattle.job_meaning.specs.declared.limits.TheConstants.{LAST_TICK, MOST_INPUT};
 ghost use Rattle.job_meaning.specs.Meaning.{meaning_end};
 ghost use Rattle.run_crew.specs.Ready.{MayGo};
 ghost use Rattle.scoped_workers.specs.Slots.{AreAnswers};
 ghost use Rattle.task_roster.specs.Roster.{running_at, many, IsRoster};
-ghost use Rattle.job_runner.specs.declared.limits.TheConstants.{GREATEST_LIMIT};
 ghost use Rattle.job_runner.specs.declared.runner.Phase.TheVariants.{Ready, Over};
 ghost use Rattle.job_runner.specs.Phases.{phase_of};
 ghost use Rattle.job_runner.specs.Runs.{IsRun, FollowsEach, turns_of};
@@ -62,7 +61,7 @@ impl<'a> Runner<'a> {
         limit: u64,
     ) -> Result<Runner<'a>, AllocError>
         requires small { length input.now ≤ MOST_INPUT }
-        requires bounded { limit ≤ GREATEST_LIMIT }
+        requires bounded { limit ≤ LAST_TICK }
         ensures underway { IfOk result IsUnderway }
         ensures ready { IfOk result (λ r. phase_of r ≡ Ready) }
         ensures job { IfOk result (λ r. r.job.now ≡ job.now) }

@@ -1,12 +1,13 @@
 ghost use Rattle.std.specs.Prelude.{◌≡◌, ◌+◌, ◌*◌, ◌<◌, ◌≤◌, IfOk, IfErr, length};
-ghost use Rattle.job_meaning.specs.declared.limits.TheConstants.{MOST_INPUT};
+ghost use Rattle.job_meaning.specs.declared.limits.TheConstants.{LAST_TICK, MOST_INPUT};
 ghost use Rattle.job_meaning.specs.Meaning.{meaning_end, meaning_froms};
 ghost use Rattle.job_meaning.specs.Shown.{meaning_rows};
 ghost use Rattle.job_tree.specs.Names.{size_of};
 ghost use Rattle.task_roster.specs.Records.{AreSlices};
 ghost use Rattle.job_runner.specs.declared.runner.Phase.TheVariants.{Ready};
 ghost use Rattle.job_runner.specs.Phases.{phase_of};
-ghost use Rattle.job_runner.specs.Runs.{name_of, rows_of, records_in, scope_froms_of, turns_of, IsLate};
+ghost use Rattle.job_runner.specs.declared.limits.TheConstants.{MOST_WORKERS};
+ghost use Rattle.job_runner.specs.Runs.{IsRun, name_of, rows_of, records_in, scope_froms_of, turns_of, IsLate};
 ghost use Rattle.job_runner.specs.Shelves.{IsSameJob, IsUnderway};
 
 use crate::fault::RunFault;
@@ -14,7 +15,8 @@ use crate::finished::Run;
 use crate::runner::{Phase, Runner};
 use crate::settings::Settings;
 use batch_commit::Pick;
-use job_grammar::Job;
+use job_grammar::{Job, spelled_jobs_are_sound};
+use job_meaning::{LAST_TICK, law_end};
 use scoped_workers::{Gate, work};
 use std::alloc::{AllocError, Global};
 use std::thread::Threads;
@@ -41,8 +43,69 @@ pub fn run<'a, R: Threads + Sync, P: Pick, G: Gate + Sync>(
     ensures in_time { IfOk result (λ _. meaning_end job.now input.now ≤ settings.limit) }
     ensures late { IfErr result (IsLate job.now input.now settings.limit) }
 {
-    let workers = settings.workers();
-    let mut runner = Runner::open(alloc, job, input, settings.limit())?;
+    let run = run_until(
+        rt,
+        alloc,
+        job,
+        input,
+        settings.workers(),
+        settings.limit(),
+        picker,
+        gate,
+    )?;
+    Ok(run)
+}
+
+/// Runs a job over an input to its end, however late that is: a task that waits forever goes on at tick two to the 40. So the answer
+/// is that of the job's meaning in every case, with the tick from which each scope and nursery is cancelled. Want of memory is the only
+/// error. Picker, workers and gate are those of [`run`].
+pub fn run_to_end<'a, R: Threads + Sync, P: Pick, G: Gate + Sync>(
+    rt: &R,
+    alloc: Global,
+    job: &'a Job,
+    input: &'a [u8],
+    workers: usize,
+    picker: &mut P,
+    gate: &G,
+) -> Result<Run<'a>, AllocError>
+    requires small { length input.now ≤ MOST_INPUT }
+    requires some_workers { 1 ≤ workers }
+    requires few_workers { workers ≤ MOST_WORKERS }
+    ensures name { IfOk result (λ run. name_of run ≡ job.now.name) }
+    ensures records { IfOk result (λ run. rows_of run ≡ meaning_rows job.now input.now) }
+    ensures froms { IfOk result (λ run. scope_froms_of run ≡ meaning_froms job.now input.now) }
+{
+    spelled_jobs_are_sound();
+    law_end();
+    let _steps = job.steps();
+    match run_until(rt, alloc, job, input, workers, LAST_TICK, picker, gate) {
+        Ok(run) => Ok(run),
+        Err(RunFault::Limit { .. }) => unreachable!(),
+        Err(RunFault::NoMemory) => Err(AllocError),
+    }
+}
+
+// Runs a job in turns of its tasks, one tick after the other, up to a limit.
+fn run_until<'a, R: Threads + Sync, P: Pick, G: Gate + Sync>(
+    rt: &R,
+    alloc: Global,
+    job: &'a Job,
+    input: &'a [u8],
+    workers: usize,
+    limit: u64,
+    picker: &mut P,
+    gate: &G,
+) -> Result<Run<'a>, RunFault>
+    requires small { length input.now ≤ MOST_INPUT }
+    requires some_workers { 1 ≤ workers }
+    requires few_workers { workers ≤ MOST_WORKERS }
+    requires bounded { limit ≤ LAST_TICK }
+    ensures run { IfOk result (IsRun job.now input.now) }
+    ensures turns { IfOk result (λ run. turns_of run ≤ 2 * size_of job.now.steps + 1) }
+    ensures in_time { IfOk result (λ _. meaning_end job.now input.now ≤ limit) }
+    ensures late { IfErr result (IsLate job.now input.now limit) }
+{
+    let mut runner = Runner::open(alloc, job, input, limit)?;
     'phases: loop {
         match runner.phase() {
             Phase::Ready => runner = answered(rt, alloc, workers, runner, picker, gate)?,

@@ -195,14 +195,14 @@ mutual
   unfolding tell walk
 
   -- telling the steps of a block gives what walking them does
-  tell_is : (k : Table) (b : Steps) (scene : Scene) (st : Stack) (t : ℕ) →
+  pub tell_is : (k : Table) (b : Steps) (scene : Scene) (st : Stack) (t : ℕ) →
       result_of (tell k b scene st t) ≡ walk (by_table k) b scene.here st t
   tell_is k stop scene st t = refl
   tell_is k (step s ss) scene st t =
       then_is (tell_step k s scene st t) (walk_step (by_table k) s scene.here st t) (λ u. tell k ss scene st u)
       (λ u. walk (by_table k) ss scene.here st u) (step_is k s scene st t) (λ u. tell_is k ss scene st u)
 
-  step_is : (k : Table) (s : Step) (scene : Scene) (st : Stack) (t : ℕ) →
+  pub step_is : (k : Table) (s : Step) (scene : Scene) (st : Stack) (t : ℕ) →
       result_of (tell_step k s scene st t) ≡ walk_step (by_table k) s scene.here st t
   step_is k (sleep n) scene st t = sleep_is st scene.in_cleanup _ n t
   step_is k checkpoint scene st t = sleep_is st scene.in_cleanup _ 0 t
@@ -234,7 +234,7 @@ mutual
   step_is k (attempt body handler cleanup) scene st t =
       cleanup_is k cleanup scene st _ _ (handler_is k handler scene st _ _ (tell_is k body scene st t))
 
-  handler_is : (k : Table) (x : Handled) (scene : Scene) (st : Stack) (a : Tale) (r : Result) → result_of a ≡ r →
+  pub handler_is : (k : Table) (x : Handled) (scene : Scene) (st : Stack) (a : Tale) (r : Result) → result_of a ≡ r →
       result_of (tell_handler k x scene st a) ≡ walk_handler (by_table k) x scene.here st r
   handler_is k unhandled scene st a r e = e
   handler_is k (except name body) scene st a r e = handled_is (named name) a r _ _ e (λ u. tell_is k body scene st u)

@@ -1,14 +1,15 @@
--- From which tick labels are cancelled, by a list.
-use Rattle.std.specs.Prelude.{List, [], ◌∷◌, None, if◌then◌else◌}
+-- From which tick scopes and nurseries are cancelled, as the code holds it.
+use Rattle.std.specs.Prelude.{Option, Some, None}
+use Rattle.indexmap.specs.IndexMap.{get}
+use Rattle.cancel_scopes.specs.Sight.{Tick}
 use Rattle.job_meaning.specs.Log.{Table, same_label}
-use Rattle.job_story.specs.declared.froms.CancelledFrom.{CancelledFrom}
 use Rattle.job_story.specs.declared.froms.Froms.{Froms}
 
--- by the first that has the label
-abbrev pub from_in : List CancelledFrom → Table
-from_in [] l = None
-from_in (f ∷ fs) l = if same_label l f.label then f.from else from_in fs l
+-- never, where nothing is known
+abbrev pub or_never : Option Tick → Tick
+or_never None = None
+or_never (Some from) = from
 
 -- as a table
 abbrev pub table_in : Froms → Table
-table_in froms l = from_in froms.all.items l
+table_in froms label = or_never (get same_label froms.all label)

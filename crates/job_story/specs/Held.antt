@@ -1,8 +1,11 @@
 -- Events as the code holds them.
-use Rattle.std.specs.Prelude.{map}
+use Rattle.std.specs.Prelude.{Option, map}
 use Rattle.std.specs.Option.{option_map}
+use Rattle.std.specs.Global.{Box}
 use Rattle.buffer_parts.specs.Part.{range_of, span_of}
+use Rattle.exc_groups.specs.Exceptions as tree
 use Rattle.exc_groups.specs.Held.{exc_of}
+use Rattle.exc_groups.specs.declared.exc.Exc.{Exc}
 use Rattle.job_meaning.specs.Walk as walks
 use Rattle.job_story.specs.Story as story
 use Rattle.job_story.specs.Events as events
@@ -18,6 +21,10 @@ abbrev pub kind_of : Kind → walks.Kind
 kind_of (Scope fail) = walks.a_scope fail
 kind_of Nursery = walks.a_nursery
 
+-- an exception in a box, if there is one
+abbrev pub boxed : Option (Box Exc) → Option tree.Exc
+boxed exc = option_map (λ (b : Box Exc). exc_of b.value) exc
+
 abbrev pub happening_of : Happening → story.Happening
 happening_of (Enters kind label deadline shield) = story.enters (kind_of kind) label deadline shield
 happening_of (Sleeps until) = story.sleeps until
@@ -26,17 +33,17 @@ happening_of (Finds lines) = story.finds (map span_of lines.items)
 happening_of (Misses name) = story.misses name
 happening_of (Raises name) = story.raises name
 happening_of (Cancels label) = story.cancels label
-happening_of (Handles matched rest) = story.handles (exc_of matched) (option_map exc_of rest)
-happening_of (Cleans exc) = story.cleans (option_map exc_of exc)
-happening_of (Replaces lost fresh) = story.replaces (exc_of lost) (exc_of fresh)
-happening_of (Waits nursery exc) = story.waits nursery (option_map exc_of exc)
+happening_of (Handles matched rest) = story.handles (exc_of matched.value) (boxed rest)
+happening_of (Cleans exc) = story.cleans (boxed exc)
+happening_of (Replaces lost fresh) = story.replaces (exc_of lost.value) (exc_of fresh.value)
+happening_of (Waits nursery exc) = story.waits nursery (boxed exc)
 happening_of (Leaves kind label inside caught outside) =
-    story.leaves (kind_of kind) label (option_map exc_of inside) caught (option_map exc_of outside)
+    story.leaves (kind_of kind) label (boxed inside) caught (boxed outside)
 
 abbrev pub what_of : What → events.What
 what_of (Starts home part) = events.starts home (range_of part)
 what_of (Happens what) = events.happens (happening_of what)
-what_of (Ends home exc) = events.ends home (option_map exc_of exc)
+what_of (Ends home exc) = events.ends home (boxed exc)
 
 abbrev pub event_of : Event → events.Event
 event_of e = record { tick = e.tick; task = e.task; what = what_of e.what }

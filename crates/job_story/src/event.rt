@@ -14,7 +14,7 @@ pub enum Kind {
     Nursery,
 }
 
-/// One thing that happened to a task.
+/// One thing that happened to a task. Exceptions stand in boxes: most events have none, and are not to have room for one.
 #[derive(Drop)]
 pub enum Happening<'a> {
     /// It entered a scope or a nursery.
@@ -65,28 +65,28 @@ pub enum Happening<'a> {
     /// A handler begins.
     Handles {
         /// The leaves that it handles.
-        matched: Exc,
+        matched: Box<Exc>,
         /// What is left of the exception.
-        rest: Option<Exc>,
+        rest: Option<Box<Exc>>,
     },
     /// A `finally` block begins.
     Cleans {
         /// The exception that the block, or its handler, ended with.
-        exc: Option<Exc>,
+        exc: Option<Box<Exc>>,
     },
     /// A cleanup raised in the place of an earlier exception.
     Replaces {
         /// The exception that is lost.
-        lost: Exc,
+        lost: Box<Exc>,
         /// The one in its place.
-        fresh: Exc,
+        fresh: Box<Exc>,
     },
     /// The body of a nursery ended, and the task waits for the children.
     Waits {
         /// The nursery.
         nursery: Label,
         /// The exception that the body ended with.
-        exc: Option<Exc>,
+        exc: Option<Box<Exc>>,
     },
     /// It left a scope or a nursery.
     Leaves {
@@ -95,11 +95,11 @@ pub enum Happening<'a> {
         /// Its label.
         label: Label,
         /// The exception with which the inside ended.
-        inside: Option<Exc>,
+        inside: Option<Box<Exc>>,
         /// Whether a cancellation was caught.
         caught: bool,
         /// The exception that goes on.
-        outside: Option<Exc>,
+        outside: Option<Box<Exc>>,
     },
 }
 
@@ -120,7 +120,7 @@ pub enum What<'a> {
         /// The nursery in which it was started: none for the root.
         home: Option<Label>,
         /// The exception that it ended with.
-        exc: Option<Exc>,
+        exc: Option<Box<Exc>>,
     },
 }
 

@@ -1,50 +1,45 @@
-ghost use Rattle.std.specs.Prelude.{◌≡◌};
+ghost use Rattle.std.specs.Prelude.{◌≡◌, OnOk, None, if◌then◌else◌};
+ghost use Rattle.exc_groups.specs.Exceptions as tree;
 ghost use Rattle.job_meaning.specs.Log.{same_label};
-ghost use Rattle.job_story.specs.Froms.{from_in};
+ghost use Rattle.job_story.specs.Froms.{table_in};
 
 use exc_groups::Label;
+use indexmap::IndexMap;
+use std::alloc::{AllocError, Global};
 
-/// A scope or nursery, with the tick from which it was cancelled.
-#[derive(Drop)]
-pub struct CancelledFrom {
-    /// The scope or nursery.
-    pub label: Label,
-    /// The tick: none is never.
-    pub from: Option<u64>,
-}
-
-/// From which tick scopes and nurseries are cancelled.
+/// From which tick each scope and nursery is cancelled: a table, kept by labels. A look-up takes constant time.
 #[derive(Drop)]
 pub struct Froms {
-    pub(crate) all: Vec<CancelledFrom>,
+    pub(crate) all: IndexMap<Label, Option<u64>>,
 }
 
 impl Froms {
-    /// These, of which the first with a label counts.
-    pub fn new(all: Vec<CancelledFrom>) -> Froms
-        ensures { result.all.items ≡ all.items }
+    /// An empty table: no scope or nursery is ever cancelled. Takes no memory.
+    pub fn new(alloc: Global) -> Froms
+        ensures { (label : tree.Label) → table_in result label ≡ None }
     {
-        Froms { all }
-    }
-
-    /// From which tick the scope or nursery of a label is cancelled: never where it is none of these.
-    pub fn of(&self, label: &Label) -> Option<u64>
-        ensures { result ≡ from_in self.now.all.items label.now }
-    {
-        let mut rest = self.all.as_slice();
-        'froms: while let Some((first, others)) = rest.split_first() {
-            if is_same(label, &first.label) {
-                return first.from;
-            }
-            rest = others;
+        Froms {
+            all: IndexMap::new(alloc),
         }
-        None
     }
-}
 
-// Whether two labels are the same.
-fn is_same(a: &Label, b: &Label) -> bool
-    ensures { result ≡ same_label a.now b.now }
-{
-    a.name() == b.name() && a.indices() == b.indices()
+    /// From now on the scope or nursery of this label is cancelled from this tick on, or never where it is none. Where there is no
+    /// memory for it, the table is not to be used.
+    pub fn set(&mut self, label: Label, from: Option<u64>) -> Result<(), AllocError>
+        ensures { OnOk result ((other : tree.Label) →
+            table_in self.new other ≡ (if same_label label other then from else table_in self.old other)) }
+    {
+        self.all.insert(label, from)?;
+        Ok(())
+    }
+
+    /// From which tick the scope or nursery of this label is cancelled: none is never.
+    pub fn of(&self, label: &Label) -> Option<u64>
+        ensures { result ≡ table_in self.now label.now }
+    {
+        match self.all.get(label) {
+            Some(from) => *from,
+            None => None,
+        }
+    }
 }

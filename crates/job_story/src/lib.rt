@@ -3,7 +3,7 @@
 //! The layer defines what is told of a job by a table (`specs/Tell.antt`), as the walk of `job_meaning` with a story in the place of
 //! the log, and the text of a story (`specs/Sentences.antt`, `specs/Limit.antt`). It promises that the story by a settled table is
 //! true: with all erased that a log does not hold, it is the log of the job's meaning (`specs/Laws.antt`). At run time it has the
-//! events alone, as values.
+//! events and the table alone, as values.
 #![tactic(auto)]
 
 mod event;
@@ -11,5 +11,5 @@ mod froms;
 mod laws;
 
 pub use event::{Event, Happening, Kind, What};
-pub use froms::{CancelledFrom, Froms};
+pub use froms::Froms;
 pub use laws::law_story;

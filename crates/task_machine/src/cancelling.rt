@@ -14,7 +14,7 @@ impl<'a> Task<'a> {
     // The scope or nursery of that name round the task is cancelled, from the next tick on.
     pub(crate) fn cancel(&self, name: Name, world: &mut World<'a>)
         requires scope { ForSome (scope_of self.now) (IsOpen world.old.scopes) }
-        requires tick { world.old.tick + 1 < 2 ^ 41 }
+        requires tick { world.old.tick + 1 < 2 ^ 63 }
         ensures rest { world.new ≡ record world.old { scopes = world.new.scopes } }
         ensures keys { SameKeys world.old.scopes world.new.scopes }
         ensures at { CancelsAt world.old world.new (scope_of self.now) name }

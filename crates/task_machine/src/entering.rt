@@ -42,7 +42,7 @@ impl<'a> Task<'a> {
         world: &mut World<'a>,
     ) -> Result<ScopeId, AllocError>
         requires scope { ForSome (scope_of self.old) (IsOpen world.old.scopes) }
-        requires deadline { ForSome deadline (λ tick. tick < 2 ^ 41) }
+        requires deadline { ForSome deadline (λ tick. tick < 2 ^ 63) }
         ensures stays { OnOk result (self.new ≡ record self.old { own = self.new.own; froms = self.new.froms }) }
         ensures inner { IfOk result (λ id. scope_of self.new ≡ Some id) }
         ensures own { OnOk result (EntersOne self.old self.new world.old world.new (label_in self.old name) deadline) }
@@ -72,7 +72,7 @@ impl<'a> Task<'a> {
     ) -> Result<(), AllocError>
         requires scope { ForSome (scope_of self.old) (IsOpen world.old.scopes) }
         requires modest { IsModestDeadline block.deadline }
-        requires tick { world.old.tick ≤ 2 ^ 40 }
+        requires tick { world.old.tick ≤ 2 ^ 62 }
         ensures stays { OnOk result (self.new
             ≡ record self.old { frames = self.new.frames; own = self.new.own; froms = self.new.froms }) }
         ensures frames { OnOk result (EntersBlock self.old self.new (Scope fail) block.entry.body.now) }
@@ -98,7 +98,7 @@ impl<'a> Task<'a> {
     ) -> Result<(), AllocError>
         requires scope { ForSome (scope_of self.old) (IsOpen world.old.scopes) }
         requires modest { IsModestDeadline block.deadline }
-        requires tick { world.old.tick ≤ 2 ^ 40 }
+        requires tick { world.old.tick ≤ 2 ^ 62 }
         ensures stays { OnOk result (self.new
             ≡ record self.old { frames = self.new.frames; own = self.new.own; froms = self.new.froms }) }
         ensures nursery { OnOk result (EntersNursery me self.old self.new world.old world.new
@@ -123,9 +123,9 @@ impl<'a> Task<'a> {
 // The tick of a deadline for a scope that is entered in a tick.
 fn due(deadline: Deadline, tick: u64) -> Option<u64>
     requires modest { IsModestDeadline deadline }
-    requires room { tick ≤ 2 ^ 40 }
+    requires room { tick ≤ 2 ^ 62 }
     ensures due { result ≡ due deadline tick }
-    ensures bounded { ForSome result (λ from. from < 2 ^ 41) }
+    ensures bounded { ForSome result (λ from. from < 2 ^ 63) }
 {
     match deadline {
         Deadline::Never => None,

@@ -59,7 +59,7 @@ impl<'a> Task<'a> {
     // Who ends with an exception cancels the innermost nursery round it, if there is one, from the next tick on.
     fn fail(&self, exc: &Option<Exc>, world: &mut World<'a>)
         requires scope { ForSome (scope_of self.now) (IsOpen world.old.scopes) }
-        requires tick { world.old.tick + 1 < 2 ^ 41 }
+        requires tick { world.old.tick + 1 < 2 ^ 63 }
         ensures rest { world.new ≡ record world.old { scopes = world.new.scopes } }
         ensures keys { SameKeys world.old.scopes world.new.scopes }
         ensures at { FailsAt world.old world.new (scope_of self.now) (option_map exc_of exc.now) }
@@ -81,7 +81,7 @@ impl<'a> Task<'a> {
         world: &mut World<'a>,
     ) -> Moved<'a>
         requires scope { ForSome (scope_of self.old) (IsOpen world.old.scopes) }
-        requires tick { world.old.tick + 1 < 2 ^ 41 }
+        requires tick { world.old.tick + 1 < 2 ^ 63 }
         requires nursery { HasNursery world.old.book nursery (λ n. n.body ≡ None) }
         ensures moved { result ≡ Stops (Wait nursery) }
         ensures stays { self.new ≡ record self.old { halt = Awaits nursery world.old.tick } }
@@ -102,7 +102,7 @@ impl<'a> Task<'a> {
     // The task has ended.
     pub(crate) fn end(&mut self, exc: Option<Exc>, world: &mut World<'a>) -> Moved<'a>
         requires scope { ForSome (scope_of self.old) (IsOpen world.old.scopes) }
-        requires tick { world.old.tick + 1 < 2 ^ 41 }
+        requires tick { world.old.tick + 1 < 2 ^ 63 }
         ensures moved { result ≡ Stops (Ended exc) }
         ensures stays { self.new ≡ record self.old { halt = Over } }
         ensures rest { world.new ≡ record world.old { scopes = world.new.scopes } }

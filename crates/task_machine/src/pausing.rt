@@ -27,7 +27,7 @@ impl<'a> Task<'a> {
     pub(crate) fn sleep(&mut self, ticks: u64, world: &World<'a>) -> Moved<'a>
         requires scope { ForSome (scope_of self.old) (IsOpen world.now.scopes) }
         requires ticks { ticks ≤ 2 ^ 40 }
-        requires tick { world.now.tick ≤ 2 ^ 40 }
+        requires tick { world.now.tick ≤ 2 ^ 62 }
         ensures stays { self.new ≡ record self.old { halt = self.new.halt } }
         ensures halt { IsModestHalt self.old.halt → IsModestHalt self.new.halt }
         ensures waits { waits_by result self.new.halt ≡ None }

@@ -45,7 +45,7 @@ impl<'a> Task<'a> {
         world: &mut World<'a>,
     ) -> Result<Stop<'a>, AllocError>
         requires fits { Fits self.old.frames.items self.old world.old (waits_of self.old.halt) }
-        requires tick { world.old.tick ≤ 2 ^ 40 }
+        requires tick { world.old.tick ≤ 2 ^ 62 }
         requires halt { IsModestHalt self.old.halt }
         requires wake { WakesFrom self.old.halt self.old.part world.old.book wake }
         ensures stays { OnOk result (self.new ≡ record self.old {
@@ -83,7 +83,7 @@ impl<'a> Task<'a> {
         world: &mut World<'a>,
     ) -> Result<Stop<'a>, AllocError>
         requires fits { Fits self.old.frames.items self.old world.old None }
-        requires tick { world.old.tick ≤ 2 ^ 40 }
+        requires tick { world.old.tick ≤ 2 ^ 62 }
         requires halt { IsModestHalt self.old.halt }
         ensures stays { OnOk result (self.new ≡ record self.old {
           frames = self.new.frames;
@@ -120,7 +120,7 @@ impl<'a> Task<'a> {
         world: &mut World<'a>,
     ) -> Result<Moved<'a>, AllocError>
         requires fits { Fits self.old.frames.items self.old world.old None }
-        requires tick { world.old.tick ≤ 2 ^ 40 }
+        requires tick { world.old.tick ≤ 2 ^ 62 }
         requires halt { IsModestHalt self.old.halt }
         ensures stays { OnOk result (self.new ≡ record self.old {
           frames = self.new.frames;
@@ -181,7 +181,7 @@ impl<'a> Task<'a> {
         world: &mut World<'a>,
     ) -> Result<Moved<'a>, AllocError>
         requires fits { Fits (self.old.frames.items ++ Steps steps ∷ []) self.old world.old None }
-        requires tick { world.old.tick ≤ 2 ^ 40 }
+        requires tick { world.old.tick ≤ 2 ^ 62 }
         requires halt { IsModestHalt self.old.halt }
         ensures stays { OnOk result (self.new ≡ record self.old {
           frames = self.new.frames;
@@ -222,7 +222,7 @@ impl<'a> Task<'a> {
         world: &mut World<'a>,
     ) -> Result<Moved<'a>, AllocError>
         requires fits { Fits self.old.frames.items self.old world.old None }
-        requires tick { world.old.tick ≤ 2 ^ 40 }
+        requires tick { world.old.tick ≤ 2 ^ 62 }
         requires halt { IsModestHalt self.old.halt }
         requires modest { IsModestStep (step_of step.now) }
         requires starts { StartsAt (in_body (frames_behind (frames_of (λ id. []) self.old.frames.items))) (step_of step.now) }

@@ -34,7 +34,7 @@ impl<'a> Task<'a> {
         world: &mut World<'a>,
     ) -> Result<Moved<'a>, AllocError>
         requires fits { Fits self.old.frames.items self.old world.old (waits_of self.old.halt) }
-        requires tick { world.old.tick ≤ 2 ^ 40 }
+        requires tick { world.old.tick ≤ 2 ^ 62 }
         requires halt { IsModestHalt self.old.halt }
         requires wake { WakesFrom self.old.halt self.old.part world.old.book wake }
         ensures stays { OnOk result (self.new
@@ -70,7 +70,7 @@ impl<'a> Task<'a> {
     ) -> Result<Moved<'a>, AllocError>
         requires scope { ForSome (scope_of self.old) (IsOpen world.now.scopes) }
         requires small { length (bytes_of (buffer_of self.old.part) (range_of self.old.part)) ≤ MOST_INPUT }
-        requires tick { world.now.tick ≤ 2 ^ 40 }
+        requires tick { world.now.tick ≤ 2 ^ 62 }
         requires halt { IsModestHalt self.old.halt }
         requires wake { WakesFrom self.old.halt self.old.part world.now.book (wakes.Answer answer) }
         ensures stays { OnOk result (self.new ≡ record self.old { halt = self.new.halt; entries = self.new.entries }) }
@@ -115,7 +115,7 @@ impl<'a> Task<'a> {
     fn pace(&mut self, count: u64, purpose: Purpose, world: &World<'a>) -> Moved<'a>
         requires scope { ForSome (scope_of self.old) (IsOpen world.now.scopes) }
         requires few { count ≤ MOST_INPUT }
-        requires tick { world.now.tick ≤ 2 ^ 40 }
+        requires tick { world.now.tick ≤ 2 ^ 62 }
         requires purpose { IsModestPurpose purpose }
         ensures stays { self.new ≡ record self.old { halt = self.new.halt } }
         ensures halt { IsModestHalt self.old.halt → IsModestHalt self.new.halt }

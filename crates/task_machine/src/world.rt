@@ -65,7 +65,7 @@ impl<'a> World<'a> {
     /// Sets the tick, to none that is earlier.
     pub fn set_now(&mut self, tick: u64)
         requires later { self.old.tick ≤ tick }
-        requires bounded { tick ≤ 2 ^ 40 }
+        requires bounded { tick ≤ 2 ^ 62 }
         ensures { self.new ≡ record self.old { tick = tick } }
     {
         self.tick = tick;
@@ -119,7 +119,7 @@ impl<'a> World<'a> {
         deadline: Option<u64>,
     ) -> Result<ScopeId, AllocError>
         requires outer { ForSome outer (IsOpen self.old.scopes) }
-        requires deadline { ForSome deadline (λ tick. tick < 2 ^ 41) }
+        requires deadline { ForSome deadline (λ tick. tick < 2 ^ 63) }
         ensures fresh { IfOk result (λ id. stack_of self.old.scopes id ≡ None) }
         ensures opened { IfOk result (λ id. stack_of self.new.scopes id ≡
             Some (record { label = id; shield = shield; from = deadline } ∷ outer_of self.old.scopes outer)) }
@@ -154,7 +154,7 @@ impl<'a> World<'a> {
     // Cancels a scope in the present tick, which is seen from the next one on.
     pub(crate) fn sign(&mut self, id: ScopeId)
         requires id { IsOpen self.old.scopes id }
-        requires tick { self.old.tick + 1 < 2 ^ 41 }
+        requires tick { self.old.tick + 1 < 2 ^ 63 }
         ensures stacks { (key : ℕ) → stack_of self.new.scopes key
             ≡ option_map (after_cancel id self.old.tick) (stack_of self.old.scopes key) }
         ensures marks { (key : ℕ) → ForSome (stack_of self.old.scopes key) (λ stack. is_changed self.new.scopes key

@@ -69,7 +69,7 @@ impl<'a> Roster<'a> {
         requires agree { IsRoster self.old }
         requires lives { IsSome (running_at self.old id) }
         requires may { ForSome (running_at self.old id) (λ x. MayTurn world.old x.task wake) }
-        requires tick { world.old.tick ≤ 2 ^ 40 }
+        requires tick { world.old.tick ≤ 2 ^ 62 }
         ensures turn { IfOk result (λ stop. HasTurn self.old self.new world.old world.new id wake.entry stop) }
         ensures agree { OnOk result (IsRoster self.new) }
     {

@@ -1,0 +1,10 @@
+pub mod Adding
+pub mod Telling
+pub mod Slept
+pub mod Blocks
+pub mod Trying
+pub mod Shows
+pub mod Going
+pub mod Steps
+pub mod Passing
+pub mod Rooted

@@ -1,0 +1,100 @@
+-- What the kernels answer, as tales.
+use Rattle.std.proofs.Common.{◌≡◌, ℕ, zero, suc, ◌+◌, ◌-◌, ◌/◌, ◌≤◌, Option, Some, None, List, [], ◌∷◌, length, refl, ap, subst, arith, Bor}
+use Rattle.std.specs.Prelude.{MatchOption, map}
+use Rattle.std.proofs.Math.Nat.{div-le_self}
+use Rattle.buffer_parts.specs.Lines.{Span}
+use Rattle.buffer_parts.specs.Part.{buffer_of, range_of, span_of}
+use Rattle.buffer_parts.specs.declared.line.Line.{Line}
+use Rattle.buffer_parts.specs.declared.part.Part.{Part}
+use Rattle.line_kernels.specs.Answers.{AreLinesAt, IsAnswer}
+use Rattle.line_kernels.specs.Kernels.{found_in, head_of, longest_in, needed_in, count_in}
+use Rattle.line_kernels.specs.declared.kernel.Kernel.TheVariants.{Find, Head, Longest, Need, Count}
+use Rattle.line_kernels.specs.declared.answers.Answer.{Answer}
+use Rattle.line_kernels.specs.declared.answers.Answer.TheVariants as answers
+use Rattle.exc_groups.specs.Exceptions.{Label, raised}
+use Rattle.job_meaning.specs.Walk.{paced}
+use Rattle.job_story.specs.Story.{misses}
+use Rattle.job_story.specs.Tell.{failed_at, only, tell_lines, tell_need}
+use Rattle.job_story.specs.declared.event.Event as held
+use Rattle.job_teller.specs.declared.told.Told.{Told}
+use Rattle.job_teller.specs.Tales.{Tells}
+use Rattle.job_meaning.proofs.Ends.{count_le}
+
+pub shows_found : (me : Label) (before after : List held.Event) (part : Part) (needle : Bor (List ℕ)) (text : List ℕ) (a : Answer)
+    (lines : List Line) (w : Told) (t : ℕ) →
+    IsAnswer (Find needle) part a → a ≡ answers.Lines lines → needle.now ≡ text →
+    Tells me before w after (tell_lines (map span_of lines) t) →
+    Tells me before w after (tell_lines (found_in (buffer_of part) text (range_of part)) t)
+shows_found me before after part needle text a lines w t is lines_is needle_is h =
+    let at : AreLinesAt (buffer_of part) (found_in (buffer_of part) needle.now (range_of part)) lines = subst (IsAnswer
+    (Find needle) part) lines_is is in
+    subst (λ (x : List ℕ). Tells me before w after (tell_lines (found_in (buffer_of part) x (range_of part)) t)) needle_is
+    (subst (λ (ls : List Span). Tells me before w after (tell_lines ls t)) at.places h)
+
+pub shows_head : (me : Label) (before after : List held.Event) (part : Part) (count : ℕ) (a : Answer) (lines : List Line) (w : Told)
+    (t : ℕ) →
+    IsAnswer (Head count) part a → a ≡ answers.Lines lines → Tells me before w after (tell_lines (map span_of lines) t) →
+    Tells me before w after (tell_lines (head_of (buffer_of part) count (range_of part)) t)
+shows_head me before after part count a lines w t is lines_is h =
+    let at : AreLinesAt (buffer_of part) (head_of (buffer_of part) count (range_of part)) lines = subst (IsAnswer
+    (Head count) part) lines_is is in
+    subst (λ (ls : List Span). Tells me before w after (tell_lines ls t)) at.places h
+
+pub shows_longest : (me : Label) (before after : List held.Event) (part : Part) (a : Answer) (lines : List Line) (w : Told) (t : ℕ) →
+    IsAnswer Longest part a → a ≡ answers.Lines lines → Tells me before w after (tell_lines (map span_of lines) t) →
+    Tells me before w after (tell_lines (longest_in (buffer_of part) (range_of part)) t)
+shows_longest me before after part a lines w t is lines_is h =
+    let at : AreLinesAt (buffer_of part) (longest_in (buffer_of part) (range_of part)) lines = subst (IsAnswer Longest part) lines_is is in
+    subst (λ (ls : List Span). Tells me before w after (tell_lines ls t)) at.places h
+
+shows_needed_if : (me : Label) (before after : List held.Event) (buffer : List ℕ) (found : Option Span) (lines : List Line)
+    (name : List ℕ) (label : Label) (w : Told) (t : ℕ) →
+    MatchOption found ⊥ (λ l. AreLinesAt buffer (l ∷ []) lines) → Tells me before w after (tell_lines (map span_of lines) t) →
+    Tells me before w after (tell_need found name label t)
+unfolding tell_need tell_lines
+shows_needed_if me before after buffer None lines name label w t at h = absurd at
+shows_needed_if me before after buffer (Some l) lines name label w t at h =
+    subst (λ (ls : List Span). Tells me before w after (tell_lines ls t)) at.places h
+
+pub shows_needed : (me : Label) (before after : List held.Event) (part : Part) (needle : Bor (List ℕ)) (text : List ℕ) (a : Answer)
+    (lines : List Line) (name : List ℕ) (label : Label) (w : Told) (t : ℕ) →
+    IsAnswer (Need needle) part a → a ≡ answers.Lines lines → needle.now ≡ text →
+    Tells me before w after (tell_lines (map span_of lines) t) →
+    Tells me before w after (tell_need (needed_in (buffer_of part) text (range_of part)) name label t)
+shows_needed me before after part needle text a lines name label w t is lines_is needle_is h =
+    subst (λ (x : List ℕ). Tells me before w after (tell_need (needed_in (buffer_of part) x (range_of part)) name label t)) needle_is
+    (shows_needed_if me before after (buffer_of part) (needed_in (buffer_of part) needle.now (range_of part)) lines name label w t (subst
+    (IsAnswer (Need needle) part) lines_is is) h)
+
+pub misses_needed : (me : Label) (before after : List held.Event) (part : Part) (needle : Bor (List ℕ)) (text : List ℕ) (a : Answer)
+    (name : List ℕ) (label : Label) (w : Told) (t : ℕ) →
+    IsAnswer (Need needle) part a → ((lines : List Line) → a ≡ answers.Lines lines → ⊥) → needle.now ≡ text →
+    Tells me before w after (failed_at (raised name label t) t (only t (misses name))) →
+    Tells me before w after (tell_need (needed_in (buffer_of part) text (range_of part)) name label t)
+unfolding tell_need
+misses_needed me before after part needle text a name label w t is no_lines needle_is h =
+    subst (λ (x : List ℕ). Tells me before w after (tell_need (needed_in (buffer_of part) x (range_of part)) name label t)) needle_is
+    (rw (none a is no_lines) h)
+  where
+    none : (b : Answer) → IsAnswer (Need needle) part b → ((lines : List Line) → b ≡ answers.Lines lines → ⊥) →
+        needed_in (buffer_of part) needle.now (range_of part) ≡ None
+    none (answers.Lines lines) at others = absurd (others lines refl)
+    none (answers.Count n) at others = absurd at
+    none answers.Missing at others = at
+
+pub counts : (part : Part) (a : Answer) (n : ℕ) → IsAnswer Count part a → a ≡ answers.Count n →
+    n ≡ count_in (buffer_of part) (range_of part)
+counts part a n is n_is = subst (IsAnswer Count part) n_is is
+
+pub counts_few : (part : Part) (a : Answer) (n : ℕ) → IsAnswer Count part a → a ≡ answers.Count n → length (buffer_of part) ≤ 16777216 →
+    n ≤ 16777216
+counts_few part a n is n_is small = omega (arith, counts part a n is n_is, count_le (buffer_of part) (range_of part))
+
+pub paced_is : (n k : ℕ) → 1 ≤ k → (n + (k - 1)) / k ≡ paced n k
+paced_is n zero le = absurd (omega arith)
+paced_is n (suc j) le =
+    let e : suc j - 1 ≡ j = omega arith in
+    ap (λ (x : ℕ). (n + x) / suc j) e
+
+pub paced_few : (n k : ℕ) → (n + (k - 1)) / k ≤ n + k
+paced_few n k = omega (arith, div-le_self (n + (k - 1)) k)

@@ -1,0 +1,15 @@
+use Rattle.std.proofs.Common.{List, ap}
+use Rattle.std.specs.Prelude.{map}
+use Rattle.buffer_parts.specs.Part.{span_of}
+use Rattle.buffer_parts.specs.declared.line.Line.{Line}
+use Rattle.job_story.specs.Story.{finds}
+use Rattle.job_story.specs.Tell.{only, tell_lines}
+use Rattle.job_teller.proofs.Adding.{adds_like}
+use Rattle.job_teller.proofs.leaves.shown.Goals as goal
+
+pub returns : goal.returns
+unfolding tell_lines
+returns c = record {
+  told = c.at.ensures _;
+  events = adds_like _ _ _ _ _ c.in_ok-note.ensures (ap (λ (ls : List Line). only c.args.tick (finds (map span_of ls))) c.into_vec.ensures);
+}

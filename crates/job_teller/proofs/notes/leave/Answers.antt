@@ -1,0 +1,39 @@
+use Rattle.std.proofs.Common.{◌≡◌, Bool, Option, refl, ap, ◌∙◌}
+use Rattle.std.specs.Prelude.{map}
+use Rattle.std.specs.Option.{option_map}
+use Rattle.cancel_scopes.specs.Sight.{catches}
+use Rattle.exc_groups.specs.Exceptions.{Label, Exc}
+use Rattle.exc_groups.specs.Held.{exc_of}
+use Rattle.job_meaning.specs.Walk.{Left, left_with, exc_after}
+use Rattle.job_story.specs.Held.{kind_of}
+use Rattle.job_story.specs.Story.{leaves}
+use Rattle.job_story.specs.Tell.{only}
+use Rattle.job_teller.specs.Heres.{scopes_of}
+use Rattle.job_teller.specs.Lefts.{left_of}
+use Rattle.job_teller.proofs.Adding.{adds_like}
+use Rattle.job_teller.proofs.notes.leave.Goals as goal
+
+pub returns : goal.returns
+returns c =
+    let inner = option_map exc_of c.args.inside.exc in
+    let kind = kind_of c.args.block.kind in
+    let label = c.args.block.label.now in
+    let end = c.args.inside.end in
+    let left = left_with (catches c.args.block.from c.args.block.shield (scopes_of c.args.here) end) inner in
+    let is : left_of c.in_ok-left.left ≡ left = c.in_ok-left.ensures ∙ ap (λ (b : Bool). left_with b inner) c.catches-catches.ensures in
+    let outer : option_map exc_of c.in_ok-outer.outer ≡ exc_after kind label end left =
+    c.in_ok-outer.ensures ∙ ap (λ (l : Left). exc_after kind label end l) is in
+    let held = option_map exc_of c.in_ok-outside.outside in
+    record {
+      end = refl;
+      exc = outer;
+      open_until = refl;
+      open_excs = ap (map exc_of) c.new.ensures.items;
+      events =
+          adds_like _ _ _ _ _ c.in_ok-note.ensures
+          (ap (λ (l : Label). only end (leaves kind l (option_map exc_of c.in_ok-inner.inner) c.in_ok-left.left.caught held))
+          c.in_ok-label.ensures
+          ∙ (ap (λ (o : Option Exc). only end (leaves kind label o c.in_ok-left.left.caught held)) c.in_ok-inner.ensures
+          ∙ (ap (λ (l : Left). only end (leaves kind label inner l.caught held)) is
+          ∙ ap (λ (o : Option Exc). only end (leaves kind label inner left.caught o)) (c.in_ok-outside.ensures ∙ outer))));
+    }

@@ -1,0 +1,322 @@
+use Rattle.std.proofs.Common.{◌≡◌, ℕ, Option, Some, None, List, [], ◌∷◌, ◌++◌, refl, add-one, drop, subst, sym, ap, ◌∙◌, arith}
+use Rattle.std.specs.Prelude.{IfOk, map}
+use Rattle.std.specs.Option.{option_map}
+use Rattle.std.proofs.lemmas.List.{drop_all}
+use Rattle.buffer_parts.specs.Lines.{Range}
+use Rattle.buffer_parts.specs.Part.{range_of}
+use Rattle.exc_groups.specs.Exceptions.{Label, Exc}
+use Rattle.exc_groups.specs.Held.{exc_of}
+use Rattle.job_tree.specs.declared.step.Step.{Step}
+use Rattle.job_tree.specs.Tree.{Steps}
+use Rattle.job_tree.specs.Blocks.{step_of, steps_of, handled_of}
+use Rattle.job_tree.specs.Names.{size_of, size_in}
+use Rattle.job_tree.proofs.Weights.{weight_at}
+use Rattle.job_meaning.specs.Walk.{within, home_of, label_over}
+use Rattle.job_story.specs.Events.{event, starts, ends}
+use Rattle.job_story.specs.Held.{kind_of, event_of}
+use Rattle.job_story.specs.Story.{Tale, enters, handles, cleans}
+use Rattle.job_story.specs.Tell.{only, tell, tell_block, tell_each, replaced}
+use Rattle.job_teller.specs.Heres.{HasRoom, table_of, scene_of, scene_in, scopes_of, input_of, here_of, inside, started, started_over}
+use Rattle.job_teller.specs.Tales.{Tells}
+use Rattle.job_teller.proofs.Adding.{adds_like, adds_nothing}
+use Rattle.job_teller.proofs.Telling.{tells_joined}
+use Rattle.job_teller.proofs.Blocks.{tells_block, tells_child, tells_in, tells_at}
+use Rattle.job_teller.proofs.Trying.{not_raised, not_wanted, is_wanted, tells_handled, tells_cleaned}
+use Rattle.job_teller.proofs.Steps.{AtStep, at_start, at_item, at_failed, at_next, at_stop, room_step, ends_small, ends_handled}
+use Rattle.job_teller.proofs.Passing.{at_first, room_pass, pass_failed, pass_next, pass_stop}
+use Rattle.job_teller.proofs.walk.+telling.Goals as goal
+
+pub tell_steps-steps-init : goal.tell_steps-steps-init
+tell_steps-steps-init t c = at_start _ _ _ _ _ (c.at-told.ensures _) c.requires.modest c.requires.room
+
+pub tell_steps-tell_step-requires : goal.tell_steps-tell_step-requires
+tell_steps-tell_step-requires t c =
+    let at = at_item _ _ _ c.args.steps.now c.steps.step-index c.step-item.result _ _ _ c.steps.invariant c.steps-test.true c.step-item.is
+    in
+    let weight = weight_at c.args.steps.now c.steps.step-index c.step-item.result c.steps-test.true c.step-item.is in (
+      omega (arith, weight, c.decreases),
+      (
+        at.modest.0,
+        subst (λ (u : ℕ). HasRoom (size_in (step_of c.step-item.result)) c.args.here u) (sym c.end.ensures) (room_step _ _ _ _ _ _ _ _ at),
+      ),
+    )
+
+pub tell_steps-returns-then-has_failed : goal.tell_steps-returns-then-has_failed
+tell_steps-returns-then-has_failed t c =
+    let at = at_item _ _ _ c.args.steps.now c.steps.step-index c.step-item.result _ _ _ c.steps.invariant c.steps-test.true c.step-item.is
+    in
+    at_failed _ _ _ _ _ _ _ _ _ _ _ at _ c.end.ensures c.in_ok-next.ensures c.in_ok-told.ensures
+    (sym c.has_failed.ensures ∙ c.if-has_failed.true)
+
+pub tell_steps-steps-preserved : goal.tell_steps-steps-preserved
+tell_steps-steps-preserved t c =
+    let at = at_item _ _ _ c.args.steps.now c.steps.step-index c.step-item.result _ _ _ c.steps.invariant c.steps-test.true c.step-item.is
+    in
+    at_next _ _ _ _ _ _ _ _ _ _ _ at _ c.end.ensures c.in_ok-next.ensures c.in_ok-told.ensures
+    (sym c.has_failed.ensures ∙ c.if-has_failed.false)
+
+pub tell_steps-returns : goal.tell_steps-returns
+tell_steps-returns t c =
+    let done : drop c.steps.step-index c.args.steps.now ≡ [] = drop_all c.steps.step-index c.args.steps.now c.steps-test.false in
+    at_stop _ _ _ _ _ _
+    (subst (λ (ss : List Step). AtStep c.args.here c.args.tick (steps_of c.args.steps.now)
+    (steps_of ss) c.args.events.now.items c.steps.told
+    c.steps.events.items) done c.steps.invariant)
+
+pub tell_block-returns : goal.tell_block-returns
+tell_block-returns t c =
+    let kind = kind_of c.args.kind in
+    let label = c.in_ok-label.label in
+    let body = inside kind label c.args.shield c.args.body.now c.args.here c.args.tick in
+    let entering = adds_like _ _ _ _ _ c.in_ok-note.ensures
+    (ap (λ (l : Label). only c.args.tick (enters kind l c.args.deadline c.args.shield)) c.in_ok-entered.ensures) in
+    subst (λ (l : Label). Tells c.args.here.task.now c.args.events.now.items c.in_ok-told.told c.leave.new.events.items
+    (tell_block (table_of c.args.here) (kind_of c.args.kind) l c.args.tick c.args.deadline c.args.shield (scopes_of c.args.here)
+    (inside (kind_of c.args.kind) l c.args.shield c.args.body.now c.args.here c.args.tick))) c.in_ok-label.ensures
+    (tells_block c.args.here.task.now _ _ _ _ (table_of c.args.here) kind label c.args.tick c.args.deadline c.args.shield
+    (scopes_of c.args.here)
+    body c.in_ok-inner.inner c.in_ok-told.told c.of-from.result c.of-from.ensures entering c.in_ok-inner.ensures c.in_ok-told.ensures)
+
+pub tell_inside-returns-in-Scope : goal.tell_inside-returns-in-Scope
+tell_inside-returns-in-Scope t c =
+    let here = c.args.here in
+    let body = tells_at _ _ _ c.in_ok-told.told _ _ c.args.body.now _ _ _ c.args.tick c.as_slice.ensures refl c.in_ok-told.ensures in
+    rw c.in-Scope.is
+    (subst (λ (l : Label). Tells here.task.now c.args.events.now.items c.in_ok-told.told c.tell_steps.new.events.items
+    (tell (table_of here) c.args.body.now (scene_of here) (within l c.args.block.shield c.args.block.from (scopes_of here)) c.args.tick))
+    c.in_ok-copy.ensures body)
+
+pub tell_inside-returns : goal.tell_inside-returns
+tell_inside-returns t c =
+    let here = c.args.here in
+    let body = tells_at _ _ _ c.in_ok-told.told _ _ c.args.body.now _ _ _ c.args.tick c.as_slice.ensures refl c.in_ok-told.ensures in
+    let inner = subst (λ (l : Label). Tells here.task.now c.args.events.now.items c.in_ok-told.told c.tell_steps.new.events.items
+    (tell (table_of here) c.args.body.now (scene_of here) (within l c.args.block.shield c.args.block.from (scopes_of here)) c.args.tick))
+    c.in_ok-copy.ensures body in
+    rw c.in-Nursery.is (c.in_ok-told-in-Nursery.ensures _ _ inner)
+
+pub tell_child-returns : goal.tell_child-returns
+tell_child-returns t c =
+    let here = c.args.here in
+    let home = home_of (scopes_of here) in
+    let scene = scene_in c.args.label (range_of c.args.part) here in
+    let inner = tells_in _ _ _ c.in_ok-told.told _ _ _ _ _ _ _ _ _ c.requires.same c.in_ok-told.ensures in
+    tells_child here.task.now c.args.label home scene c.args.tick _ _ _ _ _ c.in_ok-told.told _
+    (c.in_ok-add.ensures
+    ∙ ap (λ (o : Option Label). map event_of c.args.events.now.items ++ event c.args.tick c.args.label (starts o
+    (range_of c.args.part)) ∷ [])
+    (c.in_ok-home.ensures ∙ c.home.ensures))
+    inner
+    (c.in_ok-add-2.ensures
+    ∙ (ap (λ (n : ℕ). map event_of c.tell_steps.new.events.items ++ event n c.args.label (ends c.in_ok-home-2.home
+    (option_map exc_of c.in_ok-exc.exc)) ∷ [])
+    c.end.ensures
+    ∙ (ap (λ (o : Option Label). map event_of c.tell_steps.new.events.items
+    ++ event c.in_ok-told.told.end c.args.label (ends o (option_map exc_of c.in_ok-exc.exc)) ∷ [])
+    (c.in_ok-home-2.ensures ∙ c.home-2.ensures)
+    ∙ ap (λ (o : Option Exc). map event_of c.tell_steps.new.events.items ++ event c.in_ok-told.told.end c.args.label (ends home o) ∷ [])
+    c.in_ok-exc.ensures)))
+    (c.in_ok-told-2.ensures c.args.label home scene _ inner.told)
+
+pub tell_children-copies-init : goal.tell_children-copies-init
+tell_children-copies-init t c = record { told = c.at-told.ensures _; events = adds_nothing _ _ }
+
+pub tell_children-copies-preserved : goal.tell_children-copies-preserved
+tell_children-copies-preserved t c =
+    let here = c.args.here in
+    let body = subst (λ (ss : Steps). Tells here.task.now c.copies.events.items c.in_ok-child.child c.tell_child.new.events.items
+    (started c.in_ok-label.label (range_of c.cut-part.result) ss here c.args.tick)) c.as_slice.ensures c.in_ok-child.ensures in
+    let labelled = subst (λ (l : Label). Tells here.task.now c.copies.events.items c.in_ok-child.child c.tell_child.new.events.items
+    (started l (range_of c.cut-part.result) c.args.body.now here c.args.tick)) c.in_ok-label.ensures body in
+    let child = subst (λ (x : Range). Tells here.task.now c.copies.events.items c.in_ok-child.child c.tell_child.new.events.items
+    (started (label_over c.args.name.now (here_of here) c.copies.i) x c.args.body.now here c.args.tick)) c.cut-part.ensures.range labelled
+    in
+    rw (add-one c.copies.i) (tells_joined _ _ _ _ _ _ _ _ _ c.copies.invariant child c.in_ok-told.ensures)
+
+pub tell_children-returns : goal.tell_children-returns
+tell_children-returns t c =
+    let here = c.args.here in
+    let last : c.copies.i ≡ c.args.copies = omega (arith, c.copies-test.false, c.copies.auto.i-end) in
+    subst (λ (k : ℕ). Tells here.task.now c.args.events.now.items c.copies.told c.copies.events.items
+    (tell_each k (started_over c.args.name.now c.args.copies c.args.body.now here c.args.tick) c.args.tick)) last c.copies.invariant
+
+pub tell_passes-passes-init : goal.tell_passes-passes-init
+tell_passes-passes-init t c = at_first _ _ _ _ _ _ (c.at-told.ensures _) c.requires.modest c.requires.room
+
+pub tell_passes-tell_pass-requires : goal.tell_passes-tell_pass-requires
+tell_passes-tell_pass-requires t c = (
+  omega (arith, c.decreases),
+  (
+    c.requires.modest,
+    subst (λ (u : ℕ). HasRoom (size_of c.args.body.now) c.args.here u) (sym c.end.ensures)
+        (room_pass _ _ _ _ _ _ _ _ c.passes.invariant c.passes-test.true),
+  ),
+)
+
+pub tell_passes-returns-then-has_failed : goal.tell_passes-returns-then-has_failed
+tell_passes-returns-then-has_failed t c =
+    pass_failed _ _ _ _ _ _ _ _ _ _ _ c.passes.invariant c.passes-test.true _ c.end.ensures c.in_ok-next.ensures c.in_ok-told.ensures
+    (sym c.has_failed.ensures ∙ c.if-has_failed.true)
+
+pub tell_passes-passes-preserved : goal.tell_passes-passes-preserved
+tell_passes-passes-preserved t c =
+    pass_next _ _ _ _ _ _ _ _ _ _ _ c.passes.invariant c.passes-test.true _ c.end.ensures c.in_ok-next.ensures c.in_ok-told.ensures
+    (sym c.has_failed.ensures ∙ c.if-has_failed.false)
+
+pub tell_passes-returns : goal.tell_passes-returns
+tell_passes-returns t c = pass_stop _ _ _ _ _ _ _ _ c.passes.invariant (omega (arith, c.passes-test.false))
+
+pub tell_pass-returns : goal.tell_pass-returns
+tell_pass-returns t c =
+    let here = c.args.here in
+    let body = tells_at _ _ _ c.in_ok-told.told _ _ c.args.body.now _ _ _ c.args.tick c.as_slice.ensures refl c.in_ok-told.ensures in
+    let path = ap (λ (l : Label). l.indices) c.in_ok-place.ensures
+    ∙ ap (λ (l : Label). l.indices ++ c.args.number ∷ []) c.in_ok-copy.ensures in
+    subst (λ (p : List ℕ). Tells here.task.now c.args.events.now.items c.in_ok-told.told c.tell_steps.new.events.items
+    (tell (table_of here) c.args.body.now
+    (record {
+      here = record { input = input_of here; part = range_of here.part; task = here.task.now; path = p };
+      in_cleanup =
+          here.in_cleanup;
+    })
+    (scopes_of here) c.args.tick)) path body
+
+pub tell_try-tell_handler-requires : goal.tell_try-tell_handler-requires
+tell_try-tell_handler-requires t c =
+    let inner = tells_at _ _ _ c.in_ok-told.told _ _ c.args.body.now _ _ _ c.args.tick c.as_slice.ensures refl c.in_ok-told.ensures in
+    let small = ends_small c.in_ok-told.told _ c.args.body.now _ _ c.args.tick c.requires.modest c.requires.room.small inner.told in (
+      omega (arith, c.decreases),
+      (c.requires.modest_handler, record { room = omega (arith, small, c.requires.room.room); small = c.requires.room.small }),
+    )
+
+pub tell_try-tell_cleanup-requires : goal.tell_try-tell_cleanup-requires
+tell_try-tell_cleanup-requires t c =
+    let inner = tells_at _ _ _ c.in_ok-told.told _ _ c.args.body.now _ _ _ c.args.tick c.as_slice.ensures refl c.in_ok-told.ensures in
+    let handled = c.in_ok-told-2.ensures _ _ inner in
+    let small = ends_handled c.in_ok-told-2.told _ (handled_of c.args.handler.now) c.args.body.now _ _ c.args.tick c.requires.modest
+    c.requires.modest_handler c.requires.room.small handled.told in (
+      omega (arith, c.decreases),
+      (c.requires.modest_cleanup, record { room = omega (arith, small, c.requires.room.room); small = c.requires.room.small }),
+    )
+
+pub tell_try-returns : goal.tell_try-returns
+tell_try-returns t c =
+    let inner = tells_at _ _ _ c.in_ok-told.told _ _ c.args.body.now _ _ _ c.args.tick c.as_slice.ensures refl c.in_ok-told.ensures in
+    c.in_ok-told-3.ensures _ _ (c.in_ok-told-2.ensures _ _ inner)
+
+pub tell_handler-returns-in_default : goal.tell_handler-returns-in_default
+unfolding tell
+tell_handler-returns-in_default t c = λ start (a : Tale) h. rw c.in_default.is h
+
+pub tell_handler-returns-in_default-2 : goal.tell_handler-returns-in_default-2
+unfolding tell
+tell_handler-returns-in_default-2 t c = λ start (a : Tale) h.
+    let e : a.exc ≡ None = sym h.told.exc ∙ (sym c.in_ok-exc.ensures ∙ ap (option_map exc_of) c.in_default-2.is) in
+    rw c.in-Some.is (not_raised _ _ _ c.args.told _ a _ e h)
+
+pub tell_handler-returns-in_default-kept : goal.tell_handler-returns-in_default-kept
+unfolding tell
+tell_handler-returns-in_default-kept t c = λ start (a : Tale) h.
+    let e : a.exc ≡ Some (exc_of c.in-Some-2.exc) = sym h.told.exc ∙ (sym c.in_ok-exc.ensures ∙ ap (option_map exc_of) c.in-Some-2.is) in
+    rw c.in-Some.is
+    (not_wanted _ _ _ c.args.told _ a _ _ e (sym c.in_ok-kept.ensures.kept ∙ ap (option_map exc_of) c.in_default-kept.is) h)
+
+pub tell_handler-returns : goal.tell_handler-returns
+unfolding tell
+tell_handler-returns t c = λ start (a : Tale) h.
+    let e : a.exc ≡ Some (exc_of c.in-Some-2.exc) = sym h.told.exc ∙ (sym c.in_ok-exc.ensures ∙ ap (option_map exc_of) c.in-Some-2.is) in
+    let matched = exc_of c.in-Some-kept.matched in
+    let handling = adds_like _ _ _ _ _ c.in_ok-note.ensures
+    (ap (λ (n : ℕ). only n (handles matched (option_map exc_of c.in_ok-left.left))) c.end.ensures
+    ∙ ap (λ (o : Option Exc). only c.args.told.end (handles matched o)) c.in_ok-left.ensures) in
+    let next = tells_at _ _ _ c.in_ok-next.next _ _ _ _ _ _ a.end c.as_slice.ensures (c.end-2.ensures ∙ h.told.end) c.in_ok-next.ensures in
+    rw c.in-Some.is
+    (is_wanted _ start _ _ _ a _ _ matched _ e (sym (ap (option_map exc_of) c.in-Some-kept.is) ∙ c.in_ok-kept.ensures.kept)
+    c.in_ok-kept.ensures.dropped
+    (tells_handled _ start _ _ _ c.args.told c.in_ok-next.next _ matched _ a _ h handling next c.in_ok-told.ensures))
+
+pub tell_cleanup-returns-in_default : goal.tell_cleanup-returns-in_default
+unfolding tell
+tell_cleanup-returns-in_default t c = λ start (a : Tale) h. rw c.in_default.is h
+
+pub tell_cleanup-returns : goal.tell_cleanup-returns
+unfolding tell
+tell_cleanup-returns t c = λ start (a : Tale) h.
+    let told = c.args.told in
+    let cleaning = adds_like _ _ _ _ _ c.in_ok-note.ensures
+    (ap (λ (n : ℕ). only n (cleans (option_map exc_of c.in_ok-exc.exc))) c.end.ensures
+    ∙ ap (λ (o : Option Exc). only told.end (cleans o)) c.in_ok-exc.ensures) in
+    let next = tells_at _ _ _ c.in_ok-next.next _ _ _ _ _ _ a.end c.as_slice.ensures (c.end-2.ensures ∙ h.told.end) c.in_ok-next.ensures in
+    let replacing = adds_like _ _ _ _ _ c.in_ok-note_replaced.ensures
+    (ap (λ (n : ℕ). replaced (option_map exc_of told.exc) (option_map exc_of c.in_ok-next.next.exc) n) c.end-3.ensures) in
+    rw c.in-Some.is (tells_cleaned _ start _ _ _ _ told c.in_ok-next.next _ a _ h cleaning next replacing c.in_ok-told.ensures)
+
+pub tell_step-returns-in-Sleep : goal.tell_step-returns-in-Sleep
+unfolding tell
+tell_step-returns-in-Sleep t c = rw c.in-Sleep.is c.sleeping.ensures
+
+pub tell_step-returns-in-Checkpoint : goal.tell_step-returns-in-Checkpoint
+unfolding tell
+tell_step-returns-in-Checkpoint t c = rw c.in-Checkpoint.is c.sleeping-in-Checkpoint.ensures
+
+pub tell_step-returns-in-Forever : goal.tell_step-returns-in-Forever
+unfolding tell
+tell_step-returns-in-Forever t c = rw (c.in-Forever.is, ← c.saturating_sub.ensures) c.sleeping-in-Forever.ensures
+
+pub tell_step-returns-in-Pace : goal.tell_step-returns-in-Pace
+unfolding tell
+tell_step-returns-in-Pace t c = rw c.in-Pace.is c.pace.ensures
+
+pub tell_step-returns-in-Find : goal.tell_step-returns-in-Find
+unfolding tell
+tell_step-returns-in-Find t c = rw c.in-Find.is c.found.ensures
+
+pub tell_step-returns-in-Head : goal.tell_step-returns-in-Head
+unfolding tell
+tell_step-returns-in-Head t c = rw c.in-Head.is c.head.ensures
+
+pub tell_step-returns-in-Longest : goal.tell_step-returns-in-Longest
+unfolding tell
+tell_step-returns-in-Longest t c = rw c.in-Longest.is c.longest.ensures
+
+pub tell_step-returns-in-Need : goal.tell_step-returns-in-Need
+unfolding tell
+tell_step-returns-in-Need t c = rw c.in-Need.is c.need.ensures
+
+pub tell_step-returns-in-Raise : goal.tell_step-returns-in-Raise
+unfolding tell
+tell_step-returns-in-Raise t c = rw c.in-Raise.is c.raised.ensures
+
+pub tell_step-returns-in-Cancel : goal.tell_step-returns-in-Cancel
+unfolding tell
+tell_step-returns-in-Cancel t c = rw c.in-Cancel.is c.cancel.ensures
+
+pub tell_step-returns-in-Scope : goal.tell_step-returns-in-Scope
+unfolding tell
+tell_step-returns-in-Scope t c = rw (c.in-Scope.is, ← c.due.ensures) c.tell_block.ensures
+
+pub tell_step-returns-in-Nursery : goal.tell_step-returns-in-Nursery
+unfolding tell
+tell_step-returns-in-Nursery t c = rw (c.in-Nursery.is, ← c.due-in-Nursery.ensures) c.tell_block-in-Nursery.ensures
+
+pub tell_step-returns-in_ok-label-in-None : goal.tell_step-returns-in_ok-label-in-None
+unfolding tell
+tell_step-returns-in_ok-label-in-None t c =
+    let here = c.args.here in
+    rw (c.in-Start.is, c.in-None.is)
+    (subst (λ (l : Label). IfOk c.tell_child.result (λ w. Tells here.task.now c.args.events.now.items w c.tell_child.new.events.items
+    (started l (range_of here.part) c.in-Start.body here c.args.tick))) c.in_ok-label-in-None.ensures
+    (subst (λ (ss : Steps). IfOk c.tell_child.result (λ w. Tells here.task.now c.args.events.now.items w c.tell_child.new.events.items
+    (started c.in_ok-label-in-None.label (range_of here.part) ss here c.args.tick))) c.as_slice.ensures c.tell_child.ensures))
+
+pub tell_step-returns-in-Some : goal.tell_step-returns-in-Some
+unfolding tell
+tell_step-returns-in-Some t c = rw (c.in-Start.is, c.in-Some.is) c.tell_children.ensures
+
+pub tell_step-returns-in-Repeat : goal.tell_step-returns-in-Repeat
+unfolding tell
+tell_step-returns-in-Repeat t c = rw c.in-Repeat.is c.tell_passes.ensures
+
+pub tell_step-returns-in-Try : goal.tell_step-returns-in-Try
+unfolding tell
+tell_step-returns-in-Try t c = rw c.in-Try.is c.tell_try.ensures

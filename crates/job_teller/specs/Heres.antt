@@ -1,0 +1,64 @@
+-- Where a walk of the code is, as the meaning has it, and what it tells there.
+use Rattle.std.specs.Prelude.{ℕ, Bool, ◌+◌, ◌*◌, ◌≤◌, List, length}
+use Rattle.buffer_parts.specs.Lines.{Range}
+use Rattle.buffer_parts.specs.Part.{buffer_of, range_of}
+use Rattle.buffer_parts.specs.Cuts.{cut_of}
+use Rattle.cancel_scopes.specs.Sight.{Tick}
+use Rattle.exc_groups.specs.Exceptions.{Label}
+use Rattle.job_tree.specs.Tree.{Steps}
+use Rattle.job_meaning.specs.declared.limits.TheConstants.{MOST_INPUT}
+use Rattle.job_meaning.specs.Log.{Table}
+use Rattle.job_meaning.specs.Walk as meaning
+use Rattle.job_meaning.specs.Walk.{Kind, a_scope, a_nursery, within, here_in, home_of, in_pass, label_here, label_over}
+use Rattle.job_story.specs.Froms.{table_in}
+use Rattle.job_story.specs.Story.{Tale}
+use Rattle.job_story.specs.Tell.{Scene, at_place, tell, tell_child, tell_gathered, tell_wait}
+use Rattle.job_teller.specs.declared.here.Here.{Here}
+use Rattle.job_teller.specs.Stacks.{stack_of}
+
+abbrev pub input_of : Here → List ℕ
+input_of h = buffer_of h.part
+
+abbrev pub here_of : Here → meaning.Here
+here_of h = record { input = input_of h; part = range_of h.part; task = h.task.now; path = h.place.now.indices }
+
+abbrev pub scene_of : Here → Scene
+scene_of h = record { here = here_of h; in_cleanup = h.in_cleanup }
+
+abbrev pub scopes_of : Here → meaning.Stack
+scopes_of h = stack_of h.stack.now
+
+abbrev pub table_of : Here → Table
+table_of h = table_in h.froms.now
+
+-- the label of a scope, nursery or task that is entered or started here
+abbrev pub label_in : List ℕ → Here → Label
+label_in name h = label_here name (here_of h)
+
+-- the inside of a block that is cancelled from a tick on
+abbrev pub inside : Kind → Label → Bool → Steps → Here → ℕ → Tick → Tale
+inside (a_scope fail) label shield body h t from = tell (table_of h) body (scene_of h) (within label shield from (scopes_of h)) t
+inside a_nursery label shield body h t from =
+    tell_gathered label (tell_wait label (tell (table_of h) body (scene_of h) (within label shield from (scopes_of h)) t))
+
+-- where a child is that is started with a label on a range
+abbrev pub scene_in : Label → Range → Here → Scene
+scene_in label lent h = at_place (here_in label lent (here_of h)) (scene_of h)
+
+-- and its tale
+abbrev pub started : Label → Range → Steps → Here → ℕ → Tale
+started label lent body h t =
+    tell_child label (home_of (scopes_of h)) (scene_in label lent h) t (tell (table_of h) body (scene_in label lent h) (scopes_of h) t)
+
+-- one of the children of a `start .. over`
+abbrev pub started_over : List ℕ → ℕ → Steps → Here → ℕ → ℕ → Tale
+started_over name k body h t i = started (label_over name (here_of h) i) (cut_of (input_of h) (range_of h.part) k i) body h t
+
+-- a pass of a `repeat`
+abbrev pub pass : Steps → Here → ℕ → ℕ → Tale
+pass body h i t = tell (table_of h) body (at_place (in_pass i (here_of h)) (scene_of h)) (scopes_of h) t
+
+-- So many step instances are told before any tick is too large: each takes at most 2 ^ 40 ticks.
+pub record HasRoom (size : ℕ) (h : Here) (t : ℕ) : Type 0 where
+  pub room : t + size * 1099511627776 ≤ 4611686018427387904
+  pub small : length (input_of h) ≤ MOST_INPUT

@@ -1,0 +1,4 @@
+pub mod Stacks
+pub mod Lefts
+pub mod Heres
+pub mod Tales

@@ -1,0 +1,37 @@
+-- What the code told, as the story has it.
+use Rattle.std.specs.Prelude.{◌≡◌, ◌++◌, ℕ, max, List, [], map}
+use Rattle.std.specs.Option.{option_map}
+use Rattle.exc_groups.specs.Exceptions.{Label}
+use Rattle.exc_groups.specs.Held.{exc_of}
+use Rattle.job_meaning.specs.Walk.{Kind, Left, exc_after, latest, excs_of}
+use Rattle.job_story.specs.Events.{events_of}
+use Rattle.job_story.specs.Held.{event_of}
+use Rattle.job_story.specs.Story.{Story, Tale, leaves}
+use Rattle.job_story.specs.Tell.{only}
+use Rattle.job_story.specs.declared.event.Event.{Event}
+use Rattle.job_teller.specs.declared.told.Told.{Told}
+
+-- the code's telling came to the tale's end
+pub record IsTold (w : Told) (a : Tale) : Type 0 where
+  pub end : w.end ≡ a.end
+  pub exc : option_map exc_of w.exc ≡ a.exc
+  pub open_until : (t : ℕ) → latest t a.members ≡ max t w.open_until
+  pub open_excs : map exc_of w.open_excs.items ≡ excs_of a.members
+
+-- the events of a task's story were told after others
+pub record Adds (me : Label) (before after : List Event) (story : Story) : Type 0 where
+  pub added : map event_of after ≡ map event_of before ++ events_of me story
+
+-- the code told a tale
+pub record Tells (me : Label) (before : List Event) (w : Told) (after : List Event) (a : Tale) : Type 0 where
+  pub told : IsTold w a
+  pub events : Adds me before after a.story
+
+-- a block was left, whose inside came to that
+pub record IsLeft (me : Label) (before after : List Event) (inner w : Told) (kind : Kind) (label : Label) (left : Left) : Type 0 where
+  pub end : w.end ≡ inner.end
+  pub exc : option_map exc_of w.exc ≡ exc_after kind label inner.end left
+  pub open_until : w.open_until ≡ 0
+  pub open_excs : map exc_of w.open_excs.items ≡ []
+  pub events : Adds me before after
+      (only inner.end (leaves kind label (option_map exc_of inner.exc) left.caught (exc_after kind label inner.end left)))

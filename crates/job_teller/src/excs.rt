@@ -1,0 +1,147 @@
+ghost use Rattle.std.specs.Prelude.{◌≡◌, List, Option, IfOk, OnOk, map, ◌++◌};
+ghost use Rattle.std.specs.Option.{option_map, option_copied};
+ghost use Rattle.exc_groups.specs.Held.{exc_of};
+ghost use Rattle.job_meaning.specs.Walk.{left_with, exc_after, with_exc, handler_exc, outcome_after};
+ghost use Rattle.job_story.specs.Held.{kind_of};
+ghost use Rattle.job_teller.specs.Lefts.{left_of, fails_of};
+
+use exc_groups::{Exc, Label, Match, Parts, Whose, holds_cancelled, split};
+use job_story::Kind;
+use std::alloc::{AllocError, Global};
+
+/// What leaving a block leaves of an exception, and whether a `Cancelled` was caught.
+#[derive(Drop)]
+pub struct Left {
+    /// Whether a `Cancelled` was caught.
+    pub caught: bool,
+    /// The exception that goes on.
+    pub exc: Option<Exc>,
+}
+
+// Whether it is a `fail` scope.
+fn fails(kind: Kind) -> bool
+    ensures { result ≡ fails_of (kind_of kind) }
+{
+    match kind {
+        Kind::Scope { fail } => fail,
+        Kind::Nursery => false,
+    }
+}
+
+/// A block that catches takes every `Cancelled` leaf away, and lets the rest go on.
+pub(crate) fn left_with(alloc: Global, catches: bool, exc: Option<Exc>) -> Result<Left, AllocError>
+    ensures { IfOk result (λ left. left_of left ≡ left_with catches (option_map exc_of exc)) }
+{
+    let Some(exc) = exc else {
+        return Ok(Left {
+            caught: false,
+            exc: None,
+        });
+    };
+    if !catches {
+        return Ok(Left {
+            caught: false,
+            exc: Some(exc),
+        });
+    }
+    let caught = holds_cancelled(&exc);
+    let (_, rest) = split(alloc, exc, &Match::Cancelled)?;
+    Ok(Left { caught, exc: rest })
+}
+
+/// The exception after a block: a `fail` scope that caught and has nothing left raises `TooSlow`.
+pub(crate) fn exc_after(
+    alloc: Global,
+    kind: Kind,
+    label: &Label,
+    tick: u64,
+    left: Left,
+) -> Result<Option<Exc>, AllocError>
+    ensures { IfOk result (λ exc. option_map exc_of exc ≡ exc_after (kind_of kind) label.now tick (left_of left)) }
+{
+    let is_slow = fails(kind) && left.caught;
+    match left.exc {
+        None if is_slow => Ok(Some(Exc::TooSlow {
+            scope: label.copy(alloc)?,
+            tick,
+        })),
+        exc => Ok(exc),
+    }
+}
+
+/// An equal exception, if there is one.
+pub(crate) fn copy_of(alloc: Global, exc: &Option<Exc>) -> Result<Option<Exc>, AllocError>
+    ensures { IfOk result (λ copy. option_map exc_of copy ≡ option_map exc_of exc.now) }
+{
+    match exc {
+        None => Ok(None),
+        Some(exc) => Ok(Some(exc.copy(alloc)?)),
+    }
+}
+
+/// An equal label, if there is one.
+pub(crate) fn copied(alloc: Global, label: Option<&Label>) -> Result<Option<Label>, AllocError>
+    ensures { IfOk result (λ copy. copy ≡ option_copied label.entry) }
+{
+    match label {
+        None => Ok(None),
+        Some(label) => Ok(Some(label.copy(alloc)?)),
+    }
+}
+
+/// Moves all of a list behind another.
+pub(crate) fn move_all<T: Drop>(to: &mut Vec<T>, mut from: Vec<T>) -> Result<(), AllocError>
+    ensures { OnOk result (to.new.items ≡ to.old.items ++ from.items) }
+{
+    to.append(&mut from)
+}
+
+/// An exception, if there is one, in front of others.
+pub(crate) fn with_exc(
+    alloc: Global,
+    exc: Option<Exc>,
+    others: Vec<Exc>,
+) -> Result<Vec<Exc>, AllocError>
+    ensures { IfOk result (λ all. map exc_of all.items ≡ with_exc (option_map exc_of exc) (map exc_of others.items)) }
+{
+    let Some(exc) = exc else {
+        return Ok(others);
+    };
+    let mut all = Vec::new(alloc);
+    all.push(exc)?;
+    move_all(&mut all, others)?;
+    Ok(all)
+}
+
+/// A handler's group: what it raised, then the rest of the split as one member.
+pub(crate) fn handler_exc(
+    alloc: Global,
+    raised: Option<Exc>,
+    rest: Option<Exc>,
+) -> Result<Option<Exc>, AllocError>
+    ensures { IfOk result (λ exc. option_map exc_of exc ≡ handler_exc (option_map exc_of raised) (option_map exc_of rest)) }
+{
+    let Some(raised) = raised else {
+        return Ok(rest);
+    };
+    let Some(rest) = rest else {
+        return Ok(Some(raised));
+    };
+    let mut parts = Vec::new(alloc);
+    parts.push(raised)?;
+    parts.push(rest)?;
+    Ok(Some(Exc::Group {
+        whose: Whose::Handler,
+        parts: Parts::new(parts),
+    }))
+}
+
+/// The exception after a cleanup.
+pub(crate) fn outcome_after(earlier: Option<Exc>, exc: Option<Exc>) -> Option<Exc>
+    ensures { option_map exc_of result ≡ outcome_after (option_map exc_of earlier) (option_map exc_of exc) }
+{
+    match exc {
+        None => earlier,
+        Some(exc) => Some(exc),
+    }
+}

@@ -1,0 +1,221 @@
+ghost use Rattle.std.specs.Prelude.{◌≡◌, ◌+◌, ◌<◌, ◌≤◌, ◌^◌, length, map, Option, IfOk, Some};
+ghost use Rattle.buffer_parts.specs.Part.{range_of, span_of};
+ghost use Rattle.line_kernels.specs.Kernels.{found_in, head_of, longest_in, needed_in, count_in};
+ghost use Rattle.job_meaning.specs.declared.limits.TheConstants.{MOST_INPUT};
+ghost use Rattle.job_meaning.specs.Walk.{paced, due, label_on};
+ghost use Rattle.job_story.specs.Tell.{tell_sleep, tell_lines, tell_need, tell_raise, tell_cancel};
+ghost use Rattle.job_tree.specs.Modest.{IsModestDeadline};
+ghost use Rattle.job_teller.specs.Heres.{input_of, scopes_of};
+ghost use Rattle.job_teller.specs.Tales.{Tells};
+
+use crate::excs::copied;
+use crate::here::Here;
+use crate::notes::{note, note_cancelled, note_sleep};
+use crate::told::Told;
+use exc_groups::Exc;
+use job_story::{Event, Happening};
+use job_tree::{Deadline, Name, Text};
+use line_kernels::{Answer, FoundLines, Kernel, answer};
+use std::alloc::AllocError;
+
+/// A sleep of so many ticks, which is until a tick, or forever.
+pub(crate) fn sleeping<'a>(
+    here: Here<'a, '_>,
+    until: Option<u64>,
+    ticks: u64,
+    tick: u64,
+    events: &mut Vec<Event<'a>>,
+) -> Result<Told, AllocError>
+    requires { tick + ticks < 2 ^ 64 }
+    ensures { IfOk result (λ told. Tells here.entry.task.now events.old.items told events.new.items
+        (tell_sleep (scopes_of here.entry) here.entry.in_cleanup until ticks tick)) }
+{
+    let Some(from) = here.stack.sight() else {
+        note_sleep(here, until, ticks, tick, events)?;
+        return Ok(Told::at(here.alloc, tick + ticks));
+    };
+    if from <= tick {
+        note_cancelled(here, from, None, tick, events)?;
+        return Ok(Told::failed(here.alloc, Exc::Cancelled, tick));
+    }
+    note_sleep(here, until, ticks, tick, events)?;
+    if from <= tick + ticks {
+        note_cancelled(here, from, Some(tick), from, events)?;
+        return Ok(Told::failed(here.alloc, Exc::Cancelled, from));
+    }
+    Ok(Told::at(here.alloc, tick + ticks))
+}
+
+/// A sleep for the lines of the part, so many in a tick.
+pub(crate) fn pace<'a>(
+    here: Here<'a, '_>,
+    per_tick: u64,
+    tick: u64,
+    events: &mut Vec<Event<'a>>,
+) -> Result<Told, AllocError>
+    requires some { 1 ≤ per_tick }
+    requires few { per_tick ≤ 1000000 }
+    requires small { length (input_of here) ≤ MOST_INPUT }
+    requires room { tick ≤ 4611686018427387904 }
+    ensures { IfOk result (λ told. Tells here.entry.task.now events.old.items told events.new.items
+        (tell_sleep (scopes_of here.entry) here.entry.in_cleanup
+        (Some (tick + paced (count_in (input_of here.entry) (range_of here.entry.part)) per_tick))
+        (paced (count_in (input_of here.entry) (range_of here.entry.part)) per_tick) tick)) }
+{
+    let count = line_count(here)?;
+    let ticks = (count + (per_tick - 1)) / per_tick;
+    let told = sleeping(here, Some(tick + ticks), ticks, tick, events)?;
+    Ok(told)
+}
+
+// How many lines the part has.
+fn line_count(here: Here<'_, '_>) -> Result<u64, AllocError>
+    requires { length (input_of here) ≤ MOST_INPUT }
+    ensures count { IfOk result (λ n. n ≡ count_in (input_of here.entry) (range_of here.entry.part)) }
+    ensures few { IfOk result (λ n. n ≤ MOST_INPUT) }
+{
+    let Answer::Count(count) = answer(here.alloc, &Kernel::Count, here.part)? else {
+        unreachable!()
+    };
+    Ok(count)
+}
+
+// Lines that a kernel answered.
+fn shown<'a>(
+    here: Here<'a, '_>,
+    lines: FoundLines<'a>,
+    tick: u64,
+    events: &mut Vec<Event<'a>>,
+) -> Result<Told, AllocError>
+    ensures { IfOk result (λ told. Tells here.entry.task.now events.old.items told events.new.items
+        (tell_lines (map span_of lines.entry) tick)) }
+{
+    let what = Happening::Finds {
+        lines: lines.into_vec(),
+    };
+    note(here, tick, what, events)?;
+    Ok(Told::at(here.alloc, tick))
+}
+
+/// The lines that contain a string.
+pub(crate) fn found<'a>(
+    here: Here<'a, '_>,
+    text: &'a Text,
+    tick: u64,
+    events: &mut Vec<Event<'a>>,
+) -> Result<Told, AllocError>
+    ensures { IfOk result (λ told. Tells here.entry.task.now events.old.items told events.new.items
+        (tell_lines (found_in (input_of here.entry) text.now (range_of here.entry.part)) tick)) }
+{
+    let Answer::Lines(lines) = answer(here.alloc, &Kernel::Find(text.bytes()), here.part)? else {
+        unreachable!()
+    };
+    let told = shown(here, lines, tick, events)?;
+    Ok(told)
+}
+
+/// The first so many lines.
+pub(crate) fn head<'a>(
+    here: Here<'a, '_>,
+    count: u64,
+    tick: u64,
+    events: &mut Vec<Event<'a>>,
+) -> Result<Told, AllocError>
+    ensures { IfOk result (λ told. Tells here.entry.task.now events.old.items told events.new.items
+        (tell_lines (head_of (input_of here.entry) count (range_of here.entry.part)) tick)) }
+{
+    let Answer::Lines(lines) = answer(here.alloc, &Kernel::Head(count), here.part)? else {
+        unreachable!()
+    };
+    let told = shown(here, lines, tick, events)?;
+    Ok(told)
+}
+
+/// The first of the longest lines.
+pub(crate) fn longest<'a>(
+    here: Here<'a, '_>,
+    tick: u64,
+    events: &mut Vec<Event<'a>>,
+) -> Result<Told, AllocError>
+    ensures { IfOk result (λ told. Tells here.entry.task.now events.old.items told events.new.items
+        (tell_lines (longest_in (input_of here.entry) (range_of here.entry.part)) tick)) }
+{
+    let Answer::Lines(lines) = answer(here.alloc, &Kernel::Longest, here.part)? else {
+        unreachable!()
+    };
+    let told = shown(here, lines, tick, events)?;
+    Ok(told)
+}
+
+/// The first line that contains a string, or an exception of that name where there is none.
+pub(crate) fn need<'a>(
+    here: Here<'a, '_>,
+    text: &'a Text,
+    name: &Name,
+    tick: u64,
+    events: &mut Vec<Event<'a>>,
+) -> Result<Told, AllocError>
+    ensures { IfOk result (λ told. Tells here.entry.task.now events.old.items told events.new.items
+        (tell_need (needed_in (input_of here.entry) text.now (range_of here.entry.part)) name.now here.entry.task.now tick)) }
+{
+    let Answer::Lines(lines) = answer(here.alloc, &Kernel::Need(text.bytes()), here.part)? else {
+        let task = here.task.copy(here.alloc)?;
+        note(here, tick, Happening::Misses { name: *name }, events)?;
+        let exc = Exc::Raised {
+            name: *name,
+            task,
+            tick,
+        };
+        return Ok(Told::failed(here.alloc, exc, tick));
+    };
+    let told = shown(here, lines, tick, events)?;
+    Ok(told)
+}
+
+/// An exception of that name.
+pub(crate) fn raised<'a>(
+    here: Here<'a, '_>,
+    name: &Name,
+    tick: u64,
+    events: &mut Vec<Event<'a>>,
+) -> Result<Told, AllocError>
+    ensures { IfOk result (λ told. Tells here.entry.task.now events.old.items told events.new.items
+        (tell_raise name.now here.entry.task.now tick)) }
+{
+    let task = here.task.copy(here.alloc)?;
+    note(here, tick, Happening::Raises { name: *name }, events)?;
+    let exc = Exc::Raised {
+        name: *name,
+        task,
+        tick,
+    };
+    Ok(Told::failed(here.alloc, exc, tick))
+}
+
+/// A cancellation of the scope or nursery of that name that is around the task.
+pub(crate) fn cancel<'a>(
+    here: Here<'a, '_>,
+    name: &Name,
+    tick: u64,
+    events: &mut Vec<Event<'a>>,
+) -> Result<Told, AllocError>
+    ensures { IfOk result (λ told. Tells here.entry.task.now events.old.items told events.new.items
+        (tell_cancel (label_on name.now (scopes_of here.entry)) tick)) }
+{
+    let label = copied(here.alloc, here.stack.label_on(name))?;
+    note(here, tick, Happening::Cancels { label }, events)?;
+    Ok(Told::at(here.alloc, tick))
+}
+
+/// The tick of a deadline for a scope or nursery that is entered in a tick.
+pub(crate) fn due(deadline: Deadline, tick: u64) -> Option<u64>
+    requires modest { IsModestDeadline deadline }
+    requires room { tick ≤ 4611686018427387904 }
+    ensures { result ≡ due deadline tick }
+{
+    match deadline {
+        Deadline::Never => None,
+        Deadline::After(ticks) => Some(tick + ticks),
+        Deadline::At(tick) => Some(tick),
+    }
+}

@@ -1,0 +1,173 @@
+ghost use Rattle.std.specs.Prelude.{◌≡◌, ◌∷◌, [], ◌++◌, Bool, Option, OnOk, IfOk, map, List};
+ghost use Rattle.std.specs.Option.{option_map};
+ghost use Rattle.cancel_scopes.specs.Sight.{catches};
+ghost use Rattle.exc_groups.specs.Held.{exc_of};
+ghost use Rattle.job_meaning.specs.Walk.{left_with};
+ghost use Rattle.job_story.specs.Events.{event};
+ghost use Rattle.job_story.specs.Held.{event_of, happening_of, kind_of, what_of};
+ghost use Rattle.job_story.specs.Story.{is_cancelled, Tale};
+ghost use Rattle.job_story.specs.Tell.{asleep_for, only, replaced, seer, tell_gathered, tell_wait};
+ghost use Rattle.job_story.specs.declared.event.Event.{Event as HeldEvent};
+ghost use Rattle.job_teller.specs.Heres.{scopes_of};
+ghost use Rattle.job_teller.specs.Tales.{Adds, IsLeft, Tells};
+
+use crate::excs::{copied, copy_of, exc_after, left_with};
+use crate::here::Here;
+use crate::told::Told;
+use exc_groups::{Exc, Label};
+use job_story::{Event, Happening, Kind, What};
+use std::alloc::{AllocError, Global};
+
+/// Tells one event of a task.
+pub(crate) fn add<'a>(
+    alloc: Global,
+    task: &Label,
+    tick: u64,
+    what: What<'a>,
+    events: &mut Vec<Event<'a>>,
+) -> Result<(), AllocError>
+    ensures { OnOk result (map event_of events.new.items ≡ map event_of events.old.items ++ event tick task.now (what_of what.entry) ∷ []) }
+{
+    let task = task.copy(alloc)?;
+    events.push(Event { tick, task, what })?;
+    Ok(())
+}
+
+/// Tells what happens to the task here.
+pub(crate) fn note<'a>(
+    here: Here<'a, '_>,
+    tick: u64,
+    what: Happening<'a>,
+    events: &mut Vec<Event<'a>>,
+) -> Result<(), AllocError>
+    ensures { OnOk result (Adds here.entry.task.now events.old.items events.new.items (only tick (happening_of what.entry))) }
+{
+    add(here.alloc, here.task, tick, What::Happens(what), events)?;
+    Ok(())
+}
+
+/// Tells of a sleep, where it takes time.
+pub(crate) fn note_sleep<'a>(
+    here: Here<'a, '_>,
+    until: Option<u64>,
+    ticks: u64,
+    tick: u64,
+    events: &mut Vec<Event<'a>>,
+) -> Result<(), AllocError>
+    ensures { OnOk result (Adds here.entry.task.now events.old.items events.new.items (asleep_for ticks tick until)) }
+{
+    if ticks == 0 {
+        return Ok(());
+    }
+    note(here, tick, Happening::Sleeps { until }, events)?;
+    Ok(())
+}
+
+/// Tells of a `Cancelled` that is raised in a tick, for the sight from a tick on.
+pub(crate) fn note_cancelled<'a>(
+    here: Here<'a, '_>,
+    from: u64,
+    since: Option<u64>,
+    tick: u64,
+    events: &mut Vec<Event<'a>>,
+) -> Result<(), AllocError>
+    ensures { OnOk result (Adds here.entry.task.now events.old.items events.new.items
+        (only tick (is_cancelled (seer (scopes_of here.entry) from) since here.entry.in_cleanup))) }
+{
+    let by = copied(here.alloc, here.stack.seer(from))?;
+    let what = Happening::IsCancelled {
+        by,
+        since,
+        in_cleanup: here.in_cleanup,
+    };
+    note(here, tick, what, events)?;
+    Ok(())
+}
+
+/// Tells of an exception of a cleanup that takes the place of an earlier one.
+pub(crate) fn note_replaced<'a>(
+    here: Here<'a, '_>,
+    lost: &Option<Exc>,
+    fresh: &Option<Exc>,
+    tick: u64,
+    events: &mut Vec<Event<'a>>,
+) -> Result<(), AllocError>
+    ensures { OnOk result (Adds here.entry.task.now events.old.items events.new.items
+        (replaced (option_map exc_of lost.now) (option_map exc_of fresh.now) tick)) }
+{
+    let Some(lost) = lost else {
+        return Ok(());
+    };
+    let Some(fresh) = fresh else {
+        return Ok(());
+    };
+    let lost = lost.copy(here.alloc)?;
+    let fresh = fresh.copy(here.alloc)?;
+    note(here, tick, Happening::Replaces { lost, fresh }, events)?;
+    Ok(())
+}
+
+/// Tells that the body of a nursery ended, and ends the nursery.
+pub(crate) fn wait<'a>(
+    label: &Label,
+    told: Told,
+    here: Here<'a, '_>,
+    events: &mut Vec<Event<'a>>,
+) -> Result<Told, AllocError>
+    ensures { IfOk result (λ w. (start : List HeldEvent) (a : Tale) → Tells here.entry.task.now start told events.old.items a
+        → Tells here.entry.task.now start w events.new.items (tell_gathered label.now (tell_wait label.now a))) }
+{
+    let nursery = label.copy(here.alloc)?;
+    let exc = told.copy_exc(here.alloc)?;
+    note(here, told.end(), Happening::Waits { nursery, exc }, events)?;
+    let told = told.gather(here.alloc, label)?;
+    Ok(told)
+}
+
+/// A block that is left: what it is, its label, whether it has a shield, and the tick from which it is cancelled.
+#[derive(Clone, Copy)]
+pub struct Block<'b> {
+    /// Whether it is a scope or a nursery.
+    pub kind: Kind,
+    /// Its label.
+    pub label: &'b Label,
+    /// Whether it hides the cancellations from outside.
+    pub shield: bool,
+    /// The tick from which it is cancelled: none is never.
+    pub from: Option<u64>,
+}
+
+/// Leaves a block whose inside ended, and tells so.
+pub(crate) fn leave<'a>(
+    block: Block<'_>,
+    inside: Told,
+    here: Here<'a, '_>,
+    events: &mut Vec<Event<'a>>,
+) -> Result<Told, AllocError>
+    ensures { IfOk result (λ w. IsLeft here.entry.task.now events.old.items events.new.items inside w (kind_of block.entry.kind)
+        block.entry.label.now (left_with (catches block.entry.from block.entry.shield (scopes_of here.entry) inside.end)
+        (option_map exc_of inside.exc))) }
+{
+    let Told { end, exc, .. } = inside;
+    let inner = copy_of(here.alloc, &exc)?;
+    let catches = here.stack.catches(block.from, block.shield, end);
+    let left = left_with(here.alloc, catches, exc)?;
+    let caught = left.caught;
+    let outer = exc_after(here.alloc, block.kind, block.label, end, left)?;
+    let label = block.label.copy(here.alloc)?;
+    let outside = copy_of(here.alloc, &outer)?;
+    let what = Happening::Leaves {
+        kind: block.kind,
+        label,
+        inside: inner,
+        caught,
+        outside,
+    };
+    note(here, end, what, events)?;
+    Ok(Told {
+        end,
+        exc: outer,
+        open_until: 0,
+        open_excs: Vec::new(here.alloc),
+    })
+}

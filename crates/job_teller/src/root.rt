@@ -1,0 +1,45 @@
+ghost use Rattle.std.specs.Prelude.{◌≡◌, ◌≤◌, length, map, IfOk};
+ghost use Rattle.job_meaning.specs.declared.limits.TheConstants.{MOST_INPUT};
+ghost use Rattle.job_meaning.specs.Meaning.{root_label};
+ghost use Rattle.job_story.specs.Events.{events_of};
+ghost use Rattle.job_story.specs.Froms.{table_in};
+ghost use Rattle.job_story.specs.Held.{event_of};
+ghost use Rattle.job_story.specs.Tell.{story_by};
+
+use crate::here::Here;
+use crate::stack::Stack;
+use crate::walk::tell_child;
+use buffer_parts::Part;
+use exc_groups::Label;
+use job_grammar::Job;
+use job_story::{Event, Froms};
+use std::alloc::{AllocError, Global};
+
+/// Tells the story of a job over an input, where scopes and nurseries are cancelled from these ticks on: its events, in the order of
+/// the walk. Those of a started task stand where it was started.
+pub fn tell<'a>(
+    alloc: Global,
+    job: &'a Job,
+    input: &'a [u8],
+    froms: &Froms,
+) -> Result<Vec<Event<'a>>, AllocError>
+    requires { length input.now ≤ MOST_INPUT }
+    ensures { IfOk result (λ events. map event_of events.items ≡ events_of (root_label job.now.name)
+        (story_by (table_in froms.now) job.now input.now)) }
+{
+    let outside = Label::new(alloc, job.name());
+    let stack = Stack::Empty;
+    let here = Here {
+        alloc,
+        froms,
+        part: Part::whole(input),
+        task: &outside,
+        place: &outside,
+        stack: &stack,
+        in_cleanup: false,
+    };
+    let root = Label::new(alloc, job.name());
+    let mut events = Vec::new(alloc);
+    tell_child(root, here.part, job.steps(), here, 0, &mut events)?;
+    Ok(events)
+}

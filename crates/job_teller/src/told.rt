@@ -1,0 +1,176 @@
+ghost use Rattle.std.specs.Prelude.{◌≡◌, ◌++◌, Bool, Option, IfOk, OnOk, map};
+ghost use Rattle.std.specs.Option.{option_map, is_some};
+ghost use Rattle.exc_groups.specs.Exceptions.{Label as TreeLabel, Exc as TreeExc};
+ghost use Rattle.exc_groups.specs.Held.{exc_of};
+ghost use Rattle.job_story.specs.Story.{Story, Tale};
+ghost use Rattle.job_story.specs.Tell.{Scene, told_at, failed_at, and_tale, handled_by, cleaned_by, tell_gathered, tell_child};
+ghost use Rattle.job_teller.specs.Tales.{IsTold};
+
+use crate::excs::{copy_of, handler_exc, move_all, outcome_after, with_exc};
+use exc_groups::{Exc, Label, Whose, group};
+use std::alloc::{AllocError, Global};
+
+/// What telling came to: its end, its exception, and what the children come to whose nursery is still open.
+#[derive(Drop)]
+pub struct Told {
+    /// The tick in which it ended.
+    pub end: u64,
+    /// The exception with which it ended: none where it ended well.
+    pub exc: Option<Exc>,
+    /// The last end of those children, 0 where there are none.
+    pub open_until: u64,
+    /// The exceptions of those children, in the order of their starts.
+    pub open_excs: Vec<Exc>,
+}
+
+impl Told {
+    /// The end.
+    pub(crate) fn end(&self) -> u64
+        ensures { result ≡ self.now.end }
+    {
+        self.end
+    }
+
+    /// Whether it ended with an exception.
+    pub(crate) fn has_failed(&self) -> bool
+        ensures { result ≡ is_some self.now.exc }
+    {
+        self.exc.is_some()
+    }
+
+    /// A copy of its exception.
+    pub(crate) fn copy_exc(&self, alloc: Global) -> Result<Option<Exc>, AllocError>
+        ensures { IfOk result (λ copy. option_map exc_of copy ≡ option_map exc_of self.now.exc) }
+    {
+        copy_of(alloc, &self.exc)
+    }
+
+    /// It ended well in this tick.
+    pub(crate) fn at(alloc: Global, tick: u64) -> Told
+        ensures { (story : Story) → IsTold result (told_at tick story) }
+    {
+        Told {
+            end: tick,
+            exc: None,
+            open_until: 0,
+            open_excs: Vec::new(alloc),
+        }
+    }
+
+    /// It ended with an exception in this tick.
+    pub(crate) fn failed(alloc: Global, exc: Exc, tick: u64) -> Told
+        ensures { (story : Story) → IsTold result (failed_at (exc_of exc) tick story) }
+    {
+        Told {
+            end: tick,
+            exc: Some(exc),
+            open_until: 0,
+            open_excs: Vec::new(alloc),
+        }
+    }
+
+    /// Goes on with what came next.
+    pub(crate) fn join(self, next: Told) -> Result<Told, AllocError>
+        ensures { IfOk result (λ w. (a b : Tale) → IsTold self a → IsTold next b → IsTold w (and_tale a b)) }
+    {
+        let Told {
+            open_until: before,
+            mut open_excs,
+            ..
+        } = self;
+        let Told {
+            end,
+            exc,
+            open_until,
+            open_excs: next_excs,
+        } = next;
+        move_all(&mut open_excs, next_excs)?;
+        Ok(Told {
+            end,
+            exc,
+            open_until: before.max(open_until),
+            open_excs,
+        })
+    }
+
+    /// Goes on with a handler, after which the rest of the split goes on.
+    pub(crate) fn handled(
+        self,
+        alloc: Global,
+        next: Told,
+        rest: Option<Exc>,
+    ) -> Result<Told, AllocError>
+        ensures { IfOk result (λ w. (matched : TreeExc) (a b : Tale) → IsTold self a → IsTold next b
+            → IsTold w (handled_by matched (option_map exc_of rest) a b)) }
+    {
+        let Told {
+            end,
+            exc,
+            open_until,
+            open_excs,
+        } = next;
+        let exc = handler_exc(alloc, exc, rest)?;
+        let told = self.join(Told {
+            end,
+            exc,
+            open_until,
+            open_excs,
+        })?;
+        Ok(told)
+    }
+
+    /// Goes on with a cleanup, whose own exception takes the place of the earlier one.
+    pub(crate) fn cleaned(self, alloc: Global, next: Told) -> Result<Told, AllocError>
+        ensures { IfOk result (λ w. (a b : Tale) → IsTold self a → IsTold next b → IsTold w (cleaned_by a b)) }
+    {
+        let before = copy_of(alloc, &self.exc)?;
+        let Told {
+            end,
+            exc,
+            open_until,
+            open_excs,
+        } = next;
+        let exc = outcome_after(before, exc);
+        let told = self.join(Told {
+            end,
+            exc,
+            open_until,
+            open_excs,
+        })?;
+        Ok(told)
+    }
+
+    /// The end of a nursery: that of its last member, with the exceptions of its body and its children as one group.
+    pub(crate) fn gather(self, alloc: Global, label: &Label) -> Result<Told, AllocError>
+        ensures { IfOk result (λ w. (a : Tale) → IsTold self a → IsTold w (tell_gathered label.now a)) }
+    {
+        let Told {
+            end,
+            exc,
+            open_until,
+            open_excs,
+        } = self;
+        let parts = with_exc(alloc, exc, open_excs)?;
+        Ok(Told {
+            end: end.max(open_until),
+            exc: group(Whose::Nursery(label.copy(alloc)?), parts),
+            open_until: 0,
+            open_excs: Vec::new(alloc),
+        })
+    }
+
+    /// What a started task leaves in its starter's telling, which goes on in the same tick.
+    pub(crate) fn into_child(self, alloc: Global, tick: u64) -> Result<Told, AllocError>
+        ensures { IfOk result (λ w. (label : TreeLabel) (home : Option TreeLabel) (scene : Scene) (a : Tale) → IsTold self a
+            → IsTold w (tell_child label home scene tick a)) }
+    {
+        let Told { end, exc, .. } = self;
+        let open_excs = with_exc(alloc, exc, Vec::new(alloc))?;
+        Ok(Told {
+            end: tick,
+            exc: None,
+            open_until: end,
+            open_excs,
+        })
+    }
+}

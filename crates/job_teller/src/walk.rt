@@ -1,0 +1,424 @@
+ghost use Rattle.std.specs.Prelude.{◌≡◌, ◌+◌, ◌*◌, ◌<◌, ◌≤◌, ◌^◌, ℕ, Option, IfOk, ◌++◌, ◌∷◌, [], List};
+ghost use Rattle.buffer_parts.specs.Part.{buffer_of, range_of};
+ghost use Rattle.job_tree.specs.Blocks.{step_of, steps_of, handled_of, cleaned_of};
+ghost use Rattle.job_tree.specs.Modest.{AreModest, IsModestStep, IsModestHandler, IsModestCleanup};
+ghost use Rattle.job_tree.specs.Names.{size_of, size_in, handled_size, cleaned_size};
+ghost use Rattle.job_story.specs.Held.{kind_of};
+ghost use Rattle.job_story.specs.Story.{Tale};
+ghost use Rattle.job_story.specs.Tell.{tell, tell_step, tell_handler, tell_cleanup, tell_block, tell_each, tell_passes};
+ghost use Rattle.job_story.specs.declared.event.Event.{Event as HeldEvent};
+ghost use Rattle.job_teller.specs.Heres.{HasRoom, input_of, scene_of, scopes_of, table_of, label_in, inside, started, started_over, pass};
+ghost use Rattle.job_teller.specs.Tales.{Tells};
+
+use crate::excs::{copied, copy_of};
+use crate::here::Here;
+use crate::leaves::{cancel, due, found, head, longest, need, pace, raised, sleeping};
+use crate::notes::{Block, add, leave, note, note_replaced, wait};
+use crate::stack::{Level, Stack};
+use crate::told::Told;
+use buffer_parts::Part;
+use exc_groups::{Label, Match, split};
+use job_story::{Event, Happening, Kind, What};
+use job_tree::{Body, Handler, Name, Step};
+use std::alloc::{AllocError, Global};
+
+/// The tick to which `forever` sleeps.
+const FAR: u64 = 1_099_511_627_776;
+
+// Tells the steps of a block, from a tick on.
+#[cycle(telling)]
+fn tell_steps<'a>(
+    steps: &'a [Step],
+    here: Here<'a, '_>,
+    tick: u64,
+    events: &mut Vec<Event<'a>>,
+) -> Result<Told, AllocError>
+    requires modest { AreModest (steps_of steps.now) }
+    requires room { HasRoom (size_of (steps_of steps.now)) here tick }
+    ensures { IfOk result (λ w. Tells here.entry.task.now events.old.items w events.new.items
+        (tell (table_of here.entry) (steps_of steps.now) (scene_of here.entry) (scopes_of here.entry) tick)) }
+{
+    let mut told = Told::at(here.alloc, tick);
+    'steps: for step in steps {
+        let next = tell_step(step, here, told.end(), events)?;
+        told = told.join(next)?;
+        if told.has_failed() {
+            return Ok(told);
+        }
+    }
+    Ok(told)
+}
+
+// Tells one step.
+#[cycle(telling)]
+fn tell_step<'a>(
+    step: &'a Step,
+    here: Here<'a, '_>,
+    tick: u64,
+    events: &mut Vec<Event<'a>>,
+) -> Result<Told, AllocError>
+    requires modest { IsModestStep (step_of step.now) }
+    requires room { HasRoom (size_in (step_of step.now)) here tick }
+    ensures { IfOk result (λ w. Tells here.entry.task.now events.old.items w events.new.items
+        (tell_step (table_of here.entry) (step_of step.now) (scene_of here.entry) (scopes_of here.entry) tick)) }
+{
+    match step {
+        Step::Sleep(ticks) => sleeping(here, Some(tick + *ticks), *ticks, tick, events),
+        Step::Checkpoint => sleeping(here, Some(tick), 0, tick, events),
+        Step::Forever => sleeping(here, None, FAR.saturating_sub(tick), tick, events),
+        Step::Pace(per_tick) => pace(here, *per_tick, tick, events),
+        Step::Find(text) => found(here, text, tick, events),
+        Step::Head(count) => head(here, *count, tick, events),
+        Step::Longest => longest(here, tick, events),
+        Step::Need { text, name } => need(here, text, name, tick, events),
+        Step::Raise(name) => raised(here, name, tick, events),
+        Step::Cancel(name) => cancel(here, name, tick, events),
+        Step::Scope {
+            name,
+            deadline,
+            shield,
+            fail,
+            body,
+        } => {
+            let kind = Kind::Scope { fail: *fail };
+            tell_block(
+                kind,
+                name,
+                due(*deadline, tick),
+                *shield,
+                body,
+                here,
+                tick,
+                events,
+            )
+        }
+        Step::Nursery {
+            name,
+            deadline,
+            shield,
+            body,
+        } => tell_block(
+            Kind::Nursery,
+            name,
+            due(*deadline, tick),
+            *shield,
+            body,
+            here,
+            tick,
+            events,
+        ),
+        Step::Start { name, over, body } => match over {
+            None => {
+                let label = here.label_here(*name)?;
+                tell_child(label, here.part, body.as_slice(), here, tick, events)
+            }
+            Some(copies) => tell_children(name, *copies, body, here, tick, events),
+        },
+        Step::Repeat { count, body } => tell_passes(*count, body, here, tick, events),
+        Step::Try {
+            body,
+            handler,
+            cleanup,
+        } => tell_try(body, handler, cleanup, here, tick, events),
+    }
+}
+
+// Tells of a scope or nursery that is entered in this tick, with the tick that is known from which it is cancelled.
+#[cycle(telling)]
+fn tell_block<'a>(
+    kind: Kind,
+    name: &Name,
+    deadline: Option<u64>,
+    shield: bool,
+    body: &'a Body,
+    here: Here<'a, '_>,
+    tick: u64,
+    events: &mut Vec<Event<'a>>,
+) -> Result<Told, AllocError>
+    requires modest { AreModest body.now }
+    requires room { HasRoom (size_of body.now) here tick }
+    ensures { IfOk result (λ w. Tells here.entry.task.now events.old.items w events.new.items
+        (tell_block (table_of here.entry) (kind_of kind) (label_in name.now here.entry) tick deadline shield (scopes_of here.entry)
+        (inside (kind_of kind) (label_in name.now here.entry) shield body.now here.entry tick))) }
+{
+    let label = here.label_here(*name)?;
+    let entered = label.copy(here.alloc)?;
+    let from = here.froms.of(&label);
+    let what = Happening::Enters {
+        kind,
+        label: entered,
+        deadline,
+        shield,
+    };
+    note(here, tick, what, events)?;
+    let block = Block {
+        kind,
+        label: &label,
+        shield,
+        from,
+    };
+    let inner = tell_inside(block, body, here, tick, events)?;
+    let told = leave(block, inner, here, events)?;
+    Ok(told)
+}
+
+// Tells of the inside of a scope or nursery, up to where it is left.
+#[cycle(telling)]
+fn tell_inside<'a>(
+    block: Block<'_>,
+    body: &'a Body,
+    here: Here<'a, '_>,
+    tick: u64,
+    events: &mut Vec<Event<'a>>,
+) -> Result<Told, AllocError>
+    requires modest { AreModest body.now }
+    requires room { HasRoom (size_of body.now) here tick }
+    ensures { IfOk result (λ w. Tells here.entry.task.now events.old.items w events.new.items
+        (inside (kind_of block.entry.kind) block.entry.label.now block.entry.shield body.now here.entry tick block.entry.from)) }
+{
+    let level = Level {
+        label: block.label.copy(here.alloc)?,
+        shield: block.shield,
+        from: block.from,
+    };
+    let stack = Stack::Within(level, here.stack);
+    let within = Here {
+        alloc: here.alloc,
+        froms: here.froms,
+        part: here.part,
+        task: here.task,
+        place: here.place,
+        stack: &stack,
+        in_cleanup: here.in_cleanup,
+    };
+    let told = tell_steps(body.as_slice(), within, tick, events)?;
+    match block.kind {
+        Kind::Scope { .. } => Ok(told),
+        Kind::Nursery => {
+            let told = wait(block.label, told, here, events)?;
+            Ok(told)
+        }
+    }
+}
+
+/// Tells of a task that is started in this tick with a part, from its start to its end.
+#[cycle(telling)]
+pub(crate) fn tell_child<'a>(
+    label: Label,
+    part: Part<'a>,
+    steps: &'a [Step],
+    here: Here<'a, '_>,
+    tick: u64,
+    events: &mut Vec<Event<'a>>,
+) -> Result<Told, AllocError>
+    requires modest { AreModest (steps_of steps.now) }
+    requires room { HasRoom (size_of (steps_of steps.now)) here tick }
+    requires same { buffer_of part ≡ input_of here }
+    ensures { IfOk result (λ w. Tells here.entry.task.now events.old.items w events.new.items
+        (started label (range_of part.entry) (steps_of steps.now) here.entry tick)) }
+{
+    let home = copied(here.alloc, here.stack.home())?;
+    add(
+        here.alloc,
+        &label,
+        tick,
+        What::Starts { home, part },
+        events,
+    )?;
+    let inside = Here {
+        alloc: here.alloc,
+        froms: here.froms,
+        part,
+        task: &label,
+        place: &label,
+        stack: here.stack,
+        in_cleanup: here.in_cleanup,
+    };
+    let told = tell_steps(steps, inside, tick, events)?;
+    let home = copied(here.alloc, here.stack.home())?;
+    let exc = told.copy_exc(here.alloc)?;
+    let what = What::Ends { home, exc };
+    add(here.alloc, &label, told.end(), what, events)?;
+    let told = told.into_child(here.alloc, tick)?;
+    Ok(told)
+}
+
+// Tells of the children of a `start .. over`, in order.
+#[cycle(telling)]
+fn tell_children<'a>(
+    name: &Name,
+    copies: u64,
+    body: &'a Body,
+    here: Here<'a, '_>,
+    tick: u64,
+    events: &mut Vec<Event<'a>>,
+) -> Result<Told, AllocError>
+    requires some { 1 ≤ copies }
+    requires few { copies ≤ 64 }
+    requires modest { AreModest body.now }
+    requires room { HasRoom (size_of body.now) here tick }
+    ensures { IfOk result (λ w. Tells here.entry.task.now events.old.items w events.new.items
+        (tell_each copies (started_over name.now copies body.now here.entry tick) tick)) }
+{
+    let mut told = Told::at(here.alloc, tick);
+    'copies: for i in 0..copies {
+        let part = here.part.cut(copies as usize, i as usize);
+        let label = label_over(here, *name, i)?;
+        let child = tell_child(label, part, body.as_slice(), here, tick, events)?;
+        told = told.join(child)?;
+    }
+    Ok(told)
+}
+
+// Tells of the passes of a `repeat`, each from where the one before it ended.
+#[cycle(telling)]
+fn tell_passes<'a>(
+    count: u64,
+    body: &'a Body,
+    here: Here<'a, '_>,
+    tick: u64,
+    events: &mut Vec<Event<'a>>,
+) -> Result<Told, AllocError>
+    requires modest { AreModest body.now }
+    requires room { HasRoom (count * (1 + size_of body.now)) here tick }
+    ensures { IfOk result (λ w. Tells here.entry.task.now events.old.items w events.new.items
+        (tell_passes 0 count (pass body.now here.entry) tick)) }
+{
+    let mut told = Told::at(here.alloc, tick);
+    'passes: for i in 0..count {
+        let next = tell_pass(i, body, here, told.end(), events)?;
+        told = told.join(next)?;
+        if told.has_failed() {
+            return Ok(told);
+        }
+    }
+    Ok(told)
+}
+
+// Tells of one pass.
+#[cycle(telling)]
+fn tell_pass<'a>(
+    number: u64,
+    body: &'a Body,
+    here: Here<'a, '_>,
+    tick: u64,
+    events: &mut Vec<Event<'a>>,
+) -> Result<Told, AllocError>
+    requires modest { AreModest body.now }
+    requires room { HasRoom (size_of body.now) here tick }
+    ensures { IfOk result (λ w. Tells here.entry.task.now events.old.items w events.new.items (pass body.now here.entry number tick)) }
+{
+    let place = here.place.copy(here.alloc)?.indexed(number)?;
+    let inside = Here {
+        alloc: here.alloc,
+        froms: here.froms,
+        part: here.part,
+        task: here.task,
+        place: &place,
+        stack: here.stack,
+        in_cleanup: here.in_cleanup,
+    };
+    let told = tell_steps(body.as_slice(), inside, tick, events)?;
+    Ok(told)
+}
+
+// Tells of a `try`.
+#[cycle(telling)]
+fn tell_try<'a>(
+    body: &'a Body,
+    handler: &'a Option<Handler>,
+    cleanup: &'a Option<Body>,
+    here: Here<'a, '_>,
+    tick: u64,
+    events: &mut Vec<Event<'a>>,
+) -> Result<Told, AllocError>
+    requires modest { AreModest body.now }
+    requires modest_handler { IsModestHandler (handled_of handler.now) }
+    requires modest_cleanup { IsModestCleanup (cleaned_of cleanup.now) }
+    requires room { HasRoom (size_of body.now + handled_size (handled_of handler.now) + cleaned_size (cleaned_of cleanup.now)) here tick }
+    ensures { IfOk result (λ w. Tells here.entry.task.now events.old.items w events.new.items
+        (tell_cleanup (table_of here.entry) (cleaned_of cleanup.now) (scene_of here.entry) (scopes_of here.entry)
+        (tell_handler (table_of here.entry) (handled_of handler.now) (scene_of here.entry) (scopes_of here.entry)
+        (tell (table_of here.entry) body.now (scene_of here.entry) (scopes_of here.entry) tick)))) }
+{
+    let told = tell_steps(body.as_slice(), here, tick, events)?;
+    let told = tell_handler(handler, told, here, events)?;
+    let told = tell_cleanup(cleanup, told, here, events)?;
+    Ok(told)
+}
+
+// Goes on with the handler of a `try` whose body was told, where it has one that is wanted.
+#[cycle(telling)]
+fn tell_handler<'a>(
+    handler: &'a Option<Handler>,
+    told: Told,
+    here: Here<'a, '_>,
+    events: &mut Vec<Event<'a>>,
+) -> Result<Told, AllocError>
+    requires modest { IsModestHandler (handled_of handler.now) }
+    requires room { HasRoom (handled_size (handled_of handler.now)) here told.end }
+    ensures { IfOk result (λ w. (start : List HeldEvent) (a : Tale) → Tells here.entry.task.now start told events.old.items a
+        → Tells here.entry.task.now start w events.new.items
+        (tell_handler (table_of here.entry) (handled_of handler.now) (scene_of here.entry) (scopes_of here.entry) a)) }
+{
+    let Some(handler) = handler else {
+        return Ok(told);
+    };
+    let Some(exc) = told.copy_exc(here.alloc)? else {
+        return Ok(told);
+    };
+    let (kept, rest) = split(here.alloc, exc, &Match::Name(handler.name))?;
+    let Some(matched) = kept else {
+        return Ok(told);
+    };
+    let left = copy_of(here.alloc, &rest)?;
+    let what = Happening::Handles {
+        matched,
+        rest: left,
+    };
+    note(here, told.end(), what, events)?;
+    let next = tell_steps(handler.body.as_slice(), here, told.end(), events)?;
+    let told = told.handled(here.alloc, next, rest)?;
+    Ok(told)
+}
+
+// Goes on with the cleanup of a `try`, where it has one.
+#[cycle(telling)]
+fn tell_cleanup<'a>(
+    cleanup: &'a Option<Body>,
+    told: Told,
+    here: Here<'a, '_>,
+    events: &mut Vec<Event<'a>>,
+) -> Result<Told, AllocError>
+    requires modest { IsModestCleanup (cleaned_of cleanup.now) }
+    requires room { HasRoom (cleaned_size (cleaned_of cleanup.now)) here told.end }
+    ensures { IfOk result (λ w. (start : List HeldEvent) (a : Tale) → Tells here.entry.task.now start told events.old.items a
+        → Tells here.entry.task.now start w events.new.items
+        (tell_cleanup (table_of here.entry) (cleaned_of cleanup.now) (scene_of here.entry) (scopes_of here.entry) a)) }
+{
+    let Some(cleanup) = cleanup else {
+        return Ok(told);
+    };
+    let exc = told.copy_exc(here.alloc)?;
+    note(here, told.end(), Happening::Cleans { exc }, events)?;
+    let inside = Here {
+        alloc: here.alloc,
+        froms: here.froms,
+        part: here.part,
+        task: here.task,
+        place: here.place,
+        stack: here.stack,
+        in_cleanup: true,
+    };
+    let next = tell_steps(cleanup.as_slice(), inside, told.end(), events)?;
+    note_replaced(here, &told.exc, &next.exc, next.end(), events)?;
+    let told = told.cleaned(here.alloc, next)?;
+    Ok(told)
+}
+
+// The label of a child of a `start .. over`, with the child's index.
+fn label_over(here: Here<'_, '_>, name: Name, index: u64) -> Result<Label, AllocError>
+    ensures { IfOk result (λ label. label ≡ record { name = name; indices = here.entry.place.now.indices ++ index ∷ [] }) }
+{
+    here.label_here(name)?.indexed(index)
+}

@@ -1,0 +1,11 @@
+use Rattle.std.proofs.Common.{◌≡◌, [], length}
+use Rattle.std.specs.Prelude.{map}
+use Rattle.job_story.specs.Held.{event_of}
+use Rattle.job_story.specs.Limit.{last_of}
+use Rattle.story_text.proofs.limit.push_last.Given as goal
+
+abbrev pub invariant-events : goal.invariant-events
+invariant-events l = last_of l.label (map event_of l.rest) [] ≡ last_of l.label (map event_of l.events) []
+
+abbrev pub decreases-events : goal.decreases-events
+decreases-events l = length l.rest

@@ -1,0 +1,104 @@
+ghost use Rattle.std.specs.Prelude.{◌≡◌, ◌++◌, [], ◌∷◌, OnOk, is_none, decimal, codes};
+ghost use Rattle.exc_groups.specs.Held.{exc_of, excs_of, whose_of};
+ghost use Rattle.exc_groups.specs.Split.{is_cancelled, drop};
+ghost use Rattle.job_story.specs.Sentences.{exc_text, parts_text, more_text, whose_text};
+ghost use Rattle.story_text.specs.Leaves.{all_cancelled, all_in};
+
+use crate::label::{push_label, push_place};
+use exc_groups::{Exc, Whose};
+use std::alloc::AllocError;
+
+// Appends who made a group.
+fn push_whose(out: &mut Vec<u8>, whose: &Whose) -> Result<(), AllocError>
+    ensures { OnOk result (out.new.items ≡ out.old.items ++ whose_text (whose_of whose.now)) }
+{
+    match whose {
+        Whose::Nursery(label) => push_label(out, label),
+        Whose::Handler => out.extend_from_slice(b"*"),
+    }
+}
+
+// Appends an exception, a group with its parts in brackets.
+#[cycle(exc)]
+pub fn push_exc(out: &mut Vec<u8>, exc: &Exc) -> Result<(), AllocError>
+    ensures { OnOk result (out.new.items ≡ out.old.items ++ exc_text (exc_of exc.now)) }
+{
+    match exc {
+        Exc::Cancelled => out.extend_from_slice(b"Cancelled"),
+        Exc::Raised { name, task, tick } => {
+            out.extend_from_slice(name.bytes())?;
+            push_place(out, task, *tick)
+        }
+        Exc::TooSlow { scope, tick } => {
+            out.extend_from_slice(b"TooSlow")?;
+            push_place(out, scope, *tick)
+        }
+        Exc::Group { whose, parts } => {
+            push_whose(out, whose)?;
+            out.extend_from_slice(b"[")?;
+            push_parts(out, parts.as_slice())?;
+            out.extend_from_slice(b"]")
+        }
+    }
+}
+
+// Appends the parts of a group, with a comma and a space between them.
+#[cycle(exc)]
+fn push_parts(out: &mut Vec<u8>, parts: &[Exc]) -> Result<(), AllocError>
+    ensures { OnOk result (out.new.items ≡ out.old.items ++ parts_text (excs_of parts.now)) }
+{
+    let Some((first, others)) = parts.split_first() else {
+        return Ok(());
+    };
+    push_exc(out, first)?;
+    push_more(out, others)
+}
+
+// Appends each part after a comma and a space.
+#[cycle(exc)]
+fn push_more(out: &mut Vec<u8>, parts: &[Exc]) -> Result<(), AllocError>
+    ensures { OnOk result (out.new.items ≡ out.old.items ++ more_text (excs_of parts.now)) }
+{
+    let mut rest = parts;
+    'parts: while let Some((part, others)) = rest.split_first() {
+        out.extend_from_slice(b", ")?;
+        push_exc(out, part)?;
+        rest = others;
+    }
+    Ok(())
+}
+
+// Whether every leaf of an exception is `Cancelled`.
+#[tactic(auto, using(crate::proofs::NothingLeft::nothing_left))]
+pub fn is_cancellation(exc: &Exc) -> bool
+    ensures { result ≡ is_none (drop is_cancelled (exc_of exc.now)) }
+{
+    has_no_other(exc)
+}
+
+// Whether every leaf is `Cancelled`, leaf by leaf.
+#[cycle(leaves)]
+fn has_no_other(exc: &Exc) -> bool
+    ensures { result ≡ all_cancelled (exc_of exc.now) }
+{
+    match exc {
+        Exc::Cancelled => true,
+        Exc::Raised { .. } | Exc::TooSlow { .. } => false,
+        Exc::Group { parts, .. } => have_no_other(parts.as_slice()),
+    }
+}
+
+// Whether every leaf of every part is `Cancelled`.
+#[cycle(leaves)]
+fn have_no_other(parts: &[Exc]) -> bool
+    ensures { result ≡ all_in (excs_of parts.now) }
+{
+    let mut rest = parts;
+    'parts: while let Some((part, others)) = rest.split_first() {
+        if !has_no_other(part) {
+            return false;
+        }
+        rest = others;
+    }
+    true
+}

@@ -1,0 +1,86 @@
+ghost use Rattle.std.specs.Prelude.{◌≡◌, ◌++◌, [], ◌∷◌, OnOk, decimal, codes, replicate};
+ghost use Rattle.job_meaning.specs.Log.{same_label};
+ghost use Rattle.job_story.specs.Causes.{is_label};
+ghost use Rattle.job_story.specs.Sentences.{label_text, indices_text, at_text, padded};
+
+use exc_groups::Label;
+use itoa::Buffer;
+use std::alloc::AllocError;
+
+// Appends a number in decimal digits.
+pub fn push_number(out: &mut Vec<u8>, n: u64) -> Result<(), AllocError>
+    ensures { OnOk result (out.new.items ≡ out.old.items ++ decimal n) }
+{
+    let mut buffer = Buffer::new();
+    out.extend_from_slice(buffer.format(n).as_bytes())
+}
+
+// Appends the label's name and its indices.
+pub fn push_label(out: &mut Vec<u8>, label: &Label) -> Result<(), AllocError>
+    ensures { OnOk result (out.new.items ≡ out.old.items ++ label_text label.now) }
+{
+    let name = label.name();
+    out.extend_from_slice(name.bytes())?;
+    push_indices(out, label.indices())
+}
+
+// Appends a dot and the index for each index.
+fn push_indices(out: &mut Vec<u8>, indices: &[u64]) -> Result<(), AllocError>
+    ensures { OnOk result (out.new.items ≡ out.old.items ++ indices_text indices.now) }
+{
+    let mut rest = indices;
+    'indices: while let Some((index, others)) = rest.split_first() {
+        out.extend_from_slice(b".")?;
+        push_number(out, *index)?;
+        rest = others;
+    }
+    Ok(())
+}
+
+// Appends the label and the tick, as `(p.1@7)`.
+pub fn push_place(out: &mut Vec<u8>, label: &Label, tick: u64) -> Result<(), AllocError>
+    ensures { OnOk result (out.new.items ≡ out.old.items ++ at_text label.now tick) }
+{
+    out.extend_from_slice(b"(")?;
+    push_label(out, label)?;
+    out.extend_from_slice(b"@")?;
+    push_number(out, tick)?;
+    out.extend_from_slice(b")")
+}
+
+// Appends the label, and spaces up to a width.
+pub fn push_padded(out: &mut Vec<u8>, width: usize, label: &Label) -> Result<(), AllocError>
+    ensures { OnOk result (out.new.items ≡ out.old.items ++ padded width (label_text label.now)) }
+{
+    let start = out.len();
+    push_label(out, label)?;
+    let len = out.len() - start;
+    push_spaces(out, width.saturating_sub(len))
+}
+
+// Appends so many spaces.
+fn push_spaces(out: &mut Vec<u8>, count: usize) -> Result<(), AllocError>
+    ensures { OnOk result (out.new.items ≡ out.old.items ++ replicate count 32) }
+{
+    'spaces: for _i in 0..count {
+        out.push(b' ')?;
+    }
+    Ok(())
+}
+
+// Whether two labels are the same.
+pub fn is_same(a: &Label, b: &Label) -> bool
+    ensures { result ≡ same_label a.now b.now }
+{
+    a.name() == b.name() && a.indices() == b.indices()
+}
+
+// Whether a label is this one.
+pub fn is_it(label: &Label, other: &Option<Label>) -> bool
+    ensures { result ≡ is_label label.now other.now }
+{
+    match other {
+        None => false,
+        Some(other) => is_same(label, other),
+    }
+}
