@@ -1,10 +1,10 @@
 -- What clauses read of a run.
-use Rattle.std.specs.Prelude.{◌≡◌, ℕ, ◌<◌, List, map}
+use Rattle.std.specs.Prelude.{◌≡◌, ℕ, ◌<◌, Bool, true, false, List, [], ◌∷◌, map}
 use Rattle.job_tree.specs.Tree.{Tree}
 use Rattle.job_meaning.specs.Log.{Table}
 use Rattle.job_meaning.specs.Meaning.{From, root_log, records_of, all_entered, froms_by, meaning_end, meaning_froms}
 use Rattle.job_meaning.specs.Follow.{follow, IsSettled}
-use Rattle.job_meaning.specs.Shown.{Row, row_of, meaning_rows}
+use Rattle.job_meaning.specs.Shown.{Row, Ending, well, by_cancellation, with_exception, row_of, meaning_rows}
 use Rattle.task_roster.specs.declared.record.Record.{Record}
 use Rattle.task_machine.specs.declared.entry.ScopeFrom.{ScopeFrom}
 use Rattle.task_machine.specs.Noted.{from_of}
@@ -22,6 +22,21 @@ records_in run = run.records.items
 -- the records as they are shown
 abbrev pub rows_of : Run → List Row
 rows_of run = map row_in (records_in run)
+
+-- whether the root, whose row is the first, ended well
+abbrev pub is_well : Ending → Bool
+is_well well = true
+is_well by_cancellation = false
+is_well (with_exception e) = false
+
+abbrev pub root_is_well : List Row → Bool
+root_is_well [] = true
+root_is_well (r ∷ rs) = is_well r.ending
+
+-- the tick in which it ended
+abbrev pub root_end : List Row → ℕ
+root_end [] = 0
+root_end (r ∷ rs) = r.end
 
 abbrev pub froms_in : Run → List ScopeFrom
 froms_in run = run.froms.items

@@ -1,6 +1,6 @@
 use job_tree::Name;
 use task_machine::ScopeFrom;
-use task_roster::Record;
+use task_roster::{Outcome, Record};
 
 /// A finished run: the records of the job's meaning, the root's first.
 #[derive(Drop)]
@@ -13,7 +13,7 @@ pub struct Run<'a> {
 
 impl<'a> Run<'a> {
     ghost use Rattle.std.specs.Prelude.{◌≡◌};
-    ghost use Rattle.job_runner.specs.Runs.{name_of, records_in, froms_in, turns_of};
+    ghost use Rattle.job_runner.specs.Runs.{name_of, records_in, rows_of, froms_in, turns_of, root_is_well, root_end};
 
     /// A run of these parts.
     pub(crate) fn new(
@@ -49,11 +49,38 @@ impl<'a> Run<'a> {
         self.records.as_slice()
     }
 
+    /// Whether the root ended well.
+    pub fn is_well(&self) -> bool
+        ensures { result ≡ root_is_well (rows_of self.now) }
+    {
+        match self.records.as_slice().split_first() {
+            Some((root, _)) => matches!(root.outcome, Outcome::Done),
+            None => true,
+        }
+    }
+
+    /// The tick in which the root ended.
+    pub fn end(&self) -> u64
+        ensures { result ≡ root_end (rows_of self.now) }
+    {
+        match self.records.as_slice().split_first() {
+            Some((root, _)) => root.to_tick,
+            None => 0,
+        }
+    }
+
     /// From which tick each scope and nursery was cancelled, in the order of the records and of entering.
     pub fn froms(&self) -> &[ScopeFrom]
         ensures { result.now ≡ froms_in self.now }
     {
         self.froms.as_slice()
+    }
+
+    /// The same, without the records.
+    pub fn into_froms(self) -> Vec<ScopeFrom>
+        ensures { result.items ≡ froms_in self }
+    {
+        self.froms
     }
 
     /// How many turns the tasks had.

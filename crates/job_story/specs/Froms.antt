@@ -1,8 +1,9 @@
 -- From which tick scopes and nurseries are cancelled, as the code holds it.
-use Rattle.std.specs.Prelude.{Option, Some, None}
+use Rattle.std.specs.Prelude.{Option, Some, None, List, [], ◌∷◌, if◌then◌else◌}
 use Rattle.indexmap.specs.IndexMap.{get}
 use Rattle.cancel_scopes.specs.Sight.{Tick}
 use Rattle.job_meaning.specs.Log.{Table, same_label}
+use Rattle.job_meaning.specs.Meaning.{From}
 use Rattle.job_story.specs.declared.froms.Froms.{Froms}
 
 -- never, where nothing is known
@@ -13,3 +14,12 @@ or_never (Some from) = from
 -- as a table
 abbrev pub table_in : Froms → Table
 table_in froms label = or_never (get same_label froms.all label)
+
+-- the table of nothing
+abbrev pub never : Table
+never label = None
+
+-- a table after these were set in turn
+abbrev pub set_in : Table → List From → Table
+set_in table [] label = table label
+set_in table (f ∷ fs) label = set_in (λ l. if same_label f.label l then f.seen else table l) fs label

@@ -12,4 +12,4 @@ mod laws;
 
 pub use event::{Event, Happening, Kind, What};
 pub use froms::Froms;
-pub use laws::law_story;
+pub use laws::{law_froms_of_meaning, law_story};

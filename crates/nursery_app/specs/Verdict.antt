@@ -1,11 +1,11 @@
 -- What `serve` answers: the report of a job's meaning over an input, or the refusal which that meaning names.
-use Rattle.std.specs.Prelude.{◌≡◌, ℕ, ◌+◌, ◌<◌, ◌≤◌, Bool, true, false, Option, List, [], ◌∷◌, ◌++◌, length, take, codes, decimal, IsSome, IsNone}
+use Rattle.std.specs.Prelude.{◌≡◌, ℕ, ◌+◌, ◌<◌, ◌≤◌, Option, List, ◌++◌, length, take, codes, decimal, IsSome, IsNone}
 use Rattle.job_tree.specs.Tree.{Tree}
 use Rattle.job_grammar.specs.declared.fault.JobFault.{JobFault}
 use Rattle.job_grammar.specs.Kinds.{number_of, name_of}
 use Rattle.job_grammar.specs.Refusals.{Spells, IsRefused}
 use Rattle.job_meaning.specs.Meaning.{meaning, meaning_end}
-use Rattle.job_meaning.specs.Shown.{Row, Ending, well, by_cancellation, with_exception, meaning_rows}
+use Rattle.job_meaning.specs.Shown.{meaning_rows}
 use Rattle.job_report.specs.Text.{report_text}
 use Rattle.std.specs.Io.KnownBytes.{Appends}
 use Rattle.nursery_app.specs.declared.verdict.Verdict.{Verdict}
@@ -54,16 +54,6 @@ IsServeFault text input limit before after NoMemory = after ≡ before
 abbrev pub CountsFailure : ℕ → ℕ → ServeFault → Type 0
 CountsFailure before after (Send sent) = after ≡ before + 1
 CountsFailure before after NoMemory = after ≡ before
-
--- whether the root ended well
-abbrev pub is_well : Ending → Bool
-is_well well = true
-is_well by_cancellation = false
-is_well (with_exception e) = false
-
-abbrev pub root_is_well : List Row → Bool
-root_is_well [] = true
-root_is_well (r ∷ rs) = is_well r.ending
 
 -- the verdict on a job that was read
 abbrev pub IsRunVerdict : Tree → List ℕ → ℕ → Verdict → List ℕ → Type 0

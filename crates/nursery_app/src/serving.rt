@@ -1,14 +1,12 @@
-ghost use Rattle.std.specs.Prelude.{◌≡◌, ◌<◌, ◌≤◌, length, map, IfOk, IfErr, OnOk};
+ghost use Rattle.std.specs.Prelude.{◌≡◌, ◌<◌, ◌≤◌, length, IfOk, IfErr, OnOk};
 ghost use Rattle.job_meaning.specs.declared.limits.TheConstants.{MOST_INPUT};
-ghost use Rattle.task_roster.specs.Records.{row_in};
-ghost use Rattle.job_runner.specs.Runs.{rows_of};
-ghost use Rattle.nursery_app.specs.Verdict.{IsVerdict, IsSent, IsServeFault, CountsFailure, IsRunVerdict, root_is_well};
+ghost use Rattle.nursery_app.specs.Verdict.{IsVerdict, IsSent, IsServeFault, CountsFailure, IsRunVerdict};
 
 use crate::lines::{past_limit, refusal};
 use crate::verdict::{ServeFault, Verdict};
 use job_grammar::{Job, read_job};
 use job_report::{Out, report, send};
-use job_runner::{Gate, Outcome, Pick, Run, RunFault, Settings, run};
+use job_runner::{Gate, Pick, RunFault, Settings, run};
 use std::alloc::{AllocError, Global};
 use std::thread::Threads;
 
@@ -79,7 +77,7 @@ fn run_answer<R: Threads + Sync, P: Pick, G: Gate + Sync>(
 {
     match run(rt, alloc, job, input, settings, picker, gate) {
         Ok(finished) => {
-            let verdict = if is_root_well(&finished) {
+            let verdict = if finished.is_well() {
                 Verdict::Done
             } else {
                 Verdict::Raised
@@ -88,15 +86,5 @@ fn run_answer<R: Threads + Sync, P: Pick, G: Gate + Sync>(
         }
         Err(RunFault::Limit { limit }) => Ok((Verdict::Limit, past_limit(alloc, limit)?)),
         Err(RunFault::NoMemory) => Err(AllocError),
-    }
-}
-
-// Whether the root ended well.
-fn is_root_well(run: &Run<'_>) -> bool
-    ensures { result ≡ root_is_well (rows_of run.now) }
-{
-    match run.records().split_first() {
-        Some((root, _)) => matches!(root.outcome, Outcome::Done),
-        None => true,
     }
 }
