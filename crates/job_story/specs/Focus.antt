@@ -2,8 +2,8 @@
 use Rattle.std.specs.Prelude.{ℕ, zero, suc, Bool, true, false, ◌&&◌, ◌||◌, not, Option, Some, None, List, [], ◌∷◌, length, if◌then◌else◌}
 use Rattle.exc_groups.specs.Exceptions.{Label}
 use Rattle.job_meaning.specs.Log.{Table, same_label}
-use Rattle.job_story.specs.Story.{Happening, enters, sleeps, is_cancelled, finds, misses, raises, cancels, handles, cleans, replaces, waits, leaves}
-use Rattle.job_story.specs.Events.{What, starts, happens, ends, Event}
+use Rattle.job_story.specs.Story.{is_cancelled}
+use Rattle.job_story.specs.Events.{What, happens, Event}
 use Rattle.job_story.specs.Causes.{Cause, by_deadline, by_task, by_failure, by_cancellation, cause_of}
 
 -- the task that is a cause, where it is one
