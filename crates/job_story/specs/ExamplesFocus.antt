@@ -1,5 +1,5 @@
 -- The part of a worked story that concerns one task, by computing.
-use Rattle.std.specs.Prelude.{◌≡◌, ℕ, None, List, [], ◌∷◌, codes, refl}
+use Rattle.std.specs.Prelude.{◌≡◌, ℕ, List, [], ◌∷◌, codes, refl}
 use Rattle.std.specs.Fmt.{digits}
 use Rattle.job_tree.specs.Tree.{Tree}
 use Rattle.exc_groups.specs.Exceptions.{Label}
@@ -8,17 +8,14 @@ use Rattle.job_meaning.specs.Meaning.{meaning, meaning_table}
 use Rattle.job_meaning.specs.Walk.{walk, and_then, sleeping, showing, needing, cancelling, block, signed, gathered, child, handled, cleaned}
 use Rattle.job_story.specs.Examples.{lines_of}
 use Rattle.job_story.specs.ExamplesCauses.{race}
-use Rattle.job_story.specs.Focus.{events_for}
-use Rattle.job_story.specs.Sentences.{job_events, lines_text, widest}
+use Rattle.job_story.specs.Focus.{story_of_task}
 use Rattle.job_story.specs.Tell.{tell, then_tale, tell_sleep, tell_lines, tell_need, tell_raise, tell_cancel, tell_block, tell_wait, tell_gathered, tell_child, tell_handled, tell_cleaned, tale_by}
 
 -- the events of the meaning that concern a task
 unfoldable pub told_for : Tree → List ℕ → Label → List ℕ
 unfolding meaning walk and_then sleeping showing needing cancelling block signed gathered child handled cleaned tell then_tale tell_sleep tell_lines tell_need tell_raise tell_cancel tell_block tell_wait tell_gathered tell_child tell_handled tell_cleaned tale_by
 told_for job input task =
-    let all = job_events (meaning_table job input) job input in
-    let kept = events_for (meaning_table job input) all task in
-    lines_text (meaning_table job input) all (widest kept) None kept
+    story_of_task (meaning_table job input) job input task
 
 -- `late` of the race: it is cancelled by `stop`
 pub who_cancelled_late :

@@ -1,10 +1,14 @@
 -- The part of a story that concerns one task: its own events, and those of each task that caused one of its cancellations, and so on.
 use Rattle.std.specs.Prelude.{ℕ, zero, suc, Bool, true, false, ◌&&◌, ◌||◌, not, Option, Some, None, List, [], ◌∷◌, length, if◌then◌else◌}
+use Rattle.std.specs.Str.{bytes_eq}
+use Rattle.job_tree.specs.Tree.{Tree}
 use Rattle.exc_groups.specs.Exceptions.{Label}
 use Rattle.job_meaning.specs.Log.{Table, same_label}
 use Rattle.job_story.specs.Story.{is_cancelled}
-use Rattle.job_story.specs.Events.{What, happens, Event}
+use Rattle.job_story.specs.Events.{What, starts, happens, ends, Event, in_order}
 use Rattle.job_story.specs.Causes.{Cause, by_deadline, by_task, by_failure, by_cancellation, cause_of}
+use Rattle.job_story.specs.Sentences.{label_text, kept_text, job_events}
+use Rattle.job_story.specs.Limit.{kept_text_to, walked_to}
 
 -- the task that is a cause, where it is one
 abbrev pub task_of : Option Cause → Option Label
@@ -61,6 +65,35 @@ abbrev pub of_tasks : List Label → List Event → List Event
 of_tasks kept [] = []
 of_tasks kept (e ∷ es) = if is_among e.task kept then e ∷ of_tasks kept es else of_tasks kept es
 
--- the events of a story that concern a task
-abbrev pub events_for : Table → List Event → Label → List Event
-events_for table all l = of_tasks (causers_in (length all) table all (l ∷ [])) all
+-- the tasks that concern a task: itself, each that caused one of its cancellations, and so on
+abbrev pub concerned : Table → List Event → Label → List Label
+concerned table all l = causers_in (length all) table all (l ∷ [])
+
+-- the text of the story of a job by a table that concerns a task
+abbrev pub story_of_task : Table → Tree → List ℕ → Label → List ℕ
+story_of_task table job input l =
+    let all = job_events table job input in
+    kept_text table all (of_tasks (concerned table all l) all)
+
+-- the same up to a limit
+abbrev pub story_of_task_to : Table → ℕ → Tree → List ℕ → Label → List ℕ
+story_of_task_to table limit job input l =
+    let walked = walked_to table limit job input in
+    let all = in_order walked in
+    let tasks = concerned table all l in
+    kept_text_to table limit all (of_tasks tasks all) (of_tasks tasks walked)
+
+-- ---- a task by its label's text
+
+abbrev pub if_text : List ℕ → Label → Option Label → Option Label
+if_text text l other = if bytes_eq (label_text l) text then Some l else other
+
+abbrev pub task_at : List ℕ → Label → What → Option Label → Option Label
+task_at text l (starts home lent) other = if_text text l other
+task_at text l (happens what) other = other
+task_at text l (ends home exc) other = other
+
+-- the first task whose label has this text
+abbrev pub task_named : List ℕ → List Event → Option Label
+task_named text [] = None
+task_named text (e ∷ es) = task_at text e.task e.what (task_named text es)

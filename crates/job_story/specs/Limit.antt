@@ -1,5 +1,5 @@
 -- The story up to a limit, of a job that does not end by it.
-use Rattle.std.specs.Prelude.{ℕ, Bool, true, false, ◌&&◌, ◌||◌, not, None, List, [], ◌∷◌, ◌++◌, codes, decimal, nat_le, if◌then◌else◌}
+use Rattle.std.specs.Prelude.{ℕ, Bool, true, false, ◌&&◌, ◌||◌, not, List, [], ◌∷◌, ◌++◌, codes, decimal, nat_le, if◌then◌else◌}
 use Rattle.exc_groups.specs.Exceptions.{Label}
 use Rattle.job_tree.specs.Tree.{Tree}
 use Rattle.job_meaning.specs.Log.{Table, same_label}
@@ -7,7 +7,7 @@ use Rattle.job_meaning.specs.Meaning.{root_label}
 use Rattle.job_story.specs.Story.{sleeps, waits}
 use Rattle.job_story.specs.Tell.{story_by}
 use Rattle.job_story.specs.Events.{What, starts, happens, ends, Event, events_of, in_order}
-use Rattle.job_story.specs.Sentences.{label_text, until_text, padded, widest, lines_text}
+use Rattle.job_story.specs.Sentences.{label_text, until_text, padded, widest, kept_text}
 
 -- the events up to a tick
 abbrev pub by_limit : ℕ → List Event → List Event
@@ -60,14 +60,18 @@ running_text width es (l ∷ ls) =
 
 -- ---- the text
 
--- the events in order, and those of the walk
-abbrev pub limited_text : Table → ℕ → List Event → List Event → List ℕ
-limited_text table limit sorted walked =
-    lines_text table sorted (widest sorted) None sorted ++ codes "limit " ++ decimal limit ++ codes "\n"
+-- the text of some events of a story up to a limit, in order and in the order of the walk, with all events up to it in view
+abbrev pub kept_text_to : Table → ℕ → List Event → List Event → List Event → List ℕ
+kept_text_to table limit all sorted walked =
+    kept_text table all sorted ++ codes "limit " ++ decimal limit ++ codes "\n"
     ++ running_text (widest sorted) sorted (running_in walked walked)
+
+-- the events of a job by a table up to a limit, in the order of the walk
+abbrev pub walked_to : Table → ℕ → Tree → List ℕ → List Event
+walked_to table limit job input = by_limit limit (events_of (root_label job.name) (story_by table job input))
 
 -- the story of a job by a table up to a limit, and what the tasks do that have not ended by then
 abbrev pub story_to : Table → ℕ → Tree → List ℕ → List ℕ
 story_to table limit job input =
-    let walked = by_limit limit (events_of (root_label job.name) (story_by table job input)) in
-    limited_text table limit (in_order walked) walked
+    let walked = walked_to table limit job input in
+    kept_text_to table limit (in_order walked) (in_order walked) walked

@@ -175,8 +175,12 @@ lines_text table es width before (e ∷ rest) =
 abbrev pub job_events : Table → Tree → List ℕ → List Event
 job_events table job input = in_order (events_of (root_label job.name) (story_by table job input))
 
+-- the text of some events of a story, with all of its events in view
+abbrev pub kept_text : Table → List Event → List Event → List ℕ
+kept_text table all kept = lines_text table all (widest kept) None kept
+
 abbrev pub events_text : Table → List Event → List ℕ
-events_text table es = lines_text table es (widest es) None es
+events_text table es = kept_text table es es
 
 -- the text of a job's story by a table
 abbrev pub story_text : Table → Tree → List ℕ → List ℕ
