@@ -1,0 +1,5 @@
+pub mod NothingLeft
+pub mod SignLemmas
+pub mod LabelLemmas
+pub mod Dues
+pub mod Firsts
