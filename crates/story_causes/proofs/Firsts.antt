@@ -2,7 +2,6 @@
 use Rattle.std.proofs.Common.{◌≡◌, ℕ, refl, sym, ap, ◌∙◌}
 use Rattle.std.specs.Prelude.{◌+◌, ◌==◌, Bool, true, false, Option, Some, None, List, [], ◌∷◌, ◌++◌, if◌then◌else◌}
 use Rattle.std.specs.Option.{option_map}
-use Rattle.indexmap.specs.IndexMap.{get}
 use Rattle.exc_groups.specs.Exceptions.{Label}
 use Rattle.job_meaning.specs.Log.{Table, same_label}
 use Rattle.job_story.specs.Story.{Happening, enters}
@@ -10,7 +9,7 @@ use Rattle.job_story.specs.Events.{What, starts, happens, ends, Event}
 use Rattle.job_story.specs.Causes.{Cause, Entering, entering_by, entering_of, cause_in, or_later, signed_by}
 use Rattle.job_story.specs.Froms.{table_in}
 use Rattle.story_causes.specs.declared.causes.Causes.{Causes}
-use Rattle.story_causes.specs.Found.{entering_in_code, cause_in_code, first_of}
+use Rattle.story_causes.specs.Found.{entering_in_code, cause_in_code, first_of, value_at}
 use Rattle.story_causes.specs.Knows.{Knows}
 
 -- the cause that an event is for the cancellation of a label from a tick on
@@ -69,10 +68,10 @@ signed_by_more l from (x ∷ es) e =
 -- the index after one more event
 pub knows_more : (old new : Causes) (table : Table) (es : List Event) (e : Event) → Knows old table es →
     new.froms ≡ old.froms →
-    ((l : Label) → option_map entering_in_code (get same_label new.entered l)
-        ≡ first_of (option_map entering_in_code (get same_label old.entered l)) (entering_by l e.what None)) →
-    ((l : Label) (from : ℕ) → table_in old.froms.now l ≡ Some from → option_map cause_in_code (get same_label new.signed l)
-        ≡ first_of (option_map cause_in_code (get same_label old.signed l)) (sign_from l from e)) →
+    ((l : Label) → option_map entering_in_code (value_at new.entered l)
+        ≡ first_of (option_map entering_in_code (value_at old.entered l)) (entering_by l e.what None)) →
+    ((l : Label) (from : ℕ) → table_in old.froms.now l ≡ Some from → option_map cause_in_code (value_at new.signed l)
+        ≡ first_of (option_map cause_in_code (value_at old.signed l)) (sign_from l from e)) →
     Knows new table (es ++ e ∷ [])
 knows_more old new table es e known stays entered signed =
     record {

@@ -3,3 +3,4 @@ pub mod SignLemmas
 pub mod LabelLemmas
 pub mod Dues
 pub mod Firsts
+pub mod Puts

@@ -1,5 +1,7 @@
 -- What the code holds of enterings and causes, as the definitions have it.
 use Rattle.std.specs.Prelude.{ℕ, Bool, true, false, Option, Some, None, if◌then◌else◌}
+use Rattle.std.specs.Borrow.{Bor}
+use Rattle.indexmap.specs.IndexMap.{IndexMap, get_by}
 use Rattle.exc_groups.specs.Exceptions.{Label}
 use Rattle.job_meaning.specs.Log.{same_label}
 use Rattle.job_story.specs.Held.{kind_of}
@@ -35,3 +37,7 @@ first_of (Some x) other = Some x
 abbrev pub is_due_at : Option why.Entering → ℕ → Bool
 is_due_at None t = false
 is_due_at (Some entering) t = is_from entering.deadline t
+
+-- what a map from labels has at this one
+abbrev pub value_at : {V S : Type 0} → IndexMap (Bor Label) V S → Label → Option V
+value_at map l = get_by (λ k. same_label l k.now) map

@@ -1,6 +1,5 @@
 ghost use Rattle.std.specs.Prelude.{◌≡◌, ◌+◌, ◌==◌, ◌++◌, [], ◌∷◌, ℕ, List, Option, Some, None, OnOk, IfOk, map, if◌then◌else◌};
 ghost use Rattle.std.specs.Option.{option_map};
-ghost use Rattle.indexmap.specs.IndexMap.{get};
 ghost use Rattle.exc_groups.specs.Exceptions as tree;
 ghost use Rattle.job_meaning.specs.Log.{Table, same_label};
 ghost use Rattle.job_story.specs.Causes.{entering_by, entering_of, cause_in, cause_of};
@@ -9,7 +8,7 @@ ghost use Rattle.job_story.specs.Events as told;
 ghost use Rattle.job_story.specs.Froms.{table_in};
 ghost use Rattle.job_story.specs.Held.{event_of, what_of};
 ghost use Rattle.job_story.specs.Tell.{is_from};
-ghost use Rattle.story_causes.specs.Found.{entering_in_code, cause_in_code, first_of, is_due_at};
+ghost use Rattle.story_causes.specs.Found.{entering_in_code, cause_in_code, first_of, is_due_at, value_at};
 ghost use Rattle.story_causes.specs.Knows.{Knows};
 
 use crate::sign::{Cause, sign_of};
@@ -32,9 +31,9 @@ pub struct Entering {
 pub struct Causes<'e> {
     pub(crate) froms: &'e Froms,
     // How each label was first entered.
-    pub(crate) entered: IndexMap<Label, Entering>,
+    pub(crate) entered: IndexMap<&'e Label, Entering>,
     // The first event that cancelled each label in the tick before the one from which it is cancelled.
-    pub(crate) signed: IndexMap<Label, Cause<'e>>,
+    pub(crate) signed: IndexMap<&'e Label, Cause<'e>>,
 }
 
 impl<'e> Causes<'e> {
@@ -49,18 +48,18 @@ impl<'e> Causes<'e> {
             signed: IndexMap::new(alloc),
         };
         'events: for event in events {
-            causes.read(alloc, event)?;
+            causes.read(event)?;
         }
         Ok(causes)
     }
 
     // Reads one more event.
-    fn read(&mut self, alloc: Global, event: &'e Event<'_>) -> Result<(), AllocError>
+    fn read(&mut self, event: &'e Event<'_>) -> Result<(), AllocError>
         ensures { (table : Table) (es : List told.Event) → Knows self.old table es →
             OnOk result (Knows self.new table (es ++ event_of event.entry.now ∷ [])) }
     {
-        note_entering(alloc, &mut self.entered, &event.what)?;
-        note_sign(alloc, &mut self.signed, self.froms, event)?;
+        note_entering(&mut self.entered, &event.what)?;
+        note_sign(&mut self.signed, self.froms, event)?;
         Ok(())
     }
 
@@ -69,7 +68,7 @@ impl<'e> Causes<'e> {
         ensures { (table : Table) (es : List told.Event) → Knows self.now table es →
             option_map entering_in_code result ≡ entering_of label.now es }
     {
-        self.entered.get(label).copied()
+        self.entered.get(&label).copied()
     }
 
     /// Why a scope or nursery is cancelled: none where it never is.
@@ -83,7 +82,7 @@ impl<'e> Causes<'e> {
         if is_due(self.entering(label), from) {
             return Some(Cause::Deadline);
         }
-        self.signed.get(label).copied()
+        self.signed.get(&label).copied()
     }
 
     /// The tick from which a scope or nursery is cancelled: none is never.
@@ -108,13 +107,12 @@ fn is_due(entering: Option<Entering>, from: u64) -> bool
 }
 
 // Notes how a label was entered, if the event is that and it was not entered before.
-fn note_entering(
-    alloc: Global,
-    entered: &mut IndexMap<Label, Entering>,
-    what: &What<'_>,
+fn note_entering<'e>(
+    entered: &mut IndexMap<&'e Label, Entering>,
+    what: &'e What<'_>,
 ) -> Result<(), AllocError>
-    ensures { OnOk result ((l : tree.Label) → option_map entering_in_code (get same_label entered.new l)
-        ≡ first_of (option_map entering_in_code (get same_label entered.old l)) (entering_by l (what_of what.now) None)) }
+    ensures { OnOk result ((l : tree.Label) → option_map entering_in_code (value_at entered.new l)
+        ≡ first_of (option_map entering_in_code (value_at entered.old l)) (entering_by l (what_of what.entry.now) None)) }
 {
     let What::Happens(Happening::Enters {
         kind,
@@ -129,20 +127,19 @@ fn note_entering(
         kind: *kind,
         deadline: *deadline,
     };
-    put_first(alloc, entered, label, entering)?;
+    put_first(entered, label, entering)?;
     Ok(())
 }
 
 // Notes what an event cancels in the tick before it is cancelled, where no event did before.
 fn note_sign<'e>(
-    alloc: Global,
-    signed: &mut IndexMap<Label, Cause<'e>>,
+    signed: &mut IndexMap<&'e Label, Cause<'e>>,
     froms: &Froms,
     event: &'e Event<'_>,
 ) -> Result<(), AllocError>
     ensures { OnOk result ((l : tree.Label) (from : ℕ) → table_in froms.now l ≡ Some from →
-        option_map cause_in_code (get same_label signed.new l)
-        ≡ first_of (option_map cause_in_code (get same_label signed.old l))
+        option_map cause_in_code (value_at signed.new l)
+        ≡ first_of (option_map cause_in_code (value_at signed.old l))
         (if event.entry.now.tick + 1 == from then cause_in l event.entry.now.tick event.entry.now.task (what_of event.entry.now.what) else None)) }
 {
     let Some(sign) = sign_of(event) else {
@@ -151,7 +148,7 @@ fn note_sign<'e>(
     if !is_next(event.tick, froms.of(sign.label)) {
         return Ok(());
     }
-    put_first(alloc, signed, sign.label, sign.cause)?;
+    put_first(signed, sign.label, sign.cause)?;
     Ok(())
 }
 
@@ -166,18 +163,17 @@ fn is_next(tick: u64, from: Option<u64>) -> bool
 }
 
 // Puts a value at a label that has none.
-fn put_first<V: Copy>(
-    alloc: Global,
-    map: &mut IndexMap<Label, V>,
-    label: &Label,
+fn put_first<'e, V: Copy>(
+    map: &mut IndexMap<&'e Label, V>,
+    label: &'e Label,
     value: V,
 ) -> Result<(), AllocError>
-    ensures { OnOk result ((l : tree.Label) → get same_label map.new l
-        ≡ first_of (get same_label map.old l) (if same_label label.now l then Some value else None)) }
+    ensures { OnOk result ((l : tree.Label) → value_at map.new l
+        ≡ first_of (value_at map.old l) (if same_label label.entry.now l then Some value else None)) }
 {
-    if map.contains_key(label) {
+    if map.contains_key(&label) {
         return Ok(());
     }
-    map.insert(label.copy(alloc)?, value)?;
+    map.insert(label, value)?;
     Ok(())
 }
