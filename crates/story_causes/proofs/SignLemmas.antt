@@ -1,6 +1,6 @@
 -- What an event cancels, and the end of a task with an exception.
 use Rattle.std.proofs.Common.{◌≡◌, ℕ, refl, ap}
-use Rattle.std.specs.Prelude.{Bool, true, false, Option, Some, None, if◌then◌else◌}
+use Rattle.std.specs.Prelude.{Bool, true, false, Some, None, if◌then◌else◌}
 use Rattle.exc_groups.specs.Exceptions.{Label, Exc}
 use Rattle.job_story.specs.Causes.{Cause, cause_by, cause_if}
 

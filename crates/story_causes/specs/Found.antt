@@ -1,5 +1,5 @@
 -- What the code holds of enterings and causes, as the definitions have it.
-use Rattle.std.specs.Prelude.{ℕ, Bool, true, false, Option, Some, None, if◌then◌else◌}
+use Rattle.std.specs.Prelude.{ℕ, Bool, false, Option, Some, None, if◌then◌else◌}
 use Rattle.std.specs.Borrow.{Bor}
 use Rattle.indexmap.specs.IndexMap.{IndexMap, get_by}
 use Rattle.exc_groups.specs.Exceptions.{Label}
@@ -27,11 +27,6 @@ cause_in_code (Cancellation task tick) = why.by_cancellation task.now tick
 abbrev pub sign_at : Label → Option Sign → Option why.Cause
 sign_at l None = None
 sign_at l (Some sign) = if same_label l sign.label.now then Some (cause_in_code sign.cause) else None
-
--- the first of two, where there is one
-abbrev pub first_of : {X : Type 0} → Option X → Option X → Option X
-first_of None other = other
-first_of (Some x) other = Some x
 
 -- whether the deadline is this tick
 abbrev pub is_due_at : Option why.Entering → ℕ → Bool

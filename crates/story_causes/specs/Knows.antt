@@ -1,5 +1,5 @@
 -- What an index knows of events.
-use Rattle.std.specs.Prelude.{◌≡◌, ℕ, Option, Some, List}
+use Rattle.std.specs.Prelude.{◌≡◌, ℕ, Some, List}
 use Rattle.std.specs.Option.{option_map}
 use Rattle.exc_groups.specs.Exceptions.{Label}
 use Rattle.job_meaning.specs.Log.{Table}

@@ -9,6 +9,7 @@
 
 mod causes;
 mod exc;
+mod notes;
 mod sign;
 
 pub use causes::{Causes, Entering};

@@ -3,7 +3,7 @@ use Rattle.job_story.specs.Froms.{table_in}
 use Rattle.job_story.specs.Tell.{is_from}
 use Rattle.story_causes.specs.Found.{cause_in_code}
 use Rattle.story_causes.proofs.Dues.{none_due, one_due}
-use Rattle.story_causes.proofs.causes.note_sign.Goals as goal
+use Rattle.story_causes.proofs.notes.note_sign.Goals as goal
 
 pub returns-then-not-is_next : goal.returns-then-not-is_next
 returns-then-not-is_next c = λ l from is.

@@ -1,6 +1,6 @@
 use Rattle.std.proofs.Common.{sym, ◌∙◌}
 use Rattle.story_causes.proofs.Puts.{put_there}
-use Rattle.story_causes.proofs.causes.put_first.Goals as goal
+use Rattle.story_causes.proofs.notes.put_first.Goals as goal
 
 pub returns : goal.returns
 returns g c =
