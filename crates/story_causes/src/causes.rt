@@ -1,0 +1,112 @@
+ghost use Rattle.std.specs.Prelude.{◌≡◌, ◌++◌, [], ◌∷◌, ℕ, List, OnOk, IfOk, map};
+ghost use Rattle.std.specs.Option.{option_map};
+ghost use Rattle.job_meaning.specs.Log.{Table};
+ghost use Rattle.job_story.specs.Causes.{entering_of, cause_of};
+ghost use Rattle.job_story.specs.Events as told;
+ghost use Rattle.job_story.specs.Froms.{table_in};
+ghost use Rattle.job_story.specs.Held.{event_of};
+ghost use Rattle.story_causes.specs.Found.{entering_in_code, cause_in_code, is_due_at};
+ghost use Rattle.story_causes.specs.Knows.{Knows};
+
+use crate::notes::{note_entering, note_sign};
+use crate::sign::Cause;
+use exc_groups::Label;
+use indexmap::IndexMap;
+use job_story::{Event, Froms, Kind};
+use std::alloc::{AllocError, Global};
+
+/// How a scope or nursery was first entered.
+#[derive(Clone, Copy)]
+pub struct Entering {
+    /// What it is.
+    pub kind: Kind,
+    /// The tick from which its deadline cancels it: none is never.
+    pub deadline: Option<u64>,
+}
+
+/// An index over the events of a story: how each scope and nursery was first entered, and why it is cancelled. Each answer takes
+/// constant time. It borrows the events, and copies none of their labels.
+#[derive(Drop)]
+pub struct Causes<'e> {
+    // From which tick each label is cancelled.
+    froms: &'e Froms,
+    // How each label was first entered.
+    entered: IndexMap<&'e Label, Entering>,
+    // Why each label is cancelled, if not by its deadline: the first event that cancelled it in the tick before its from.
+    signed: IndexMap<&'e Label, Cause<'e>>,
+}
+
+impl<'e> Causes<'e> {
+    /// Reads the events of a story in order, and notes how each scope and nursery was first entered, and which event cancelled it first
+    /// in the tick before the one from which the table says that it is cancelled. Each event takes constant time, and only scopes and
+    /// nurseries take memory. The error is want of memory.
+    pub fn of(
+        alloc: Global,
+        events: &'e [Event<'_>],
+        froms: &'e Froms,
+    ) -> Result<Causes<'e>, AllocError>
+        ensures { IfOk result (λ causes. Knows causes (table_in froms.entry.now) (map event_of events.entry.now)) }
+    {
+        let mut causes = Causes {
+            froms,
+            entered: IndexMap::new(alloc),
+            signed: IndexMap::new(alloc),
+        };
+        'events: for event in events {
+            causes.read(event)?;
+        }
+        Ok(causes)
+    }
+
+    // Reads one more event.
+    fn read(&mut self, event: &'e Event<'_>) -> Result<(), AllocError>
+        ensures { (table : Table) (es : List told.Event) → Knows self.old table es →
+            OnOk result (Knows self.new table (es ++ event_of event.entry.now ∷ [])) }
+    {
+        note_entering(&mut self.entered, &event.what)?;
+        note_sign(&mut self.signed, self.froms, event)?;
+        Ok(())
+    }
+
+    /// How a scope or nursery was first entered: none where it never was.
+    pub fn entering(&self, label: &Label) -> Option<Entering>
+        ensures { (table : Table) (es : List told.Event) → Knows self.now table es →
+            option_map entering_in_code result ≡ entering_of label.now es }
+    {
+        self.entered.get(&label).copied()
+    }
+
+    /// Why a scope or nursery is cancelled: none where it never is.
+    pub fn cause(&self, label: &Label) -> Option<Cause<'e>>
+        ensures { (table : Table) (es : List told.Event) → Knows self.now table es →
+            option_map cause_in_code result ≡ cause_of table es label.now }
+    {
+        let Some(from) = self.froms.of(label) else {
+            return None;
+        };
+        if is_due(self.entering(label), from) {
+            return Some(Cause::Deadline);
+        }
+        self.signed.get(&label).copied()
+    }
+
+    /// The tick from which a scope or nursery is cancelled: none is never.
+    pub fn from(&self, label: &Label) -> Option<u64>
+        ensures { (table : Table) (es : List told.Event) → Knows self.now table es → result ≡ table label.now }
+    {
+        self.froms.of(label)
+    }
+}
+
+// Whether a deadline is this tick.
+fn is_due(entering: Option<Entering>, tick: u64) -> bool
+    ensures { result ≡ is_due_at (option_map entering_in_code entering) tick }
+{
+    let Some(entering) = entering else {
+        return false;
+    };
+    match entering.deadline {
+        Some(deadline) => deadline == tick,
+        None => false,
+    }
+}

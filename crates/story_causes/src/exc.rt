@@ -1,0 +1,41 @@
+ghost use Rattle.std.specs.Prelude.{◌≡◌, is_none};
+ghost use Rattle.exc_groups.specs.Held.{exc_of, excs_of};
+ghost use Rattle.exc_groups.specs.Split.{is_cancelled, drop};
+ghost use Rattle.story_causes.specs.Leaves.{all_cancelled, all_in};
+
+use exc_groups::Exc;
+
+// Whether every leaf of an exception is `Cancelled`.
+#[tactic(auto, using(crate::proofs::NothingLeft::nothing_left))]
+pub(crate) fn is_cancellation(exc: &Exc) -> bool
+    ensures { result ≡ is_none (drop is_cancelled (exc_of exc.now)) }
+{
+    has_no_other(exc)
+}
+
+// Whether every leaf is `Cancelled`, leaf by leaf.
+#[cycle(leaves)]
+fn has_no_other(exc: &Exc) -> bool
+    ensures { result ≡ all_cancelled (exc_of exc.now) }
+{
+    match exc {
+        Exc::Cancelled => true,
+        Exc::Raised { .. } | Exc::TooSlow { .. } => false,
+        Exc::Group { parts, .. } => have_no_other(parts.as_slice()),
+    }
+}
+
+// Whether every leaf of every part is `Cancelled`.
+#[cycle(leaves)]
+fn have_no_other(parts: &[Exc]) -> bool
+    ensures { result ≡ all_in (excs_of parts.now) }
+{
+    let mut rest = parts;
+    'parts: while let Some((part, others)) = rest.split_first() {
+        if !has_no_other(part) {
+            return false;
+        }
+        rest = others;
+    }
+    true
+}

@@ -1,0 +1,16 @@
+//! How each scope and nursery of a story was first entered, and why it is cancelled.
+//!
+//! The layer promises that an index over the events of a story, which one pass builds, answers two questions in constant time: how a
+//! scope or nursery was first entered (`entering_of` of `job_story/specs/Causes.antt`), and why it is cancelled (`cause_of`), which is
+//! its deadline or the first event that cancelled it in the tick before the one from which it is cancelled. What an index knows of
+//! the events is `Knows` of `specs/Knows.antt`: each answer is proved for all tables and events of which the index knows that much,
+//! and `Causes::of` promises it of the events that it reads.
+#![tactic(auto)]
+
+mod causes;
+mod exc;
+mod notes;
+mod sign;
+
+pub use causes::{Causes, Entering};
+pub use sign::Cause;

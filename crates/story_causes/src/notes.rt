@@ -1,0 +1,90 @@
+ghost use Rattle.std.specs.Prelude.{◌≡◌, ◌+◌, ◌==◌, ℕ, Some, None, OnOk, if◌then◌else◌};
+ghost use Rattle.std.specs.Option.{option_map, option_or};
+ghost use Rattle.exc_groups.specs.Exceptions as tree;
+ghost use Rattle.job_meaning.specs.Log.{same_label};
+ghost use Rattle.job_story.specs.Causes.{entering_by, cause_in};
+ghost use Rattle.job_story.specs.Froms.{table_in};
+ghost use Rattle.job_story.specs.Held.{what_of};
+ghost use Rattle.job_story.specs.Tell.{is_from};
+ghost use Rattle.story_causes.specs.Found.{entering_in_code, cause_in_code, value_at};
+
+use crate::causes::Entering;
+use crate::sign::{Cause, sign_of};
+use exc_groups::Label;
+use indexmap::IndexMap;
+use job_story::{Event, Froms, Happening, What};
+use std::alloc::AllocError;
+
+// Notes how a label was entered, if the event is that and the label was not entered before.
+pub(crate) fn note_entering<'e>(
+    entered: &mut IndexMap<&'e Label, Entering>,
+    what: &'e What<'_>,
+) -> Result<(), AllocError>
+    ensures { OnOk result ((l : tree.Label) → option_map entering_in_code (value_at entered.new l)
+        ≡ option_or (option_map entering_in_code (value_at entered.old l)) (entering_by l (what_of what.entry.now) None)) }
+{
+    let What::Happens(
+        Happening::Enters {
+            kind,
+            label,
+            deadline,
+            ..
+        },
+    ) = what
+    else {
+        return Ok(());
+    };
+    let entering = Entering {
+        kind: *kind,
+        deadline: *deadline,
+    };
+    put_first(entered, label, entering)?;
+    Ok(())
+}
+
+// Notes why a label is cancelled, if the event cancels it in the tick before its from and no event did so before.
+pub(crate) fn note_sign<'e>(
+    signed: &mut IndexMap<&'e Label, Cause<'e>>,
+    froms: &Froms,
+    event: &'e Event<'_>,
+) -> Result<(), AllocError>
+    ensures { OnOk result ((l : tree.Label) (from : ℕ) → table_in froms.now l ≡ Some from →
+        option_map cause_in_code (value_at signed.new l) ≡ option_or (option_map cause_in_code (value_at signed.old l))
+        (if event.entry.now.tick + 1 == from
+        then cause_in l event.entry.now.tick event.entry.now.task (what_of event.entry.now.what) else None)) }
+{
+    let Some(sign) = sign_of(event) else {
+        return Ok(());
+    };
+    if !is_next(event.tick, froms.of(sign.label)) {
+        return Ok(());
+    }
+    put_first(signed, sign.label, sign.cause)?;
+    Ok(())
+}
+
+// Whether the second tick is the one after the first.
+fn is_next(tick: u64, from: Option<u64>) -> bool
+    ensures { result ≡ is_from from (tick + 1) }
+{
+    match from {
+        Some(from) => tick < from && from - tick == 1,
+        None => false,
+    }
+}
+
+// Puts a value at a label that has none.
+fn put_first<'e, V: Copy>(
+    map: &mut IndexMap<&'e Label, V>,
+    label: &'e Label,
+    value: V,
+) -> Result<(), AllocError>
+    ensures { OnOk result ((l : tree.Label) → value_at map.new l
+        ≡ option_or (value_at map.old l) (if same_label label.entry.now l then Some value else None)) }
+{
+    if map.contains_key(&label) {
+        return Ok(());
+    }
+    map.insert(label, value)?;
+    Ok(())
+}
