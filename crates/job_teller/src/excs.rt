@@ -2,7 +2,7 @@ ghost use Rattle.std.specs.Prelude.{◌≡◌, List, Option, IfOk, OnOk, map, �
 ghost use Rattle.std.specs.Option.{option_map, option_copied};
 ghost use Rattle.exc_groups.specs.Held.{exc_of};
 ghost use Rattle.job_meaning.specs.Walk.{left_with, exc_after, with_exc, handler_exc, outcome_after};
-ghost use Rattle.job_story.specs.Held.{kind_of};
+ghost use Rattle.job_story.specs.Held.{boxed, kind_of};
 ghost use Rattle.job_teller.specs.Lefts.{left_of, fails_of};
 
 use exc_groups::{Exc, Label, Match, Parts, Whose, holds_cancelled, split};
@@ -79,6 +79,25 @@ pub(crate) fn copy_of(alloc: Global, exc: &Option<Exc>) -> Result<Option<Exc>, A
     }
 }
 
+/// An equal exception in a box.
+pub(crate) fn box_copy(alloc: Global, exc: &Exc) -> Result<Box<Exc>, AllocError>
+    ensures { IfOk result (λ copy. exc_of copy.value ≡ exc_of exc.now) }
+{
+    let copy = exc.copy(alloc)?;
+    let copy = Box::new(alloc, copy)?;
+    Ok(copy)
+}
+
+/// An equal exception in a box, if there is one.
+pub(crate) fn boxed_copy(alloc: Global, exc: &Option<Exc>) -> Result<Option<Box<Exc>>, AllocError>
+    ensures { IfOk result (λ copy. boxed copy ≡ option_map exc_of exc.now) }
+{
+    match exc {
+        None => Ok(None),
+        Some(exc) => Ok(Some(box_copy(alloc, exc)?)),
+    }
+}
+
 /// An equal label, if there is one.
 pub(crate) fn copied(alloc: Global, label: Option<&Label>) -> Result<Option<Label>, AllocError>
     ensures { IfOk result (λ copy. copy ≡ option_copied label.entry) }
@@ -89,7 +108,7 @@ pub(crate) fn copied(alloc: Global, label: Option<&Label>) -> Result<Option<Labe
     }
 }
 
-/// Moves all of a list behind another.
+/// Moves all of a list to the end of another.
 pub(crate) fn move_all<T: Drop>(to: &mut Vec<T>, mut from: Vec<T>) -> Result<(), AllocError>
     ensures { OnOk result (to.new.items ≡ to.old.items ++ from.items) }
 {

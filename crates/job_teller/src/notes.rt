@@ -11,7 +11,7 @@ ghost use Rattle.job_story.specs.declared.event.Event.{Event as HeldEvent};
 ghost use Rattle.job_teller.specs.Heres.{scopes_of};
 ghost use Rattle.job_teller.specs.Tales.{Adds, IsLeft, Tells};
 
-use crate::excs::{copied, copy_of, exc_after, left_with};
+use crate::excs::{box_copy, boxed_copy, copied, exc_after, left_with};
 use crate::here::Here;
 use crate::told::Told;
 use exc_groups::{Exc, Label};
@@ -101,8 +101,8 @@ pub(crate) fn note_replaced<'a>(
     let Some(fresh) = fresh else {
         return Ok(());
     };
-    let lost = lost.copy(here.alloc)?;
-    let fresh = fresh.copy(here.alloc)?;
+    let lost = box_copy(here.alloc, lost)?;
+    let fresh = box_copy(here.alloc, fresh)?;
     note(here, tick, Happening::Replaces { lost, fresh }, events)?;
     Ok(())
 }
@@ -118,7 +118,7 @@ pub(crate) fn wait<'a>(
         → Tells here.entry.task.now start w events.new.items (tell_gathered label.now (tell_wait label.now a))) }
 {
     let nursery = label.copy(here.alloc)?;
-    let exc = told.copy_exc(here.alloc)?;
+    let exc = told.box_exc(here.alloc)?;
     note(here, told.end(), Happening::Waits { nursery, exc }, events)?;
     let told = told.gather(here.alloc, label)?;
     Ok(told)
@@ -149,13 +149,13 @@ pub(crate) fn leave<'a>(
         (option_map exc_of inside.exc))) }
 {
     let Told { end, exc, .. } = inside;
-    let inner = copy_of(here.alloc, &exc)?;
+    let inner = boxed_copy(here.alloc, &exc)?;
     let catches = here.stack.catches(block.from, block.shield, end);
     let left = left_with(here.alloc, catches, exc)?;
     let caught = left.caught;
     let outer = exc_after(here.alloc, block.kind, block.label, end, left)?;
     let label = block.label.copy(here.alloc)?;
-    let outside = copy_of(here.alloc, &outer)?;
+    let outside = boxed_copy(here.alloc, &outer)?;
     let what = Happening::Leaves {
         kind: block.kind,
         label,

@@ -2,11 +2,12 @@ ghost use Rattle.std.specs.Prelude.{◌≡◌, ◌++◌, Bool, Option, IfOk, OnO
 ghost use Rattle.std.specs.Option.{option_map, is_some};
 ghost use Rattle.exc_groups.specs.Exceptions.{Label as TreeLabel, Exc as TreeExc};
 ghost use Rattle.exc_groups.specs.Held.{exc_of};
+ghost use Rattle.job_story.specs.Held.{boxed};
 ghost use Rattle.job_story.specs.Story.{Story, Tale};
 ghost use Rattle.job_story.specs.Tell.{Scene, told_at, failed_at, and_tale, handled_by, cleaned_by, tell_gathered, tell_child};
 ghost use Rattle.job_teller.specs.Tales.{IsTold};
 
-use crate::excs::{copy_of, handler_exc, move_all, outcome_after, with_exc};
+use crate::excs::{boxed_copy, copy_of, handler_exc, move_all, outcome_after, with_exc};
 use exc_groups::{Exc, Label, Whose, group};
 use std::alloc::{AllocError, Global};
 
@@ -43,6 +44,13 @@ impl Told {
         ensures { IfOk result (λ copy. option_map exc_of copy ≡ option_map exc_of self.now.exc) }
     {
         copy_of(alloc, &self.exc)
+    }
+
+    /// A copy of its exception, in a box.
+    pub(crate) fn box_exc(&self, alloc: Global) -> Result<Option<Box<Exc>>, AllocError>
+        ensures { IfOk result (λ copy. boxed copy ≡ option_map exc_of self.now.exc) }
+    {
+        boxed_copy(alloc, &self.exc)
     }
 
     /// It ended well in this tick.

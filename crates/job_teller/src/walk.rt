@@ -10,7 +10,7 @@ ghost use Rattle.job_story.specs.declared.event.Event.{Event as HeldEvent};
 ghost use Rattle.job_teller.specs.Heres.{HasRoom, input_of, scene_of, scopes_of, table_of, label_in, inside, started, started_over, pass};
 ghost use Rattle.job_teller.specs.Tales.{Tells};
 
-use crate::excs::{copied, copy_of};
+use crate::excs::{boxed_copy, copied};
 use crate::here::Here;
 use crate::leaves::{cancel, due, found, head, longest, need, pace, raised, sleeping};
 use crate::notes::{Block, add, leave, note, note_replaced, wait};
@@ -236,7 +236,7 @@ pub(crate) fn tell_child<'a>(
     };
     let told = tell_steps(steps, inside, tick, events)?;
     let home = copied(here.alloc, here.stack.home())?;
-    let exc = told.copy_exc(here.alloc)?;
+    let exc = told.box_exc(here.alloc)?;
     let what = What::Ends { home, exc };
     add(here.alloc, &label, told.end(), what, events)?;
     let told = told.into_child(here.alloc, tick)?;
@@ -371,7 +371,8 @@ fn tell_handler<'a>(
     let Some(matched) = kept else {
         return Ok(told);
     };
-    let left = copy_of(here.alloc, &rest)?;
+    let matched = Box::new(here.alloc, matched)?;
+    let left = boxed_copy(here.alloc, &rest)?;
     let what = Happening::Handles {
         matched,
         rest: left,
@@ -399,7 +400,7 @@ fn tell_cleanup<'a>(
     let Some(cleanup) = cleanup else {
         return Ok(told);
     };
-    let exc = told.copy_exc(here.alloc)?;
+    let exc = told.box_exc(here.alloc)?;
     note(here, told.end(), Happening::Cleans { exc }, events)?;
     let inside = Here {
         alloc: here.alloc,

@@ -6,6 +6,7 @@ use Rattle.buffer_parts.specs.Lines.{Range}
 use Rattle.buffer_parts.specs.Part.{range_of}
 use Rattle.exc_groups.specs.Exceptions.{Label, Exc}
 use Rattle.exc_groups.specs.Held.{exc_of}
+use Rattle.exc_groups.specs.declared.exc.Exc as held
 use Rattle.job_tree.specs.declared.step.Step.{Step}
 use Rattle.job_tree.specs.Tree.{Steps}
 use Rattle.job_tree.specs.Blocks.{step_of, steps_of, handled_of}
@@ -13,7 +14,7 @@ use Rattle.job_tree.specs.Names.{size_of, size_in}
 use Rattle.job_tree.proofs.Weights.{weight_at}
 use Rattle.job_meaning.specs.Walk.{within, home_of, label_over}
 use Rattle.job_story.specs.Events.{event, starts, ends}
-use Rattle.job_story.specs.Held.{kind_of, event_of}
+use Rattle.job_story.specs.Held.{boxed, kind_of, event_of}
 use Rattle.job_story.specs.Story.{Tale, enters, handles, cleans}
 use Rattle.job_story.specs.Tell.{only, tell, tell_block, tell_each, replaced}
 use Rattle.job_teller.specs.Heres.{HasRoom, table_of, scene_of, scene_in, scopes_of, input_of, here_of, inside, started, started_over}
@@ -109,10 +110,10 @@ tell_child-returns t c =
     inner
     (c.in_ok-add-2.ensures
     ∙ (ap (λ (n : ℕ). map event_of c.tell_steps.new.events.items ++ event n c.args.label (ends c.in_ok-home-2.home
-    (option_map exc_of c.in_ok-exc.exc)) ∷ [])
+    (boxed c.in_ok-exc.exc)) ∷ [])
     c.end.ensures
     ∙ (ap (λ (o : Option Label). map event_of c.tell_steps.new.events.items
-    ++ event c.in_ok-told.told.end c.args.label (ends o (option_map exc_of c.in_ok-exc.exc)) ∷ [])
+    ++ event c.in_ok-told.told.end c.args.label (ends o (boxed c.in_ok-exc.exc)) ∷ [])
     (c.in_ok-home-2.ensures ∙ c.home-2.ensures)
     ∙ ap (λ (o : Option Exc). map event_of c.tell_steps.new.events.items ++ event c.in_ok-told.told.end c.args.label (ends home o) ∷ [])
     c.in_ok-exc.ensures)))
@@ -227,8 +228,9 @@ tell_handler-returns t c = λ start (a : Tale) h.
     let e : a.exc ≡ Some (exc_of c.in-Some-2.exc) = sym h.told.exc ∙ (sym c.in_ok-exc.ensures ∙ ap (option_map exc_of) c.in-Some-2.is) in
     let matched = exc_of c.in-Some-kept.matched in
     let handling = adds_like _ _ _ _ _ c.in_ok-note.ensures
-    (ap (λ (n : ℕ). only n (handles matched (option_map exc_of c.in_ok-left.left))) c.end.ensures
-    ∙ ap (λ (o : Option Exc). only c.args.told.end (handles matched o)) c.in_ok-left.ensures) in
+    (ap (λ (n : ℕ). only n (handles (exc_of c.in_ok-matched.matched.value) (boxed c.in_ok-left.left))) c.end.ensures
+    ∙ (ap (λ (x : held.Exc). only c.args.told.end (handles (exc_of x) (boxed c.in_ok-left.left))) c.in_ok-matched.ensures.ok
+    ∙ ap (λ (o : Option Exc). only c.args.told.end (handles matched o)) c.in_ok-left.ensures)) in
     let next = tells_at _ _ _ c.in_ok-next.next _ _ _ _ _ _ a.end c.as_slice.ensures (c.end-2.ensures ∙ h.told.end) c.in_ok-next.ensures in
     rw c.in-Some.is
     (is_wanted _ start _ _ _ a _ _ matched _ e (sym (ap (option_map exc_of) c.in-Some-kept.is) ∙ c.in_ok-kept.ensures.kept)
@@ -244,7 +246,7 @@ unfolding tell
 tell_cleanup-returns t c = λ start (a : Tale) h.
     let told = c.args.told in
     let cleaning = adds_like _ _ _ _ _ c.in_ok-note.ensures
-    (ap (λ (n : ℕ). only n (cleans (option_map exc_of c.in_ok-exc.exc))) c.end.ensures
+    (ap (λ (n : ℕ). only n (cleans (boxed c.in_ok-exc.exc))) c.end.ensures
     ∙ ap (λ (o : Option Exc). only told.end (cleans o)) c.in_ok-exc.ensures) in
     let next = tells_at _ _ _ c.in_ok-next.next _ _ _ _ _ _ a.end c.as_slice.ensures (c.end-2.ensures ∙ h.told.end) c.in_ok-next.ensures in
     let replacing = adds_like _ _ _ _ _ c.in_ok-note_replaced.ensures
