@@ -1,3 +1,4 @@
 pub mod Leaves
 pub mod Found
 pub mod Knows
+pub mod Seen

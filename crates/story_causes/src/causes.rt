@@ -7,6 +7,7 @@ ghost use Rattle.job_story.specs.Froms.{table_in};
 ghost use Rattle.job_story.specs.Held.{event_of};
 ghost use Rattle.story_causes.specs.Found.{entering_in_code, cause_in_code, is_due_at};
 ghost use Rattle.story_causes.specs.Knows.{Knows};
+ghost use Rattle.story_causes.specs.Seen.{seen};
 
 use crate::notes::{note_entering, note_sign};
 use crate::sign::Cause;
@@ -42,10 +43,10 @@ impl<'e> Causes<'e> {
     /// nurseries take memory. The error is want of memory.
     pub fn of(
         alloc: Global,
-        events: &'e [Event<'_>],
+        events: &[&'e Event<'_>],
         froms: &'e Froms,
     ) -> Result<Causes<'e>, AllocError>
-        ensures { IfOk result (λ causes. Knows causes (table_in froms.entry.now) (map event_of events.entry.now)) }
+        ensures { IfOk result (λ causes. Knows causes (table_in froms.entry.now) (map seen events.now)) }
     {
         let mut causes = Causes {
             froms,

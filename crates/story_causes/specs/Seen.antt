@@ -1,0 +1,8 @@
+-- An event that is borrowed, as the definitions have it.
+use Rattle.std.specs.Borrow.{Bor}
+use Rattle.job_story.specs.Events as told
+use Rattle.job_story.specs.Held.{event_of}
+use Rattle.job_story.specs.declared.event.Event.{Event}
+
+abbrev pub seen : Bor Event → told.Event
+seen event = event_of event.now
