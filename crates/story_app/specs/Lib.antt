@@ -1,2 +1,3 @@
 pub mod Statuses
 pub mod Stories
+pub mod Tellings

@@ -1,13 +1,13 @@
 -- What `explain` answers: the story of a job's meaning over an input, or the refusal which that meaning names.
-use Rattle.std.specs.Prelude.{◌≡◌, ℕ, ◌≤◌, ◌<◌, Bool, true, false, nat_le, nat_eq, Option, Some, None, List, [], ◌∷◌, length, take, IsSome, IsNone, if◌then◌else◌}
+use Rattle.std.specs.Prelude.{◌≡◌, ℕ, ◌≤◌, ◌<◌, Bool, true, false, nat_le, Option, Some, None, List, [], length, take, IsSome, IsNone}
 use Rattle.std.specs.Io.KnownBytes.{Appends}
-use Rattle.strsim.specs.Edits.{levenshtein_row}
 use Rattle.job_tree.specs.Tree.{Tree}
 use Rattle.exc_groups.specs.Exceptions.{Label}
 use Rattle.job_grammar.specs.Refusals.{Spells, IsRefused}
-use Rattle.job_meaning.specs.Meaning.{meaning, meaning_end, meaning_table}
-use Rattle.job_story.specs.Events.{What, starts, happens, ends, Event}
-use Rattle.job_story.specs.Sentences.{label_text, job_events, story_text}
+use Rattle.job_meaning.specs.Meaning.{root_label, meaning, meaning_end, meaning_table}
+use Rattle.job_story.specs.Tell.{story_by}
+use Rattle.job_story.specs.Events.{Event, events_of}
+use Rattle.job_story.specs.Sentences.{story_text}
 use Rattle.job_story.specs.Limit.{walked_to, story_to}
 use Rattle.job_story.specs.Focus.{story_of_task, story_of_task_to, task_named}
 use Rattle.nursery_app.specs.Verdict.{refusal_line}
@@ -28,9 +28,18 @@ abbrev pub front_story : ℕ → Tree → List ℕ → Option Label → List ℕ
 front_story limit job input None = story_to (meaning_table job input) limit job input
 front_story limit job input (Some task) = story_of_task_to (meaning_table job input) limit job input task
 
--- the events that are told: all of them where the job ends by the limit, and else those up to it
+-- by the limit or not
+abbrev pub story_if : Bool → ℕ → Tree → List ℕ → Option Label → List ℕ
+story_if true limit job input task = whole_story job input task
+story_if false limit job input task = front_story limit job input task
+
+-- the story of a meaning: whole where it ends by the limit, and else up to the limit
+abbrev pub meaning_story : ℕ → Tree → List ℕ → Option Label → List ℕ
+meaning_story limit job input task = story_if (nat_le (meaning_end job input) limit) limit job input task
+
+-- the events that are told, in the order of the walk
 abbrev pub told_if : Bool → ℕ → Tree → List ℕ → List Event
-told_if true limit job input = job_events (meaning_table job input) job input
+told_if true limit job input = events_of (root_label job.name) (story_by (meaning_table job input) job input)
 told_if false limit job input = walked_to (meaning_table job input) limit job input
 
 abbrev pub told : ℕ → Tree → List ℕ → List Event
@@ -38,12 +47,47 @@ told limit job input = told_if (nat_le (meaning_end job input) limit) limit job 
 
 -- ---- the task that was asked for
 
--- the task of a label's text among these events, where one was asked for
+-- where one was asked for by the text of its label, it is the first that is told
 abbrev pub IsAbout : Option (List ℕ) → List Event → Option Label → Type 0
 IsAbout None es task = task ≡ None
 IsAbout (Some text) es task = IsSome task × (task ≡ task_named text es)
 
--- no task has the label that was asked for
+-- and where none is told that has the label
 abbrev pub IsAboutNone : Option (List ℕ) → List Event → Type 0
 IsAboutNone None es = ⊥
 IsAboutNone (Some text) es = task_named text es ≡ None
+
+-- ---- verdicts
+
+-- these bytes are the story of its meaning, or of the task that was asked for
+pub record IsJobStory (job : Tree) (input : List ℕ) (limit : ℕ) (asked : Option (List ℕ)) (bytes : List ℕ) : Type 0 where
+  pub task : Option Label
+  pub about : IsAbout asked (told limit job input) task
+  pub story : bytes ≡ meaning_story limit job input task
+
+-- The verdict on a job that was read, and its bytes: the story of the meaning; nothing where no task has the label.
+abbrev pub IsJobVerdict : Tree → List ℕ → ℕ → Option (List ℕ) → StoryVerdict → List ℕ → Type 0
+IsJobVerdict job input limit asked Done bytes =
+    IsJobStory job input limit asked bytes × (meaning_end job input ≤ limit) × IsNone (meaning job input).exc
+IsJobVerdict job input limit asked Raised bytes =
+    IsJobStory job input limit asked bytes × (meaning_end job input ≤ limit) × IsSome (meaning job input).exc
+IsJobVerdict job input limit asked (JobRefused fault) bytes = ⊥
+IsJobVerdict job input limit asked Limit bytes = IsJobStory job input limit asked bytes × (limit < meaning_end job input)
+IsJobVerdict job input limit asked (NoTask nearest) bytes = IsAboutNone asked (told limit job input) × (bytes ≡ [])
+
+-- A verdict and its bytes: that on the job which the text spells, or the refusal which the meaning names.
+abbrev pub IsVerdict : List ℕ → List ℕ → ℕ → Option (List ℕ) → StoryVerdict → List ℕ → Type 0
+IsVerdict text input limit asked (JobRefused fault) bytes = IsRefused text fault.kind fault.at × (bytes ≡ refusal_line fault)
+IsVerdict text input limit asked verdict bytes = (job : Tree) × Spells text job × IsJobVerdict job input limit asked verdict bytes
+
+-- The verdict's bytes were sent, all of them.
+abbrev pub IsSent : List ℕ → List ℕ → ℕ → Option (List ℕ) → Option (List ℕ) → Option (List ℕ) → StoryVerdict → Type 0
+IsSent text input limit asked before after verdict =
+    (bytes : List ℕ) × IsVerdict text input limit asked verdict bytes × Appends before after bytes
+
+-- The writer failed after the first `sent` of the verdict's bytes; or memory was refused, and nothing was sent.
+abbrev pub IsStoryFault : List ℕ → List ℕ → ℕ → Option (List ℕ) → Option (List ℕ) → Option (List ℕ) → ServeFault → Type 0
+IsStoryFault text input limit asked before after (Send sent) =
+    (verdict : StoryVerdict) × (bytes : List ℕ) × IsVerdict text input limit asked verdict bytes × (sent < length bytes)
+    × Appends before after (take sent bytes)
+IsStoryFault text input limit asked before after NoMemory = after ≡ before

@@ -6,10 +6,11 @@
 //! `job_teller` for the events, `story_causes`, `story_focus` and `story_text` for the text, and `nursery_app` for refusals.
 #![tactic(auto)]
 
+mod about;
 mod explaining;
-mod labels;
 mod table;
 mod telling;
+mod text;
 mod verdict;
 
 pub use explaining::explain;

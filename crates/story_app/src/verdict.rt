@@ -16,8 +16,8 @@ pub enum StoryVerdict {
     Limit,
     /// Nothing: no task of the story has the label that was asked for.
     NoTask {
-        /// The label of a task of the story that is the nearest to the one asked for.
-        nearest: String,
+        /// How the label of a task of the story is written that is the nearest to the one asked for.
+        nearest: Vec<u8>,
     },
 }
 

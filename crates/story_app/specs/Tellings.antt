@@ -1,0 +1,50 @@
+-- The steps from a run to the text of its story.
+use Rattle.std.specs.Prelude.{◌≡◌, ℕ, ◌≤◌, ◌<◌, Option, Some, None, List, [], IsSome, IsNone}
+use Rattle.job_tree.specs.Tree.{Tree}
+use Rattle.exc_groups.specs.Exceptions.{Label}
+use Rattle.job_meaning.specs.Log.{Table}
+use Rattle.job_meaning.specs.Meaning.{meaning, meaning_end}
+use Rattle.job_story.specs.Events.{Event, in_order}
+use Rattle.job_story.specs.Sentences.{kept_text}
+use Rattle.job_story.specs.Limit.{by_limit, kept_text_to}
+use Rattle.job_story.specs.Focus.{concerned, of_tasks, task_named}
+use Rattle.story_app.specs.declared.telling.Ending.{Ending}
+use Rattle.story_app.specs.declared.telling.Ending.TheVariants.{Done, Raised, Late}
+use Rattle.story_app.specs.declared.about.About.{About}
+use Rattle.story_app.specs.declared.about.About.TheVariants.{All, Task, NoTask}
+
+-- how the meaning of a job ends, by a limit
+abbrev pub IsEnding : Tree → List ℕ → ℕ → Ending → Type 0
+IsEnding job input limit Done = (meaning_end job input ≤ limit) × IsNone (meaning job input).exc
+IsEnding job input limit Raised = (meaning_end job input ≤ limit) × IsSome (meaning job input).exc
+IsEnding job input limit Late = limit < meaning_end job input
+
+-- the limit, where the story ends at it
+abbrev pub until_of : Ending → ℕ → Option ℕ
+until_of Done limit = None
+until_of Raised limit = None
+until_of Late limit = Some limit
+
+-- the events up to a tick, or all of them
+abbrev pub events_until : Option ℕ → List Event → List Event
+events_until None es = es
+events_until (Some t) es = by_limit t es
+
+-- the text of some events of a story, up to a limit or whole
+abbrev pub text_until : Option ℕ → Table → List Event → List Event → List Event → List ℕ
+text_until None table all sorted walked = kept_text table all sorted
+text_until (Some limit) table all sorted walked = kept_text_to table limit all sorted walked
+
+-- the text of a story, by its events in the order of the walk: of all tasks, or of those that concern one
+abbrev pub story_told : Table → Option ℕ → Option Label → List Event → List ℕ
+story_told table until None walked = text_until until table (in_order walked) (in_order walked) walked
+story_told table until (Some task) walked =
+    let all = in_order walked in
+    let tasks = concerned table all task in
+    text_until until table all (of_tasks tasks all) (of_tasks tasks walked)
+
+-- which task was asked for among these events
+abbrev pub IsAsked : Option (List ℕ) → List Event → About → Type 0
+IsAsked asked es All = asked ≡ None
+IsAsked asked es (Task label) = (text : List ℕ) × (asked ≡ Some text) × (task_named text es ≡ Some label.now)
+IsAsked asked es (NoTask nearest) = (text : List ℕ) × (asked ≡ Some text) × (task_named text es ≡ None)

@@ -1,0 +1,71 @@
+ghost use Rattle.std.specs.Prelude.{◌≡◌, ◌<◌, ◌≤◌, length, IfOk, IfErr, OnOk};
+ghost use Rattle.std.specs.Option.{option_copied};
+ghost use Rattle.job_meaning.specs.declared.limits.TheConstants.{MOST_INPUT};
+ghost use Rattle.nursery_app.specs.Verdict.{CountsFailure};
+ghost use Rattle.story_app.specs.Stories.{IsVerdict, IsSent, IsStoryFault};
+
+use crate::telling::job_verdict;
+use crate::verdict::StoryVerdict;
+use job_grammar::read_job;
+use job_report::{Out, send};
+use job_runner::{Gate, Pick, Settings};
+use nursery_app::{ServeFault, refusal};
+use std::alloc::{AllocError, Global};
+use std::thread::Threads;
+
+/// Runs a job text over an input, and writes the story of the job's one-thread meaning: what happened to each task, in which tick and
+/// why. A job that ends later than the limit has its story up to the limit, with what each task is doing that has not ended. Where a
+/// task is asked for, by the text of its label, only what concerns it is told: its events, and those of each task that caused one of
+/// its cancellations, and so on; where no task has that label, nothing is written. A job text that is refused has its refusal written.
+///
+/// The number of workers, the picker and the gate change no byte. All bytes are built before the first is sent, so after `NoMemory`
+/// nothing was sent.
+pub fn explain<R: Threads + Sync, P: Pick, G: Gate + Sync, W: Out>(
+    rt: &R,
+    alloc: Global,
+    job_text: &[u8],
+    input: &[u8],
+    settings: Settings,
+    task: Option<&[u8]>,
+    picker: &mut P,
+    gate: &G,
+    out: &mut W,
+) -> Result<StoryVerdict, ServeFault>
+    requires input { length input.now ≤ MOST_INPUT }
+    requires countable { W.failed out.old < 18446744073709551615 }
+
+    // The bytes written are the story of the meaning, or the refusal which it names.
+    ensures sent { IfOk result (IsSent job_text.now input.now settings.limit (option_copied task) (W.contents out.old) (W.contents out.new)) }
+    ensures well { OnOk result (W.failed out.new ≡ W.failed out.old) }
+
+    // A writer that failed took the front of those bytes; after want of memory nothing was sent.
+    ensures fault { IfErr result (IsStoryFault job_text.now input.now settings.limit (option_copied task) (W.contents out.old) (W.contents out.new)) }
+    ensures counted { IfErr result (CountsFailure (W.failed out.old) (W.failed out.new)) }
+{
+    let (verdict, bytes) = answer(rt, alloc, job_text, input, settings, task, picker, gate)?;
+    send(bytes.as_slice(), out)?;
+    Ok(verdict)
+}
+
+// The verdict and all its bytes.
+fn answer<R: Threads + Sync, P: Pick, G: Gate + Sync>(
+    rt: &R,
+    alloc: Global,
+    job_text: &[u8],
+    input: &[u8],
+    settings: Settings,
+    task: Option<&[u8]>,
+    picker: &mut P,
+    gate: &G,
+) -> Result<(StoryVerdict, Vec<u8>), AllocError>
+    requires { length input.now ≤ MOST_INPUT }
+    ensures { IfOk result (λ r. IsVerdict job_text.now input.now settings.limit (option_copied task) r.0 r.1.items) }
+{
+    match read_job(alloc, job_text) {
+        Ok(job) => {
+            let (verdict, bytes) = job_verdict(rt, alloc, &job, input, settings, task, picker, gate)?;
+            Ok((verdict, bytes))
+        }
+        Err(fault) => Ok((StoryVerdict::JobRefused(fault), refusal(alloc, fault)?)),
+    }
+}
