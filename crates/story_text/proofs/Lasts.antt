@@ -1,5 +1,6 @@
 -- The last event of a task.
-use Rattle.std.proofs.Common.{◌≡◌, ℕ, List, [], ◌∷◌, ◌++◌, refl, ap, ◌∙◌, map-append}
+use Rattle.std.proofs.Common.{◌≡◌, ℕ, List, [], ◌∷◌, ◌++◌, refl, ap, ◌∙◌}
+use Rattle.std.proofs.lemmas.List.{map-append}
 use Rattle.std.specs.Prelude.{map, if◌then◌else◌}
 use Rattle.exc_groups.specs.Exceptions.{Label}
 use Rattle.job_meaning.specs.Log.{same_label}

@@ -2,4 +2,3 @@ pub mod NothingLeft
 pub mod Ranks
 pub mod Sorted
 pub mod Lasts
-pub mod Caught

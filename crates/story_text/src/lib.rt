@@ -5,15 +5,8 @@
 //! `job_story` (`specs/Sentences.antt`, `specs/Limit.antt`), on whose events the layer stands.
 #![tactic(auto)]
 
-mod causes;
 mod exc;
 mod label;
-mod limit;
-mod lines;
 mod order;
-mod sentences;
-mod ticks;
 
-pub use limit::limited_text;
-pub use lines::story_text;
 pub use order::in_order;
