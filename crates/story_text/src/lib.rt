@@ -5,8 +5,10 @@
 //! `job_story` (`specs/Sentences.antt`, `specs/Limit.antt`), on whose events the layer stands.
 #![tactic(auto)]
 
+mod causes;
 mod exc;
 mod label;
 mod order;
+mod ticks;
 
 pub use order::in_order;

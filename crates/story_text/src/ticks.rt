@@ -1,0 +1,31 @@
+ghost use Rattle.std.specs.Prelude.{◌≡◌, ◌+◌, IfSome, is_some};
+ghost use Rattle.job_story.specs.Tell.{is_from};
+ghost use Rattle.story_text.specs.Told.{froms_in};
+
+use crate::causes::Causes;
+use exc_groups::Label;
+
+// Whether a tick that may never come is this one.
+pub fn is_tick(from: Option<u64>, tick: u64) -> bool
+    ensures { result ≡ is_from from tick }
+{
+    match from {
+        None => false,
+        Some(from) => from == tick,
+    }
+}
+
+// The tick after this one, where a scope or nursery is cancelled from then on.
+pub fn next_from(causes: &Causes<'_, '_>, label: &Label, tick: u64) -> Option<u64>
+    ensures value { IfSome result (λ from. from ≡ tick + 1) }
+    ensures some { is_some result ≡ is_from (froms_in causes.now label.now) (tick + 1) }
+{
+    let Some(from) = causes.from(label) else {
+        return None;
+    };
+    if tick < from && from - tick == 1 {
+        Some(from)
+    } else {
+        None
+    }
+}
