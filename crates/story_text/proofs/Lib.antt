@@ -2,3 +2,4 @@ pub mod NothingLeft
 pub mod Ranks
 pub mod Sorted
 pub mod Lasts
+pub mod Caught

@@ -9,6 +9,7 @@ mod causes;
 mod exc;
 mod label;
 mod order;
+mod sentences;
 mod ticks;
 
 pub use order::in_order;

@@ -1,0 +1,463 @@
+ghost use Rattle.std.specs.Prelude.{◌≡◌, ◌++◌, [], Some, None, OnOk, codes, decimal};
+ghost use Rattle.std.specs.Option.{option_map};
+ghost use Rattle.exc_groups.specs.Held.{exc_of};
+ghost use Rattle.exc_groups.specs.Split.{is_cancelled, drop};
+ghost use Rattle.job_story.specs.Held.{boxed, kind_of, happening_of, what_of};
+ghost use Rattle.job_story.specs.Sentences.{label_text, exc_text, kind_text, with_exc, entering_text, until_text, since_text, cleanup_text, cause_text, entered_text, count_text, caught_text, leaving_text, end_text, sign_text, cancel_text, cancelled_text, happening_text, home_text, what_text};
+ghost use Rattle.story_text.specs.Told.{events_in, froms_in, told_entering, told_cause};
+
+use crate::causes::{Cause, Causes, Entering};
+use crate::exc::{is_cancellation, push_exc};
+use crate::label::{push_label, push_number};
+use crate::ticks::next_from;
+use exc_groups::{Exc, Label};
+use job_story::{Event, Happening, Kind, What};
+use std::alloc::AllocError;
+
+// Appends the sentence of an event.
+pub fn push_what(
+    out: &mut Vec<u8>,
+    causes: &Causes<'_, '_>,
+    event: &Event<'_>,
+) -> Result<(), AllocError>
+    ensures { OnOk result (out.new.items
+        ≡ out.old.items ++ what_text (froms_in causes.now) (events_in causes.now) event.now.tick (what_of event.now.what)) }
+{
+    match &event.what {
+        What::Starts { home, .. } => {
+            out.extend_from_slice(b"starts")?;
+            push_home(out, home)
+        }
+        What::Happens(happening) => push_happening(out, causes, event.tick, happening),
+        What::Ends { home, exc } => {
+            out.extend_from_slice(b"ends: ")?;
+            push_end(out, exc)?;
+            push_home_sign(out, causes, home, exc, event.tick)
+        }
+    }
+}
+
+// Appends the sentence of what happens to a task between its start and its end.
+fn push_happening(
+    out: &mut Vec<u8>,
+    causes: &Causes<'_, '_>,
+    tick: u64,
+    happening: &Happening<'_>,
+) -> Result<(), AllocError>
+    ensures { OnOk result (out.new.items
+        ≡ out.old.items ++ happening_text (froms_in causes.now) (events_in causes.now) tick (happening_of happening.now)) }
+{
+    match happening {
+        Happening::Enters {
+            kind,
+            label,
+            deadline,
+            shield,
+        } => push_enters(out, *kind, label, *deadline, *shield),
+        Happening::Sleeps { until } => {
+            out.extend_from_slice(b"sleeps ")?;
+            push_until(out, *until)
+        }
+        Happening::IsCancelled {
+            by,
+            since,
+            in_cleanup,
+        } => {
+            out.extend_from_slice(b"is cancelled")?;
+            push_cleanup(out, *in_cleanup)?;
+            push_since(out, *since)?;
+            push_by(out, causes, by)
+        }
+        Happening::Finds { lines } => push_finds(out, lines.len()),
+        Happening::Misses { name } => {
+            out.extend_from_slice(b"misses ")?;
+            out.extend_from_slice(name.bytes())
+        }
+        Happening::Raises { name } => {
+            out.extend_from_slice(b"raises ")?;
+            out.extend_from_slice(name.bytes())
+        }
+        Happening::Cancels { label } => push_cancels(out, causes, label, tick),
+        Happening::Handles { matched, rest } => push_handles(out, matched, rest),
+        Happening::Cleans { exc } => {
+            out.extend_from_slice(b"runs cleanup")?;
+            push_after(out, exc)
+        }
+        Happening::Replaces { lost, fresh } => push_replaces(out, lost, fresh),
+        Happening::Waits { nursery, exc } => push_waits(out, causes, nursery, exc, tick),
+        Happening::Leaves {
+            kind,
+            label,
+            inside,
+            caught,
+            outside,
+        } => {
+            push_leaves(out, *kind, label)?;
+            push_leaving(out, inside, *caught, outside)
+        }
+    }
+}
+
+// Appends that a task enters a scope or nursery.
+fn push_enters(
+    out: &mut Vec<u8>,
+    kind: Kind,
+    label: &Label,
+    deadline: Option<u64>,
+    shield: bool,
+) -> Result<(), AllocError>
+    ensures { OnOk result (out.new.items
+        ≡ out.old.items ++ (codes "enters " ++ kind_text (kind_of kind) ++ label_text label.now ++ entering_text deadline shield)) }
+{
+    out.extend_from_slice(b"enters ")?;
+    push_kind(out, kind)?;
+    push_label(out, label)?;
+    push_entering(out, deadline, shield)
+}
+
+// Appends the word for a scope or nursery.
+fn push_kind(out: &mut Vec<u8>, kind: Kind) -> Result<(), AllocError>
+    ensures { OnOk result (out.new.items ≡ out.old.items ++ kind_text (kind_of kind)) }
+{
+    match kind {
+        Kind::Scope { .. } => out.extend_from_slice(b"scope "),
+        Kind::Nursery => out.extend_from_slice(b"nursery "),
+    }
+}
+
+// Appends the deadline and the shield of a scope or nursery that is entered.
+fn push_entering(out: &mut Vec<u8>, deadline: Option<u64>, shield: bool) -> Result<(), AllocError>
+    ensures { OnOk result (out.new.items ≡ out.old.items ++ entering_text deadline shield) }
+{
+    let Some(tick) = deadline else {
+        return push_shield(out, shield);
+    };
+    out.extend_from_slice(b" (deadline ")?;
+    push_number(out, tick)?;
+    if shield {
+        out.extend_from_slice(b", shielded)")
+    } else {
+        out.extend_from_slice(b")")
+    }
+}
+
+// Appends the shield of a scope or nursery that has no deadline.
+fn push_shield(out: &mut Vec<u8>, shield: bool) -> Result<(), AllocError>
+    ensures { OnOk result (out.new.items ≡ out.old.items ++ entering_text None shield) }
+{
+    if shield {
+        out.extend_from_slice(b" (shielded)")
+    } else {
+        Ok(())
+    }
+}
+
+// Appends until when a task sleeps.
+pub fn push_until(out: &mut Vec<u8>, until: Option<u64>) -> Result<(), AllocError>
+    ensures { OnOk result (out.new.items ≡ out.old.items ++ until_text until) }
+{
+    let Some(tick) = until else {
+        return out.extend_from_slice(b"forever");
+    };
+    out.extend_from_slice(b"until ")?;
+    push_number(out, tick)
+}
+
+// Appends whether a cancellation came in a `finally` block.
+fn push_cleanup(out: &mut Vec<u8>, in_cleanup: bool) -> Result<(), AllocError>
+    ensures { OnOk result (out.new.items ≡ out.old.items ++ cleanup_text in_cleanup) }
+{
+    if in_cleanup {
+        out.extend_from_slice(b" during cleanup")
+    } else {
+        Ok(())
+    }
+}
+
+// Appends since when a task that is cancelled slept.
+fn push_since(out: &mut Vec<u8>, since: Option<u64>) -> Result<(), AllocError>
+    ensures { OnOk result (out.new.items ≡ out.old.items ++ since_text since) }
+{
+    let Some(tick) = since else {
+        return out.extend_from_slice(b" at a checkpoint");
+    };
+    out.extend_from_slice(b" while sleeping since ")?;
+    push_number(out, tick)
+}
+
+// Appends by which scope or nursery a task is cancelled, and why that is cancelled.
+fn push_by(out: &mut Vec<u8>, causes: &Causes<'_, '_>, by: &Option<Label>) -> Result<(), AllocError>
+    ensures { OnOk result (out.new.items ≡ out.old.items ++ cancelled_text (froms_in causes.now) (events_in causes.now) by.now) }
+{
+    let Some(label) = by else {
+        return Ok(());
+    };
+    out.extend_from_slice(b" by ")?;
+    push_entered(out, causes.entering(label), label)?;
+    let Some(cause) = causes.cause(label) else {
+        return Ok(());
+    };
+    push_cause(out, &cause)
+}
+
+// Appends why a scope or nursery is cancelled.
+fn push_cause(out: &mut Vec<u8>, cause: &Cause<'_>) -> Result<(), AllocError>
+    ensures { OnOk result (out.new.items ≡ out.old.items ++ cause_text (Some (told_cause cause.now))) }
+{
+    match cause {
+        Cause::Deadline => out.extend_from_slice(b" (deadline)"),
+        Cause::Task { task, tick } => push_act(out, b" (cancelled by ", task, b" at ", *tick),
+        Cause::Failure { task, tick } => push_act(out, b" (", task, b" failed at ", *tick),
+        Cause::Cancellation { task, tick } => {
+            push_act(out, b" (", task, b" was cancelled at ", *tick)
+        }
+    }
+}
+
+// Appends the task and the tick of a cause between words, and a bracket.
+fn push_act(
+    out: &mut Vec<u8>,
+    before: &[u8],
+    task: &Label,
+    between: &[u8],
+    tick: u64,
+) -> Result<(), AllocError>
+    ensures { OnOk result (out.new.items ≡ out.old.items ++ (before.now ++ label_text task.now ++ between.now ++ decimal tick ++ codes ")")) }
+{
+    out.extend_from_slice(before)?;
+    push_label(out, task)?;
+    out.extend_from_slice(between)?;
+    push_number(out, tick)?;
+    out.extend_from_slice(b")")
+}
+
+// Appends a label, after the word for what it is where that is known.
+fn push_entered(
+    out: &mut Vec<u8>,
+    entering: Option<Entering>,
+    label: &Label,
+) -> Result<(), AllocError>
+    ensures { OnOk result (out.new.items ≡ out.old.items ++ entered_text (option_map told_entering entering) label.now) }
+{
+    let Some(entering) = entering else {
+        return push_label(out, label);
+    };
+    push_kind(out, entering.kind)?;
+    push_label(out, label)
+}
+
+// Appends how many lines a kernel answered.
+fn push_finds(out: &mut Vec<u8>, count: usize) -> Result<(), AllocError>
+    ensures { OnOk result (out.new.items ≡ out.old.items ++ (codes "finds " ++ count_text count)) }
+{
+    out.extend_from_slice(b"finds ")?;
+    push_number(out, count as u64)?;
+    if count == 1 {
+        out.extend_from_slice(b" line")
+    } else {
+        out.extend_from_slice(b" lines")
+    }
+}
+
+// Appends what a task cancels, and from when on, unless that is cancelled already.
+fn push_cancels(
+    out: &mut Vec<u8>,
+    causes: &Causes<'_, '_>,
+    label: &Option<Label>,
+    tick: u64,
+) -> Result<(), AllocError>
+    ensures { OnOk result (out.new.items ≡ out.old.items ++ cancel_text (froms_in causes.now) (events_in causes.now) label.now tick) }
+{
+    let Some(label) = label else {
+        return Ok(());
+    };
+    out.extend_from_slice(b"cancels ")?;
+    push_entered(out, causes.entering(label), label)?;
+    let Some(from) = next_from(causes, label, tick) else {
+        return out.extend_from_slice(b", which is cancelled already");
+    };
+    out.extend_from_slice(b" from ")?;
+    push_number(out, from)
+}
+
+// Appends what a handler handles, and what is left of the exception.
+fn push_handles(out: &mut Vec<u8>, matched: &Exc, rest: &Option<Box<Exc>>) -> Result<(), AllocError>
+    ensures { OnOk result (out.new.items ≡ out.old.items
+        ++ (codes "handles " ++ exc_text (exc_of matched.now) ++ with_exc (codes ", ") (boxed rest.now) (codes " propagates"))) }
+{
+    out.extend_from_slice(b"handles ")?;
+    push_exc(out, matched)?;
+    let Some(rest) = rest else {
+        return Ok(());
+    };
+    out.extend_from_slice(b", ")?;
+    push_exc(out, rest)?;
+    out.extend_from_slice(b" propagates")
+}
+
+// Appends the exception after which something begins, if there is one.
+fn push_after(out: &mut Vec<u8>, exc: &Option<Box<Exc>>) -> Result<(), AllocError>
+    ensures { OnOk result (out.new.items ≡ out.old.items ++ with_exc (codes " after ") (boxed exc.now) []) }
+{
+    let Some(exc) = exc else {
+        return Ok(());
+    };
+    out.extend_from_slice(b" after ")?;
+    push_exc(out, exc)
+}
+
+// Appends the exception that is lost, and the one in its place.
+fn push_replaces(out: &mut Vec<u8>, lost: &Exc, fresh: &Exc) -> Result<(), AllocError>
+    ensures { OnOk result (out.new.items
+        ≡ out.old.items ++ (codes "replaces " ++ exc_text (exc_of lost.now) ++ codes " with " ++ exc_text (exc_of fresh.now))) }
+{
+    out.extend_from_slice(b"replaces ")?;
+    push_exc(out, lost)?;
+    out.extend_from_slice(b" with ")?;
+    push_exc(out, fresh)
+}
+
+// Appends that a task waits for its children.
+fn push_waits(
+    out: &mut Vec<u8>,
+    causes: &Causes<'_, '_>,
+    nursery: &Label,
+    exc: &Option<Box<Exc>>,
+    tick: u64,
+) -> Result<(), AllocError>
+    ensures { OnOk result (out.new.items ≡ out.old.items
+        ++ (codes "waits for nursery " ++ label_text nursery.now ++ with_exc (codes " after ") (boxed exc.now) []
+        ++ sign_text (froms_in causes.now) (Some nursery.now) (boxed exc.now) tick)) }
+{
+    out.extend_from_slice(b"waits for nursery ")?;
+    push_label(out, nursery)?;
+    push_after(out, exc)?;
+    push_sign(out, causes, nursery, exc, tick)
+}
+
+// Appends that the nursery is cancelled from the next tick on, if it is, where a task or its body ends with an exception.
+fn push_sign(
+    out: &mut Vec<u8>,
+    causes: &Causes<'_, '_>,
+    nursery: &Label,
+    exc: &Option<Box<Exc>>,
+    tick: u64,
+) -> Result<(), AllocError>
+    ensures { OnOk result (out.new.items
+        ≡ out.old.items ++ sign_text (froms_in causes.now) (Some nursery.now) (boxed exc.now) tick) }
+{
+    let Some(_) = exc else {
+        return Ok(());
+    };
+    let Some(from) = next_from(causes, nursery, tick) else {
+        return Ok(());
+    };
+    out.extend_from_slice(b"; nursery ")?;
+    push_label(out, nursery)?;
+    out.extend_from_slice(b" is cancelled from ")?;
+    push_number(out, from)
+}
+
+// The same of the nursery in which a task was started, if it was.
+fn push_home_sign(
+    out: &mut Vec<u8>,
+    causes: &Causes<'_, '_>,
+    home: &Option<Label>,
+    exc: &Option<Box<Exc>>,
+    tick: u64,
+) -> Result<(), AllocError>
+    ensures { OnOk result (out.new.items
+        ≡ out.old.items ++ sign_text (froms_in causes.now) home.now (boxed exc.now) tick) }
+{
+    let Some(nursery) = home else {
+        return Ok(());
+    };
+    push_sign(out, causes, nursery, exc, tick)
+}
+
+// Appends what a task leaves.
+fn push_leaves(out: &mut Vec<u8>, kind: Kind, label: &Label) -> Result<(), AllocError>
+    ensures { OnOk result (out.new.items
+        ≡ out.old.items ++ (codes "leaves " ++ kind_text (kind_of kind) ++ label_text label.now ++ codes ": ")) }
+{
+    out.extend_from_slice(b"leaves ")?;
+    push_kind(out, kind)?;
+    push_label(out, label)?;
+    out.extend_from_slice(b": ")
+}
+
+// Appends with what a scope or nursery is left: that its inside completed, or its exception, and whether it caught a cancellation.
+fn push_leaving(
+    out: &mut Vec<u8>,
+    inside: &Option<Box<Exc>>,
+    caught: bool,
+    outside: &Option<Box<Exc>>,
+) -> Result<(), AllocError>
+    ensures { OnOk result (out.new.items
+        ≡ out.old.items ++ leaving_text (boxed inside.now) caught (boxed outside.now)) }
+{
+    let Some(inside) = inside else {
+        return out.extend_from_slice(b"completed");
+    };
+    if caught {
+        out.extend_from_slice(b"cancellation caught")?;
+        return push_caught(out, inside, outside);
+    }
+    push_exc(out, inside)?;
+    out.extend_from_slice(b" propagates")
+}
+
+// Appends what goes on where a cancellation was caught: what is left, or a `TooSlow` where nothing is.
+fn push_caught(
+    out: &mut Vec<u8>,
+    inside: &Exc,
+    outside: &Option<Box<Exc>>,
+) -> Result<(), AllocError>
+    ensures { OnOk result (out.new.items
+        ≡ out.old.items ++ caught_text (drop is_cancelled (exc_of inside.now)) (boxed outside.now)) }
+{
+    let Some(outside) = outside else {
+        return Ok(());
+    };
+    if is_cancellation(inside) {
+        out.extend_from_slice(b", raises ")?;
+        return push_exc(out, outside);
+    }
+    out.extend_from_slice(b", ")?;
+    push_exc(out, outside)?;
+    out.extend_from_slice(b" propagates")
+}
+
+// Appends how a task ended.
+fn push_end(out: &mut Vec<u8>, exc: &Option<Box<Exc>>) -> Result<(), AllocError>
+    ensures { OnOk result (out.new.items ≡ out.old.items ++ end_text (boxed exc.now)) }
+{
+    let Some(exc) = exc else {
+        return out.extend_from_slice(b"done");
+    };
+    push_outcome(out, exc)
+}
+
+// Appends how a task ended that ended with an exception.
+fn push_outcome(out: &mut Vec<u8>, exc: &Exc) -> Result<(), AllocError>
+    ensures { OnOk result (out.new.items ≡ out.old.items ++ end_text (Some (exc_of exc.now))) }
+{
+    match exc {
+        Exc::Cancelled => out.extend_from_slice(b"cancelled"),
+        Exc::Raised { .. } | Exc::TooSlow { .. } | Exc::Group { .. } => {
+            out.extend_from_slice(b"raised ")?;
+            push_exc(out, exc)
+        }
+    }
+}
+
+// Appends the nursery in which a task starts, if it does in one.
+fn push_home(out: &mut Vec<u8>, home: &Option<Label>) -> Result<(), AllocError>
+    ensures { OnOk result (out.new.items ≡ out.old.items ++ home_text home.now) }
+{
+    let Some(nursery) = home else {
+        return Ok(());
+    };
+    out.extend_from_slice(b" in nursery ")?;
+    push_label(out, nursery)
+}
