@@ -3,3 +3,4 @@ pub mod Ranks
 pub mod Sorted
 pub mod Lasts
 pub mod Caught
+pub mod Joined
