@@ -35,6 +35,7 @@ pub enum Cause<'e> {
 }
 
 // How the scopes and nurseries of a story were entered, and why they are cancelled.
+#[derive(Drop)]
 pub struct Causes<'e, 'a> {
     pub events: &'e [Event<'a>],
     pub froms: &'e Froms,

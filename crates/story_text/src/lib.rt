@@ -8,8 +8,10 @@
 mod causes;
 mod exc;
 mod label;
+mod lines;
 mod order;
 mod sentences;
 mod ticks;
 
+pub use lines::story_text;
 pub use order::in_order;

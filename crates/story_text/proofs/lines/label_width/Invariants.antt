@@ -1,0 +1,8 @@
+use Rattle.std.proofs.Common.{◌≡◌, drop, max}
+use Rattle.std.specs.Prelude.{map}
+use Rattle.job_story.specs.Held.{event_of}
+use Rattle.job_story.specs.Sentences.{widest}
+use Rattle.story_text.proofs.lines.label_width.Given as goal
+
+abbrev pub invariant-events : goal.invariant-events
+invariant-events l = max l.width (widest (map event_of (drop l.event-index l.events))) ≡ widest (map event_of l.events)

@@ -1,0 +1,86 @@
+ghost use Rattle.std.specs.Prelude.{◌≡◌, ◌++◌, [], None, IfOk, OnOk, map, max, codes, decimal};
+ghost use Rattle.job_story.specs.Held.{event_of};
+ghost use Rattle.job_story.specs.Froms.{table_in};
+ghost use Rattle.job_story.specs.Sentences.{widest, tick_text, line_text, lines_text, events_text};
+ghost use Rattle.story_text.specs.Told.{events_in, froms_in};
+
+use crate::causes::Causes;
+use crate::label::{push_label, push_number, push_padded};
+use crate::sentences::push_what;
+use crate::ticks::is_tick;
+use job_story::{Event, Froms};
+use std::alloc::{AllocError, Global};
+
+/// The text of a story, whose events stand in order: a line for each tick in which something happens, and one for each event. `froms`
+/// are the ticks from which scopes and nurseries are cancelled.
+pub fn story_text(alloc: Global, events: &[Event<'_>], froms: &Froms) -> Result<Vec<u8>, AllocError>
+    ensures { IfOk result (λ text. text.items ≡ events_text (table_in froms.now) (map event_of events.now)) }
+{
+    let causes = Causes::of(events, froms);
+    let width = label_width(alloc, events)?;
+    let mut out = Vec::new(alloc);
+    push_lines(&mut out, &causes, events, width)?;
+    Ok(out)
+}
+
+// The length of the longest label.
+pub fn label_width(alloc: Global, events: &[Event<'_>]) -> Result<usize, AllocError>
+    ensures { IfOk result (λ width. width ≡ widest (map event_of events.now)) }
+{
+    let mut width: usize = 0;
+    let mut text = Vec::new(alloc);
+    'events: for event in events {
+        text.clear();
+        push_label(&mut text, &event.task)?;
+        width = width.max(text.len());
+    }
+    Ok(width)
+}
+
+// Appends the lines for all events, each after the line for its tick where the one before it is of another tick.
+pub fn push_lines(
+    out: &mut Vec<u8>,
+    causes: &Causes<'_, '_>,
+    events: &[Event<'_>],
+    width: usize,
+) -> Result<(), AllocError>
+    ensures { OnOk result (out.new.items
+        ≡ out.old.items ++ lines_text (froms_in causes.now) (events_in causes.now) width None (map event_of events.now)) }
+{
+    let mut before = None;
+    'events: for event in events {
+        push_tick(out, before, event.tick)?;
+        push_line(out, causes, width, event)?;
+        before = Some(event.tick);
+    }
+    Ok(())
+}
+
+// Appends the line for a tick, unless the event before was in the same.
+fn push_tick(out: &mut Vec<u8>, before: Option<u64>, tick: u64) -> Result<(), AllocError>
+    ensures { OnOk result (out.new.items ≡ out.old.items ++ tick_text before tick) }
+{
+    if is_tick(before, tick) {
+        return Ok(());
+    }
+    out.extend_from_slice(b"tick ")?;
+    push_number(out, tick)?;
+    out.extend_from_slice(b"\n")
+}
+
+// Appends the line for an event.
+fn push_line(
+    out: &mut Vec<u8>,
+    causes: &Causes<'_, '_>,
+    width: usize,
+    event: &Event<'_>,
+) -> Result<(), AllocError>
+    ensures { OnOk result (out.new.items
+        ≡ out.old.items ++ line_text (froms_in causes.now) (events_in causes.now) width (event_of event.now)) }
+{
+    out.extend_from_slice(b"  ")?;
+    push_padded(out, width, &event.task)?;
+    out.extend_from_slice(b"  ")?;
+    push_what(out, causes, event)?;
+    out.extend_from_slice(b"\n")
+}
