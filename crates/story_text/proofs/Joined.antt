@@ -1,5 +1,5 @@
 -- What is appended piece by piece, where the last call's result is returned as it is.
-use Rattle.std.proofs.Common.{◌≡◌, ℕ, List, ◌++◌, refl, ap, ◌∙◌, append_assoc, Ok, Err}
+use Rattle.std.proofs.Common.{◌≡◌, ℕ, List, ◌++◌, refl, ap, sym, ◌∙◌, append_assoc, Ok, Err}
 use Rattle.std.specs.Prelude.{Result, OnOk, is_ok, if◌then◌else◌}
 use Rattle.std.proofs.lemmas.Result.{on_ok_weaker}
 
@@ -22,3 +22,9 @@ three r old a b c one more new p q h = two r old (a ++ b) c more new (two_lists 
 pub four : {T E : Type 0} (r : Result T E) (old a b c d one more most new : List ℕ) → one ≡ old ++ a → more ≡ one ++ b →
     most ≡ more ++ c → OnOk r (new ≡ most ++ d) → OnOk r (new ≡ old ++ (a ++ b ++ c ++ d))
 four r old a b c d one more most new p q s h = three r old (a ++ b) c d more most new (two_lists old a b one more p q) s h
+
+-- the same where the last call appends two of them
+pub three_of_four : {T E : Type 0} (r : Result T E) (old a b c d one more new : List ℕ) → one ≡ old ++ a → more ≡ one ++ b →
+    OnOk r (new ≡ more ++ (c ++ d)) → OnOk r (new ≡ old ++ (a ++ b ++ c ++ d))
+three_of_four r old a b c d one more new p q h =
+    on_ok_weaker r (λ all. all ∙ ap (λ xs. old ++ xs) (sym (append_assoc (a ++ b) c d))) (three r old a b (c ++ d) one more new p q h)

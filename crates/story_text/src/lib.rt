@@ -8,10 +8,12 @@
 mod causes;
 mod exc;
 mod label;
+mod limit;
 mod lines;
 mod order;
 mod sentences;
 mod ticks;
 
+pub use limit::limited_text;
 pub use lines::story_text;
 pub use order::in_order;

@@ -1,0 +1,199 @@
+ghost use Rattle.std.specs.Prelude.{◌≡◌, ◌++◌, ◌&&◌, not, [], ◌∷◌, List, IfOk, OnOk, map, codes, decimal};
+ghost use Rattle.exc_groups.specs.Exceptions as tree;
+ghost use Rattle.job_story.specs.Held.{happening_of, what_of, event_of};
+ghost use Rattle.job_story.specs.Events as told;
+ghost use Rattle.job_story.specs.Froms.{table_in};
+ghost use Rattle.job_story.specs.Limit.{is_end, has_ended, start_if, is_start, running_in, doing_text, last_of, running_text};
+ghost use Rattle.job_story.specs.Limit.{limited_text as text_to};
+ghost use Rattle.story_text.specs.Lasts.{last_text};
+
+use crate::causes::Causes;
+use crate::label::{push_label, push_number, push_padded};
+use crate::lines::{label_width, push_lines};
+use crate::sentences::push_until;
+use exc_groups::Label;
+use job_story::{Event, Froms, Happening, What};
+use std::alloc::{AllocError, Global};
+
+/// The text of a story up to a limit: of the events up to it, in order (`sorted`) and in the order of the walk (`walked`). A line for
+/// the limit comes after the story, and then one for each task that has not ended, with what it is doing.
+pub fn limited_text(
+    alloc: Global,
+    sorted: &[Event<'_>],
+    walked: &[Event<'_>],
+    limit: u64,
+    froms: &Froms,
+) -> Result<Vec<u8>, AllocError>
+    ensures { IfOk result (λ text. text.items
+        ≡ text_to (table_in froms.now) limit (map event_of sorted.now) (map event_of walked.now)) }
+{
+    let causes = Causes::of(sorted, froms);
+    let width = label_width(alloc, sorted)?;
+    let mut out = Vec::new(alloc);
+    push_lines(&mut out, &causes, sorted, width)?;
+    push_limit(&mut out, limit)?;
+    push_running(&mut out, width, sorted, walked)?;
+    Ok(out)
+}
+
+// Appends the line for the limit.
+fn push_limit(out: &mut Vec<u8>, limit: u64) -> Result<(), AllocError>
+    ensures { OnOk result (out.new.items ≡ out.old.items ++ (codes "limit " ++ decimal limit ++ codes "\n")) }
+{
+    out.extend_from_slice(b"limit ")?;
+    push_number(out, limit)?;
+    out.extend_from_slice(b"\n")
+}
+
+// Appends a line for each task that has not ended, in the order in which the walk starts them.
+fn push_running(
+    out: &mut Vec<u8>,
+    width: usize,
+    sorted: &[Event<'_>],
+    walked: &[Event<'_>],
+) -> Result<(), AllocError>
+    ensures { OnOk result (out.new.items ≡ out.old.items
+        ++ running_text width (map event_of sorted.now) (running_in (map event_of walked.now) (map event_of walked.now))) }
+{
+    'walked: for event in walked {
+        push_if_running(out, width, sorted, walked, event)?;
+    }
+    Ok(())
+}
+
+// Appends the line for a task, if this event is its start and it has not ended.
+fn push_if_running(
+    out: &mut Vec<u8>,
+    width: usize,
+    sorted: &[Event<'_>],
+    walked: &[Event<'_>],
+    event: &Event<'_>,
+) -> Result<(), AllocError>
+    ensures { OnOk result ((others : List tree.Label) → out.new.items ++ running_text width (map event_of sorted.now) others
+        ≡ out.old.items ++ running_text width (map event_of sorted.now)
+        (start_if (is_start (what_of event.now.what) && not (has_ended event.now.task (map event_of walked.now))) event.now.task others)) }
+{
+    if !is_running(event, walked) {
+        return Ok(());
+    }
+    push_task(out, width, sorted, &event.task)?;
+    Ok(())
+}
+
+// Whether an event is the start of a task that has not ended.
+fn is_running(event: &Event<'_>, walked: &[Event<'_>]) -> bool
+    ensures { result ≡ (is_start (what_of event.now.what) && not (has_ended event.now.task (map event_of walked.now))) }
+{
+    is_begin(&event.what) && !ended(&event.task, walked)
+}
+
+// Whether it is the start of a task.
+fn is_begin(what: &What<'_>) -> bool
+    ensures { result ≡ is_start (what_of what.now) }
+{
+    match what {
+        What::Starts { .. } => true,
+        What::Happens(_) => false,
+        What::Ends { .. } => false,
+    }
+}
+
+// Whether it is the end of a task.
+fn is_last(what: &What<'_>) -> bool
+    ensures { result ≡ is_end (what_of what.now) }
+{
+    match what {
+        What::Starts { .. } => false,
+        What::Happens(_) => false,
+        What::Ends { .. } => true,
+    }
+}
+
+// Whether a task ends in these events.
+fn ended(label: &Label, events: &[Event<'_>]) -> bool
+    ensures { result ≡ has_ended label.now (map event_of events.now) }
+{
+    'events: for event in events {
+        if is_last(&event.what) && label == &event.task {
+            return true;
+        }
+    }
+    false
+}
+
+// Appends the line for a task that has not ended.
+fn push_task(
+    out: &mut Vec<u8>,
+    width: usize,
+    sorted: &[Event<'_>],
+    label: &Label,
+) -> Result<(), AllocError>
+    ensures { OnOk result (out.new.items ≡ out.old.items ++ running_text width (map event_of sorted.now) (label.now ∷ [])) }
+{
+    out.extend_from_slice(b"  ")?;
+    push_padded(out, width, label)?;
+    out.extend_from_slice(b"  ")?;
+    push_last(out, label, sorted)?;
+    out.extend_from_slice(b"\n")
+}
+
+// Appends what a task is doing, by the last of its events.
+fn push_last(out: &mut Vec<u8>, label: &Label, events: &[Event<'_>]) -> Result<(), AllocError>
+    ensures { OnOk result (out.new.items ≡ out.old.items ++ last_of label.now (map event_of events.now) []) }
+{
+    let Some(event) = last_event(label, events) else {
+        return Ok(());
+    };
+    push_doing(out, event.tick, &event.what)
+}
+
+// The last event of a task.
+fn last_event<'e, 'a>(label: &Label, events: &'e [Event<'a>]) -> Option<&'e Event<'a>>
+    ensures { last_text result ≡ last_of label.now (map event_of events.now) [] }
+{
+    let mut last = None;
+    'events: for event in events {
+        if label == &event.task {
+            last = Some(event);
+        }
+    }
+    last
+}
+
+// Appends what a task is doing after an event: it sleeps, or it waits for a nursery.
+fn push_doing(out: &mut Vec<u8>, tick: u64, what: &What<'_>) -> Result<(), AllocError>
+    ensures { OnOk result (out.new.items ≡ out.old.items ++ doing_text tick (what_of what.now)) }
+{
+    match what {
+        What::Starts { .. } => Ok(()),
+        What::Happens(happening) => push_doing_in(out, tick, happening),
+        What::Ends { .. } => Ok(()),
+    }
+}
+
+// The same of what happens to a task between its start and its end.
+fn push_doing_in(out: &mut Vec<u8>, tick: u64, happening: &Happening<'_>) -> Result<(), AllocError>
+    ensures { OnOk result (out.new.items ≡ out.old.items ++ doing_text tick (told.happens (happening_of happening.now))) }
+{
+    match happening {
+        Happening::Sleeps { until } => {
+            out.extend_from_slice(b"sleeping ")?;
+            push_until(out, *until)?;
+            push_since(out, tick)
+        }
+        Happening::Waits { nursery, .. } => {
+            out.extend_from_slice(b"waiting for nursery ")?;
+            push_label(out, nursery)?;
+            push_since(out, tick)
+        }
+        _ => Ok(()),
+    }
+}
+
+// Appends since when a task does what it is doing.
+fn push_since(out: &mut Vec<u8>, tick: u64) -> Result<(), AllocError>
+    ensures { OnOk result (out.new.items ≡ out.old.items ++ (codes " since " ++ decimal tick)) }
+{
+    out.extend_from_slice(b" since ")?;
+    push_number(out, tick)
+}
