@@ -1,3 +1,4 @@
 pub mod Leaves
 pub mod Told
 pub mod Lasts
+pub mod Tasks

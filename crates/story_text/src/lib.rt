@@ -12,6 +12,7 @@ mod limit;
 mod lines;
 mod order;
 mod sentences;
+mod tasks;
 mod ticks;
 
 pub use limit::limited_text;

@@ -3,14 +3,15 @@ ghost use Rattle.exc_groups.specs.Exceptions as tree;
 ghost use Rattle.job_story.specs.Held.{happening_of, what_of, event_of};
 ghost use Rattle.job_story.specs.Events as told;
 ghost use Rattle.job_story.specs.Froms.{table_in};
-ghost use Rattle.job_story.specs.Limit.{is_end, has_ended, start_if, is_start, running_in, doing_text, last_of, running_text};
+ghost use Rattle.job_story.specs.Limit.{has_ended, start_if, is_start, running_in, doing_text, last_of, running_text};
 ghost use Rattle.job_story.specs.Limit.{limited_text as text_to};
-ghost use Rattle.story_text.specs.Lasts.{last_text};
+ghost use Rattle.story_text.specs.Tasks.{sorted_in, walked_in};
 
 use crate::causes::Causes;
 use crate::label::{push_label, push_number, push_padded};
 use crate::lines::{label_width, push_lines};
 use crate::sentences::push_until;
+use crate::tasks::Tasks;
 use exc_groups::Label;
 use job_story::{Event, Froms, Happening, What};
 use std::alloc::{AllocError, Global};
@@ -32,7 +33,8 @@ pub fn limited_text(
     let mut out = Vec::new(alloc);
     push_lines(&mut out, &causes, sorted, width)?;
     push_limit(&mut out, limit)?;
-    push_running(&mut out, width, sorted, walked)?;
+    let tasks = Tasks::of(alloc, sorted, walked)?;
+    push_running(&mut out, width, &tasks, walked)?;
     Ok(out)
 }
 
@@ -49,14 +51,14 @@ fn push_limit(out: &mut Vec<u8>, limit: u64) -> Result<(), AllocError>
 fn push_running(
     out: &mut Vec<u8>,
     width: usize,
-    sorted: &[Event<'_>],
+    tasks: &Tasks<'_, '_>,
     walked: &[Event<'_>],
 ) -> Result<(), AllocError>
     ensures { OnOk result (out.new.items ≡ out.old.items
-        ++ running_text width (map event_of sorted.now) (running_in (map event_of walked.now) (map event_of walked.now))) }
+        ++ running_text width (sorted_in tasks.now) (running_in (walked_in tasks.now) (map event_of walked.now))) }
 {
     'walked: for event in walked {
-        push_if_running(out, width, sorted, walked, event)?;
+        push_if_running(out, width, tasks, event)?;
     }
     Ok(())
 }
@@ -65,30 +67,29 @@ fn push_running(
 fn push_if_running(
     out: &mut Vec<u8>,
     width: usize,
-    sorted: &[Event<'_>],
-    walked: &[Event<'_>],
+    tasks: &Tasks<'_, '_>,
     event: &Event<'_>,
 ) -> Result<(), AllocError>
-    ensures { OnOk result ((others : List tree.Label) → out.new.items ++ running_text width (map event_of sorted.now) others
-        ≡ out.old.items ++ running_text width (map event_of sorted.now)
-        (start_if (is_start (what_of event.now.what) && not (has_ended event.now.task (map event_of walked.now))) event.now.task others)) }
+    ensures { OnOk result ((others : List tree.Label) → out.new.items ++ running_text width (sorted_in tasks.now) others
+        ≡ out.old.items ++ running_text width (sorted_in tasks.now)
+        (start_if (is_start (what_of event.now.what) && not (has_ended event.now.task (walked_in tasks.now))) event.now.task others)) }
 {
-    if !is_running(event, walked) {
+    if !is_running(event, tasks) {
         return Ok(());
     }
-    push_task(out, width, sorted, &event.task)?;
+    push_task(out, width, tasks, &event.task)?;
     Ok(())
 }
 
 // Whether an event is the start of a task that has not ended.
-fn is_running(event: &Event<'_>, walked: &[Event<'_>]) -> bool
-    ensures { result ≡ (is_start (what_of event.now.what) && not (has_ended event.now.task (map event_of walked.now))) }
+fn is_running(event: &Event<'_>, tasks: &Tasks<'_, '_>) -> bool
+    ensures { result ≡ (is_start (what_of event.now.what) && not (has_ended event.now.task (walked_in tasks.now))) }
 {
-    is_begin(&event.what) && !ended(&event.task, walked)
+    starts(&event.what) && !tasks.has_ended(&event.task)
 }
 
-// Whether it is the start of a task.
-fn is_begin(what: &What<'_>) -> bool
+// Whether an event is the start of a task.
+fn starts(what: &What<'_>) -> bool
     ensures { result ≡ is_start (what_of what.now) }
 {
     match what {
@@ -98,66 +99,30 @@ fn is_begin(what: &What<'_>) -> bool
     }
 }
 
-// Whether it is the end of a task.
-fn is_last(what: &What<'_>) -> bool
-    ensures { result ≡ is_end (what_of what.now) }
-{
-    match what {
-        What::Starts { .. } => false,
-        What::Happens(_) => false,
-        What::Ends { .. } => true,
-    }
-}
-
-// Whether a task ends in these events.
-fn ended(label: &Label, events: &[Event<'_>]) -> bool
-    ensures { result ≡ has_ended label.now (map event_of events.now) }
-{
-    'events: for event in events {
-        if is_last(&event.what) && label == &event.task {
-            return true;
-        }
-    }
-    false
-}
-
 // Appends the line for a task that has not ended.
 fn push_task(
     out: &mut Vec<u8>,
     width: usize,
-    sorted: &[Event<'_>],
+    tasks: &Tasks<'_, '_>,
     label: &Label,
 ) -> Result<(), AllocError>
-    ensures { OnOk result (out.new.items ≡ out.old.items ++ running_text width (map event_of sorted.now) (label.now ∷ [])) }
+    ensures { OnOk result (out.new.items ≡ out.old.items ++ running_text width (sorted_in tasks.now) (label.now ∷ [])) }
 {
     out.extend_from_slice(b"  ")?;
     push_padded(out, width, label)?;
     out.extend_from_slice(b"  ")?;
-    push_last(out, label, sorted)?;
+    push_last(out, label, tasks)?;
     out.extend_from_slice(b"\n")
 }
 
 // Appends what a task is doing, by the last of its events.
-fn push_last(out: &mut Vec<u8>, label: &Label, events: &[Event<'_>]) -> Result<(), AllocError>
-    ensures { OnOk result (out.new.items ≡ out.old.items ++ last_of label.now (map event_of events.now) []) }
+fn push_last(out: &mut Vec<u8>, label: &Label, tasks: &Tasks<'_, '_>) -> Result<(), AllocError>
+    ensures { OnOk result (out.new.items ≡ out.old.items ++ last_of label.now (sorted_in tasks.now) []) }
 {
-    let Some(event) = last_event(label, events) else {
+    let Some(event) = tasks.last(label) else {
         return Ok(());
     };
     push_doing(out, event.tick, &event.what)
-}
-
-// The last event of a task.
-fn last_event<'e, 'a>(label: &Label, events: &'e [Event<'a>]) -> Option<&'e Event<'a>>
-    ensures { last_text result ≡ last_of label.now (map event_of events.now) [] }
-{
-    let mut last = None;
-    'events: for event in events {
-        if label == &event.task {
-            last = Some(event);
-        }
-    }
-    last
 }
 
 // Appends what a task is doing after an event: it sleeps, or it waits for a nursery.

@@ -1,4 +1,3 @@
-use Rattle.std.proofs.Common.{◌++◌}
 use Rattle.std.specs.Prelude.{codes, decimal}
 use Rattle.story_text.proofs.Joined.{three_of_four}
 use Rattle.story_text.proofs.limit.push_doing_in.Goals as goal
