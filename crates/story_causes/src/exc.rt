@@ -5,9 +5,9 @@ ghost use Rattle.story_causes.specs.Leaves.{all_cancelled, all_in};
 
 use exc_groups::Exc;
 
-// Whether every leaf of an exception is `Cancelled`.
+/// Whether every leaf of an exception is `Cancelled`.
 #[tactic(auto, using(crate::proofs::NothingLeft::nothing_left))]
-pub(crate) fn is_cancellation(exc: &Exc) -> bool
+pub fn is_cancellation(exc: &Exc) -> bool
     ensures { result ≡ is_none (drop is_cancelled (exc_of exc.now)) }
 {
     has_no_other(exc)

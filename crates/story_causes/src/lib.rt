@@ -13,4 +13,5 @@ mod notes;
 mod sign;
 
 pub use causes::{Causes, Entering};
+pub use exc::is_cancellation;
 pub use sign::Cause;

@@ -1,5 +1,5 @@
 -- What goes on where a cancellation was caught, and how a task ends, written piece by piece.
-use Rattle.std.proofs.Common.{◌≡◌, ℕ, List, ◌++◌, refl, ap, ◌∙◌, append_assoc}
+use Rattle.std.proofs.Common.{◌≡◌, ℕ, List, ◌++◌, ap, ◌∙◌, append_assoc}
 use Rattle.std.specs.Prelude.{true, false, Option, Some, None, is_none, codes}
 use Rattle.exc_groups.specs.Exceptions.{Exc}
 use Rattle.job_story.specs.Sentences.{exc_text, caught_text}

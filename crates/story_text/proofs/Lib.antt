@@ -1,5 +1,5 @@
-pub mod NothingLeft
 pub mod Ranks
 pub mod Sorted
-pub mod Lasts
 pub mod Caught
+pub mod Joined
+pub mod Noted

@@ -1,29 +1,30 @@
 -- Events in order are those that a stable sort by tick gives.
 use Rattle.std.proofs.Common.{◌≡◌, ℕ, List, [], ◌∷◌, nat_cmp, refl, sym, ap, ◌∙◌, inl, inr}
 use Rattle.std.proofs.lemmas.Bool.{cond-true, cond-false, cases_Bool}
+use Rattle.std.specs.Borrow.{Bor}
 use Rattle.std.specs.Prelude.{map, nat_le}
 use Rattle.std.specs.List.Sorted.{IsNonDecreasingBy, IsStableByKey}
 use Rattle.job_story.specs.Events.{put_in, in_order}
-use Rattle.job_story.specs.Held.{event_of}
 use Rattle.job_story.specs.declared.event.Event.{Event}
+use Rattle.story_causes.specs.Seen.{seen}
 use Rattle.story_text.proofs.Ranks.{put, ranked, put-stays, put-past, ranked_from_sort}
 
-abbrev pub tick_of : Event → ℕ
-tick_of e = e.tick
+abbrev pub tick_of : Bor Event → ℕ
+tick_of e = e.now.tick
 
-map-put : (c : Event) (ds : List Event) → map event_of (put tick_of c ds) ≡ put_in (event_of c) (map event_of ds)
+map-put : (c : Bor Event) (ds : List (Bor Event)) → map seen (put tick_of c ds) ≡ put_in (seen c) (map seen ds)
 map-put c [] = refl
 map-put c (d ∷ ds) =
-    elim (cases_Bool (nat_le c.tick d.tick)) [
-      | inl stays ↦ ap (map event_of) (put-stays tick_of c d ds stays) ∙ sym (cond-true _ _ _ stays)
+    elim (cases_Bool (nat_le c.now.tick d.now.tick)) [
+      | inl stays ↦ ap (map seen) (put-stays tick_of c d ds stays) ∙ sym (cond-true _ _ _ stays)
       | inr past ↦
-          ap (map event_of) (put-past tick_of c d ds past) ∙ ap (λ l. event_of d ∷ l) (map-put c ds) ∙ sym (cond-false _ _ _ past)
+          ap (map seen) (put-past tick_of c d ds past) ∙ ap (λ l. seen d ∷ l) (map-put c ds) ∙ sym (cond-false _ _ _ past)
     ]
 
-map-ranked : (es : List Event) → map event_of (ranked tick_of es) ≡ in_order (map event_of es)
+map-ranked : (es : List (Bor Event)) → map seen (ranked tick_of es) ≡ in_order (map seen es)
 map-ranked [] = refl
-map-ranked (e ∷ es) = map-put e (ranked tick_of es) ∙ ap (put_in (event_of e)) (map-ranked es)
+map-ranked (e ∷ es) = map-put e (ranked tick_of es) ∙ ap (put_in (seen e)) (map-ranked es)
 
-pub in_order_from_sort : (xs ys : List Event) → IsNonDecreasingBy tick_of ys → IsStableByKey tick_of nat_cmp xs ys →
-    map event_of ys ≡ in_order (map event_of xs)
-in_order_from_sort xs ys sorted stable = ap (map event_of) (ranked_from_sort tick_of xs ys sorted stable) ∙ map-ranked xs
+pub in_order_from_sort : (xs ys : List (Bor Event)) → IsNonDecreasingBy tick_of ys → IsStableByKey tick_of nat_cmp xs ys →
+    map seen ys ≡ in_order (map seen xs)
+in_order_from_sort xs ys sorted stable = ap (map seen) (ranked_from_sort tick_of xs ys sorted stable) ∙ map-ranked xs

@@ -1,2 +1,3 @@
-pub mod Leaves
-pub mod Ways
+pub mod Told
+pub mod Lasts
+pub mod Tasks

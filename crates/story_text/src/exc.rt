@@ -1,8 +1,6 @@
-ghost use Rattle.std.specs.Prelude.{◌≡◌, ◌++◌, [], ◌∷◌, OnOk, is_none, decimal, codes};
+ghost use Rattle.std.specs.Prelude.{◌≡◌, ◌++◌, [], ◌∷◌, OnOk, decimal, codes};
 ghost use Rattle.exc_groups.specs.Held.{exc_of, excs_of, whose_of};
-ghost use Rattle.exc_groups.specs.Split.{is_cancelled, drop};
 ghost use Rattle.job_story.specs.Sentences.{exc_text, parts_text, more_text, whose_text};
-ghost use Rattle.story_text.specs.Leaves.{all_cancelled, all_in};
 
 use crate::label::{push_label, push_place};
 use exc_groups::{Exc, Whose};
@@ -66,39 +64,4 @@ fn push_more(out: &mut Vec<u8>, parts: &[Exc]) -> Result<(), AllocError>
         rest = others;
     }
     Ok(())
-}
-
-// Whether every leaf of an exception is `Cancelled`.
-#[tactic(auto, using(crate::proofs::NothingLeft::nothing_left))]
-pub fn is_cancellation(exc: &Exc) -> bool
-    ensures { result ≡ is_none (drop is_cancelled (exc_of exc.now)) }
-{
-    has_no_other(exc)
-}
-
-// Whether every leaf is `Cancelled`, leaf by leaf.
-#[cycle(leaves)]
-fn has_no_other(exc: &Exc) -> bool
-    ensures { result ≡ all_cancelled (exc_of exc.now) }
-{
-    match exc {
-        Exc::Cancelled => true,
-        Exc::Raised { .. } | Exc::TooSlow { .. } => false,
-        Exc::Group { parts, .. } => have_no_other(parts.as_slice()),
-    }
-}
-
-// Whether every leaf of every part is `Cancelled`.
-#[cycle(leaves)]
-fn have_no_other(parts: &[Exc]) -> bool
-    ensures { result ≡ all_in (excs_of parts.now) }
-{
-    let mut rest = parts;
-    'parts: while let Some((part, others)) = rest.split_first() {
-        if !has_no_other(part) {
-            return false;
-        }
-        rest = others;
-    }
-    true
 }

@@ -1,6 +1,4 @@
 ghost use Rattle.std.specs.Prelude.{◌≡◌, ◌++◌, [], ◌∷◌, OnOk, decimal, codes, replicate};
-ghost use Rattle.job_meaning.specs.Log.{same_label};
-ghost use Rattle.job_story.specs.Causes.{is_label};
 ghost use Rattle.job_story.specs.Sentences.{label_text, indices_text, at_text, padded};
 
 use exc_groups::Label;
@@ -66,21 +64,4 @@ fn push_spaces(out: &mut Vec<u8>, count: usize) -> Result<(), AllocError>
         out.push(b' ')?;
     }
     Ok(())
-}
-
-// Whether two labels are the same.
-pub fn is_same(a: &Label, b: &Label) -> bool
-    ensures { result ≡ same_label a.now b.now }
-{
-    a.name() == b.name() && a.indices() == b.indices()
-}
-
-// Whether a label is this one.
-pub fn is_it(label: &Label, other: &Option<Label>) -> bool
-    ensures { result ≡ is_label label.now other.now }
-{
-    match other {
-        None => false,
-        Some(other) => is_same(label, other),
-    }
 }

@@ -1,35 +1,40 @@
 ghost use Rattle.std.specs.Prelude.{◌≡◌, ◌++◌, ◌&&◌, not, [], ◌∷◌, List, IfOk, OnOk, map, codes, decimal};
 ghost use Rattle.exc_groups.specs.Exceptions as tree;
-ghost use Rattle.job_story.specs.Held.{happening_of, what_of, event_of};
+ghost use Rattle.job_story.specs.Held.{happening_of, what_of};
 ghost use Rattle.job_story.specs.Events as told;
-ghost use Rattle.job_story.specs.Froms.{table_in};
-ghost use Rattle.job_story.specs.Limit.{is_end, has_ended, start_if, is_start, running_in, doing_text, last_of, running_text};
-ghost use Rattle.job_story.specs.Limit.{limited_text as text_to};
+ghost use Rattle.job_story.specs.Limit.{has_ended, start_if, is_start, running_in, doing_text, last_of, running_text, kept_text_to};
+ghost use Rattle.story_text.specs.Told.{events_in, froms_in};
+ghost use Rattle.story_text.specs.Tasks.{sorted_in, walked_in};
+ghost use Rattle.story_causes.specs.Seen.{seen};
 
-use crate::label::{is_same, push_label, push_number, push_padded};
+use crate::known::Known;
+use crate::label::{push_label, push_number, push_padded};
 use crate::lines::{label_width, push_lines};
 use crate::sentences::push_until;
+use crate::tasks::Tasks;
 use exc_groups::Label;
-use job_story::{Event, Froms, Happening, What};
+use job_story::{Event, Happening, What};
 use std::alloc::{AllocError, Global};
 
-/// The text of a story up to a limit: of the events up to it, in order (`sorted`) and in the order of the walk (`walked`). A line for
-/// the limit comes after the story, and then one for each task that has not ended, with what it is doing.
-pub fn limited_text(
+/// The text of some events of a story up to a limit, in order (`sorted`) and in the order of the walk (`walked`), with all events up to the
+/// limit in view. A line for the limit comes after the story, and then one for each of their tasks that has not ended, with what it is
+/// doing. Want of memory is the only error.
+pub fn kept_text_to<'e>(
     alloc: Global,
-    sorted: &[Event<'_>],
-    walked: &[Event<'_>],
+    sorted: &[&'e Event<'e>],
+    walked: &[&'e Event<'e>],
     limit: u64,
-    froms: &Froms,
+    known: &Known<'_, '_, '_>,
 ) -> Result<Vec<u8>, AllocError>
     ensures { IfOk result (λ text. text.items
-        ≡ text_to (table_in froms.now) limit (map event_of sorted.now) (map event_of walked.now)) }
+        ≡ kept_text_to (froms_in known.now) limit (events_in known.now) (map seen sorted.now) (map seen walked.now)) }
 {
     let width = label_width(alloc, sorted)?;
     let mut out = Vec::new(alloc);
-    push_lines(&mut out, froms, sorted, width)?;
+    push_lines(&mut out, known, sorted, width)?;
     push_limit(&mut out, limit)?;
-    push_running(&mut out, width, sorted, walked)?;
+    let tasks = Tasks::of(alloc, sorted, walked)?;
+    push_running(&mut out, width, &tasks, walked)?;
     Ok(out)
 }
 
@@ -46,16 +51,14 @@ fn push_limit(out: &mut Vec<u8>, limit: u64) -> Result<(), AllocError>
 fn push_running(
     out: &mut Vec<u8>,
     width: usize,
-    sorted: &[Event<'_>],
-    walked: &[Event<'_>],
+    tasks: &Tasks<'_, '_>,
+    walked: &[&Event<'_>],
 ) -> Result<(), AllocError>
     ensures { OnOk result (out.new.items ≡ out.old.items
-        ++ running_text width (map event_of sorted.now) (running_in (map event_of walked.now) (map event_of walked.now))) }
+        ++ running_text width (sorted_in tasks.now) (running_in (walked_in tasks.now) (map seen walked.now))) }
 {
-    let mut rest = walked;
-    'walked: while let Some((event, others)) = rest.split_first() {
-        push_if_running(out, width, sorted, walked, event)?;
-        rest = others;
+    'walked: for event in walked {
+        push_if_running(out, width, tasks, event)?;
     }
     Ok(())
 }
@@ -64,30 +67,29 @@ fn push_running(
 fn push_if_running(
     out: &mut Vec<u8>,
     width: usize,
-    sorted: &[Event<'_>],
-    walked: &[Event<'_>],
+    tasks: &Tasks<'_, '_>,
     event: &Event<'_>,
 ) -> Result<(), AllocError>
-    ensures { OnOk result ((others : List tree.Label) → out.new.items ++ running_text width (map event_of sorted.now) others
-        ≡ out.old.items ++ running_text width (map event_of sorted.now)
-        (start_if (is_start (what_of event.now.what) && not (has_ended event.now.task (map event_of walked.now))) event.now.task others)) }
+    ensures { OnOk result ((others : List tree.Label) → out.new.items ++ running_text width (sorted_in tasks.now) others
+        ≡ out.old.items ++ running_text width (sorted_in tasks.now)
+        (start_if (is_start (what_of event.now.what) && not (has_ended event.now.task (walked_in tasks.now))) event.now.task others)) }
 {
-    if !is_running(event, walked) {
+    if !is_running(event, tasks) {
         return Ok(());
     }
-    push_task(out, width, sorted, &event.task)?;
+    push_task(out, width, tasks, &event.task)?;
     Ok(())
 }
 
 // Whether an event is the start of a task that has not ended.
-fn is_running(event: &Event<'_>, walked: &[Event<'_>]) -> bool
-    ensures { result ≡ (is_start (what_of event.now.what) && not (has_ended event.now.task (map event_of walked.now))) }
+fn is_running(event: &Event<'_>, tasks: &Tasks<'_, '_>) -> bool
+    ensures { result ≡ (is_start (what_of event.now.what) && not (has_ended event.now.task (walked_in tasks.now))) }
 {
-    is_begin(&event.what) && !ended(&event.task, walked)
+    starts(&event.what) && !tasks.has_ended(&event.task)
 }
 
-// Whether it is the start of a task.
-fn is_begin(what: &What<'_>) -> bool
+// Whether an event is the start of a task.
+fn starts(what: &What<'_>) -> bool
     ensures { result ≡ is_start (what_of what.now) }
 {
     match what {
@@ -97,59 +99,30 @@ fn is_begin(what: &What<'_>) -> bool
     }
 }
 
-// Whether it is the end of a task.
-fn is_last(what: &What<'_>) -> bool
-    ensures { result ≡ is_end (what_of what.now) }
-{
-    match what {
-        What::Starts { .. } => false,
-        What::Happens(_) => false,
-        What::Ends { .. } => true,
-    }
-}
-
-// Whether a task ends in these events.
-fn ended(label: &Label, events: &[Event<'_>]) -> bool
-    ensures { result ≡ has_ended label.now (map event_of events.now) }
-{
-    let mut rest = events;
-    'events: while let Some((event, others)) = rest.split_first() {
-        if is_last(&event.what) && is_same(label, &event.task) {
-            return true;
-        }
-        rest = others;
-    }
-    false
-}
-
 // Appends the line for a task that has not ended.
 fn push_task(
     out: &mut Vec<u8>,
     width: usize,
-    sorted: &[Event<'_>],
+    tasks: &Tasks<'_, '_>,
     label: &Label,
 ) -> Result<(), AllocError>
-    ensures { OnOk result (out.new.items ≡ out.old.items ++ running_text width (map event_of sorted.now) (label.now ∷ [])) }
+    ensures { OnOk result (out.new.items ≡ out.old.items ++ running_text width (sorted_in tasks.now) (label.now ∷ [])) }
 {
     out.extend_from_slice(b"  ")?;
     push_padded(out, width, label)?;
     out.extend_from_slice(b"  ")?;
-    push_last(out, label, sorted)?;
+    push_last(out, label, tasks)?;
     out.extend_from_slice(b"\n")
 }
 
 // Appends what a task is doing, by the last of its events.
-fn push_last(out: &mut Vec<u8>, label: &Label, events: &[Event<'_>]) -> Result<(), AllocError>
-    ensures { OnOk result (out.new.items ≡ out.old.items ++ last_of label.now (map event_of events.now) []) }
+fn push_last(out: &mut Vec<u8>, label: &Label, tasks: &Tasks<'_, '_>) -> Result<(), AllocError>
+    ensures { OnOk result (out.new.items ≡ out.old.items ++ last_of label.now (sorted_in tasks.now) []) }
 {
-    let mut rest = events;
-    'events: while let Some((event, others)) = rest.split_last() {
-        if is_same(label, &event.task) {
-            return push_doing(out, event.tick, &event.what);
-        }
-        rest = others;
-    }
-    Ok(())
+    let Some(event) = tasks.last(label) else {
+        return Ok(());
+    };
+    push_doing(out, event.tick, &event.what)
 }
 
 // Appends what a task is doing after an event: it sleeps, or it waits for a nursery.

@@ -1,37 +1,41 @@
 ghost use Rattle.std.specs.Prelude.{◌≡◌, ◌++◌, [], None, IfOk, OnOk, map, max, codes, decimal};
 ghost use Rattle.job_story.specs.Held.{event_of};
-ghost use Rattle.job_story.specs.Froms.{table_in};
-ghost use Rattle.job_story.specs.Sentences.{widest, tick_text, line_text, lines_text, events_text};
+ghost use Rattle.job_story.specs.Sentences.{widest, tick_text, line_text, lines_text, kept_text};
+ghost use Rattle.story_text.specs.Told.{events_in, froms_in};
+ghost use Rattle.story_causes.specs.Seen.{seen};
 
+use crate::known::Known;
 use crate::label::{push_label, push_number, push_padded};
 use crate::sentences::push_what;
 use crate::ticks::is_tick;
-use job_story::{Event, Froms};
+use job_story::Event;
 use std::alloc::{AllocError, Global};
 
-/// The text of a story, whose events stand in order: a line for each tick in which something happens, and one for each event. `froms`
-/// are the ticks from which scopes and nurseries are cancelled.
-pub fn story_text(alloc: Global, events: &[Event<'_>], froms: &Froms) -> Result<Vec<u8>, AllocError>
-    ensures { IfOk result (λ text. text.items ≡ events_text (table_in froms.now) (map event_of events.now)) }
+/// The text of some events of a story in order, with all of its events in view: a line for each tick in which something happens, and one
+/// for each event. Want of memory is the only error.
+pub fn kept_text(
+    alloc: Global,
+    kept: &[&Event<'_>],
+    known: &Known<'_, '_, '_>,
+) -> Result<Vec<u8>, AllocError>
+    ensures { IfOk result (λ text. text.items ≡ kept_text (froms_in known.now) (events_in known.now) (map seen kept.now)) }
 {
-    let width = label_width(alloc, events)?;
+    let width = label_width(alloc, kept)?;
     let mut out = Vec::new(alloc);
-    push_lines(&mut out, froms, events, width)?;
+    push_lines(&mut out, known, kept, width)?;
     Ok(out)
 }
 
 // The length of the longest label.
-pub fn label_width(alloc: Global, events: &[Event<'_>]) -> Result<usize, AllocError>
-    ensures { IfOk result (λ width. width ≡ widest (map event_of events.now)) }
+pub fn label_width(alloc: Global, events: &[&Event<'_>]) -> Result<usize, AllocError>
+    ensures { IfOk result (λ width. width ≡ widest (map seen events.now)) }
 {
     let mut width: usize = 0;
     let mut text = Vec::new(alloc);
-    let mut rest = events;
-    'events: while let Some((event, others)) = rest.split_first() {
+    'events: for event in events {
         text.clear();
         push_label(&mut text, &event.task)?;
         width = width.max(text.len());
-        rest = others;
     }
     Ok(width)
 }
@@ -39,20 +43,18 @@ pub fn label_width(alloc: Global, events: &[Event<'_>]) -> Result<usize, AllocEr
 // Appends the lines for all events, each after the line for its tick where the one before it is of another tick.
 pub fn push_lines(
     out: &mut Vec<u8>,
-    froms: &Froms,
-    events: &[Event<'_>],
+    known: &Known<'_, '_, '_>,
+    events: &[&Event<'_>],
     width: usize,
 ) -> Result<(), AllocError>
     ensures { OnOk result (out.new.items
-        ≡ out.old.items ++ lines_text (table_in froms.now) (map event_of events.now) width None (map event_of events.now)) }
+        ≡ out.old.items ++ lines_text (froms_in known.now) (events_in known.now) width None (map seen events.now)) }
 {
     let mut before = None;
-    let mut rest = events;
-    'events: while let Some((event, others)) = rest.split_first() {
+    'events: for event in events {
         push_tick(out, before, event.tick)?;
-        push_line(out, froms, events, width, event)?;
+        push_line(out, known, width, event)?;
         before = Some(event.tick);
-        rest = others;
     }
     Ok(())
 }
@@ -72,17 +74,16 @@ fn push_tick(out: &mut Vec<u8>, before: Option<u64>, tick: u64) -> Result<(), Al
 // Appends the line for an event.
 fn push_line(
     out: &mut Vec<u8>,
-    froms: &Froms,
-    events: &[Event<'_>],
+    known: &Known<'_, '_, '_>,
     width: usize,
     event: &Event<'_>,
 ) -> Result<(), AllocError>
     ensures { OnOk result (out.new.items
-        ≡ out.old.items ++ line_text (table_in froms.now) (map event_of events.now) width (event_of event.now)) }
+        ≡ out.old.items ++ line_text (froms_in known.now) (events_in known.now) width (event_of event.now)) }
 {
     out.extend_from_slice(b"  ")?;
     push_padded(out, width, &event.task)?;
     out.extend_from_slice(b"  ")?;
-    push_what(out, froms, events, event)?;
+    push_what(out, known, event)?;
     out.extend_from_slice(b"\n")
 }

@@ -1,41 +1,40 @@
-ghost use Rattle.std.specs.Prelude.{◌≡◌, ◌==◌, ◌++◌, [], ◌∷◌, Some, None, OnOk, map, codes, decimal, if◌then◌else◌};
+ghost use Rattle.std.specs.Prelude.{◌≡◌, ◌++◌, [], Some, None, OnOk, codes, decimal};
 ghost use Rattle.std.specs.Option.{option_map};
 ghost use Rattle.exc_groups.specs.Held.{exc_of};
 ghost use Rattle.exc_groups.specs.Split.{is_cancelled, drop};
-ghost use Rattle.job_story.specs.Held.{kind_of, happening_of, what_of, event_of};
-ghost use Rattle.job_story.specs.Froms.{table_in};
-ghost use Rattle.job_story.specs.Causes.{entering_of, cause_of};
-ghost use Rattle.job_story.specs.Sentences.{label_text, exc_text, kind_text, with_exc, entering_text, until_text, since_text, cleanup_text, entered_text, count_text, caught_text, leaving_text, end_text, sign_text, cancel_text, cancelled_text, happening_text, home_text, what_text};
-ghost use Rattle.story_text.specs.Ways.{told_entering};
+ghost use Rattle.job_story.specs.Held.{boxed, kind_of, happening_of, what_of};
+ghost use Rattle.job_story.specs.Sentences.{label_text, exc_text, kind_text, with_exc, entering_text, until_text, since_text, cleanup_text, cause_text, entered_text, count_text, caught_text, leaving_text, end_text, sign_text, cancel_text, cancelled_text, happening_text, home_text, what_text};
+ghost use Rattle.story_causes.specs.Found.{entering_in_code, cause_in_code};
+ghost use Rattle.story_text.specs.Told.{events_in, froms_in};
 
-use crate::causes::{Entering, first_entering, push_cause};
-use crate::exc::{is_cancellation, push_exc};
+use crate::exc::push_exc;
+use crate::known::Known;
 use crate::label::{push_label, push_number};
 use crate::ticks::next_from;
 use exc_groups::{Exc, Label};
-use job_story::{Event, Froms, Happening, Kind, What};
+use job_story::{Event, Happening, Kind, What};
 use std::alloc::AllocError;
+use story_causes::{Cause, Entering, is_cancellation};
 
 // Appends the sentence of an event.
 pub fn push_what(
     out: &mut Vec<u8>,
-    froms: &Froms,
-    events: &[Event<'_>],
+    known: &Known<'_, '_, '_>,
     event: &Event<'_>,
 ) -> Result<(), AllocError>
     ensures { OnOk result (out.new.items
-        ≡ out.old.items ++ what_text (table_in froms.now) (map event_of events.now) event.now.tick (what_of event.now.what)) }
+        ≡ out.old.items ++ what_text (froms_in known.now) (events_in known.now) event.now.tick (what_of event.now.what)) }
 {
     match &event.what {
         What::Starts { home, .. } => {
             out.extend_from_slice(b"starts")?;
             push_home(out, home)
         }
-        What::Happens(happening) => push_happening(out, froms, events, event.tick, happening),
+        What::Happens(happening) => push_happening(out, known, event.tick, happening),
         What::Ends { home, exc } => {
             out.extend_from_slice(b"ends: ")?;
             push_end(out, exc)?;
-            push_home_sign(out, froms, home, exc, event.tick)
+            push_home_sign(out, known, home, exc, event.tick)
         }
     }
 }
@@ -43,13 +42,12 @@ pub fn push_what(
 // Appends the sentence of what happens to a task between its start and its end.
 fn push_happening(
     out: &mut Vec<u8>,
-    froms: &Froms,
-    events: &[Event<'_>],
+    known: &Known<'_, '_, '_>,
     tick: u64,
     happening: &Happening<'_>,
 ) -> Result<(), AllocError>
     ensures { OnOk result (out.new.items
-        ≡ out.old.items ++ happening_text (table_in froms.now) (map event_of events.now) tick (happening_of happening.now)) }
+        ≡ out.old.items ++ happening_text (froms_in known.now) (events_in known.now) tick (happening_of happening.now)) }
 {
     match happening {
         Happening::Enters {
@@ -70,7 +68,7 @@ fn push_happening(
             out.extend_from_slice(b"is cancelled")?;
             push_cleanup(out, *in_cleanup)?;
             push_since(out, *since)?;
-            push_by(out, froms, events, by)
+            push_by(out, known, by)
         }
         Happening::Finds { lines } => push_finds(out, lines.len()),
         Happening::Misses { name } => {
@@ -81,14 +79,14 @@ fn push_happening(
             out.extend_from_slice(b"raises ")?;
             out.extend_from_slice(name.bytes())
         }
-        Happening::Cancels { label } => push_cancels(out, froms, events, label, tick),
+        Happening::Cancels { label } => push_cancels(out, known, label, tick),
         Happening::Handles { matched, rest } => push_handles(out, matched, rest),
         Happening::Cleans { exc } => {
             out.extend_from_slice(b"runs cleanup")?;
             push_after(out, exc)
         }
         Happening::Replaces { lost, fresh } => push_replaces(out, lost, fresh),
-        Happening::Waits { nursery, exc } => push_waits(out, froms, nursery, exc, tick),
+        Happening::Waits { nursery, exc } => push_waits(out, known, nursery, exc, tick),
         Happening::Leaves {
             kind,
             label,
@@ -190,24 +188,49 @@ fn push_since(out: &mut Vec<u8>, since: Option<u64>) -> Result<(), AllocError>
 }
 
 // Appends by which scope or nursery a task is cancelled, and why that is cancelled.
-fn push_by(
-    out: &mut Vec<u8>,
-    froms: &Froms,
-    events: &[Event<'_>],
-    by: &Option<Label>,
-) -> Result<(), AllocError>
-    ensures { OnOk result (out.new.items ≡ out.old.items ++ cancelled_text (table_in froms.now) (map event_of events.now) by.now) }
+fn push_by(out: &mut Vec<u8>, known: &Known<'_, '_, '_>, by: &Option<Label>) -> Result<(), AllocError>
+    ensures { OnOk result (out.new.items ≡ out.old.items ++ cancelled_text (froms_in known.now) (events_in known.now) by.now) }
 {
     let Some(label) = by else {
         return Ok(());
     };
-    let entering = first_entering(label, events);
     out.extend_from_slice(b" by ")?;
-    push_entered(out, entering, label)?;
-    let Some(from) = froms.of(label) else {
+    push_entered(out, known.entering(label), label)?;
+    let Some(cause) = known.cause(label) else {
         return Ok(());
     };
-    push_cause(out, entering, label, from, events)
+    push_cause(out, &cause)
+}
+
+// Appends why a scope or nursery is cancelled.
+fn push_cause(out: &mut Vec<u8>, cause: &Cause<'_>) -> Result<(), AllocError>
+    ensures { OnOk result (out.new.items ≡ out.old.items ++ cause_text (Some (cause_in_code cause.now))) }
+{
+    match cause {
+        Cause::Deadline => out.extend_from_slice(b" (deadline)"),
+        Cause::Task { task, tick } => push_act(out, b" (cancelled by ", task, b" at ", *tick),
+        Cause::Failure { task, tick } => push_act(out, b" (", task, b" failed at ", *tick),
+        Cause::Cancellation { task, tick } => {
+            push_act(out, b" (", task, b" was cancelled at ", *tick)
+        }
+    }
+}
+
+// Appends the task and the tick of a cause between words, and a bracket.
+fn push_act(
+    out: &mut Vec<u8>,
+    before: &[u8],
+    task: &Label,
+    between: &[u8],
+    tick: u64,
+) -> Result<(), AllocError>
+    ensures { OnOk result (out.new.items ≡ out.old.items ++ (before.now ++ label_text task.now ++ between.now ++ decimal tick ++ codes ")")) }
+{
+    out.extend_from_slice(before)?;
+    push_label(out, task)?;
+    out.extend_from_slice(between)?;
+    push_number(out, tick)?;
+    out.extend_from_slice(b")")
 }
 
 // Appends a label, after the word for what it is where that is known.
@@ -216,7 +239,7 @@ fn push_entered(
     entering: Option<Entering>,
     label: &Label,
 ) -> Result<(), AllocError>
-    ensures { OnOk result (out.new.items ≡ out.old.items ++ entered_text (option_map told_entering entering) label.now) }
+    ensures { OnOk result (out.new.items ≡ out.old.items ++ entered_text (option_map entering_in_code entering) label.now) }
 {
     let Some(entering) = entering else {
         return push_label(out, label);
@@ -241,19 +264,18 @@ fn push_finds(out: &mut Vec<u8>, count: usize) -> Result<(), AllocError>
 // Appends what a task cancels, and from when on, unless that is cancelled already.
 fn push_cancels(
     out: &mut Vec<u8>,
-    froms: &Froms,
-    events: &[Event<'_>],
+    known: &Known<'_, '_, '_>,
     label: &Option<Label>,
     tick: u64,
 ) -> Result<(), AllocError>
-    ensures { OnOk result (out.new.items ≡ out.old.items ++ cancel_text (table_in froms.now) (map event_of events.now) label.now tick) }
+    ensures { OnOk result (out.new.items ≡ out.old.items ++ cancel_text (froms_in known.now) (events_in known.now) label.now tick) }
 {
     let Some(label) = label else {
         return Ok(());
     };
     out.extend_from_slice(b"cancels ")?;
-    push_entered(out, first_entering(label, events), label)?;
-    let Some(from) = next_from(froms, label, tick) else {
+    push_entered(out, known.entering(label), label)?;
+    let Some(from) = next_from(known, label, tick) else {
         return out.extend_from_slice(b", which is cancelled already");
     };
     out.extend_from_slice(b" from ")?;
@@ -261,9 +283,9 @@ fn push_cancels(
 }
 
 // Appends what a handler handles, and what is left of the exception.
-fn push_handles(out: &mut Vec<u8>, matched: &Exc, rest: &Option<Exc>) -> Result<(), AllocError>
+fn push_handles(out: &mut Vec<u8>, matched: &Exc, rest: &Option<Box<Exc>>) -> Result<(), AllocError>
     ensures { OnOk result (out.new.items ≡ out.old.items
-        ++ (codes "handles " ++ exc_text (exc_of matched.now) ++ with_exc (codes ", ") (option_map exc_of rest.now) (codes " propagates"))) }
+        ++ (codes "handles " ++ exc_text (exc_of matched.now) ++ with_exc (codes ", ") (boxed rest.now) (codes " propagates"))) }
 {
     out.extend_from_slice(b"handles ")?;
     push_exc(out, matched)?;
@@ -276,8 +298,8 @@ fn push_handles(out: &mut Vec<u8>, matched: &Exc, rest: &Option<Exc>) -> Result<
 }
 
 // Appends the exception after which something begins, if there is one.
-fn push_after(out: &mut Vec<u8>, exc: &Option<Exc>) -> Result<(), AllocError>
-    ensures { OnOk result (out.new.items ≡ out.old.items ++ with_exc (codes " after ") (option_map exc_of exc.now) []) }
+fn push_after(out: &mut Vec<u8>, exc: &Option<Box<Exc>>) -> Result<(), AllocError>
+    ensures { OnOk result (out.new.items ≡ out.old.items ++ with_exc (codes " after ") (boxed exc.now) []) }
 {
     let Some(exc) = exc else {
         return Ok(());
@@ -300,36 +322,36 @@ fn push_replaces(out: &mut Vec<u8>, lost: &Exc, fresh: &Exc) -> Result<(), Alloc
 // Appends that a task waits for its children.
 fn push_waits(
     out: &mut Vec<u8>,
-    froms: &Froms,
+    known: &Known<'_, '_, '_>,
     nursery: &Label,
-    exc: &Option<Exc>,
+    exc: &Option<Box<Exc>>,
     tick: u64,
 ) -> Result<(), AllocError>
     ensures { OnOk result (out.new.items ≡ out.old.items
-        ++ (codes "waits for nursery " ++ label_text nursery.now ++ with_exc (codes " after ") (option_map exc_of exc.now) []
-        ++ sign_text (table_in froms.now) (Some nursery.now) (option_map exc_of exc.now) tick)) }
+        ++ (codes "waits for nursery " ++ label_text nursery.now ++ with_exc (codes " after ") (boxed exc.now) []
+        ++ sign_text (froms_in known.now) (Some nursery.now) (boxed exc.now) tick)) }
 {
     out.extend_from_slice(b"waits for nursery ")?;
     push_label(out, nursery)?;
     push_after(out, exc)?;
-    push_sign(out, froms, nursery, exc, tick)
+    push_sign(out, known, nursery, exc, tick)
 }
 
 // Appends that the nursery is cancelled from the next tick on, if it is, where a task or its body ends with an exception.
 fn push_sign(
     out: &mut Vec<u8>,
-    froms: &Froms,
+    known: &Known<'_, '_, '_>,
     nursery: &Label,
-    exc: &Option<Exc>,
+    exc: &Option<Box<Exc>>,
     tick: u64,
 ) -> Result<(), AllocError>
     ensures { OnOk result (out.new.items
-        ≡ out.old.items ++ sign_text (table_in froms.now) (Some nursery.now) (option_map exc_of exc.now) tick) }
+        ≡ out.old.items ++ sign_text (froms_in known.now) (Some nursery.now) (boxed exc.now) tick) }
 {
     let Some(_) = exc else {
         return Ok(());
     };
-    let Some(from) = next_from(froms, nursery, tick) else {
+    let Some(from) = next_from(known, nursery, tick) else {
         return Ok(());
     };
     out.extend_from_slice(b"; nursery ")?;
@@ -341,18 +363,18 @@ fn push_sign(
 // The same of the nursery in which a task was started, if it was.
 fn push_home_sign(
     out: &mut Vec<u8>,
-    froms: &Froms,
+    known: &Known<'_, '_, '_>,
     home: &Option<Label>,
-    exc: &Option<Exc>,
+    exc: &Option<Box<Exc>>,
     tick: u64,
 ) -> Result<(), AllocError>
     ensures { OnOk result (out.new.items
-        ≡ out.old.items ++ sign_text (table_in froms.now) home.now (option_map exc_of exc.now) tick) }
+        ≡ out.old.items ++ sign_text (froms_in known.now) home.now (boxed exc.now) tick) }
 {
     let Some(nursery) = home else {
         return Ok(());
     };
-    push_sign(out, froms, nursery, exc, tick)
+    push_sign(out, known, nursery, exc, tick)
 }
 
 // Appends what a task leaves.
@@ -369,12 +391,12 @@ fn push_leaves(out: &mut Vec<u8>, kind: Kind, label: &Label) -> Result<(), Alloc
 // Appends with what a scope or nursery is left: that its inside completed, or its exception, and whether it caught a cancellation.
 fn push_leaving(
     out: &mut Vec<u8>,
-    inside: &Option<Exc>,
+    inside: &Option<Box<Exc>>,
     caught: bool,
-    outside: &Option<Exc>,
+    outside: &Option<Box<Exc>>,
 ) -> Result<(), AllocError>
     ensures { OnOk result (out.new.items
-        ≡ out.old.items ++ leaving_text (option_map exc_of inside.now) caught (option_map exc_of outside.now)) }
+        ≡ out.old.items ++ leaving_text (boxed inside.now) caught (boxed outside.now)) }
 {
     let Some(inside) = inside else {
         return out.extend_from_slice(b"completed");
@@ -388,9 +410,13 @@ fn push_leaving(
 }
 
 // Appends what goes on where a cancellation was caught: what is left, or a `TooSlow` where nothing is.
-fn push_caught(out: &mut Vec<u8>, inside: &Exc, outside: &Option<Exc>) -> Result<(), AllocError>
+fn push_caught(
+    out: &mut Vec<u8>,
+    inside: &Exc,
+    outside: &Option<Box<Exc>>,
+) -> Result<(), AllocError>
     ensures { OnOk result (out.new.items
-        ≡ out.old.items ++ caught_text (drop is_cancelled (exc_of inside.now)) (option_map exc_of outside.now)) }
+        ≡ out.old.items ++ caught_text (drop is_cancelled (exc_of inside.now)) (boxed outside.now)) }
 {
     let Some(outside) = outside else {
         return Ok(());
@@ -405,12 +431,19 @@ fn push_caught(out: &mut Vec<u8>, inside: &Exc, outside: &Option<Exc>) -> Result
 }
 
 // Appends how a task ended.
-fn push_end(out: &mut Vec<u8>, exc: &Option<Exc>) -> Result<(), AllocError>
-    ensures { OnOk result (out.new.items ≡ out.old.items ++ end_text (option_map exc_of exc.now)) }
+fn push_end(out: &mut Vec<u8>, exc: &Option<Box<Exc>>) -> Result<(), AllocError>
+    ensures { OnOk result (out.new.items ≡ out.old.items ++ end_text (boxed exc.now)) }
 {
     let Some(exc) = exc else {
         return out.extend_from_slice(b"done");
     };
+    push_outcome(out, exc)
+}
+
+// Appends how a task ended that ended with an exception.
+fn push_outcome(out: &mut Vec<u8>, exc: &Exc) -> Result<(), AllocError>
+    ensures { OnOk result (out.new.items ≡ out.old.items ++ end_text (Some (exc_of exc.now))) }
+{
     match exc {
         Exc::Cancelled => out.extend_from_slice(b"cancelled"),
         Exc::Raised { .. } | Exc::TooSlow { .. } | Exc::Group { .. } => {

@@ -1,9 +1,9 @@
-ghost use Rattle.std.specs.Prelude.{◌≡◌, ◌+◌, ◌==◌, true, IfSome, is_some};
+ghost use Rattle.std.specs.Prelude.{◌≡◌, ◌+◌, IfSome, is_some};
 ghost use Rattle.job_story.specs.Tell.{is_from};
-ghost use Rattle.job_story.specs.Froms.{table_in};
+ghost use Rattle.story_text.specs.Told.{froms_in};
 
+use crate::known::Known;
 use exc_groups::Label;
-use job_story::Froms;
 
 // Whether a tick that may never come is this one.
 pub fn is_tick(from: Option<u64>, tick: u64) -> bool
@@ -15,22 +15,15 @@ pub fn is_tick(from: Option<u64>, tick: u64) -> bool
     }
 }
 
-// Whether the second tick is the one after the first.
-pub fn is_next(tick: u64, from: u64) -> bool
-    ensures { result ≡ (tick + 1 == from) }
-{
-    tick < from && from - tick == 1
-}
-
 // The tick after this one, where a scope or nursery is cancelled from then on.
-pub fn next_from(froms: &Froms, label: &Label, tick: u64) -> Option<u64>
+pub fn next_from(known: &Known<'_, '_, '_>, label: &Label, tick: u64) -> Option<u64>
     ensures value { IfSome result (λ from. from ≡ tick + 1) }
-    ensures some { is_some result ≡ is_from (table_in froms.now label.now) (tick + 1) }
+    ensures some { is_some result ≡ is_from (froms_in known.now label.now) (tick + 1) }
 {
-    let Some(from) = froms.of(label) else {
+    let Some(from) = known.from(label) else {
         return None;
     };
-    if is_next(tick, from) {
+    if tick < from && from - tick == 1 {
         Some(from)
     } else {
         None

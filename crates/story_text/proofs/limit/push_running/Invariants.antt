@@ -1,13 +1,12 @@
-use Rattle.std.proofs.Common.{◌≡◌, ◌++◌, length}
+use Rattle.std.proofs.Common.{◌≡◌, ◌++◌, drop}
 use Rattle.std.specs.Prelude.{map}
-use Rattle.job_story.specs.Held.{event_of}
+use Rattle.story_causes.specs.Seen.{seen}
 use Rattle.job_story.specs.Limit.{running_in, running_text}
+use Rattle.story_text.specs.Tasks.{sorted_in, walked_in}
 use Rattle.story_text.proofs.limit.push_running.Given as goal
 
 abbrev pub invariant-walked : goal.invariant-walked
 invariant-walked l =
-    l.out.items ++ running_text l.width (map event_of l.sorted) (running_in (map event_of l.walked) (map event_of l.rest))
-    ≡ l.fn.out.items ++ running_text l.width (map event_of l.sorted) (running_in (map event_of l.walked) (map event_of l.walked))
-
-abbrev pub decreases-walked : goal.decreases-walked
-decreases-walked l = length l.rest
+    l.out.items
+    ++ running_text l.width (sorted_in l.tasks) (running_in (walked_in l.tasks) (map seen (drop l.event-index l.walked)))
+    ≡ l.fn.out.items ++ running_text l.width (sorted_in l.tasks) (running_in (walked_in l.tasks) (map seen l.walked))

@@ -1,0 +1,53 @@
+ghost use Rattle.std.specs.Prelude.{◌≡◌, map};
+ghost use Rattle.std.specs.Option.{option_map};
+ghost use Rattle.job_story.specs.Causes.{entering_of, cause_of};
+ghost use Rattle.job_story.specs.Froms.{table_in};
+ghost use Rattle.story_causes.specs.Found.{entering_in_code, cause_in_code};
+ghost use Rattle.story_causes.specs.Knows.{Knows};
+ghost use Rattle.story_causes.specs.Seen.{seen};
+ghost use Rattle.story_text.specs.Told.{events_in, froms_in};
+
+use crate::known::Known;
+use exc_groups::Label;
+use job_story::{Event, Froms};
+use story_causes::{Cause, Causes, Entering};
+
+impl<'k, 'e, 'a> Known<'k, 'e, 'a> {
+    /// What is known by an index of these events and this table.
+    pub fn new(
+        events: &'k [&'e Event<'a>],
+        froms: &'k Froms,
+        causes: &'k Causes<'e>,
+    ) -> Known<'k, 'e, 'a>
+        requires { Knows causes.now (table_in froms.now) (map seen events.now) }
+        ensures events { events_in result ≡ map seen events.now }
+        ensures froms { froms_in result ≡ table_in froms.now }
+    {
+        Known {
+            events,
+            froms,
+            causes,
+        }
+    }
+
+    // How a scope or nursery was first entered: none where it never was.
+    pub(crate) fn entering(&self, label: &Label) -> Option<Entering>
+        ensures { option_map entering_in_code result ≡ entering_of label.now (events_in self.now) }
+    {
+        self.causes.entering(label)
+    }
+
+    // Why it is cancelled: none where it never is.
+    pub(crate) fn cause(&self, label: &Label) -> Option<Cause<'e>>
+        ensures { option_map cause_in_code result ≡ cause_of (froms_in self.now) (events_in self.now) label.now }
+    {
+        self.causes.cause(label)
+    }
+
+    // From which tick it is cancelled: none is never.
+    pub(crate) fn from(&self, label: &Label) -> Option<u64>
+        ensures { result ≡ froms_in self.now label.now }
+    {
+        self.froms.of(label)
+    }
+}

@@ -1,0 +1,17 @@
+ghost use Rattle.std.specs.Prelude.{map};
+ghost use Rattle.job_story.specs.Froms.{table_in};
+ghost use Rattle.story_causes.specs.Knows.{Knows};
+ghost use Rattle.story_causes.specs.Seen.{seen};
+
+use job_story::{Event, Froms};
+use story_causes::Causes;
+
+/// The events of a story in order, from which tick its scopes and nurseries are cancelled, and the index of both: what the sentences of
+/// the story are written by.
+#[derive(Drop)]
+pub struct Known<'k, 'e, 'a> {
+    pub(crate) events: &'k [&'e Event<'a>],
+    pub(crate) froms: &'k Froms,
+    pub(crate) causes: &'k Causes<'e>,
+    ghost known: { Knows causes.now (table_in froms.now) (map seen events.now) },
+}
