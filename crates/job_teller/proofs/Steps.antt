@@ -1,6 +1,7 @@
 -- The telling of a block's steps, one by one.
-use Rattle.std.proofs.Common.{◌≡◌, ℕ, zero, suc, ◌+◌, ◌*◌, ◌≤◌, ◌<◌, true, false, List, [], ◌∷◌, length, drop, get_or, refl, ap, sym, subst, ◌∙◌, arith}
+use Rattle.std.proofs.Common.{◌≡◌, ℕ, zero, suc, ◌+◌, ◌*◌, ◌≤◌, ◌<◌, true, false, Option, Some, None, List, [], ◌∷◌, length, drop, get_or, refl, ap, sym, subst, ◌∙◌, arith}
 use Rattle.std.specs.Option.{is_some}
+use Rattle.job_tree.specs.Tree as tree
 use Rattle.job_tree.specs.Tree.{Step, Steps, stop, step, Handled}
 use Rattle.job_tree.specs.Blocks.{step_of, steps_of}
 use Rattle.job_tree.specs.Modest.{AreModest, IsModestStep, IsModestHandler}
@@ -14,7 +15,7 @@ use Rattle.job_story.specs.declared.event.Event as held
 use Rattle.job_story.proofs.Erasing.{tell_is, step_is, handler_is}
 use Rattle.job_teller.specs.declared.here.Here.{Here}
 use Rattle.job_teller.specs.declared.told.Told.{Told}
-use Rattle.job_teller.specs.Heres.{HasRoom, scene_of, scopes_of, table_of}
+use Rattle.job_teller.specs.Heres.{HasRoom, scene_of, scopes_of, started_by, table_of}
 use Rattle.job_teller.specs.Tales.{IsTold, Tells}
 use Rattle.job_meaning.proofs.Ends.{EndsBy, ends_step, ends_by, ends_handler}
 use Rattle.job_teller.proofs.Going.{Going, going_start, going_failed, going_next, going_stop}
@@ -127,3 +128,10 @@ pub at_stop : (h : Here) (t : ℕ) (all : Steps) (start : List held.Event) (w : 
     Tells h.task.now start w now (tell (table_of h) all (scene_of h) (scopes_of h) t)
 unfolding tell
 at_stop h t all start w now at = going_stop h.task.now start now w _ _ at.going (λ y. refl)
+
+-- a `start` is told with what it starts
+pub start_is : (h : Here) (name : List ℕ) (over : Option ℕ) (body : Steps) (t : ℕ) →
+    started_by name over body h t ≡ tell_step (table_of h) (tree.start name over body) (scene_of h) (scopes_of h) t
+unfolding tell
+start_is h name None body t = refl
+start_is h name (Some k) body t = refl

@@ -1,18 +1,20 @@
 -- Where a walk of the code is, as the meaning has it, and what it tells there.
-use Rattle.std.specs.Prelude.{ℕ, Bool, ◌+◌, ◌*◌, ◌≤◌, List, length}
+use Rattle.std.specs.Prelude.{ℕ, Bool, Option, Some, None, ◌+◌, ◌*◌, ◌≤◌, List, length}
 use Rattle.buffer_parts.specs.Lines.{Range}
 use Rattle.buffer_parts.specs.Part.{buffer_of, range_of}
 use Rattle.buffer_parts.specs.Cuts.{cut_of}
 use Rattle.cancel_scopes.specs.Sight.{Tick}
 use Rattle.exc_groups.specs.Exceptions.{Label}
-use Rattle.job_tree.specs.Tree.{Steps}
+use Rattle.job_tree.specs.Tree.{Step, scope, nursery, start, repeat, attempt, Steps}
 use Rattle.job_meaning.specs.declared.limits.TheConstants.{MOST_INPUT}
 use Rattle.job_meaning.specs.Log.{Table}
 use Rattle.job_meaning.specs.Walk as meaning
 use Rattle.job_meaning.specs.Walk.{Kind, a_scope, a_nursery, within, here_in, home_of, in_pass, label_here, label_over}
 use Rattle.job_story.specs.Froms.{table_in}
 use Rattle.job_story.specs.Story.{Tale}
-use Rattle.job_story.specs.Tell.{Scene, at_place, tell, tell_child, tell_gathered, tell_wait}
+use Rattle.job_story.specs.declared.event.Kind as held
+use Rattle.job_story.specs.Tell.{Scene, at_place, tell, tell_child, tell_each, tell_gathered, tell_wait}
+use Rattle.job_teller.specs.declared.block.Block.{Block}
 use Rattle.job_teller.specs.declared.here.Here.{Here}
 use Rattle.job_teller.specs.Stacks.{stack_of}
 
@@ -35,6 +37,17 @@ table_of h = table_in h.froms.now
 abbrev pub label_in : List ℕ → Here → Label
 label_in name h = label_here name (here_of h)
 
+-- the scope or nursery of that name that is entered here
+abbrev pub block_in : held.Kind → List ℕ → Tick → Bool → Here → Block
+block_in kind name deadline shield h =
+    record {
+      kind = kind;
+      label = label_in name h;
+      deadline = deadline;
+      shield = shield;
+      from = table_of h (label_in name h);
+    }
+
 -- the inside of a block that is cancelled from a tick on
 abbrev pub inside : Kind → Label → Bool → Steps → Here → ℕ → Tick → Tale
 inside (a_scope fail) label shield body h t from = tell (table_of h) body (scene_of h) (within label shield from (scopes_of h)) t
@@ -54,6 +67,11 @@ started label lent body h t =
 abbrev pub started_over : List ℕ → ℕ → Steps → Here → ℕ → ℕ → Tale
 started_over name k body h t i = started (label_over name (here_of h) i) (cut_of (input_of h) (range_of h.part) k i) body h t
 
+-- what a `start` starts
+abbrev pub started_by : List ℕ → Option ℕ → Steps → Here → ℕ → Tale
+started_by name None body h t = started (label_in name h) (range_of h.part) body h t
+started_by name (Some k) body h t = tell_each k (started_over name k body h t) t
+
 -- a pass of a `repeat`
 abbrev pub pass : Steps → Here → ℕ → ℕ → Tale
 pass body h i t = tell (table_of h) body (at_place (in_pass i (here_of h)) (scene_of h)) (scopes_of h) t
@@ -62,3 +80,12 @@ pass body h i t = tell (table_of h) body (at_place (in_pass i (here_of h)) (scen
 pub record HasRoom (size : ℕ) (h : Here) (t : ℕ) : Type 0 where
   pub room : t + size * 1099511627776 ≤ 4611686018427387904
   pub small : length (input_of h) ≤ MOST_INPUT
+
+-- a step with no block of steps in it
+abbrev pub IsLeaf : Step → Type 0
+IsLeaf (scope name deadline shield fail body) = ⊥
+IsLeaf (nursery name deadline shield body) = ⊥
+IsLeaf (start name over body) = ⊥
+IsLeaf (repeat count body) = ⊥
+IsLeaf (attempt body handler cleanup) = ⊥
+IsLeaf _ = Unit {0}

@@ -1,10 +1,11 @@
 ghost use Rattle.std.specs.Prelude.{◌≡◌, IfOk};
-ghost use Rattle.job_teller.specs.Heres.{label_in};
+ghost use Rattle.job_teller.specs.Heres.{label_in, block_in};
 
+use crate::block::Block;
 use crate::stack::Stack;
 use buffer_parts::Part;
 use exc_groups::Label;
-use job_story::Froms;
+use job_story::{Froms, Kind};
 use job_tree::Name;
 use std::alloc::{AllocError, Global};
 
@@ -33,5 +34,25 @@ impl<'a, 's> Here<'a, 's> {
         ensures { IfOk result (λ label. label ≡ label_in name self.now) }
     {
         self.place.named(self.alloc, name)
+    }
+    /// The scope or nursery of that name that is entered here.
+    pub(crate) fn block(
+        &self,
+        kind: Kind,
+        name: Name,
+        deadline: Option<u64>,
+        shield: bool,
+    ) -> Result<Block, AllocError>
+        ensures { IfOk result (λ block. block ≡ block_in kind name deadline shield self.now) }
+    {
+        let label = self.label_here(name)?;
+        let from = self.froms.of(&label);
+        Ok(Block {
+            kind,
+            label,
+            deadline,
+            shield,
+            from,
+        })
     }
 }

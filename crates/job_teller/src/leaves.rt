@@ -3,9 +3,11 @@ ghost use Rattle.buffer_parts.specs.Part.{range_of, span_of};
 ghost use Rattle.line_kernels.specs.Kernels.{found_in, head_of, longest_in, needed_in, count_in};
 ghost use Rattle.job_meaning.specs.declared.limits.TheConstants.{MOST_INPUT};
 ghost use Rattle.job_meaning.specs.Walk.{paced, due, label_on};
-ghost use Rattle.job_story.specs.Tell.{tell_sleep, tell_lines, tell_need, tell_raise, tell_cancel};
-ghost use Rattle.job_tree.specs.Modest.{IsModestDeadline};
-ghost use Rattle.job_teller.specs.Heres.{input_of, scopes_of};
+ghost use Rattle.job_story.specs.Tell.{tell_step, tell_sleep, tell_lines, tell_need, tell_raise, tell_cancel};
+ghost use Rattle.job_tree.specs.Blocks.{step_of};
+ghost use Rattle.job_tree.specs.Modest.{IsModestStep, IsModestDeadline};
+ghost use Rattle.job_tree.specs.Names.{size_in};
+ghost use Rattle.job_teller.specs.Heres.{HasRoom, IsLeaf, input_of, scene_of, scopes_of, table_of};
 ghost use Rattle.job_teller.specs.Tales.{Tells};
 
 use crate::excs::copied;
@@ -14,9 +16,40 @@ use crate::notes::{note, note_cancelled, note_sleep};
 use crate::told::Told;
 use exc_groups::Exc;
 use job_story::{Event, Happening};
-use job_tree::{Deadline, Name, Text};
+use job_tree::{Deadline, Name, Step, Text};
 use line_kernels::{Answer, FoundLines, Kernel, answer};
 use std::alloc::AllocError;
+
+/// The tick to which `forever` sleeps.
+const FAR: u64 = 1_099_511_627_776;
+
+/// Tells a step that has no block of steps in it.
+pub(crate) fn tell_leaf<'a>(
+    step: &'a Step,
+    here: Here<'a, '_>,
+    tick: u64,
+    events: &mut Vec<Event<'a>>,
+) -> Result<Told, AllocError>
+    requires leaf { IsLeaf (step_of step.now) }
+    requires modest { IsModestStep (step_of step.now) }
+    requires room { HasRoom (size_in (step_of step.now)) here tick }
+    ensures { IfOk result (λ w. Tells here.entry.task.now events.old.items w events.new.items
+        (tell_step (table_of here.entry) (step_of step.now) (scene_of here.entry) (scopes_of here.entry) tick)) }
+{
+    match step {
+        Step::Sleep(ticks) => sleeping(here, Some(tick + *ticks), *ticks, tick, events),
+        Step::Checkpoint => sleeping(here, Some(tick), 0, tick, events),
+        Step::Forever => sleeping(here, None, FAR.saturating_sub(tick), tick, events),
+        Step::Pace(per_tick) => pace(here, *per_tick, tick, events),
+        Step::Find(text) => found(here, text, tick, events),
+        Step::Head(count) => head(here, *count, tick, events),
+        Step::Longest => longest(here, tick, events),
+        Step::Need { text, name } => need(here, text, name, tick, events),
+        Step::Raise(name) => raised(here, name, tick, events),
+        Step::Cancel(name) => cancel(here, name, tick, events),
+        _ => unreachable!(),
+    }
+}
 
 /// A sleep of so many ticks, which is until a tick, or forever.
 pub(crate) fn sleeping<'a>(

@@ -6,6 +6,7 @@
 //! tree, the parts of the input, the kernels and the exceptions, and on `job_story` for events and froms.
 #![tactic(auto)]
 
+mod block;
 mod excs;
 mod here;
 mod leaves;

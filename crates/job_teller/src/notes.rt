@@ -11,11 +11,12 @@ ghost use Rattle.job_story.specs.declared.event.Event.{Event as HeldEvent};
 ghost use Rattle.job_teller.specs.Heres.{scopes_of};
 ghost use Rattle.job_teller.specs.Tales.{Adds, IsLeft, Tells};
 
+use crate::block::Block;
 use crate::excs::{box_copy, boxed_copy, copied, exc_after, left_with};
 use crate::here::Here;
 use crate::told::Told;
 use exc_groups::{Exc, Label};
-use job_story::{Event, Happening, Kind, What};
+use job_story::{Event, Happening, What};
 use std::alloc::{AllocError, Global};
 
 /// Tells one event of a task.
@@ -124,28 +125,15 @@ pub(crate) fn wait<'a>(
     Ok(told)
 }
 
-/// A block that is left: what it is, its label, whether it has a shield, and the tick from which it is cancelled.
-#[derive(Clone, Copy)]
-pub struct Block<'b> {
-    /// Whether it is a scope or a nursery.
-    pub kind: Kind,
-    /// Its label.
-    pub label: &'b Label,
-    /// Whether it hides the cancellations from outside.
-    pub shield: bool,
-    /// The tick from which it is cancelled: none is never.
-    pub from: Option<u64>,
-}
-
 /// Leaves a block whose inside ended, and tells so.
 pub(crate) fn leave<'a>(
-    block: Block<'_>,
+    block: &Block,
     inside: Told,
     here: Here<'a, '_>,
     events: &mut Vec<Event<'a>>,
 ) -> Result<Told, AllocError>
-    ensures { IfOk result (λ w. IsLeft here.entry.task.now events.old.items events.new.items inside w (kind_of block.entry.kind)
-        block.entry.label.now (left_with (catches block.entry.from block.entry.shield (scopes_of here.entry) inside.end)
+    ensures { IfOk result (λ w. IsLeft here.entry.task.now events.old.items events.new.items inside w (kind_of block.now.kind)
+        block.now.label (left_with (catches block.now.from block.now.shield (scopes_of here.entry) inside.end)
         (option_map exc_of inside.exc))) }
 {
     let Told { end, exc, .. } = inside;
@@ -153,7 +141,7 @@ pub(crate) fn leave<'a>(
     let catches = here.stack.catches(block.from, block.shield, end);
     let left = left_with(here.alloc, catches, exc)?;
     let caught = left.caught;
-    let outer = exc_after(here.alloc, block.kind, block.label, end, left)?;
+    let outer = exc_after(here.alloc, block.kind, &block.label, end, left)?;
     let label = block.label.copy(here.alloc)?;
     let outside = boxed_copy(here.alloc, &outer)?;
     let what = Happening::Leaves {

@@ -1,19 +1,20 @@
 ghost use Rattle.std.specs.Prelude.{◌≡◌, ◌+◌, ◌*◌, ◌<◌, ◌≤◌, ◌^◌, ℕ, Option, IfOk, ◌++◌, ◌∷◌, [], List};
 ghost use Rattle.buffer_parts.specs.Part.{buffer_of, range_of};
 ghost use Rattle.job_tree.specs.Blocks.{step_of, steps_of, handled_of, cleaned_of};
-ghost use Rattle.job_tree.specs.Modest.{AreModest, IsModestStep, IsModestHandler, IsModestCleanup};
-ghost use Rattle.job_tree.specs.Names.{size_of, size_in, handled_size, cleaned_size};
+ghost use Rattle.job_tree.specs.Modest.{AreModest, IsModestStep, IsModestOver, IsModestHandler, IsModestCleanup};
+ghost use Rattle.job_tree.specs.Names.{copies_of, size_of, size_in, handled_size, cleaned_size};
 ghost use Rattle.job_story.specs.Held.{kind_of};
 ghost use Rattle.job_story.specs.Story.{Tale};
 ghost use Rattle.job_story.specs.Tell.{tell, tell_step, tell_handler, tell_cleanup, tell_block, tell_each, tell_passes};
 ghost use Rattle.job_story.specs.declared.event.Event.{Event as HeldEvent};
-ghost use Rattle.job_teller.specs.Heres.{HasRoom, input_of, scene_of, scopes_of, table_of, label_in, inside, started, started_over, pass};
+ghost use Rattle.job_teller.specs.Heres.{HasRoom, input_of, scene_of, scopes_of, table_of, inside, started, started_over, started_by, pass};
 ghost use Rattle.job_teller.specs.Tales.{Tells};
 
+use crate::block::Block;
 use crate::excs::{boxed_copy, copied};
 use crate::here::Here;
-use crate::leaves::{cancel, due, found, head, longest, need, pace, raised, sleeping};
-use crate::notes::{Block, add, leave, note, note_replaced, wait};
+use crate::leaves::{due, tell_leaf};
+use crate::notes::{add, leave, note, note_replaced, wait};
 use crate::stack::{Level, Stack};
 use crate::told::Told;
 use buffer_parts::Part;
@@ -21,9 +22,6 @@ use exc_groups::{Label, Match, split};
 use job_story::{Event, Happening, Kind, What};
 use job_tree::{Body, Handler, Name, Step};
 use std::alloc::{AllocError, Global};
-
-/// The tick to which `forever` sleeps.
-const FAR: u64 = 1_099_511_627_776;
 
 // Tells the steps of a block, from a tick on.
 #[cycle(telling)]
@@ -63,16 +61,6 @@ fn tell_step<'a>(
         (tell_step (table_of here.entry) (step_of step.now) (scene_of here.entry) (scopes_of here.entry) tick)) }
 {
     match step {
-        Step::Sleep(ticks) => sleeping(here, Some(tick + *ticks), *ticks, tick, events),
-        Step::Checkpoint => sleeping(here, Some(tick), 0, tick, events),
-        Step::Forever => sleeping(here, None, FAR.saturating_sub(tick), tick, events),
-        Step::Pace(per_tick) => pace(here, *per_tick, tick, events),
-        Step::Find(text) => found(here, text, tick, events),
-        Step::Head(count) => head(here, *count, tick, events),
-        Step::Longest => longest(here, tick, events),
-        Step::Need { text, name } => need(here, text, name, tick, events),
-        Step::Raise(name) => raised(here, name, tick, events),
-        Step::Cancel(name) => cancel(here, name, tick, events),
         Step::Scope {
             name,
             deadline,
@@ -81,82 +69,53 @@ fn tell_step<'a>(
             body,
         } => {
             let kind = Kind::Scope { fail: *fail };
-            tell_block(
-                kind,
-                name,
-                due(*deadline, tick),
-                *shield,
-                body,
-                here,
-                tick,
-                events,
-            )
+            let block = here.block(kind, *name, due(*deadline, tick), *shield)?;
+            tell_block(&block, body, here, tick, events)
         }
         Step::Nursery {
             name,
             deadline,
             shield,
             body,
-        } => tell_block(
-            Kind::Nursery,
-            name,
-            due(*deadline, tick),
-            *shield,
-            body,
-            here,
-            tick,
-            events,
-        ),
-        Step::Start { name, over, body } => match over {
-            None => {
-                let label = here.label_here(*name)?;
-                tell_child(label, here.part, body.as_slice(), here, tick, events)
-            }
-            Some(copies) => tell_children(name, *copies, body, here, tick, events),
-        },
+        } => {
+            let block = here.block(Kind::Nursery, *name, due(*deadline, tick), *shield)?;
+            tell_block(&block, body, here, tick, events)
+        }
+        Step::Start { name, over, body } => tell_start(name, *over, body, here, tick, events),
         Step::Repeat { count, body } => tell_passes(*count, body, here, tick, events),
         Step::Try {
             body,
             handler,
             cleanup,
         } => tell_try(body, handler, cleanup, here, tick, events),
+        _ => tell_leaf(step, here, tick, events),
     }
 }
 
-// Tells of a scope or nursery that is entered in this tick, with the tick that is known from which it is cancelled.
+// Tells of a scope or nursery that is entered in this tick, from there to where it is left.
 #[cycle(telling)]
 fn tell_block<'a>(
-    kind: Kind,
-    name: &Name,
-    deadline: Option<u64>,
-    shield: bool,
+    block: &Block,
     body: &'a Body,
     here: Here<'a, '_>,
     tick: u64,
     events: &mut Vec<Event<'a>>,
 ) -> Result<Told, AllocError>
+    requires known { block.now.from ≡ table_of here block.now.label }
     requires modest { AreModest body.now }
     requires room { HasRoom (size_of body.now) here tick }
     ensures { IfOk result (λ w. Tells here.entry.task.now events.old.items w events.new.items
-        (tell_block (table_of here.entry) (kind_of kind) (label_in name.now here.entry) tick deadline shield (scopes_of here.entry)
-        (inside (kind_of kind) (label_in name.now here.entry) shield body.now here.entry tick))) }
+        (tell_block (table_of here.entry) (kind_of block.now.kind) block.now.label tick block.now.deadline block.now.shield
+        (scopes_of here.entry) (inside (kind_of block.now.kind) block.now.label block.now.shield body.now here.entry tick))) }
 {
-    let label = here.label_here(*name)?;
-    let entered = label.copy(here.alloc)?;
-    let from = here.froms.of(&label);
+    let label = block.label.copy(here.alloc)?;
     let what = Happening::Enters {
-        kind,
-        label: entered,
-        deadline,
-        shield,
+        kind: block.kind,
+        label,
+        deadline: block.deadline,
+        shield: block.shield,
     };
     note(here, tick, what, events)?;
-    let block = Block {
-        kind,
-        label: &label,
-        shield,
-        from,
-    };
     let inner = tell_inside(block, body, here, tick, events)?;
     let told = leave(block, inner, here, events)?;
     Ok(told)
@@ -165,7 +124,7 @@ fn tell_block<'a>(
 // Tells of the inside of a scope or nursery, up to where it is left.
 #[cycle(telling)]
 fn tell_inside<'a>(
-    block: Block<'_>,
+    block: &Block,
     body: &'a Body,
     here: Here<'a, '_>,
     tick: u64,
@@ -174,7 +133,7 @@ fn tell_inside<'a>(
     requires modest { AreModest body.now }
     requires room { HasRoom (size_of body.now) here tick }
     ensures { IfOk result (λ w. Tells here.entry.task.now events.old.items w events.new.items
-        (inside (kind_of block.entry.kind) block.entry.label.now block.entry.shield body.now here.entry tick block.entry.from)) }
+        (inside (kind_of block.now.kind) block.now.label block.now.shield body.now here.entry tick block.now.from)) }
 {
     let level = Level {
         label: block.label.copy(here.alloc)?,
@@ -183,21 +142,41 @@ fn tell_inside<'a>(
     };
     let stack = Stack::Within(level, here.stack);
     let within = Here {
-        alloc: here.alloc,
-        froms: here.froms,
-        part: here.part,
-        task: here.task,
-        place: here.place,
         stack: &stack,
-        in_cleanup: here.in_cleanup,
+        ..here
     };
     let told = tell_steps(body.as_slice(), within, tick, events)?;
     match block.kind {
         Kind::Scope { .. } => Ok(told),
         Kind::Nursery => {
-            let told = wait(block.label, told, here, events)?;
+            let told = wait(&block.label, told, here, events)?;
             Ok(told)
         }
+    }
+}
+
+// Tells of what a `start` starts: one task with the whole part, or one for each cut of it.
+#[cycle(telling)]
+fn tell_start<'a>(
+    name: &Name,
+    over: Option<u64>,
+    body: &'a Body,
+    here: Here<'a, '_>,
+    tick: u64,
+    events: &mut Vec<Event<'a>>,
+) -> Result<Told, AllocError>
+    requires some { IsModestOver over }
+    requires modest { AreModest body.now }
+    requires room { HasRoom (copies_of over * (1 + size_of body.now)) here tick }
+    ensures { IfOk result (λ w. Tells here.entry.task.now events.old.items w events.new.items
+        (started_by name.now over body.now here.entry tick)) }
+{
+    match over {
+        None => {
+            let label = here.label_here(*name)?;
+            tell_child(label, here.part, body.as_slice(), here, tick, events)
+        }
+        Some(copies) => tell_children(name, copies, body, here, tick, events),
     }
 }
 
@@ -226,13 +205,10 @@ pub(crate) fn tell_child<'a>(
         events,
     )?;
     let inside = Here {
-        alloc: here.alloc,
-        froms: here.froms,
         part,
         task: &label,
         place: &label,
-        stack: here.stack,
-        in_cleanup: here.in_cleanup,
+        ..here
     };
     let told = tell_steps(steps, inside, tick, events)?;
     let home = copied(here.alloc, here.stack.home())?;
@@ -310,13 +286,8 @@ fn tell_pass<'a>(
 {
     let place = here.place.copy(here.alloc)?.indexed(number)?;
     let inside = Here {
-        alloc: here.alloc,
-        froms: here.froms,
-        part: here.part,
-        task: here.task,
         place: &place,
-        stack: here.stack,
-        in_cleanup: here.in_cleanup,
+        ..here
     };
     let told = tell_steps(body.as_slice(), inside, tick, events)?;
     Ok(told)
@@ -403,13 +374,8 @@ fn tell_cleanup<'a>(
     let exc = told.box_exc(here.alloc)?;
     note(here, told.end(), Happening::Cleans { exc }, events)?;
     let inside = Here {
-        alloc: here.alloc,
-        froms: here.froms,
-        part: here.part,
-        task: here.task,
-        place: here.place,
-        stack: here.stack,
         in_cleanup: true,
+        ..here
     };
     let next = tell_steps(cleanup.as_slice(), inside, told.end(), events)?;
     note_replaced(here, &told.exc, &next.exc, next.end(), events)?;

@@ -16,10 +16,10 @@ use Rattle.job_teller.proofs.notes.leave.Goals as goal
 pub returns : goal.returns
 returns c =
     let inner = option_map exc_of c.args.inside.exc in
-    let kind = kind_of c.args.block.kind in
-    let label = c.args.block.label.now in
+    let kind = kind_of c.args.block.now.kind in
+    let label = c.args.block.now.label in
     let end = c.args.inside.end in
-    let left = left_with (catches c.args.block.from c.args.block.shield (scopes_of c.args.here) end) inner in
+    let left = left_with (catches c.args.block.now.from c.args.block.now.shield (scopes_of c.args.here) end) inner in
     let is : left_of c.in_ok-left.left ≡ left = c.in_ok-left.ensures ∙ ap (λ (b : Bool). left_with b inner) c.catches-catches.ensures in
     let outer : option_map exc_of c.in_ok-outer.outer ≡ exc_after kind label end left =
     c.in_ok-outer.ensures ∙ ap (λ (l : Left). exc_after kind label end l) is in

@@ -17,13 +17,14 @@ use Rattle.job_story.specs.Events.{event, starts, ends}
 use Rattle.job_story.specs.Held.{boxed, kind_of, event_of}
 use Rattle.job_story.specs.Story.{Tale, enters, handles, cleans}
 use Rattle.job_story.specs.Tell.{only, tell, tell_block, tell_each, replaced}
+use Rattle.job_teller.specs.declared.block.Block.{Block}
 use Rattle.job_teller.specs.Heres.{HasRoom, table_of, scene_of, scene_in, scopes_of, input_of, here_of, inside, started, started_over}
 use Rattle.job_teller.specs.Tales.{Tells}
 use Rattle.job_teller.proofs.Adding.{adds_like, adds_nothing}
 use Rattle.job_teller.proofs.Telling.{tells_joined}
 use Rattle.job_teller.proofs.Blocks.{tells_block, tells_child, tells_in, tells_at}
 use Rattle.job_teller.proofs.Trying.{not_raised, not_wanted, is_wanted, tells_handled, tells_cleaned}
-use Rattle.job_teller.proofs.Steps.{AtStep, at_start, at_item, at_failed, at_next, at_stop, room_step, ends_small, ends_handled}
+use Rattle.job_teller.proofs.Steps.{AtStep, at_start, at_item, at_failed, at_next, at_stop, room_step, ends_small, ends_handled, start_is}
 use Rattle.job_teller.proofs.Passing.{at_first, room_pass, pass_failed, pass_next, pass_stop}
 use Rattle.job_teller.proofs.walk.+telling.Goals as goal
 
@@ -66,17 +67,14 @@ tell_steps-returns t c =
 
 pub tell_block-returns : goal.tell_block-returns
 tell_block-returns t c =
-    let kind = kind_of c.args.kind in
-    let label = c.in_ok-label.label in
-    let body = inside kind label c.args.shield c.args.body.now c.args.here c.args.tick in
+    let block = c.args.block.now in
+    let kind = kind_of block.kind in
+    let body = inside kind block.label block.shield c.args.body.now c.args.here c.args.tick in
     let entering = adds_like _ _ _ _ _ c.in_ok-note.ensures
-    (ap (λ (l : Label). only c.args.tick (enters kind l c.args.deadline c.args.shield)) c.in_ok-entered.ensures) in
-    subst (λ (l : Label). Tells c.args.here.task.now c.args.events.now.items c.in_ok-told.told c.leave.new.events.items
-    (tell_block (table_of c.args.here) (kind_of c.args.kind) l c.args.tick c.args.deadline c.args.shield (scopes_of c.args.here)
-    (inside (kind_of c.args.kind) l c.args.shield c.args.body.now c.args.here c.args.tick))) c.in_ok-label.ensures
-    (tells_block c.args.here.task.now _ _ _ _ (table_of c.args.here) kind label c.args.tick c.args.deadline c.args.shield
+    (ap (λ (l : Label). only c.args.tick (enters kind l block.deadline block.shield)) c.in_ok-label.ensures) in
+    tells_block c.args.here.task.now _ _ _ _ (table_of c.args.here) kind block.label c.args.tick block.deadline block.shield
     (scopes_of c.args.here)
-    body c.in_ok-inner.inner c.in_ok-told.told c.of-from.result c.of-from.ensures entering c.in_ok-inner.ensures c.in_ok-told.ensures)
+    body c.in_ok-inner.inner c.in_ok-told.told block.from c.requires.known entering c.in_ok-inner.ensures c.in_ok-told.ensures
 
 pub tell_inside-returns-in-Scope : goal.tell_inside-returns-in-Scope
 tell_inside-returns-in-Scope t c =
@@ -84,7 +82,7 @@ tell_inside-returns-in-Scope t c =
     let body = tells_at _ _ _ c.in_ok-told.told _ _ c.args.body.now _ _ _ c.args.tick c.as_slice.ensures refl c.in_ok-told.ensures in
     rw c.in-Scope.is
     (subst (λ (l : Label). Tells here.task.now c.args.events.now.items c.in_ok-told.told c.tell_steps.new.events.items
-    (tell (table_of here) c.args.body.now (scene_of here) (within l c.args.block.shield c.args.block.from (scopes_of here)) c.args.tick))
+    (tell (table_of here) c.args.body.now (scene_of here) (within l c.args.block.now.shield c.args.block.now.from (scopes_of here)) c.args.tick))
     c.in_ok-copy.ensures body)
 
 pub tell_inside-returns : goal.tell_inside-returns
@@ -92,7 +90,7 @@ tell_inside-returns t c =
     let here = c.args.here in
     let body = tells_at _ _ _ c.in_ok-told.told _ _ c.args.body.now _ _ _ c.args.tick c.as_slice.ensures refl c.in_ok-told.ensures in
     let inner = subst (λ (l : Label). Tells here.task.now c.args.events.now.items c.in_ok-told.told c.tell_steps.new.events.items
-    (tell (table_of here) c.args.body.now (scene_of here) (within l c.args.block.shield c.args.block.from (scopes_of here)) c.args.tick))
+    (tell (table_of here) c.args.body.now (scene_of here) (within l c.args.block.now.shield c.args.block.now.from (scopes_of here)) c.args.tick))
     c.in_ok-copy.ensures body in
     rw c.in-Nursery.is (c.in_ok-told-in-Nursery.ensures _ _ inner)
 
@@ -253,67 +251,44 @@ tell_cleanup-returns t c = λ start (a : Tale) h.
     (ap (λ (n : ℕ). replaced (option_map exc_of told.exc) (option_map exc_of c.in_ok-next.next.exc) n) c.end-3.ensures) in
     rw c.in-Some.is (tells_cleaned _ start _ _ _ _ told c.in_ok-next.next _ a _ h cleaning next replacing c.in_ok-told.ensures)
 
-pub tell_step-returns-in-Sleep : goal.tell_step-returns-in-Sleep
+pub tell_step-returns-in_ok-block-in-Scope : goal.tell_step-returns-in_ok-block-in-Scope
 unfolding tell
-tell_step-returns-in-Sleep t c = rw c.in-Sleep.is c.sleeping.ensures
-
-pub tell_step-returns-in-Checkpoint : goal.tell_step-returns-in-Checkpoint
-unfolding tell
-tell_step-returns-in-Checkpoint t c = rw c.in-Checkpoint.is c.sleeping-in-Checkpoint.ensures
-
-pub tell_step-returns-in-Forever : goal.tell_step-returns-in-Forever
-unfolding tell
-tell_step-returns-in-Forever t c = rw (c.in-Forever.is, ← c.saturating_sub.ensures) c.sleeping-in-Forever.ensures
-
-pub tell_step-returns-in-Pace : goal.tell_step-returns-in-Pace
-unfolding tell
-tell_step-returns-in-Pace t c = rw c.in-Pace.is c.pace.ensures
-
-pub tell_step-returns-in-Find : goal.tell_step-returns-in-Find
-unfolding tell
-tell_step-returns-in-Find t c = rw c.in-Find.is c.found.ensures
-
-pub tell_step-returns-in-Head : goal.tell_step-returns-in-Head
-unfolding tell
-tell_step-returns-in-Head t c = rw c.in-Head.is c.head.ensures
-
-pub tell_step-returns-in-Longest : goal.tell_step-returns-in-Longest
-unfolding tell
-tell_step-returns-in-Longest t c = rw c.in-Longest.is c.longest.ensures
-
-pub tell_step-returns-in-Need : goal.tell_step-returns-in-Need
-unfolding tell
-tell_step-returns-in-Need t c = rw c.in-Need.is c.need.ensures
-
-pub tell_step-returns-in-Raise : goal.tell_step-returns-in-Raise
-unfolding tell
-tell_step-returns-in-Raise t c = rw c.in-Raise.is c.raised.ensures
-
-pub tell_step-returns-in-Cancel : goal.tell_step-returns-in-Cancel
-unfolding tell
-tell_step-returns-in-Cancel t c = rw c.in-Cancel.is c.cancel.ensures
-
-pub tell_step-returns-in-Scope : goal.tell_step-returns-in-Scope
-unfolding tell
-tell_step-returns-in-Scope t c = rw (c.in-Scope.is, ← c.due.ensures) c.tell_block.ensures
-
-pub tell_step-returns-in-Nursery : goal.tell_step-returns-in-Nursery
-unfolding tell
-tell_step-returns-in-Nursery t c = rw (c.in-Nursery.is, ← c.due-in-Nursery.ensures) c.tell_block-in-Nursery.ensures
-
-pub tell_step-returns-in_ok-label-in-None : goal.tell_step-returns-in_ok-label-in-None
-unfolding tell
-tell_step-returns-in_ok-label-in-None t c =
+tell_step-returns-in_ok-block-in-Scope t c =
     let here = c.args.here in
-    rw (c.in-Start.is, c.in-None.is)
+    let told = c.tell_block in
+    rw (c.in-Scope.is, ← c.due.ensures)
+    (subst (λ (b : Block). IfOk told.result (λ w. Tells here.task.now c.args.events.now.items w told.new.events.items
+    (tell_block (table_of here) (kind_of b.kind) b.label c.args.tick b.deadline b.shield (scopes_of here)
+    (inside (kind_of b.kind) b.label b.shield c.in-Scope.body here c.args.tick)))) c.in_ok-block-in-Scope.ensures told.ensures)
+
+pub tell_step-returns-in_ok-block-in-Nursery : goal.tell_step-returns-in_ok-block-in-Nursery
+unfolding tell
+tell_step-returns-in_ok-block-in-Nursery t c =
+    let here = c.args.here in
+    let told = c.tell_block-in-Nursery in
+    rw (c.in-Nursery.is, ← c.due-in-Nursery.ensures)
+    (subst (λ (b : Block). IfOk told.result (λ w. Tells here.task.now c.args.events.now.items w told.new.events.items
+    (tell_block (table_of here) (kind_of b.kind) b.label c.args.tick b.deadline b.shield (scopes_of here)
+    (inside (kind_of b.kind) b.label b.shield c.in-Nursery.body here c.args.tick)))) c.in_ok-block-in-Nursery.ensures told.ensures)
+
+pub tell_step-returns-in-Start : goal.tell_step-returns-in-Start
+tell_step-returns-in-Start t c =
+    let here = c.args.here in
+    rw c.in-Start.is
+    (subst (λ (a : Tale). IfOk c.tell_start.result (λ w. Tells here.task.now c.args.events.now.items w c.tell_start.new.events.items a))
+    (start_is here c.in-Start.name c.in-Start.over c.in-Start.body c.args.tick) c.tell_start.ensures)
+
+pub tell_start-returns-in_ok-label-in-None : goal.tell_start-returns-in_ok-label-in-None
+tell_start-returns-in_ok-label-in-None t c =
+    let here = c.args.here in
+    rw c.in-None.is
     (subst (λ (l : Label). IfOk c.tell_child.result (λ w. Tells here.task.now c.args.events.now.items w c.tell_child.new.events.items
-    (started l (range_of here.part) c.in-Start.body here c.args.tick))) c.in_ok-label-in-None.ensures
+    (started l (range_of here.part) c.args.body.now here c.args.tick))) c.in_ok-label-in-None.ensures
     (subst (λ (ss : Steps). IfOk c.tell_child.result (λ w. Tells here.task.now c.args.events.now.items w c.tell_child.new.events.items
     (started c.in_ok-label-in-None.label (range_of here.part) ss here c.args.tick))) c.as_slice.ensures c.tell_child.ensures))
 
-pub tell_step-returns-in-Some : goal.tell_step-returns-in-Some
-unfolding tell
-tell_step-returns-in-Some t c = rw (c.in-Start.is, c.in-Some.is) c.tell_children.ensures
+pub tell_start-returns-in-Some : goal.tell_start-returns-in-Some
+tell_start-returns-in-Some t c = rw c.in-Some.is c.tell_children.ensures
 
 pub tell_step-returns-in-Repeat : goal.tell_step-returns-in-Repeat
 unfolding tell

@@ -31,6 +31,9 @@ decreases-tell_block l = weight_of l.body.now + 6
 abbrev pub decreases-tell_inside : goal.decreases-tell_inside
 decreases-tell_inside l = weight_of l.body.now + 4
 
+abbrev pub decreases-tell_start : goal.decreases-tell_start
+decreases-tell_start l = weight_of l.body.now + 7
+
 abbrev pub decreases-tell_child : goal.decreases-tell_child
 decreases-tell_child l = weight_of (steps_of l.steps.now) + 4
 

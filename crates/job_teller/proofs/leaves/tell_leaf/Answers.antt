@@ -1,0 +1,42 @@
+use Rattle.job_story.specs.Tell.{tell_step}
+use Rattle.job_teller.proofs.leaves.tell_leaf.Goals as goal
+
+pub returns-in-Sleep : goal.returns-in-Sleep
+unfolding tell_step
+returns-in-Sleep c = rw c.in-Sleep.is c.sleeping.ensures
+
+pub returns-in-Checkpoint : goal.returns-in-Checkpoint
+unfolding tell_step
+returns-in-Checkpoint c = rw c.in-Checkpoint.is c.sleeping-in-Checkpoint.ensures
+
+pub returns-in-Forever : goal.returns-in-Forever
+unfolding tell_step
+returns-in-Forever c = rw (c.in-Forever.is, ← c.saturating_sub.ensures) c.sleeping-in-Forever.ensures
+
+pub returns-in-Pace : goal.returns-in-Pace
+unfolding tell_step
+returns-in-Pace c = rw c.in-Pace.is c.pace.ensures
+
+pub returns-in-Find : goal.returns-in-Find
+unfolding tell_step
+returns-in-Find c = rw c.in-Find.is c.found.ensures
+
+pub returns-in-Head : goal.returns-in-Head
+unfolding tell_step
+returns-in-Head c = rw c.in-Head.is c.head.ensures
+
+pub returns-in-Longest : goal.returns-in-Longest
+unfolding tell_step
+returns-in-Longest c = rw c.in-Longest.is c.longest.ensures
+
+pub returns-in-Need : goal.returns-in-Need
+unfolding tell_step
+returns-in-Need c = rw c.in-Need.is c.need.ensures
+
+pub returns-in-Raise : goal.returns-in-Raise
+unfolding tell_step
+returns-in-Raise c = rw c.in-Raise.is c.raised.ensures
+
+pub returns-in-Cancel : goal.returns-in-Cancel
+unfolding tell_step
+returns-in-Cancel c = rw c.in-Cancel.is c.cancel.ensures

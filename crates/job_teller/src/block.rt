@@ -1,0 +1,17 @@
+use exc_groups::Label;
+use job_story::Kind;
+
+/// A scope or nursery that a task enters.
+#[derive(Drop)]
+pub struct Block {
+    /// Whether it is a scope or a nursery.
+    pub kind: Kind,
+    /// Its label.
+    pub label: Label,
+    /// The tick from which its deadline cancels it: none is never.
+    pub deadline: Option<u64>,
+    /// Whether it hides the cancellations from outside.
+    pub shield: bool,
+    /// The tick from which it is cancelled: none is never.
+    pub from: Option<u64>,
+}
