@@ -2,13 +2,15 @@
 use Rattle.std.specs.Prelude.{Option, map}
 use Rattle.std.specs.Option.{option_map}
 use Rattle.std.specs.Global.{Box}
-use Rattle.buffer_parts.specs.Part.{range_of, span_of}
+use Rattle.buffer_parts.specs.Lines as lines
 use Rattle.exc_groups.specs.Exceptions as tree
 use Rattle.exc_groups.specs.Held.{exc_of}
 use Rattle.exc_groups.specs.declared.exc.Exc.{Exc}
 use Rattle.job_meaning.specs.Walk as walks
 use Rattle.job_story.specs.Story as story
 use Rattle.job_story.specs.Events as events
+use Rattle.job_story.specs.declared.event.Range.{Range}
+use Rattle.job_story.specs.declared.event.Span.{Span}
 use Rattle.job_story.specs.declared.event.Kind.{Kind}
 use Rattle.job_story.specs.declared.event.Kind.TheVariants.{Scope, Nursery}
 use Rattle.job_story.specs.declared.event.Happening.{Happening}
@@ -21,6 +23,12 @@ abbrev pub kind_of : Kind → walks.Kind
 kind_of (Scope fail) = walks.a_scope fail
 kind_of Nursery = walks.a_nursery
 
+abbrev pub range_in : Range → lines.Range
+range_in range = record { from = range.from; to = range.to }
+
+abbrev pub span_in : Span → lines.Span
+span_in span = record { at = span.at; len = span.len }
+
 -- an exception in a box, if there is one
 abbrev pub boxed : Option (Box Exc) → Option tree.Exc
 boxed exc = option_map (λ (b : Box Exc). exc_of b.value) exc
@@ -29,7 +37,7 @@ abbrev pub happening_of : Happening → story.Happening
 happening_of (Enters kind label deadline shield) = story.enters (kind_of kind) label deadline shield
 happening_of (Sleeps until) = story.sleeps until
 happening_of (IsCancelled by since in_cleanup) = story.is_cancelled by since in_cleanup
-happening_of (Finds lines) = story.finds (map span_of lines.items)
+happening_of (Finds lines) = story.finds (map span_in lines.items)
 happening_of (Misses name) = story.misses name
 happening_of (Raises name) = story.raises name
 happening_of (Cancels label) = story.cancels label
@@ -41,7 +49,7 @@ happening_of (Leaves kind label inside caught outside) =
     story.leaves (kind_of kind) label (boxed inside) caught (boxed outside)
 
 abbrev pub what_of : What → events.What
-what_of (Starts home part) = events.starts home (range_of part)
+what_of (Starts home part) = events.starts home (range_in part)
 what_of (Happens what) = events.happens (happening_of what)
 what_of (Ends home exc) = events.ends home (boxed exc)
 

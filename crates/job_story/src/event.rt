@@ -1,6 +1,23 @@
-use buffer_parts::{Line, Part};
 use exc_groups::{Exc, Label};
 use job_tree::Name;
+
+/// A part of the input: the place of its first byte, and the place after its last one.
+#[derive(Clone, Copy, Debug, PartialEq, Eq)]
+pub struct Range {
+    /// The place of the first byte.
+    pub from: usize,
+    /// The place after the last byte.
+    pub to: usize,
+}
+
+/// A line of the input: the place of its first byte, and how many bytes it has.
+#[derive(Clone, Copy, Debug, PartialEq, Eq)]
+pub struct Span {
+    /// The place of the first byte.
+    pub at: usize,
+    /// How many bytes it has, without the newline.
+    pub len: usize,
+}
 
 /// What a block is: a cancel scope or a nursery.
 #[derive(Clone, Copy, Debug, PartialEq, Eq)]
@@ -16,7 +33,7 @@ pub enum Kind {
 
 /// One thing that happened to a task. Exceptions stand in boxes: most events have none, and are not to have room for one.
 #[derive(Drop)]
-pub enum Happening<'a> {
+pub enum Happening {
     /// It entered a scope or a nursery.
     Enters {
         /// What it entered.
@@ -44,8 +61,8 @@ pub enum Happening<'a> {
     },
     /// A kernel answered these lines.
     Finds {
-        /// The lines, borrowed from the input.
-        lines: Vec<Line<'a>>,
+        /// The lines.
+        lines: Vec<Span>,
     },
     /// `need` found no line.
     Misses {
@@ -105,16 +122,16 @@ pub enum Happening<'a> {
 
 /// What an event is.
 #[derive(Drop)]
-pub enum What<'a> {
+pub enum What {
     /// The task starts.
     Starts {
         /// The nursery in which it was started: none for the root.
         home: Option<Label>,
         /// Its part of the input.
-        part: Part<'a>,
+        part: Range,
     },
     /// Something happens to it.
-    Happens(Happening<'a>),
+    Happens(Happening),
     /// It ends.
     Ends {
         /// The nursery in which it was started: none for the root.
@@ -126,11 +143,11 @@ pub enum What<'a> {
 
 /// An event of a story.
 #[derive(Drop)]
-pub struct Event<'a> {
+pub struct Event {
     /// The tick.
     pub tick: u64,
     /// The task.
     pub task: Label,
     /// What it is.
-    pub what: What<'a>,
+    pub what: What,
 }

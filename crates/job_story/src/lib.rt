@@ -10,6 +10,6 @@ mod event;
 mod froms;
 mod laws;
 
-pub use event::{Event, Happening, Kind, What};
+pub use event::{Event, Happening, Kind, Range, Span, What};
 pub use froms::Froms;
 pub use laws::{law_froms_of_meaning, law_story};

@@ -43,7 +43,7 @@ impl<'e> Causes<'e> {
     /// nurseries take memory. The error is want of memory.
     pub fn of(
         alloc: Global,
-        events: &[&'e Event<'_>],
+        events: &[&'e Event],
         froms: &'e Froms,
     ) -> Result<Causes<'e>, AllocError>
         ensures { IfOk result (λ causes. Knows causes (table_in froms.entry.now) (map seen events.now)) }
@@ -60,7 +60,7 @@ impl<'e> Causes<'e> {
     }
 
     // Reads one more event.
-    fn read(&mut self, event: &'e Event<'_>) -> Result<(), AllocError>
+    fn read(&mut self, event: &'e Event) -> Result<(), AllocError>
         ensures { (table : Table) (es : List told.Event) → Knows self.old table es →
             OnOk result (Knows self.new table (es ++ event_of event.entry.now ∷ [])) }
     {

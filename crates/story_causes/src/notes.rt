@@ -18,7 +18,7 @@ use std::alloc::AllocError;
 // Notes how a label was entered, if the event is that and the label was not entered before.
 pub(crate) fn note_entering<'e>(
     entered: &mut IndexMap<&'e Label, Entering>,
-    what: &'e What<'_>,
+    what: &'e What,
 ) -> Result<(), AllocError>
     ensures { OnOk result ((l : tree.Label) → option_map entering_in_code (value_at entered.new l)
         ≡ option_or (option_map entering_in_code (value_at entered.old l)) (entering_by l (what_of what.entry.now) None)) }
@@ -46,7 +46,7 @@ pub(crate) fn note_entering<'e>(
 pub(crate) fn note_sign<'e>(
     signed: &mut IndexMap<&'e Label, Cause<'e>>,
     froms: &Froms,
-    event: &'e Event<'_>,
+    event: &'e Event,
 ) -> Result<(), AllocError>
     ensures { OnOk result ((l : tree.Label) (from : ℕ) → table_in froms.now l ≡ Some from →
         option_map cause_in_code (value_at signed.new l) ≡ option_or (option_map cause_in_code (value_at signed.old l))

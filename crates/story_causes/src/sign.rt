@@ -50,7 +50,7 @@ pub(crate) struct Sign<'e> {
 }
 
 // What an event cancels, if it does.
-pub(crate) fn sign_of<'e>(event: &'e Event<'_>) -> Option<Sign<'e>>
+pub(crate) fn sign_of<'e>(event: &'e Event) -> Option<Sign<'e>>
     ensures { (l : tree.Label) → sign_at l result ≡ cause_in l event.now.tick event.now.task (what_of event.now.what) }
 {
     match &event.what {
@@ -64,7 +64,7 @@ pub(crate) fn sign_of<'e>(event: &'e Event<'_>) -> Option<Sign<'e>>
 }
 
 // The same of what happens to a task between its start and its end.
-fn sign_in<'e>(happening: &'e Happening<'_>, task: &'e Label, tick: u64) -> Option<Sign<'e>>
+fn sign_in<'e>(happening: &'e Happening, task: &'e Label, tick: u64) -> Option<Sign<'e>>
     ensures { (l : tree.Label) → sign_at l result ≡ cause_in l tick task.entry.now (told.happens (happening_of happening.now)) }
 {
     match happening {

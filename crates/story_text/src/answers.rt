@@ -12,13 +12,13 @@ use exc_groups::Label;
 use job_story::{Event, Froms};
 use story_causes::{Cause, Causes, Entering};
 
-impl<'k, 'e, 'a> Known<'k, 'e, 'a> {
+impl<'k, 'e> Known<'k, 'e> {
     /// What is known by an index of these events and this table.
     pub fn new(
-        events: &'k [&'e Event<'a>],
+        events: &'k [&'e Event],
         froms: &'k Froms,
         causes: &'k Causes<'e>,
-    ) -> Known<'k, 'e, 'a>
+    ) -> Known<'k, 'e>
         requires { Knows causes.now (table_in froms.now) (map seen events.now) }
         ensures events { events_in result ≡ map seen events.now }
         ensures froms { froms_in result ≡ table_in froms.now }

@@ -9,8 +9,8 @@ use story_causes::Causes;
 /// The events of a story in order, from which tick its scopes and nurseries are cancelled, and the index of both: what the sentences of
 /// the story are written by.
 #[derive(Drop)]
-pub struct Known<'k, 'e, 'a> {
-    pub(crate) events: &'k [&'e Event<'a>],
+pub struct Known<'k, 'e> {
+    pub(crate) events: &'k [&'e Event],
     pub(crate) froms: &'k Froms,
     pub(crate) causes: &'k Causes<'e>,
     ghost known: { Knows causes.now (table_in froms.now) (map seen events.now) },

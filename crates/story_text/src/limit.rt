@@ -21,10 +21,10 @@ use std::alloc::{AllocError, Global};
 /// doing. Want of memory is the only error.
 pub fn kept_text_to<'e>(
     alloc: Global,
-    sorted: &[&'e Event<'e>],
-    walked: &[&'e Event<'e>],
+    sorted: &[&'e Event],
+    walked: &[&'e Event],
     limit: u64,
-    known: &Known<'_, '_, '_>,
+    known: &Known<'_, '_>,
 ) -> Result<Vec<u8>, AllocError>
     ensures { IfOk result (λ text. text.items
         ≡ kept_text_to (froms_in known.now) limit (events_in known.now) (map seen sorted.now) (map seen walked.now)) }
@@ -52,7 +52,7 @@ fn push_running(
     out: &mut Vec<u8>,
     width: usize,
     tasks: &Tasks<'_, '_>,
-    walked: &[&Event<'_>],
+    walked: &[&Event],
 ) -> Result<(), AllocError>
     ensures { OnOk result (out.new.items ≡ out.old.items
         ++ running_text width (sorted_in tasks.now) (running_in (walked_in tasks.now) (map seen walked.now))) }
@@ -68,7 +68,7 @@ fn push_if_running(
     out: &mut Vec<u8>,
     width: usize,
     tasks: &Tasks<'_, '_>,
-    event: &Event<'_>,
+    event: &Event,
 ) -> Result<(), AllocError>
     ensures { OnOk result ((others : List tree.Label) → out.new.items ++ running_text width (sorted_in tasks.now) others
         ≡ out.old.items ++ running_text width (sorted_in tasks.now)
@@ -82,14 +82,14 @@ fn push_if_running(
 }
 
 // Whether an event is the start of a task that has not ended.
-fn is_running(event: &Event<'_>, tasks: &Tasks<'_, '_>) -> bool
+fn is_running(event: &Event, tasks: &Tasks<'_, '_>) -> bool
     ensures { result ≡ (is_start (what_of event.now.what) && not (has_ended event.now.task (walked_in tasks.now))) }
 {
     starts(&event.what) && !tasks.has_ended(&event.task)
 }
 
 // Whether an event is the start of a task.
-fn starts(what: &What<'_>) -> bool
+fn starts(what: &What) -> bool
     ensures { result ≡ is_start (what_of what.now) }
 {
     match what {
@@ -126,7 +126,7 @@ fn push_last(out: &mut Vec<u8>, label: &Label, tasks: &Tasks<'_, '_>) -> Result<
 }
 
 // Appends what a task is doing after an event: it sleeps, or it waits for a nursery.
-fn push_doing(out: &mut Vec<u8>, tick: u64, what: &What<'_>) -> Result<(), AllocError>
+fn push_doing(out: &mut Vec<u8>, tick: u64, what: &What) -> Result<(), AllocError>
     ensures { OnOk result (out.new.items ≡ out.old.items ++ doing_text tick (what_of what.now)) }
 {
     match what {
@@ -137,7 +137,7 @@ fn push_doing(out: &mut Vec<u8>, tick: u64, what: &What<'_>) -> Result<(), Alloc
 }
 
 // The same of what happens to a task between its start and its end.
-fn push_doing_in(out: &mut Vec<u8>, tick: u64, happening: &Happening<'_>) -> Result<(), AllocError>
+fn push_doing_in(out: &mut Vec<u8>, tick: u64, happening: &Happening) -> Result<(), AllocError>
     ensures { OnOk result (out.new.items ≡ out.old.items ++ doing_text tick (told.happens (happening_of happening.now))) }
 {
     match happening {

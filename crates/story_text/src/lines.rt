@@ -15,8 +15,8 @@ use std::alloc::{AllocError, Global};
 /// for each event. Want of memory is the only error.
 pub fn kept_text(
     alloc: Global,
-    kept: &[&Event<'_>],
-    known: &Known<'_, '_, '_>,
+    kept: &[&Event],
+    known: &Known<'_, '_>,
 ) -> Result<Vec<u8>, AllocError>
     ensures { IfOk result (λ text. text.items ≡ kept_text (froms_in known.now) (events_in known.now) (map seen kept.now)) }
 {
@@ -27,7 +27,7 @@ pub fn kept_text(
 }
 
 // The length of the longest label.
-pub fn label_width(alloc: Global, events: &[&Event<'_>]) -> Result<usize, AllocError>
+pub fn label_width(alloc: Global, events: &[&Event]) -> Result<usize, AllocError>
     ensures { IfOk result (λ width. width ≡ widest (map seen events.now)) }
 {
     let mut width: usize = 0;
@@ -43,8 +43,8 @@ pub fn label_width(alloc: Global, events: &[&Event<'_>]) -> Result<usize, AllocE
 // Appends the lines for all events, each after the line for its tick where the one before it is of another tick.
 pub fn push_lines(
     out: &mut Vec<u8>,
-    known: &Known<'_, '_, '_>,
-    events: &[&Event<'_>],
+    known: &Known<'_, '_>,
+    events: &[&Event],
     width: usize,
 ) -> Result<(), AllocError>
     ensures { OnOk result (out.new.items
@@ -74,9 +74,9 @@ fn push_tick(out: &mut Vec<u8>, before: Option<u64>, tick: u64) -> Result<(), Al
 // Appends the line for an event.
 fn push_line(
     out: &mut Vec<u8>,
-    known: &Known<'_, '_, '_>,
+    known: &Known<'_, '_>,
     width: usize,
-    event: &Event<'_>,
+    event: &Event,
 ) -> Result<(), AllocError>
     ensures { OnOk result (out.new.items
         ≡ out.old.items ++ line_text (froms_in known.now) (events_in known.now) width (event_of event.now)) }

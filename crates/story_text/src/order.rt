@@ -8,8 +8,8 @@ use std::alloc::{AllocError, Global};
 /// The events of a walk in order: by tick, and within a tick in the order of the walk. Want of memory is the only error.
 pub fn in_order<'e>(
     alloc: Global,
-    walked: &[&'e Event<'e>],
-) -> Result<Vec<&'e Event<'e>>, AllocError>
+    walked: &[&'e Event],
+) -> Result<Vec<&'e Event>, AllocError>
     ensures { IfOk result (λ sorted. map seen sorted.items ≡ ordered (map seen walked.now)) }
 {
     let mut events = Vec::from_slice(alloc, walked)?;
@@ -18,7 +18,7 @@ pub fn in_order<'e>(
 }
 
 // Sorts events by tick. Those of one tick keep their order.
-fn sort_by_tick(alloc: Global, events: &mut [&Event<'_>]) -> Result<(), AllocError>
+fn sort_by_tick(alloc: Global, events: &mut [&Event]) -> Result<(), AllocError>
     ensures { OnOk result (map seen events.new ≡ ordered (map seen events.old)) }
 {
     events.sort_by_key(alloc, |event| event.tick)

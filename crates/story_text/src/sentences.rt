@@ -19,8 +19,8 @@ use story_causes::{Cause, Entering, is_cancellation};
 // Appends the sentence of an event.
 pub fn push_what(
     out: &mut Vec<u8>,
-    known: &Known<'_, '_, '_>,
-    event: &Event<'_>,
+    known: &Known<'_, '_>,
+    event: &Event,
 ) -> Result<(), AllocError>
     ensures { OnOk result (out.new.items
         ≡ out.old.items ++ what_text (froms_in known.now) (events_in known.now) event.now.tick (what_of event.now.what)) }
@@ -42,9 +42,9 @@ pub fn push_what(
 // Appends the sentence of what happens to a task between its start and its end.
 fn push_happening(
     out: &mut Vec<u8>,
-    known: &Known<'_, '_, '_>,
+    known: &Known<'_, '_>,
     tick: u64,
-    happening: &Happening<'_>,
+    happening: &Happening,
 ) -> Result<(), AllocError>
     ensures { OnOk result (out.new.items
         ≡ out.old.items ++ happening_text (froms_in known.now) (events_in known.now) tick (happening_of happening.now)) }
@@ -188,7 +188,7 @@ fn push_since(out: &mut Vec<u8>, since: Option<u64>) -> Result<(), AllocError>
 }
 
 // Appends by which scope or nursery a task is cancelled, and why that is cancelled.
-fn push_by(out: &mut Vec<u8>, known: &Known<'_, '_, '_>, by: &Option<Label>) -> Result<(), AllocError>
+fn push_by(out: &mut Vec<u8>, known: &Known<'_, '_>, by: &Option<Label>) -> Result<(), AllocError>
     ensures { OnOk result (out.new.items ≡ out.old.items ++ cancelled_text (froms_in known.now) (events_in known.now) by.now) }
 {
     let Some(label) = by else {
@@ -264,7 +264,7 @@ fn push_finds(out: &mut Vec<u8>, count: usize) -> Result<(), AllocError>
 // Appends what a task cancels, and from when on, unless that is cancelled already.
 fn push_cancels(
     out: &mut Vec<u8>,
-    known: &Known<'_, '_, '_>,
+    known: &Known<'_, '_>,
     label: &Option<Label>,
     tick: u64,
 ) -> Result<(), AllocError>
@@ -322,7 +322,7 @@ fn push_replaces(out: &mut Vec<u8>, lost: &Exc, fresh: &Exc) -> Result<(), Alloc
 // Appends that a task waits for its children.
 fn push_waits(
     out: &mut Vec<u8>,
-    known: &Known<'_, '_, '_>,
+    known: &Known<'_, '_>,
     nursery: &Label,
     exc: &Option<Box<Exc>>,
     tick: u64,
@@ -340,7 +340,7 @@ fn push_waits(
 // Appends that the nursery is cancelled from the next tick on, if it is, where a task or its body ends with an exception.
 fn push_sign(
     out: &mut Vec<u8>,
-    known: &Known<'_, '_, '_>,
+    known: &Known<'_, '_>,
     nursery: &Label,
     exc: &Option<Box<Exc>>,
     tick: u64,
@@ -363,7 +363,7 @@ fn push_sign(
 // The same of the nursery in which a task was started, if it was.
 fn push_home_sign(
     out: &mut Vec<u8>,
-    known: &Known<'_, '_, '_>,
+    known: &Known<'_, '_>,
     home: &Option<Label>,
     exc: &Option<Box<Exc>>,
     tick: u64,

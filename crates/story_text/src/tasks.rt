@@ -15,10 +15,10 @@ use std::alloc::{AllocError, Global};
 // in order. A look-up takes constant time.
 #[derive(Drop)]
 pub struct Tasks<'s, 'e> {
-    pub sorted: &'s [&'e Event<'e>],
-    pub walked: &'s [&'e Event<'e>],
+    pub sorted: &'s [&'e Event],
+    pub walked: &'s [&'e Event],
     ended: IndexSet<&'e Label>,
-    lasts: IndexMap<&'e Label, &'e Event<'e>>,
+    lasts: IndexMap<&'e Label, &'e Event>,
     ghost ends: { (l : tree.Label) → is_among ended l ≡ has_ended l (map seen walked.now) },
     ghost does: { (l : tree.Label) → last_text (event_at lasts l) ≡ last_of l (map seen sorted.now) [] },
 }
@@ -27,8 +27,8 @@ impl<'s, 'e> Tasks<'s, 'e> {
     // The tasks of these events. Each event takes constant time.
     pub fn of(
         alloc: Global,
-        sorted: &'s [&'e Event<'e>],
-        walked: &'s [&'e Event<'e>],
+        sorted: &'s [&'e Event],
+        walked: &'s [&'e Event],
     ) -> Result<Tasks<'s, 'e>, AllocError>
         ensures sorted { IfOk result (λ tasks. tasks.sorted.now ≡ sorted.entry.now) }
         ensures walked { IfOk result (λ tasks. tasks.walked.now ≡ walked.entry.now) }
@@ -51,7 +51,7 @@ impl<'s, 'e> Tasks<'s, 'e> {
     }
 
     // The last event of a task.
-    pub fn last(&self, label: &Label) -> Option<&'e Event<'e>>
+    pub fn last(&self, label: &Label) -> Option<&'e Event>
         ensures { last_text result ≡ last_of label.now (map seen self.now.sorted.now) [] }
     {
         self.lasts.get(&label).copied()
@@ -61,7 +61,7 @@ impl<'s, 'e> Tasks<'s, 'e> {
 // The tasks that end in these events.
 fn ended_tasks<'e>(
     alloc: Global,
-    events: &[&'e Event<'_>],
+    events: &[&'e Event],
 ) -> Result<IndexSet<&'e Label>, AllocError>
     ensures { IfOk result (λ ended. (l : tree.Label) → is_among ended l ≡ has_ended l (map seen events.now)) }
 {
@@ -73,7 +73,7 @@ fn ended_tasks<'e>(
 }
 
 // Notes the task of an event that is its end.
-fn note_end<'e>(ended: &mut IndexSet<&'e Label>, event: &'e Event<'_>) -> Result<(), AllocError>
+fn note_end<'e>(ended: &mut IndexSet<&'e Label>, event: &'e Event) -> Result<(), AllocError>
     ensures { OnOk result ((l : tree.Label) → is_among ended.new l
         ≡ (is_among ended.old l || (is_end (what_of event.entry.now.what) && same_label l event.entry.now.task))) }
 {
@@ -85,7 +85,7 @@ fn note_end<'e>(ended: &mut IndexSet<&'e Label>, event: &'e Event<'_>) -> Result
 }
 
 // Whether an event is the end of a task.
-fn ends(what: &What<'_>) -> bool
+fn ends(what: &What) -> bool
     ensures { result ≡ is_end (what_of what.now) }
 {
     match what {
@@ -98,8 +98,8 @@ fn ends(what: &What<'_>) -> bool
 // The last event of each task.
 fn last_events<'e>(
     alloc: Global,
-    events: &[&'e Event<'e>],
-) -> Result<IndexMap<&'e Label, &'e Event<'e>>, AllocError>
+    events: &[&'e Event],
+) -> Result<IndexMap<&'e Label, &'e Event>, AllocError>
     ensures { IfOk result (λ lasts. (l : tree.Label) → last_text (event_at lasts l) ≡ last_of l (map seen events.now) []) }
 {
     let mut lasts = IndexMap::new(alloc);
@@ -111,8 +111,8 @@ fn last_events<'e>(
 
 // Notes an event as the last of its task.
 fn note_last<'e>(
-    lasts: &mut IndexMap<&'e Label, &'e Event<'e>>,
-    event: &'e Event<'e>,
+    lasts: &mut IndexMap<&'e Label, &'e Event>,
+    event: &'e Event,
 ) -> Result<(), AllocError>
     ensures { OnOk result ((l : tree.Label) → last_text (event_at lasts.new l)
         ≡ (if same_label l event.entry.now.task then doing_text event.entry.now.tick (what_of event.entry.now.what)
