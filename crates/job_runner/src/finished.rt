@@ -78,9 +78,10 @@ impl<'a> Run<'a> {
 
     /// The same, without the records.
     pub fn into_froms(self) -> Vec<ScopeFrom>
-        ensures { result.items ≡ froms_in self }
+        ensures { result.items ≡ froms_in self.entry }
     {
-        self.froms
+        let Run { froms, .. } = self;
+        froms
     }
 
     /// How many turns the tasks had.

@@ -9,7 +9,7 @@ use crate::stop::Stop;
 use job_grammar::JobFault;
 use nursery_app::{
     CheckVerdict, DEFAULT_LIMIT, Forward, MOST_INPUT, NoGate, Order, Pick, Reverse, Settings, Turn,
-    Verdict, WriteOut, check, explain, send, serve, split_feed, upgrade,
+    Verdict, WriteOut, check, refusal_message, send, serve, split_feed, upgrade,
 };
 use std::alloc::{AllocError, Global};
 use std::io::{self, IsTerminal};
@@ -152,7 +152,7 @@ fn tell_refusal<R: Eprint + AllocGlobal>(rt: &R, job: &str, text: &[u8], fault: 
     let Ok(name) = shown_name(rt.alloc(), job) else {
         return;
     };
-    if let Ok(message) = explain(rt.alloc(), name.as_str(), text, fault) {
+    if let Ok(message) = refusal_message(rt.alloc(), name.as_str(), text, fault) {
         let _ = rt.eprint(message.as_str());
     }
 }

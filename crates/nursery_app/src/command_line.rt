@@ -46,6 +46,29 @@ const RUN_EXAMPLE: &str =
       line 6+10 ERROR disk
       scope limit 1 passed";
 
+const EXPLAIN_EXAMPLE: &str = "Example: who cancelled `slow`, and when?
+
+    $ cat hedge.job
+    trio-job 1
+    job hedge {
+      nursery calls {
+        start fast { sleep 2; cancel calls; }
+        start slow { sleep 9; }
+      }
+    }
+    $ nursery explain hedge.job --task slow
+    tick 0
+      fast  starts in nursery calls
+      fast  sleeps until 2
+      slow  starts in nursery calls
+      slow  sleeps until 9
+    tick 2
+      fast  cancels nursery calls from 3
+      fast  ends: done
+    tick 3
+      slow  is cancelled while sleeping since 0 by nursery calls (cancelled by fast at 2)
+      slow  ends: cancelled";
+
 const CHECK_EXAMPLE: &str = "Example:
 
     $ cat wait.job
@@ -71,7 +94,7 @@ const UPGRADE_EXAMPLE: &str = "Example:
 // The program's version, as `--version` tells it.
 const VERSION: &str = "0.1.0";
 
-// What reads the words behind the program's name.
+// What reads the words after the program's name.
 pub(crate) fn parser<'a>(alloc: Global) -> Result<Command<'a>, AllocError> {
     Command::new(alloc, "nursery")
         .no_binary_name(true)
@@ -81,11 +104,12 @@ pub(crate) fn parser<'a>(alloc: Global) -> Result<Command<'a>, AllocError> {
         .after_help(EXAMPLE)
         .subcommand_required(true)
         .subcommand(run_parser(alloc)?)?
+        .subcommand(explain_parser(alloc)?)?
         .subcommand(check_parser(alloc)?)?
         .subcommand(upgrade_parser(alloc)?)
 }
 
-// What reads the words behind `run`.
+// What reads the words after `run`.
 fn run_parser<'a>(alloc: Global) -> Result<Command<'a>, AllocError> {
     let input = Arg::new(alloc, "input")
         .value_name("INPUT")
@@ -101,7 +125,27 @@ fn run_parser<'a>(alloc: Global) -> Result<Command<'a>, AllocError> {
         .arg(limit_option(alloc))
 }
 
-// What reads the words behind `check`.
+// What reads the words after `explain`.
+fn explain_parser<'a>(alloc: Global) -> Result<Command<'a>, AllocError> {
+    let input = Arg::new(alloc, "input")
+        .value_name("INPUT")
+        .help("The input file, or `-` for standard input; without one the input is empty");
+    let task = Arg::new(alloc, "task")
+        .long("task")
+        .value_name("LABEL")
+        .help("Only what concerns the task of this label: its events, and those of each task that caused one of its cancellations");
+    Command::new(alloc, "explain")
+        .about("Runs a job over an input and tells what happened to each task, when and why")
+        .after_help(EXPLAIN_EXAMPLE)
+        .arg(job_argument(alloc))?
+        .arg(input)?
+        .arg(task)?
+        .arg(workers_option(alloc))?
+        .arg(order_option(alloc))?
+        .arg(limit_option(alloc))
+}
+
+// What reads the words after `check`.
 fn check_parser<'a>(alloc: Global) -> Result<Command<'a>, AllocError> {
     Command::new(alloc, "check")
         .about("Writes the canonical text of a job, or says where it is refused and why")
@@ -109,7 +153,7 @@ fn check_parser<'a>(alloc: Global) -> Result<Command<'a>, AllocError> {
         .arg(job_argument(alloc))
 }
 
-// What reads the words behind `upgrade`.
+// What reads the words after `upgrade`.
 fn upgrade_parser<'a>(alloc: Global) -> Result<Command<'a>, AllocError> {
     Command::new(alloc, "upgrade")
         .about(
@@ -148,7 +192,7 @@ fn limit_option<'a>(alloc: Global) -> Arg<'a> {
     Arg::new(alloc, "limit")
         .long("limit")
         .value_name("T")
-        .help("The last tick at which the job may end, at most 4294967295")
+        .help("The last tick of the run, at most 4294967295; a job that ends later is not reported")
         .value_parser(value_parser!(u64).range(0..=GREATEST_LIMIT as i64))
         .default_value(SHOWN_LIMIT)
 }

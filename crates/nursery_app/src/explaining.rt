@@ -24,7 +24,12 @@ const MOST_BEHIND: usize = 40;
 /// ASCII is shown as `?`, and a tab or a carriage return as a space. Where something may help, a line tells it: that format 2 has
 /// what stands there, a keyword that was nearly spelled, the block that is not closed, where a name was first given. `job` is
 /// the name that the user gave the text.
-pub fn explain(alloc: Global, job: &str, text: &[u8], fault: JobFault) -> Result<String, AllocError>
+pub fn refusal_message(
+    alloc: Global,
+    job: &str,
+    text: &[u8],
+    fault: JobFault,
+) -> Result<String, AllocError>
     ensures { IfOk result (λ message. Tells job.now text.now fault (string_bytes message)) }
 {
     let line = line_of(text, fault.at);

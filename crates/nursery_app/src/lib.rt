@@ -23,8 +23,9 @@ mod words;
 
 pub use checking::{check, upgrade};
 pub use command_line::DEFAULT_LIMIT;
-pub use explaining::explain;
+pub use explaining::refusal_message;
 pub use feed::split_feed;
+pub use lines::refusal;
 pub use job_report::{MemOut, Out, PutFault, SendFault, WriteOut, send};
 pub use job_runner::{Forward, Gate, MOST_INPUT, NoGate, Pick, Reverse, Settings, Turn};
 pub use read::{ReadFault, read_whole};

@@ -14,7 +14,8 @@ fn push_number(out: &mut Vec<u8>, n: u64) -> Result<(), AllocError>
     out.extend_from_slice(buffer.format(n).as_bytes())
 }
 
-// The line for a refused job. Want of memory is no refusal, and has none.
+/// The line for a refused job text, as `refused J6 Syntax at 27`, with its newline. Want of memory is not a refusal: a fault of that
+/// kind is an error here too, as is memory that is refused for the line.
 pub fn refusal(alloc: Global, fault: JobFault) -> Result<Vec<u8>, AllocError>
     ensures line { IfOk result (λ line. line.items ≡ refusal_line fault) }
     ensures kind { OnOk result (fault.kind ≢ kinds.NoMemory) }
@@ -33,7 +34,7 @@ pub fn refusal(alloc: Global, fault: JobFault) -> Result<Vec<u8>, AllocError>
 }
 
 // The line for a job that ends later than the limit.
-pub fn past_limit(alloc: Global, limit: u64) -> Result<Vec<u8>, AllocError>
+pub(crate) fn past_limit(alloc: Global, limit: u64) -> Result<Vec<u8>, AllocError>
     ensures { IfOk result (λ line. line.items ≡ limit_line limit) }
 {
     let mut line = Vec::from_slice(alloc, b"limit ")?;

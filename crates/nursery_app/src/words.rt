@@ -1,7 +1,7 @@
-ghost use Rattle.std.specs.Prelude.{◌≡◌, [], Ok, IfOk};
+ghost use Rattle.std.specs.Prelude.{◌≡◌, [], Ok, IfOk, IfSome};
 ghost use Rattle.nursery_app.specs.declared.words.Command.TheVariants.{Feed};
 ghost use Rattle.nursery_app.specs.declared.words.CommandFault.TheVariants.{NoMemory};
-ghost use Rattle.nursery_app.specs.Words.{IsFit, IsAsked};
+ghost use Rattle.nursery_app.specs.Words.{IsFit, IsAsked, AreInRange};
 
 use crate::command_line::{DEFAULT_LIMIT, parser};
 use clap::ArgMatches;
@@ -9,6 +9,13 @@ use clap::error::ErrorKind;
 use job_runner::{GREATEST_LIMIT, MOST_WORKERS};
 use std::alloc::{AllocError, Global};
 use thiserror::Error;
+
+// What is wrong where both files are standard input.
+const BOTH_STANDARD: &str =
+    "error: JOB and INPUT cannot both be `-`: there is one standard input\n";
+
+// What is wrong with a setting that the parser let through.
+const OUT_OF_RANGE: &str = "error: a setting is out of its range\n";
 
 /// The order in which the ready tasks of a batch have their turns.
 #[derive(Clone, Copy, Debug, PartialEq, Eq)]
@@ -21,7 +28,7 @@ pub enum Order {
     Turn,
 }
 
-/// What the words behind the program's name ask for.
+/// What the words after the program's name ask for.
 #[derive(Debug, PartialEq, Eq, Drop)]
 pub enum Command {
     /// No words: a feed on standard input.
@@ -37,6 +44,21 @@ pub enum Command {
         /// The order of turns.
         order: Order,
         /// The last tick at which the job may end, at most 4,294,967,295.
+        limit: u64,
+    },
+    /// The story of a job over an input: why each task ended as it did.
+    Explain {
+        /// The job file, or `-` for standard input.
+        job: String,
+        /// The input file, or `-` for standard input; none is an empty input.
+        input: Option<String>,
+        /// The label of the one task that the story is to be about; none is all of them.
+        task: Option<String>,
+        /// The number of workers, 1 to 64.
+        workers: usize,
+        /// The order of turns.
+        order: Order,
+        /// The last tick of the story, at most 4,294,967,295.
         limit: u64,
     },
     /// The canonical text of a job.
@@ -78,7 +100,7 @@ impl From<AllocError> for CommandFault {
     }
 }
 
-/// Reads the words behind the program's name.
+/// Reads the words after the program's name.
 pub fn read_command(alloc: Global, words: &[String]) -> Result<Command, CommandFault>
     ensures feed { words.now ≡ [] → result ≡ Ok Feed }
     ensures only { result ≡ Ok Feed → words.now ≡ [] }
@@ -120,19 +142,21 @@ fn chosen(alloc: Global, matches: &ArgMatches<'_>) -> Result<Command, CommandFau
     ensures { IfOk result IsAsked }
 {
     let Some((name, inner)) = matches.subcommand() else {
-        return refused(alloc, "error: name `run`, `check` or `upgrade`\n");
+        return refused(alloc, "error: name a command\n");
     };
     let Some(job) = inner.get_str("job") else {
         return refused(alloc, "error: name the job file\n");
     };
-    if name == "run" {
-        return run_command(alloc, job, inner);
+    match name {
+        "run" => run_command(alloc, job, inner),
+        "explain" => explain_command(alloc, job, inner),
+        "upgrade" => Ok(Command::Upgrade {
+            job: String::from_str(alloc, job)?,
+        }),
+        _ => Ok(Command::Check {
+            job: String::from_str(alloc, job)?,
+        }),
     }
-    let job = String::from_str(alloc, job)?;
-    if name == "upgrade" {
-        return Ok(Command::Upgrade { job });
-    }
-    Ok(Command::Check { job })
 }
 
 // The command `run` with its settings.
@@ -143,23 +167,75 @@ fn run_command(alloc: Global, job: &str, matches: &ArgMatches<'_>) -> Result<Com
         return refused(alloc, "error: name the input file\n");
     };
     if job == "-" && input == "-" {
-        return refused(
-            alloc,
-            "error: JOB and INPUT cannot both be `-`: there is one standard input\n",
-        );
+        return refused(alloc, BOTH_STANDARD);
     }
-    let workers = matches.get_one::<usize>("workers").unwrap_or(1);
-    let limit = matches.get_one::<u64>("limit").unwrap_or(DEFAULT_LIMIT);
-    if workers < 1 || workers > MOST_WORKERS || limit > GREATEST_LIMIT {
-        return refused(alloc, "error: a setting is out of its range\n");
-    }
+    let Some(choices) = choices(matches) else {
+        return refused(alloc, OUT_OF_RANGE);
+    };
     Ok(Command::Run {
         job: String::from_str(alloc, job)?,
         input: String::from_str(alloc, input)?,
+        workers: choices.workers,
+        order: choices.order,
+        limit: choices.limit,
+    })
+}
+
+// The command `explain` with its settings.
+fn explain_command(
+    alloc: Global,
+    job: &str,
+    matches: &ArgMatches<'_>,
+) -> Result<Command, CommandFault>
+    ensures { IfOk result IsAsked }
+{
+    let input = matches.get_str("input");
+    if job == "-" && input == Some("-") {
+        return refused(alloc, BOTH_STANDARD);
+    }
+    let Some(choices) = choices(matches) else {
+        return refused(alloc, OUT_OF_RANGE);
+    };
+    Ok(Command::Explain {
+        job: String::from_str(alloc, job)?,
+        input: owned(alloc, input)?,
+        task: owned(alloc, matches.get_str("task"))?,
+        workers: choices.workers,
+        order: choices.order,
+        limit: choices.limit,
+    })
+}
+
+// How a job is to be run.
+#[derive(Clone, Copy)]
+struct Choices {
+    workers: usize,
+    order: Order,
+    limit: u64,
+}
+
+// The number of workers, the order and the limit, where they are in their ranges.
+fn choices(matches: &ArgMatches<'_>) -> Option<Choices>
+    ensures { IfSome result AreInRange }
+{
+    let workers = matches.get_one::<usize>("workers").unwrap_or(1);
+    let limit = matches.get_one::<u64>("limit").unwrap_or(DEFAULT_LIMIT);
+    if workers < 1 || workers > MOST_WORKERS || limit > GREATEST_LIMIT {
+        return None;
+    }
+    Some(Choices {
         workers,
         order: order_named(matches.get_str("order")),
         limit,
     })
+}
+
+// A word as a string of its own, where there is one.
+fn owned(alloc: Global, word: Option<&str>) -> Result<Option<String>, AllocError> {
+    match word {
+        Some(word) => Ok(Some(String::from_str(alloc, word)?)),
+        None => Ok(None),
+    }
 }
 
 // The order of that name; forward where none is given.

@@ -1,4 +1,4 @@
-//! Refused job texts, and what `explain` tells of them.
+//! Refused job texts, and what `refusal_message` tells of them.
 
 /// A job text, and what its refusal shows, where the file is named `f`.
 pub(crate) type Row = (&'static str, &'static str);

@@ -1,10 +1,10 @@
-//! Job texts that are refused: the line that tells it, what `check` and `upgrade` write, and how `explain` shows the place.
+//! Job texts that are refused: the line that tells it, what `check` and `upgrade` write, and how `refusal_message` shows the place.
 
 use crate::explained::{EXPECTED, HELPED, Row, WRONG};
 use crate::fixtures::{Asked, assert_answers, assert_written, written, written_again};
 use job_grammar::{JobFault, JobKind, read_job};
 use job_report::MemOut;
-use nursery_app::{CheckVerdict, explain};
+use nursery_app::{CheckVerdict, refusal_message};
 use std::alloc::Global;
 use std::process::Abort;
 use std::test::Fail;
@@ -131,13 +131,13 @@ fn a_text_that_nests_thousands_deep_is_refused(rt: HostRuntime) -> Result<(), Fa
     Ok(())
 }
 
-// What `explain` tells of a refused text. Want of memory is an error.
+// What `refusal_message` tells of a refused text. Want of memory is an error.
 fn told_of(alloc: Global, text: &[u8]) -> Result<String, Fail> {
     let fault = read_job(alloc, text).err().ok_or("a refusal")?;
     if matches!(fault.kind, JobKind::NoMemory) {
         Err(fault)?;
     }
-    Ok(explain(alloc, "f", text, fault)?)
+    Ok(refusal_message(alloc, "f", text, fault)?)
 }
 
 // Checks how refused texts are told, of which the file is named `f`.
@@ -179,7 +179,7 @@ fn a_long_line_is_cut_round_the_place(rt: HostRuntime) -> Result<(), Fail> {
         at: 200,
         kind: JobKind::Depth,
     };
-    let shown = explain(rt.alloc(), "f", &text, fault)?;
+    let shown = refusal_message(rt.alloc(), "f", &text, fault)?;
     assert_eq!(rt; shown.as_str(), CUT);
     Ok(())
 }

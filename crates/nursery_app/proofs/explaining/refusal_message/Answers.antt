@@ -4,7 +4,7 @@ use Rattle.std.specs.String.{string_bytes}
 use Rattle.nursery_app.specs.Explaining.{width_before, hint_of}
 use Rattle.nursery_app.specs.Sentences.{sentence_of}
 use Rattle.nursery_app.proofs.Told.{pieces, cut_front, cut_back, width_is, before_is, behind_is, headed_same, first_at}
-use Rattle.nursery_app.proofs.explaining.explain.Goals as goal
+use Rattle.nursery_app.proofs.explaining.refusal_message.Goals as goal
 
 pub returns : goal.returns
 returns c =
