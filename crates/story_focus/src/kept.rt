@@ -1,0 +1,27 @@
+ghost use Rattle.std.specs.Prelude.{◌≡◌, List, IfOk, map};
+ghost use Rattle.exc_groups.specs.Exceptions as tree;
+ghost use Rattle.job_story.specs.Focus.{is_among, of_tasks};
+ghost use Rattle.story_causes.specs.Seen.{seen};
+ghost use Rattle.story_focus.specs.Holds.{holds};
+
+use crate::tasks::Tasks;
+use job_story::Event;
+use std::alloc::{AllocError, Global};
+
+/// Those of some events that are events of one of these tasks, in the same order. The error is want of memory.
+pub fn of_tasks<'e>(
+    alloc: Global,
+    events: &[&'e Event],
+    tasks: &Tasks<'_>,
+) -> Result<Vec<&'e Event>, AllocError>
+    ensures { IfOk result (λ kept. (ls : List tree.Label) → ((l : tree.Label) → holds tasks.now l ≡ is_among l ls) →
+        map seen kept.items ≡ of_tasks ls (map seen events.now)) }
+{
+    let mut kept = Vec::new(alloc);
+    'events: for event in events {
+        if tasks.holds(&event.task) {
+            kept.push(*event)?;
+        }
+    }
+    Ok(kept)
+}

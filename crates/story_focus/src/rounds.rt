@@ -1,0 +1,141 @@
+ghost use Rattle.std.specs.Prelude.{◌≡◌, ◌||◌, false, List, length, OnOk, IfOk, map};
+ghost use Rattle.std.specs.Option.{option_map};
+ghost use Rattle.exc_groups.specs.Exceptions as tree;
+ghost use Rattle.job_meaning.specs.Log.{Table};
+ghost use Rattle.job_story.specs.Events as told;
+ghost use Rattle.job_story.specs.Focus.{causer_of, causers_in, concerned, is_among, task_of, with_causers};
+ghost use Rattle.job_story.specs.Held.{event_of, what_of};
+ghost use Rattle.story_causes.specs.Found.{cause_in_code};
+ghost use Rattle.story_causes.specs.Knows.{Knows};
+ghost use Rattle.story_causes.specs.Seen.{seen};
+ghost use Rattle.story_focus.specs.Holds.{holds, label_seen};
+ghost use Rattle.story_focus.specs.Added.{is_added, is_added_by};
+
+use crate::tasks::Tasks;
+use exc_groups::Label;
+use job_story::{Event, Happening, What};
+use std::alloc::{AllocError, Global};
+use story_causes::{Cause, Causes};
+
+/// The tasks that concern a task of a story: the task itself, each task that caused one of its cancellations, each that caused one of
+/// theirs, and so on. The index has to be one over these events, as `Causes::of` makes it. The events are read once for each step of the
+/// longest chain of causes, and once more. The error is want of memory.
+pub fn concerned<'e>(
+    alloc: Global,
+    events: &[&'e Event],
+    causes: &Causes<'e>,
+    task: &'e Label,
+) -> Result<Tasks<'e>, AllocError>
+    ensures { IfOk result (λ tasks. (table : Table) → Knows causes.now table (map seen events.now) → (l : tree.Label) →
+        holds tasks l ≡ is_among l (concerned table (map seen events.now) task.entry.now)) }
+{
+    let mut tasks = Tasks::none(alloc);
+    tasks.add(task)?;
+    add_rounds(alloc, events, causes, &mut tasks)?;
+    Ok(tasks)
+}
+
+// Adds causers round by round, until a round adds none: at most as often as there are events.
+fn add_rounds<'e>(
+    alloc: Global,
+    events: &[&'e Event],
+    causes: &Causes<'e>,
+    tasks: &mut Tasks<'e>,
+) -> Result<(), AllocError>
+    ensures { OnOk result ((table : Table) (kept : List tree.Label) → Knows causes.now table (map seen events.now) →
+        ((l : tree.Label) → holds tasks.old l ≡ is_among l kept) → (l : tree.Label) →
+        holds tasks.new l ≡ is_among l (causers_in (length events.now) table (map seen events.now) kept)) }
+{
+    'rounds: for round in 0..events.len() {
+        if !add_causers(alloc, events, causes, tasks)? {
+            return Ok(());
+        }
+    }
+    Ok(())
+}
+
+// One round: adds each task that caused a cancellation of a task of the set, and answers whether that added any.
+fn add_causers<'e>(
+    alloc: Global,
+    events: &[&'e Event],
+    causes: &Causes<'e>,
+    tasks: &mut Tasks<'e>,
+) -> Result<bool, AllocError>
+    ensures grown { OnOk result ((table : Table) (kept : List tree.Label) → Knows causes.now table (map seen events.now) →
+        ((l : tree.Label) → holds tasks.old l ≡ is_among l kept) → (l : tree.Label) →
+        holds tasks.new l ≡ is_among l (with_causers table (map seen events.now) kept (map seen events.now))) }
+    ensures closed { IfOk result (λ grew. grew ≡ false → (l : tree.Label) → holds tasks.new l ≡ holds tasks.old l) }
+{
+    let added = causers(alloc, events, causes, tasks)?;
+    if added.is_empty() {
+        return Ok(false);
+    }
+    tasks.add_all(added)?;
+    Ok(true)
+}
+
+// The tasks that caused a cancellation of a task of the set, and are not in the set.
+fn causers<'e>(
+    alloc: Global,
+    events: &[&'e Event],
+    causes: &Causes<'e>,
+    tasks: &Tasks<'e>,
+) -> Result<Tasks<'e>, AllocError>
+    ensures { IfOk result (λ added. (table : Table) (all : List told.Event) → Knows causes.now table all → (l : tree.Label) →
+        holds added l ≡ is_added (holds tasks.now) table all l (map seen events.now)) }
+{
+    let mut added = Tasks::none(alloc);
+    'events: for event in events {
+        note_causer(&mut added, causes, tasks, event)?;
+    }
+    Ok(added)
+}
+
+// Adds the task that an event adds to a round, if there is one.
+fn note_causer<'e>(
+    added: &mut Tasks<'e>,
+    causes: &Causes<'e>,
+    tasks: &Tasks<'e>,
+    event: &Event,
+) -> Result<(), AllocError>
+    ensures { OnOk result ((table : Table) (all : List told.Event) → Knows causes.now table all → (l : tree.Label) →
+        holds added.new l ≡ (holds added.old l || is_added_by (holds tasks.now) table all l (event_of event.now))) }
+{
+    if !tasks.holds(&event.task) {
+        return Ok(());
+    }
+    let Some(causer) = causer_of(causes, &event.what) else {
+        return Ok(());
+    };
+    if tasks.holds(causer) {
+        return Ok(());
+    }
+    added.add(causer)?;
+    Ok(())
+}
+
+// The task that caused a cancellation, where the event is one that a task caused.
+fn causer_of<'e>(causes: &Causes<'e>, what: &What) -> Option<&'e Label>
+    ensures { (table : Table) (all : List told.Event) → Knows causes.now table all →
+        label_seen result ≡ causer_of table all (what_of what.now) }
+{
+    let What::Happens(Happening::IsCancelled { by: Some(by), .. }) = what else {
+        return None;
+    };
+    task_of(causes.cause(by))
+}
+
+// The task that is a cause, where it is one.
+fn task_of<'e>(cause: Option<Cause<'e>>) -> Option<&'e Label>
+    ensures { label_seen result ≡ task_of (option_map cause_in_code cause.entry) }
+{
+    let Some(cause) = cause else {
+        return None;
+    };
+    match cause {
+        Cause::Deadline => None,
+        Cause::Task { task, .. } => Some(task),
+        Cause::Failure { task, .. } => Some(task),
+        Cause::Cancellation { task, .. } => Some(task),
+    }
+}

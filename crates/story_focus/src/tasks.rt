@@ -1,0 +1,57 @@
+ghost use Rattle.std.specs.Prelude.{◌≡◌, ◌||◌, false, true, OnOk};
+ghost use Rattle.exc_groups.specs.Exceptions as tree;
+ghost use Rattle.job_meaning.specs.Log.{same_label};
+ghost use Rattle.story_focus.specs.Holds.{holds};
+
+use exc_groups::Label;
+use indexmap::IndexSet;
+use std::alloc::{AllocError, Global};
+
+/// A set of tasks, by their labels. It borrows the labels, and answers in constant time whether it holds a task.
+#[derive(Drop)]
+pub struct Tasks<'e> {
+    // The labels.
+    all: IndexSet<&'e Label>,
+}
+
+impl<'e> Tasks<'e> {
+    // The set of no task. Takes no memory.
+    pub(crate) fn none(alloc: Global) -> Tasks<'e>
+        ensures { (l : tree.Label) → holds result l ≡ false }
+    {
+        Tasks {
+            all: IndexSet::new(alloc),
+        }
+    }
+
+    /// Whether the set holds the task of this label.
+    pub fn holds(&self, task: &Label) -> bool
+        ensures { result ≡ holds self.now task.now }
+    {
+        self.all.contains(&task)
+    }
+
+    // Whether the set holds no task.
+    pub(crate) fn is_empty(&self) -> bool
+        ensures { result ≡ true → (l : tree.Label) → holds self.now l ≡ false }
+    {
+        self.all.is_empty()
+    }
+
+    // Adds one task. The error is want of memory.
+    pub(crate) fn add(&mut self, task: &'e Label) -> Result<(), AllocError>
+        ensures { OnOk result ((l : tree.Label) → holds self.new l ≡ (holds self.old l || same_label l task.entry.now)) }
+    {
+        self.all.insert(task)?;
+        Ok(())
+    }
+
+    // Adds each task of another set. The error is want of memory.
+    pub(crate) fn add_all(&mut self, others: Tasks<'e>) -> Result<(), AllocError>
+        ensures { OnOk result ((l : tree.Label) → holds self.new l ≡ (holds self.old l || holds others.entry l)) }
+    {
+        let Tasks { mut all } = others;
+        self.all.append(&mut all)?;
+        Ok(())
+    }
+}
