@@ -111,19 +111,8 @@ impl Told {
         ensures { IfOk result (λ w. (matched : TreeExc) (a b : Tale) → IsTold self a → IsTold next b
             → IsTold w (handled_by matched (option_map exc_of rest) a b)) }
     {
-        let Told {
-            end,
-            exc,
-            open_until,
-            open_excs,
-        } = next;
-        let exc = handler_exc(alloc, exc, rest)?;
-        let told = self.join(Told {
-            end,
-            exc,
-            open_until,
-            open_excs,
-        })?;
+        let exc = handler_exc(alloc, next.exc, rest)?;
+        let told = self.join(Told { exc, ..next })?;
         Ok(told)
     }
 
@@ -132,19 +121,8 @@ impl Told {
         ensures { IfOk result (λ w. (a b : Tale) → IsTold self a → IsTold next b → IsTold w (cleaned_by a b)) }
     {
         let before = copy_of(alloc, &self.exc)?;
-        let Told {
-            end,
-            exc,
-            open_until,
-            open_excs,
-        } = next;
-        let exc = outcome_after(before, exc);
-        let told = self.join(Told {
-            end,
-            exc,
-            open_until,
-            open_excs,
-        })?;
+        let exc = outcome_after(before, next.exc);
+        let told = self.join(Told { exc, ..next })?;
         Ok(told)
     }
 
