@@ -10,7 +10,7 @@ pub struct Block {
     pub label: Label,
     /// The tick from which its deadline cancels it: none is never.
     pub deadline: Option<u64>,
-    /// Whether it hides the cancellations from outside.
+    /// Whether it hides the cancellations of the levels outside it.
     pub shield: bool,
     /// The tick from which it is cancelled: none is never.
     pub from: Option<u64>,

@@ -9,7 +9,7 @@ use exc_groups::{Exc, Label, Match, Parts, Whose, holds_cancelled, split};
 use job_story::Kind;
 use std::alloc::{AllocError, Global};
 
-/// What leaving a block leaves of an exception, and whether a `Cancelled` was caught.
+/// What a scope or nursery lets through of the exception that its inside ended with.
 #[derive(Drop)]
 pub struct Left {
     /// Whether a `Cancelled` was caught.
@@ -18,7 +18,7 @@ pub struct Left {
     pub exc: Option<Exc>,
 }
 
-// Whether it is a `fail` scope.
+// Whether it is a `fail` scope, which turns a cancellation that it caught into `TooSlow`.
 fn fails(kind: Kind) -> bool
     ensures { result ≡ fails_of (kind_of kind) }
 {
@@ -28,7 +28,7 @@ fn fails(kind: Kind) -> bool
     }
 }
 
-/// A block that catches takes every `Cancelled` leaf away, and lets the rest go on.
+/// What a scope or nursery lets through: where it catches, it takes every `Cancelled` leaf out of the exception.
 pub(crate) fn left_with(alloc: Global, catches: bool, exc: Option<Exc>) -> Result<Left, AllocError>
     ensures { IfOk result (λ left. left_of left ≡ left_with catches (option_map exc_of exc)) }
 {
@@ -49,7 +49,8 @@ pub(crate) fn left_with(alloc: Global, catches: bool, exc: Option<Exc>) -> Resul
     Ok(Left { caught, exc: rest })
 }
 
-/// The exception after a block: a `fail` scope that caught and has nothing left raises `TooSlow`.
+/// The exception that leaves a scope or nursery. A `fail` scope that caught a cancellation and has nothing else left raises `TooSlow` in
+/// that tick.
 pub(crate) fn exc_after(
     alloc: Global,
     kind: Kind,
@@ -69,7 +70,7 @@ pub(crate) fn exc_after(
     }
 }
 
-/// An equal exception, if there is one.
+/// A copy of an exception, if there is one.
 pub(crate) fn copy_of(alloc: Global, exc: &Option<Exc>) -> Result<Option<Exc>, AllocError>
     ensures { IfOk result (λ copy. option_map exc_of copy ≡ option_map exc_of exc.now) }
 {
@@ -79,8 +80,8 @@ pub(crate) fn copy_of(alloc: Global, exc: &Option<Exc>) -> Result<Option<Exc>, A
     }
 }
 
-/// An equal exception in a box.
-pub(crate) fn box_copy(alloc: Global, exc: &Exc) -> Result<Box<Exc>, AllocError>
+/// A copy of an exception, in a box.
+pub(crate) fn copy_in_box(alloc: Global, exc: &Exc) -> Result<Box<Exc>, AllocError>
     ensures { IfOk result (λ copy. exc_of copy.value ≡ exc_of exc.now) }
 {
     let copy = exc.copy(alloc)?;
@@ -88,17 +89,17 @@ pub(crate) fn box_copy(alloc: Global, exc: &Exc) -> Result<Box<Exc>, AllocError>
     Ok(copy)
 }
 
-/// An equal exception in a box, if there is one.
+/// A copy of an exception in a box, if there is one.
 pub(crate) fn boxed_copy(alloc: Global, exc: &Option<Exc>) -> Result<Option<Box<Exc>>, AllocError>
     ensures { IfOk result (λ copy. boxed copy ≡ option_map exc_of exc.now) }
 {
     match exc {
         None => Ok(None),
-        Some(exc) => Ok(Some(box_copy(alloc, exc)?)),
+        Some(exc) => Ok(Some(copy_in_box(alloc, exc)?)),
     }
 }
 
-/// An equal label, if there is one.
+/// A copy of a label, if there is one.
 pub(crate) fn copied(alloc: Global, label: Option<&Label>) -> Result<Option<Label>, AllocError>
     ensures { IfOk result (λ copy. copy ≡ option_copied label.entry) }
 {
@@ -132,7 +133,7 @@ pub(crate) fn with_exc(
     Ok(all)
 }
 
-/// A handler's group: what it raised, then the rest of the split as one member.
+/// The exception after a handler: what it raised itself and the rest that it did not take, as a group where there are both.
 pub(crate) fn handler_exc(
     alloc: Global,
     raised: Option<Exc>,
@@ -155,7 +156,7 @@ pub(crate) fn handler_exc(
     }))
 }
 
-/// The exception after a cleanup.
+/// The exception after a `finally` block: its own, or else the earlier one.
 pub(crate) fn outcome_after(earlier: Option<Exc>, exc: Option<Exc>) -> Option<Exc>
     ensures { option_map exc_of result ≡ outcome_after (option_map exc_of earlier) (option_map exc_of exc) }
 {

@@ -9,33 +9,35 @@ use job_story::{Froms, Kind};
 use job_tree::Name;
 use std::alloc::{AllocError, Global};
 
-/// Where a walk is: in which task, on which part, and inside which scopes and nurseries.
+/// A place in the walk: the task, its part of the input, and the scopes and nurseries that it is in. It is copied, and changed by struct
+/// update, wherever the walk goes into a block or a started task.
 #[derive(Clone, Copy)]
 pub struct Here<'a, 's> {
-    /// The allocator.
+    /// The allocator for events, labels and exceptions.
     pub alloc: Global,
-    /// From which tick scopes and nurseries are cancelled.
+    /// The tick from which each scope and nursery is cancelled.
     pub froms: &'s Froms,
     /// The task's part of the input.
     pub part: Part<'a>,
     /// The task's label.
     pub task: &'s Label,
-    /// A label with the indices of what is entered or started here: those of the task, then the numbers of its passes.
+    /// A label whose indices are those of whatever is entered or started here: the task's own, then the number of each `repeat` pass
+    /// that the walk is in.
     pub place: &'s Label,
-    /// The scopes and nurseries around the task, those of its starters included.
+    /// The open scopes and nurseries, innermost first, with those of the tasks that started this one.
     pub stack: &'s Stack<'s>,
-    /// Whether it is in a `finally` block, of this task or of one that started it.
+    /// Whether the walk is in a `finally` block, of this task or of one that started it.
     pub in_cleanup: bool,
 }
 
 impl<'a, 's> Here<'a, 's> {
-    /// The label of that name for what is entered or started here.
+    /// The label of a scope, nursery or task of that name that is entered or started here.
     pub(crate) fn label_here(&self, name: Name) -> Result<Label, AllocError>
         ensures { IfOk result (λ label. label ≡ label_in name self.now) }
     {
         self.place.named(self.alloc, name)
     }
-    /// The scope or nursery of that name that is entered here.
+    /// The scope or nursery of that name that is entered here, with its label and the tick from which it is cancelled.
     pub(crate) fn block(
         &self,
         kind: Kind,

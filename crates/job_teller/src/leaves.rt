@@ -23,7 +23,7 @@ use std::alloc::AllocError;
 /// The tick to which `forever` sleeps.
 const FAR: u64 = 1_099_511_627_776;
 
-/// Tells a step that has no block of steps in it.
+/// Walks a step that has no block of steps in it, from a tick on.
 pub(crate) fn tell_leaf<'a>(
     step: &'a Step,
     here: Here<'a, '_>,
@@ -51,7 +51,8 @@ pub(crate) fn tell_leaf<'a>(
     }
 }
 
-/// A sleep of so many ticks, which is until a tick, or forever.
+/// Walks a sleep of so many ticks, which the event calls a sleep until a tick, or forever where that is none. It ends early where a
+/// cancellation is seen.
 pub(crate) fn sleeping<'a>(
     here: Here<'a, '_>,
     until: Option<u64>,
@@ -79,7 +80,7 @@ pub(crate) fn sleeping<'a>(
     Ok(Told::at(here.alloc, tick + ticks))
 }
 
-/// A sleep for the lines of the part, so many in a tick.
+/// Walks a sleep of as many ticks as the lines of the task's part take, so many in a tick.
 pub(crate) fn pace<'a>(
     here: Here<'a, '_>,
     per_tick: u64,
@@ -101,7 +102,7 @@ pub(crate) fn pace<'a>(
     Ok(told)
 }
 
-// How many lines the part has.
+// The number of lines of the task's part.
 fn line_count(here: Here<'_, '_>) -> Result<u64, AllocError>
     requires { length (input_of here) ≤ MOST_INPUT }
     ensures count { IfOk result (λ n. n ≡ count_in (input_of here.entry) (range_of here.entry.part)) }
@@ -113,7 +114,7 @@ fn line_count(here: Here<'_, '_>) -> Result<u64, AllocError>
     Ok(count)
 }
 
-// Lines that a kernel answered.
+// Walks a kernel that answered these lines, in no time.
 fn shown<'a>(
     here: Here<'a, '_>,
     lines: FoundLines<'a>,
@@ -130,7 +131,7 @@ fn shown<'a>(
     Ok(Told::at(here.alloc, tick))
 }
 
-/// The lines that contain a string.
+/// Walks a `find`: the lines of the task's part that contain a string.
 pub(crate) fn found<'a>(
     here: Here<'a, '_>,
     text: &'a Text,
@@ -147,7 +148,7 @@ pub(crate) fn found<'a>(
     Ok(told)
 }
 
-/// The first so many lines.
+/// Walks a `head`: the first so many lines of the task's part.
 pub(crate) fn head<'a>(
     here: Here<'a, '_>,
     count: u64,
@@ -164,7 +165,7 @@ pub(crate) fn head<'a>(
     Ok(told)
 }
 
-/// The first of the longest lines.
+/// Walks a `longest`: the first of the longest lines of the task's part.
 pub(crate) fn longest<'a>(
     here: Here<'a, '_>,
     tick: u64,
@@ -180,7 +181,7 @@ pub(crate) fn longest<'a>(
     Ok(told)
 }
 
-/// The first line that contains a string, or an exception of that name where there is none.
+/// Walks a `need`: the first line of the task's part that contains a string, or an exception of that name where there is none.
 pub(crate) fn need<'a>(
     here: Here<'a, '_>,
     text: &'a Text,
@@ -205,7 +206,7 @@ pub(crate) fn need<'a>(
     Ok(told)
 }
 
-/// An exception of that name.
+/// Walks a `raise`: an exception of that name.
 pub(crate) fn raised<'a>(
     here: Here<'a, '_>,
     name: &Name,
@@ -225,7 +226,7 @@ pub(crate) fn raised<'a>(
     Ok(Told::failed(here.alloc, exc, tick))
 }
 
-/// A cancellation of the scope or nursery of that name that is around the task.
+/// Walks a `cancel` of the innermost scope or nursery of that name that the task is in.
 pub(crate) fn cancel<'a>(
     here: Here<'a, '_>,
     name: &Name,
@@ -240,7 +241,7 @@ pub(crate) fn cancel<'a>(
     Ok(Told::at(here.alloc, tick))
 }
 
-/// The tick of a deadline for a scope or nursery that is entered in a tick.
+/// The tick from which its deadline cancels a scope or nursery that is entered in a tick: none is never.
 pub(crate) fn due(deadline: Deadline, tick: u64) -> Option<u64>
     requires modest { IsModestDeadline deadline }
     requires room { tick ≤ 4611686018427387904 }

@@ -1,9 +1,11 @@
-//! The teller: the story of a job over an input, told by a walk of its tree with each scope's and nursery's tick of cancellation
-//! looked up.
+//! The teller: it lists the events of a job's run over an input, from the tick at which each scope and nursery is cancelled.
 //!
-//! The layer promises that `tell` gives the events of the story that `job_story` defines, in the order of the walk. There is no queue,
-//! no clock and no other task in it: each task is followed by itself, and every event is pushed as it is told. It stands on the job's
-//! tree, the parts of the input, the kernels and the exceptions, and on `job_story` for events and froms.
+//! `tell` returns exactly the events of the story that `job_story` defines, in the order of the walk. It needs no queue and no clock,
+//! since the ticks of cancellation are given: it walks the job's tree once, follows each task from its start to its end before it goes
+//! on with the task that started it, and appends every event as it comes to it. An error anywhere in the crate is a failed allocation.
+//!
+//! It stands on the job's tree, the parts of the input, the kernels and the exceptions, and on `job_story` for the events and the table
+//! of ticks.
 #![tactic(auto)]
 
 mod block;

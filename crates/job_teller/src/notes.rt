@@ -12,14 +12,14 @@ ghost use Rattle.job_teller.specs.Heres.{scopes_of};
 ghost use Rattle.job_teller.specs.Tales.{Adds, IsLeft, Tells};
 
 use crate::block::Block;
-use crate::excs::{box_copy, boxed_copy, copied, exc_after, left_with};
+use crate::excs::{boxed_copy, copied, copy_in_box, exc_after, left_with};
 use crate::here::Here;
 use crate::told::Told;
 use exc_groups::{Exc, Label};
 use job_story::{Event, Happening, What};
 use std::alloc::{AllocError, Global};
 
-/// Tells one event of a task.
+/// Appends one event of a task.
 pub(crate) fn add<'a>(
     alloc: Global,
     task: &Label,
@@ -34,7 +34,7 @@ pub(crate) fn add<'a>(
     Ok(())
 }
 
-/// Tells what happens to the task here.
+/// Appends an event of the task that the walk is in.
 pub(crate) fn note<'a>(
     here: Here<'a, '_>,
     tick: u64,
@@ -47,7 +47,7 @@ pub(crate) fn note<'a>(
     Ok(())
 }
 
-/// Tells of a sleep, where it takes time.
+/// Appends the event of a sleep, unless it takes no tick.
 pub(crate) fn note_sleep<'a>(
     here: Here<'a, '_>,
     until: Option<u64>,
@@ -64,7 +64,8 @@ pub(crate) fn note_sleep<'a>(
     Ok(())
 }
 
-/// Tells of a `Cancelled` that is raised in a tick, for the sight from a tick on.
+/// Appends the event of a `Cancelled` that is raised in `tick`, since a cancellation from the tick `from` on is seen. `since` is the tick
+/// at which the task fell asleep, if it slept.
 pub(crate) fn note_cancelled<'a>(
     here: Here<'a, '_>,
     from: u64,
@@ -85,7 +86,7 @@ pub(crate) fn note_cancelled<'a>(
     Ok(())
 }
 
-/// Tells of an exception of a cleanup that takes the place of an earlier one.
+/// Appends the event of an exception of a `finally` block that takes the place of an earlier one, if there are both.
 pub(crate) fn note_replaced<'a>(
     here: Here<'a, '_>,
     lost: &Option<Exc>,
@@ -102,13 +103,13 @@ pub(crate) fn note_replaced<'a>(
     let Some(fresh) = fresh else {
         return Ok(());
     };
-    let lost = box_copy(here.alloc, lost)?;
-    let fresh = box_copy(here.alloc, fresh)?;
+    let lost = copy_in_box(here.alloc, lost)?;
+    let fresh = copy_in_box(here.alloc, fresh)?;
     note(here, tick, Happening::Replaces { lost, fresh }, events)?;
     Ok(())
 }
 
-/// Tells that the body of a nursery ended, and ends the nursery.
+/// Ends a nursery whose body was walked: appends the event that the task waits for the children, and gathers what they come to.
 pub(crate) fn wait<'a>(
     label: &Label,
     told: Told,
@@ -125,7 +126,7 @@ pub(crate) fn wait<'a>(
     Ok(told)
 }
 
-/// Leaves a block whose inside ended, and tells so.
+/// Leaves a scope or nursery whose inside was walked, and appends that event.
 pub(crate) fn leave<'a>(
     block: &Block,
     inside: Told,

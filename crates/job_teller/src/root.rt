@@ -15,8 +15,10 @@ use job_grammar::Job;
 use job_story::{Event, Froms};
 use std::alloc::{AllocError, Global};
 
-/// Tells the story of a job over an input, where scopes and nurseries are cancelled from these ticks on: its events, in the order of
-/// the walk. Those of a started task stand where it was started.
+/// The events of a job's run over an input, where `froms` has the tick from which each scope and nursery is cancelled.
+///
+/// The events are in the order of the walk and not sorted by tick: all events of a started task, from its start to its end, stand where
+/// the task was started. The input may have at most `MOST_INPUT` bytes. The only error is a failed allocation.
 pub fn tell<'a>(
     alloc: Global,
     job: &'a Job,

@@ -9,28 +9,29 @@ use cancel_scopes::{earlier, reached};
 use exc_groups::Label;
 use job_tree::Name;
 
-/// A scope or nursery that is open: its label, whether it is shielded, and the tick from which it is cancelled.
+/// An open scope or nursery.
 #[derive(Drop)]
 pub struct Level {
     /// Its label.
     pub label: Label,
-    /// Whether it hides the cancellations from outside.
+    /// Whether it hides the cancellations of the levels outside it.
     pub shield: bool,
     /// The tick from which it is cancelled: none is never.
     pub from: Option<u64>,
 }
 
-/// The scopes and nurseries that are open around a task, innermost first.
+/// The scopes and nurseries that are open at a place of the walk, innermost first.
 #[derive(Drop)]
 pub enum Stack<'s> {
     /// None is open.
     Empty,
-    /// One, and those around it.
+    /// The innermost level, and those outside it.
     Within(Level, &'s Stack<'s>),
 }
 
 impl<'s> Stack<'s> {
-    /// The earliest tick from which the stack is cancelled: up to and including the first shielded level.
+    /// The earliest tick from which a cancellation is seen on top of the stack: none is never. Levels outside the first shielded one do
+    /// not count.
     pub(crate) fn sight(&self) -> Option<u64>
         ensures { result ≡ sight (stack_of self.now) }
     {
@@ -41,7 +42,7 @@ impl<'s> Stack<'s> {
         }
     }
 
-    /// The label of the innermost level.
+    /// The label of the innermost level, in which a task that starts here is started: none on an empty stack.
     pub(crate) fn home(&self) -> Option<&Label>
         ensures { option_copied result ≡ home_of (stack_of self.now) }
     {
@@ -51,7 +52,7 @@ impl<'s> Stack<'s> {
         }
     }
 
-    /// The label of the innermost level of that name.
+    /// The label of the innermost level of that name, if there is one.
     pub(crate) fn label_on(&self, name: &Name) -> Option<&Label>
         ensures { option_copied result ≡ label_on name.now (stack_of self.now) }
     {
@@ -62,7 +63,8 @@ impl<'s> Stack<'s> {
         }
     }
 
-    /// The innermost level that is cancelled from that tick, up to and including the first shielded level.
+    /// The label of the innermost level that is cancelled from exactly that tick, if there is one. Levels outside the first shielded one
+    /// do not count.
     pub(crate) fn seer(&self, from: u64) -> Option<&Label>
         ensures { option_copied result ≡ seer (stack_of self.now) from }
     {
@@ -74,8 +76,8 @@ impl<'s> Stack<'s> {
         }
     }
 
-    /// Whether a block inside this stack catches at its exit tick: it is itself cancelled by then, and no cancellation
-    /// from outside is seen at its level.
+    /// Whether a scope or nursery on top of this stack that is left in a tick catches `Cancelled`: it is itself cancelled by then, and
+    /// no cancellation of the stack is seen through it.
     pub(crate) fn catches(&self, from: Option<u64>, shield: bool, tick: u64) -> bool
         ensures { result ≡ catches from shield (stack_of self.now) tick }
     {
@@ -83,7 +85,7 @@ impl<'s> Stack<'s> {
     }
 }
 
-// Whether a level's from is this tick.
+// Whether a level is cancelled from exactly this tick.
 fn is_from(from: Option<u64>, tick: u64) -> bool
     ensures { result ≡ is_from from tick }
 {

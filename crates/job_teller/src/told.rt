@@ -11,21 +11,21 @@ use crate::excs::{boxed_copy, copy_of, handler_exc, move_all, outcome_after, wit
 use exc_groups::{Exc, Label, Whose, group};
 use std::alloc::{AllocError, Global};
 
-/// What telling came to: its end, its exception, and what the children come to whose nursery is still open.
+/// How a stretch of the walk ended, and what the children come to that it started in a nursery that is still open.
 #[derive(Drop)]
 pub struct Told {
     /// The tick in which it ended.
     pub end: u64,
     /// The exception with which it ended: none where it ended well.
     pub exc: Option<Exc>,
-    /// The last end of those children, 0 where there are none.
+    /// The tick in which the last of those children ended, 0 where there are none.
     pub open_until: u64,
     /// The exceptions of those children, in the order of their starts.
     pub open_excs: Vec<Exc>,
 }
 
 impl Told {
-    /// The end.
+    /// The tick in which it ended.
     pub(crate) fn end(&self) -> u64
         ensures { result ≡ self.now.end }
     {
@@ -39,21 +39,21 @@ impl Told {
         self.exc.is_some()
     }
 
-    /// A copy of its exception.
+    /// A copy of its exception, if it ended with one.
     pub(crate) fn copy_exc(&self, alloc: Global) -> Result<Option<Exc>, AllocError>
         ensures { IfOk result (λ copy. option_map exc_of copy ≡ option_map exc_of self.now.exc) }
     {
         copy_of(alloc, &self.exc)
     }
 
-    /// A copy of its exception, in a box.
+    /// A copy of its exception in a box, if it ended with one.
     pub(crate) fn box_exc(&self, alloc: Global) -> Result<Option<Box<Exc>>, AllocError>
         ensures { IfOk result (λ copy. boxed copy ≡ option_map exc_of self.now.exc) }
     {
         boxed_copy(alloc, &self.exc)
     }
 
-    /// It ended well in this tick.
+    /// A stretch that ended in this tick without an exception, and started no child.
     pub(crate) fn at(alloc: Global, tick: u64) -> Told
         ensures { (story : Story) → IsTold result (told_at tick story) }
     {
@@ -65,7 +65,7 @@ impl Told {
         }
     }
 
-    /// It ended with an exception in this tick.
+    /// A stretch that ended in this tick with an exception, and started no child.
     pub(crate) fn failed(alloc: Global, exc: Exc, tick: u64) -> Told
         ensures { (story : Story) → IsTold result (failed_at (exc_of exc) tick story) }
     {
@@ -77,7 +77,7 @@ impl Told {
         }
     }
 
-    /// Goes on with what came next.
+    /// This stretch, which ended well, and the next as one: the next one's end, and the children of both.
     pub(crate) fn join(self, next: Told) -> Result<Told, AllocError>
         ensures { IfOk result (λ w. (a b : Tale) → IsTold self a → IsTold next b → IsTold w (and_tale a b)) }
     {
@@ -101,7 +101,7 @@ impl Told {
         })
     }
 
-    /// Goes on with a handler, after which the rest of the split goes on.
+    /// A `try` body and its handler as one. What the handler did not take goes on, in a group with what it raised itself.
     pub(crate) fn handled(
         self,
         alloc: Global,
@@ -111,44 +111,23 @@ impl Told {
         ensures { IfOk result (λ w. (matched : TreeExc) (a b : Tale) → IsTold self a → IsTold next b
             → IsTold w (handled_by matched (option_map exc_of rest) a b)) }
     {
-        let Told {
-            end,
-            exc,
-            open_until,
-            open_excs,
-        } = next;
-        let exc = handler_exc(alloc, exc, rest)?;
-        let told = self.join(Told {
-            end,
-            exc,
-            open_until,
-            open_excs,
-        })?;
+        let exc = handler_exc(alloc, next.exc, rest)?;
+        let told = self.join(Told { exc, ..next })?;
         Ok(told)
     }
 
-    /// Goes on with a cleanup, whose own exception takes the place of the earlier one.
+    /// A `try` with its `finally` block as one. An exception of that block takes the place of the earlier one.
     pub(crate) fn cleaned(self, alloc: Global, next: Told) -> Result<Told, AllocError>
         ensures { IfOk result (λ w. (a b : Tale) → IsTold self a → IsTold next b → IsTold w (cleaned_by a b)) }
     {
         let before = copy_of(alloc, &self.exc)?;
-        let Told {
-            end,
-            exc,
-            open_until,
-            open_excs,
-        } = next;
-        let exc = outcome_after(before, exc);
-        let told = self.join(Told {
-            end,
-            exc,
-            open_until,
-            open_excs,
-        })?;
+        let exc = outcome_after(before, next.exc);
+        let told = self.join(Told { exc, ..next })?;
         Ok(told)
     }
 
-    /// The end of a nursery: that of its last member, with the exceptions of its body and its children as one group.
+    /// The end of a nursery whose body is this stretch: it ends with its last member, and the exceptions of the body and the children are
+    /// one group.
     pub(crate) fn gather(self, alloc: Global, label: &Label) -> Result<Told, AllocError>
         ensures { IfOk result (λ w. (a : Tale) → IsTold self a → IsTold w (tell_gathered label.now a)) }
     {
@@ -167,7 +146,8 @@ impl Told {
         })
     }
 
-    /// What a started task leaves in its starter's telling, which goes on in the same tick.
+    /// A started task whose whole walk this is, as the task that started it sees it: that one goes on in the tick of the start, with one
+    /// more child.
     pub(crate) fn into_child(self, alloc: Global, tick: u64) -> Result<Told, AllocError>
         ensures { IfOk result (λ w. (label : TreeLabel) (home : Option TreeLabel) (scene : Scene) (a : Tale) → IsTold self a
             → IsTold w (tell_child label home scene tick a)) }

@@ -23,7 +23,7 @@ use job_story::{Event, Happening, Kind, What};
 use job_tree::{Body, Handler, Name, Step};
 use std::alloc::{AllocError, Global};
 
-// Tells the steps of a block, from a tick on.
+// Walks the steps of a block, from a tick on, up to the first that ends with an exception.
 #[cycle(telling)]
 fn tell_steps<'a>(
     steps: &'a [Step],
@@ -47,7 +47,7 @@ fn tell_steps<'a>(
     Ok(told)
 }
 
-// Tells one step.
+// Walks one step, from a tick on.
 #[cycle(telling)]
 fn tell_step<'a>(
     step: &'a Step,
@@ -92,7 +92,7 @@ fn tell_step<'a>(
     }
 }
 
-// Tells of a scope or nursery that is entered in this tick, from there to where it is left.
+// Walks a scope or nursery that is entered in a tick, from there to where it is left.
 #[cycle(telling)]
 fn tell_block<'a>(
     block: &Block,
@@ -121,7 +121,7 @@ fn tell_block<'a>(
     Ok(told)
 }
 
-// Tells of the inside of a scope or nursery, up to where it is left.
+// Walks the inside of a scope or nursery. A nursery ends with the last of its children.
 #[cycle(telling)]
 fn tell_inside<'a>(
     block: &Block,
@@ -155,7 +155,7 @@ fn tell_inside<'a>(
     }
 }
 
-// Tells of what a `start` starts: one task with the whole part, or one for each cut of it.
+// Walks what a `start` starts: one task on the whole part, or one on each cut of it.
 #[cycle(telling)]
 fn tell_start<'a>(
     name: &Name,
@@ -180,7 +180,7 @@ fn tell_start<'a>(
     }
 }
 
-/// Tells of a task that is started in this tick with a part, from its start to its end.
+/// Walks a task that is started in a tick on a part of the input, from its start to its end.
 #[cycle(telling)]
 pub(crate) fn tell_child<'a>(
     label: Label,
@@ -219,7 +219,7 @@ pub(crate) fn tell_child<'a>(
     Ok(told)
 }
 
-// Tells of the children of a `start .. over`, in order.
+// Walks the tasks of a `start .. over`, one after the other. They all start in the same tick.
 #[cycle(telling)]
 fn tell_children<'a>(
     name: &Name,
@@ -246,7 +246,7 @@ fn tell_children<'a>(
     Ok(told)
 }
 
-// Tells of the passes of a `repeat`, each from where the one before it ended.
+// Walks the passes of a `repeat`, each from where the one before it ended, up to the first that ends with an exception.
 #[cycle(telling)]
 fn tell_passes<'a>(
     count: u64,
@@ -271,7 +271,7 @@ fn tell_passes<'a>(
     Ok(told)
 }
 
-// Tells of one pass.
+// Walks one pass of a `repeat`, of which what it enters or starts has the number in its label.
 #[cycle(telling)]
 fn tell_pass<'a>(
     number: u64,
@@ -293,7 +293,7 @@ fn tell_pass<'a>(
     Ok(told)
 }
 
-// Tells of a `try`.
+// Walks a `try`: its body, its handler where that is wanted, and its `finally` block.
 #[cycle(telling)]
 fn tell_try<'a>(
     body: &'a Body,
@@ -318,7 +318,7 @@ fn tell_try<'a>(
     Ok(told)
 }
 
-// Goes on with the handler of a `try` whose body was told, where it has one that is wanted.
+// Goes on with the handler of a `try` whose body was walked, where there is one and its name matches what the body raised.
 #[cycle(telling)]
 fn tell_handler<'a>(
     handler: &'a Option<Handler>,
@@ -354,7 +354,7 @@ fn tell_handler<'a>(
     Ok(told)
 }
 
-// Goes on with the cleanup of a `try`, where it has one.
+// Goes on with the `finally` block of a `try`, where there is one.
 #[cycle(telling)]
 fn tell_cleanup<'a>(
     cleanup: &'a Option<Body>,
@@ -383,7 +383,7 @@ fn tell_cleanup<'a>(
     Ok(told)
 }
 
-// The label of a child of a `start .. over`, with the child's index.
+// The label of a task of a `start .. over`, with its index.
 fn label_over(here: Here<'_, '_>, name: Name, index: u64) -> Result<Label, AllocError>
     ensures { IfOk result (λ label. label ≡ record { name = name; indices = here.entry.place.now.indices ++ index ∷ [] }) }
 {

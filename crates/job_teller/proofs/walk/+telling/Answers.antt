@@ -82,7 +82,8 @@ tell_inside-returns-in-Scope t c =
     let body = tells_at _ _ _ c.in_ok-told.told _ _ c.args.body.now _ _ _ c.args.tick c.as_slice.ensures refl c.in_ok-told.ensures in
     rw c.in-Scope.is
     (subst (λ (l : Label). Tells here.task.now c.args.events.now.items c.in_ok-told.told c.tell_steps.new.events.items
-    (tell (table_of here) c.args.body.now (scene_of here) (within l c.args.block.now.shield c.args.block.now.from (scopes_of here)) c.args.tick))
+    (tell (table_of here) c.args.body.now (scene_of here) (within l c.args.block.now.shield c.args.block.now.from (scopes_of here))
+    c.args.tick))
     c.in_ok-copy.ensures body)
 
 pub tell_inside-returns : goal.tell_inside-returns
@@ -90,7 +91,8 @@ tell_inside-returns t c =
     let here = c.args.here in
     let body = tells_at _ _ _ c.in_ok-told.told _ _ c.args.body.now _ _ _ c.args.tick c.as_slice.ensures refl c.in_ok-told.ensures in
     let inner = subst (λ (l : Label). Tells here.task.now c.args.events.now.items c.in_ok-told.told c.tell_steps.new.events.items
-    (tell (table_of here) c.args.body.now (scene_of here) (within l c.args.block.now.shield c.args.block.now.from (scopes_of here)) c.args.tick))
+    (tell (table_of here) c.args.body.now (scene_of here) (within l c.args.block.now.shield c.args.block.now.from (scopes_of here))
+    c.args.tick))
     c.in_ok-copy.ensures body in
     rw c.in-Nursery.is (c.in_ok-told-in-Nursery.ensures _ _ inner)
 
