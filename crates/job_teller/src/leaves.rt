@@ -13,6 +13,7 @@ ghost use Rattle.job_teller.specs.Tales.{Tells};
 use crate::excs::copied;
 use crate::here::Here;
 use crate::notes::{note, note_cancelled, note_sleep};
+use crate::places::spans;
 use crate::told::Told;
 use exc_groups::Exc;
 use job_story::{Event, Happening};
@@ -28,7 +29,7 @@ pub(crate) fn tell_leaf<'a>(
     step: &'a Step,
     here: Here<'a, '_>,
     tick: u64,
-    events: &mut Vec<Event<'a>>,
+    events: &mut Vec<Event>,
 ) -> Result<Told, AllocError>
     requires leaf { IsLeaf (step_of step.now) }
     requires modest { IsModestStep (step_of step.now) }
@@ -58,7 +59,7 @@ pub(crate) fn sleeping<'a>(
     until: Option<u64>,
     ticks: u64,
     tick: u64,
-    events: &mut Vec<Event<'a>>,
+    events: &mut Vec<Event>,
 ) -> Result<Told, AllocError>
     requires { tick + ticks < 2 ^ 64 }
     ensures { IfOk result (λ told. Tells here.entry.task.now events.old.items told events.new.items
@@ -85,7 +86,7 @@ pub(crate) fn pace<'a>(
     here: Here<'a, '_>,
     per_tick: u64,
     tick: u64,
-    events: &mut Vec<Event<'a>>,
+    events: &mut Vec<Event>,
 ) -> Result<Told, AllocError>
     requires some { 1 ≤ per_tick }
     requires few { per_tick ≤ 1000000 }
@@ -119,14 +120,13 @@ fn shown<'a>(
     here: Here<'a, '_>,
     lines: FoundLines<'a>,
     tick: u64,
-    events: &mut Vec<Event<'a>>,
+    events: &mut Vec<Event>,
 ) -> Result<Told, AllocError>
     ensures { IfOk result (λ told. Tells here.entry.task.now events.old.items told events.new.items
         (tell_lines (map span_of lines.entry) tick)) }
 {
-    let what = Happening::Finds {
-        lines: lines.into_vec(),
-    };
+    let lines = spans(here.alloc, lines.as_slice())?;
+    let what = Happening::Finds { lines };
     note(here, tick, what, events)?;
     Ok(Told::at(here.alloc, tick))
 }
@@ -136,7 +136,7 @@ pub(crate) fn found<'a>(
     here: Here<'a, '_>,
     text: &'a Text,
     tick: u64,
-    events: &mut Vec<Event<'a>>,
+    events: &mut Vec<Event>,
 ) -> Result<Told, AllocError>
     ensures { IfOk result (λ told. Tells here.entry.task.now events.old.items told events.new.items
         (tell_lines (found_in (input_of here.entry) text.now (range_of here.entry.part)) tick)) }
@@ -153,7 +153,7 @@ pub(crate) fn head<'a>(
     here: Here<'a, '_>,
     count: u64,
     tick: u64,
-    events: &mut Vec<Event<'a>>,
+    events: &mut Vec<Event>,
 ) -> Result<Told, AllocError>
     ensures { IfOk result (λ told. Tells here.entry.task.now events.old.items told events.new.items
         (tell_lines (head_of (input_of here.entry) count (range_of here.entry.part)) tick)) }
@@ -169,7 +169,7 @@ pub(crate) fn head<'a>(
 pub(crate) fn longest<'a>(
     here: Here<'a, '_>,
     tick: u64,
-    events: &mut Vec<Event<'a>>,
+    events: &mut Vec<Event>,
 ) -> Result<Told, AllocError>
     ensures { IfOk result (λ told. Tells here.entry.task.now events.old.items told events.new.items
         (tell_lines (longest_in (input_of here.entry) (range_of here.entry.part)) tick)) }
@@ -187,7 +187,7 @@ pub(crate) fn need<'a>(
     text: &'a Text,
     name: &Name,
     tick: u64,
-    events: &mut Vec<Event<'a>>,
+    events: &mut Vec<Event>,
 ) -> Result<Told, AllocError>
     ensures { IfOk result (λ told. Tells here.entry.task.now events.old.items told events.new.items
         (tell_need (needed_in (input_of here.entry) text.now (range_of here.entry.part)) name.now here.entry.task.now tick)) }
@@ -211,7 +211,7 @@ pub(crate) fn raised<'a>(
     here: Here<'a, '_>,
     name: &Name,
     tick: u64,
-    events: &mut Vec<Event<'a>>,
+    events: &mut Vec<Event>,
 ) -> Result<Told, AllocError>
     ensures { IfOk result (λ told. Tells here.entry.task.now events.old.items told events.new.items
         (tell_raise name.now here.entry.task.now tick)) }
@@ -231,7 +231,7 @@ pub(crate) fn cancel<'a>(
     here: Here<'a, '_>,
     name: &Name,
     tick: u64,
-    events: &mut Vec<Event<'a>>,
+    events: &mut Vec<Event>,
 ) -> Result<Told, AllocError>
     ensures { IfOk result (λ told. Tells here.entry.task.now events.old.items told events.new.items
         (tell_cancel (label_on name.now (scopes_of here.entry)) tick)) }

@@ -13,6 +13,7 @@ mod excs;
 mod here;
 mod leaves;
 mod notes;
+mod places;
 mod root;
 mod stack;
 mod told;

@@ -24,10 +24,10 @@ pub(crate) fn add<'a>(
     alloc: Global,
     task: &Label,
     tick: u64,
-    what: What<'a>,
-    events: &mut Vec<Event<'a>>,
+    what: What,
+    events: &mut Vec<Event>,
 ) -> Result<(), AllocError>
-    ensures { OnOk result (map event_of events.new.items ≡ map event_of events.old.items ++ event tick task.now (what_of what.entry) ∷ []) }
+    ensures { OnOk result (map event_of events.new.items ≡ map event_of events.old.items ++ event tick task.now (what_of what) ∷ []) }
 {
     let task = task.copy(alloc)?;
     events.push(Event { tick, task, what })?;
@@ -38,10 +38,10 @@ pub(crate) fn add<'a>(
 pub(crate) fn note<'a>(
     here: Here<'a, '_>,
     tick: u64,
-    what: Happening<'a>,
-    events: &mut Vec<Event<'a>>,
+    what: Happening,
+    events: &mut Vec<Event>,
 ) -> Result<(), AllocError>
-    ensures { OnOk result (Adds here.entry.task.now events.old.items events.new.items (only tick (happening_of what.entry))) }
+    ensures { OnOk result (Adds here.entry.task.now events.old.items events.new.items (only tick (happening_of what))) }
 {
     add(here.alloc, here.task, tick, What::Happens(what), events)?;
     Ok(())
@@ -53,7 +53,7 @@ pub(crate) fn note_sleep<'a>(
     until: Option<u64>,
     ticks: u64,
     tick: u64,
-    events: &mut Vec<Event<'a>>,
+    events: &mut Vec<Event>,
 ) -> Result<(), AllocError>
     ensures { OnOk result (Adds here.entry.task.now events.old.items events.new.items (asleep_for ticks tick until)) }
 {
@@ -71,7 +71,7 @@ pub(crate) fn note_cancelled<'a>(
     from: u64,
     since: Option<u64>,
     tick: u64,
-    events: &mut Vec<Event<'a>>,
+    events: &mut Vec<Event>,
 ) -> Result<(), AllocError>
     ensures { OnOk result (Adds here.entry.task.now events.old.items events.new.items
         (only tick (is_cancelled (seer (scopes_of here.entry) from) since here.entry.in_cleanup))) }
@@ -92,7 +92,7 @@ pub(crate) fn note_replaced<'a>(
     lost: &Option<Exc>,
     fresh: &Option<Exc>,
     tick: u64,
-    events: &mut Vec<Event<'a>>,
+    events: &mut Vec<Event>,
 ) -> Result<(), AllocError>
     ensures { OnOk result (Adds here.entry.task.now events.old.items events.new.items
         (replaced (option_map exc_of lost.now) (option_map exc_of fresh.now) tick)) }
@@ -114,7 +114,7 @@ pub(crate) fn wait<'a>(
     label: &Label,
     told: Told,
     here: Here<'a, '_>,
-    events: &mut Vec<Event<'a>>,
+    events: &mut Vec<Event>,
 ) -> Result<Told, AllocError>
     ensures { IfOk result (λ w. (start : List HeldEvent) (a : Tale) → Tells here.entry.task.now start told events.old.items a
         → Tells here.entry.task.now start w events.new.items (tell_gathered label.now (tell_wait label.now a))) }
@@ -131,7 +131,7 @@ pub(crate) fn leave<'a>(
     block: &Block,
     inside: Told,
     here: Here<'a, '_>,
-    events: &mut Vec<Event<'a>>,
+    events: &mut Vec<Event>,
 ) -> Result<Told, AllocError>
     ensures { IfOk result (λ w. IsLeft here.entry.task.now events.old.items events.new.items inside w (kind_of block.now.kind)
         block.now.label (left_with (catches block.now.from block.now.shield (scopes_of here.entry) inside.end)

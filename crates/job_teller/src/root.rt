@@ -24,7 +24,7 @@ pub fn tell<'a>(
     job: &'a Job,
     input: &'a [u8],
     froms: &Froms,
-) -> Result<Vec<Event<'a>>, AllocError>
+) -> Result<Vec<Event>, AllocError>
     requires { length input.now ≤ MOST_INPUT }
     ensures { IfOk result (λ events. map event_of events.items ≡ events_of (root_label job.now.name)
         (story_by (table_in froms.now) job.now input.now)) }

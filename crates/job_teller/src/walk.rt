@@ -15,6 +15,7 @@ use crate::excs::{boxed_copy, copied};
 use crate::here::Here;
 use crate::leaves::{due, tell_leaf};
 use crate::notes::{add, leave, note, note_replaced, wait};
+use crate::places::range;
 use crate::stack::{Level, Stack};
 use crate::told::Told;
 use buffer_parts::Part;
@@ -29,7 +30,7 @@ fn tell_steps<'a>(
     steps: &'a [Step],
     here: Here<'a, '_>,
     tick: u64,
-    events: &mut Vec<Event<'a>>,
+    events: &mut Vec<Event>,
 ) -> Result<Told, AllocError>
     requires modest { AreModest (steps_of steps.now) }
     requires room { HasRoom (size_of (steps_of steps.now)) here tick }
@@ -53,7 +54,7 @@ fn tell_step<'a>(
     step: &'a Step,
     here: Here<'a, '_>,
     tick: u64,
-    events: &mut Vec<Event<'a>>,
+    events: &mut Vec<Event>,
 ) -> Result<Told, AllocError>
     requires modest { IsModestStep (step_of step.now) }
     requires room { HasRoom (size_in (step_of step.now)) here tick }
@@ -99,7 +100,7 @@ fn tell_block<'a>(
     body: &'a Body,
     here: Here<'a, '_>,
     tick: u64,
-    events: &mut Vec<Event<'a>>,
+    events: &mut Vec<Event>,
 ) -> Result<Told, AllocError>
     requires known { block.now.from ≡ table_of here block.now.label }
     requires modest { AreModest body.now }
@@ -128,7 +129,7 @@ fn tell_inside<'a>(
     body: &'a Body,
     here: Here<'a, '_>,
     tick: u64,
-    events: &mut Vec<Event<'a>>,
+    events: &mut Vec<Event>,
 ) -> Result<Told, AllocError>
     requires modest { AreModest body.now }
     requires room { HasRoom (size_of body.now) here tick }
@@ -163,7 +164,7 @@ fn tell_start<'a>(
     body: &'a Body,
     here: Here<'a, '_>,
     tick: u64,
-    events: &mut Vec<Event<'a>>,
+    events: &mut Vec<Event>,
 ) -> Result<Told, AllocError>
     requires some { IsModestOver over }
     requires modest { AreModest body.now }
@@ -188,7 +189,7 @@ pub(crate) fn tell_child<'a>(
     steps: &'a [Step],
     here: Here<'a, '_>,
     tick: u64,
-    events: &mut Vec<Event<'a>>,
+    events: &mut Vec<Event>,
 ) -> Result<Told, AllocError>
     requires modest { AreModest (steps_of steps.now) }
     requires room { HasRoom (size_of (steps_of steps.now)) here tick }
@@ -201,7 +202,10 @@ pub(crate) fn tell_child<'a>(
         here.alloc,
         &label,
         tick,
-        What::Starts { home, part },
+        What::Starts {
+            home,
+            part: range(part),
+        },
         events,
     )?;
     let inside = Here {
@@ -227,7 +231,7 @@ fn tell_children<'a>(
     body: &'a Body,
     here: Here<'a, '_>,
     tick: u64,
-    events: &mut Vec<Event<'a>>,
+    events: &mut Vec<Event>,
 ) -> Result<Told, AllocError>
     requires some { 1 ≤ copies }
     requires few { copies ≤ 64 }
@@ -253,7 +257,7 @@ fn tell_passes<'a>(
     body: &'a Body,
     here: Here<'a, '_>,
     tick: u64,
-    events: &mut Vec<Event<'a>>,
+    events: &mut Vec<Event>,
 ) -> Result<Told, AllocError>
     requires modest { AreModest body.now }
     requires room { HasRoom (count * (1 + size_of body.now)) here tick }
@@ -278,7 +282,7 @@ fn tell_pass<'a>(
     body: &'a Body,
     here: Here<'a, '_>,
     tick: u64,
-    events: &mut Vec<Event<'a>>,
+    events: &mut Vec<Event>,
 ) -> Result<Told, AllocError>
     requires modest { AreModest body.now }
     requires room { HasRoom (size_of body.now) here tick }
@@ -301,7 +305,7 @@ fn tell_try<'a>(
     cleanup: &'a Option<Body>,
     here: Here<'a, '_>,
     tick: u64,
-    events: &mut Vec<Event<'a>>,
+    events: &mut Vec<Event>,
 ) -> Result<Told, AllocError>
     requires modest { AreModest body.now }
     requires modest_handler { IsModestHandler (handled_of handler.now) }
@@ -324,7 +328,7 @@ fn tell_handler<'a>(
     handler: &'a Option<Handler>,
     told: Told,
     here: Here<'a, '_>,
-    events: &mut Vec<Event<'a>>,
+    events: &mut Vec<Event>,
 ) -> Result<Told, AllocError>
     requires modest { IsModestHandler (handled_of handler.now) }
     requires room { HasRoom (handled_size (handled_of handler.now)) here told.end }
@@ -360,7 +364,7 @@ fn tell_cleanup<'a>(
     cleanup: &'a Option<Body>,
     told: Told,
     here: Here<'a, '_>,
-    events: &mut Vec<Event<'a>>,
+    events: &mut Vec<Event>,
 ) -> Result<Told, AllocError>
     requires modest { IsModestCleanup (cleaned_of cleanup.now) }
     requires room { HasRoom (cleaned_size (cleaned_of cleanup.now)) here told.end }

@@ -1,7 +1,7 @@
-use Rattle.std.proofs.Common.{List, ap}
+use Rattle.std.proofs.Common.{List, ap, ◌∙◌}
 use Rattle.std.specs.Prelude.{map}
 use Rattle.buffer_parts.specs.Part.{span_of}
-use Rattle.buffer_parts.specs.declared.line.Line.{Line}
+use Rattle.buffer_parts.specs.Lines.{Span}
 use Rattle.job_story.specs.Story.{finds}
 use Rattle.job_story.specs.Tell.{only, tell_lines}
 use Rattle.job_teller.proofs.Adding.{adds_like}
@@ -11,5 +11,6 @@ pub returns : goal.returns
 unfolding tell_lines
 returns c = record {
   told = c.at.ensures _;
-  events = adds_like _ _ _ _ _ c.in_ok-note.ensures (ap (λ (ls : List Line). only c.args.tick (finds (map span_of ls))) c.into_vec.ensures);
+  events = adds_like _ _ _ _ _ c.in_ok-note.ensures
+      (ap (λ (ls : List Span). only c.args.tick (finds ls)) (c.in_ok-lines.ensures ∙ ap (map span_of) c.as_slice.ensures));
 }

@@ -14,7 +14,7 @@ use Rattle.job_tree.specs.Names.{size_of, size_in}
 use Rattle.job_tree.proofs.Weights.{weight_at}
 use Rattle.job_meaning.specs.Walk.{within, home_of, label_over}
 use Rattle.job_story.specs.Events.{event, starts, ends}
-use Rattle.job_story.specs.Held.{boxed, kind_of, event_of}
+use Rattle.job_story.specs.Held.{boxed, kind_of, event_of, range_in}
 use Rattle.job_story.specs.Story.{Tale, enters, handles, cleans}
 use Rattle.job_story.specs.Tell.{only, tell, tell_block, tell_each, replaced}
 use Rattle.job_teller.specs.declared.block.Block.{Block}
@@ -105,8 +105,10 @@ tell_child-returns t c =
     tells_child here.task.now c.args.label home scene c.args.tick _ _ _ _ _ c.in_ok-told.told _
     (c.in_ok-add.ensures
     ∙ ap (λ (o : Option Label). map event_of c.args.events.now.items ++ event c.args.tick c.args.label (starts o
-    (range_of c.args.part)) ∷ [])
-    (c.in_ok-home.ensures ∙ c.home.ensures))
+    (range_in c.range.result)) ∷ [])
+    (c.in_ok-home.ensures ∙ c.home.ensures)
+    ∙ ap (λ (r : Range). map event_of c.args.events.now.items ++ event c.args.tick c.args.label (starts home r) ∷ [])
+    c.range.ensures)
     inner
     (c.in_ok-add-2.ensures
     ∙ (ap (λ (n : ℕ). map event_of c.tell_steps.new.events.items ++ event n c.args.label (ends c.in_ok-home-2.home
