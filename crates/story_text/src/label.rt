@@ -13,7 +13,7 @@ pub fn push_number(out: &mut Vec<u8>, n: u64) -> Result<(), AllocError>
     out.extend_from_slice(buffer.format(n).as_bytes())
 }
 
-// Appends the label's name and its indices.
+/// Appends how a label is written: its name, then a dot and the index for each index. Want of memory is the only error.
 pub fn push_label(out: &mut Vec<u8>, label: &Label) -> Result<(), AllocError>
     ensures { OnOk result (out.new.items ≡ out.old.items ++ label_text label.now) }
 {

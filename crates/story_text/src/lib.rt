@@ -18,6 +18,7 @@ mod tasks;
 mod ticks;
 
 pub use known::Known;
+pub use label::push_label;
 pub use limit::kept_text_to;
 pub use lines::kept_text;
 pub use order::in_order;
