@@ -10,6 +10,7 @@ mod laws;
 mod limits;
 
 pub use laws::{
-    law_causality, law_end, law_labels, law_monotone_sight, law_root, law_settled_table, law_upgrade,
+    law_causality, law_end, law_labels, law_monotone_sight, law_root, law_settled_table,
+    law_upgrade,
 };
 pub use limits::{LAST_TICK, MOST_INPUT};

@@ -127,13 +127,15 @@ fn run_parser<'a>(alloc: Global) -> Result<Command<'a>, AllocError> {
 
 // What reads the words after `explain`.
 fn explain_parser<'a>(alloc: Global) -> Result<Command<'a>, AllocError> {
-    let input = Arg::new(alloc, "input")
-        .value_name("INPUT")
-        .help("The input file, or `-` for standard input; without one the input is empty");
+    let input = Arg::new(alloc, "input").value_name("INPUT").help(
+        "The input file, or `-` for standard input; without one the input is empty",
+    );
     let task = Arg::new(alloc, "task")
         .long("task")
         .value_name("LABEL")
-        .help("Only what concerns the task of this label: its events, and those of each task that caused one of its cancellations");
+        .help(
+            "Only what concerns the task of this label: its events, and those of each task that caused one of its cancellations",
+        );
     Command::new(alloc, "explain")
         .about("Runs a job over an input and tells what happened to each task, when and why")
         .after_help(EXPLAIN_EXAMPLE)

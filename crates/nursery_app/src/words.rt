@@ -169,7 +169,7 @@ fn run_command(alloc: Global, job: &str, matches: &ArgMatches<'_>) -> Result<Com
     if job == "-" && input == "-" {
         return refused(alloc, BOTH_STANDARD);
     }
-    let Some(choices) = choices(matches) else {
+    let Some(choices) = choices_of(matches) else {
         return refused(alloc, OUT_OF_RANGE);
     };
     Ok(Command::Run {
@@ -193,7 +193,7 @@ fn explain_command(
     if job == "-" && input == Some("-") {
         return refused(alloc, BOTH_STANDARD);
     }
-    let Some(choices) = choices(matches) else {
+    let Some(choices) = choices_of(matches) else {
         return refused(alloc, OUT_OF_RANGE);
     };
     Ok(Command::Explain {
@@ -215,7 +215,7 @@ struct Choices {
 }
 
 // The number of workers, the order and the limit, where they are in their ranges.
-fn choices(matches: &ArgMatches<'_>) -> Option<Choices>
+fn choices_of(matches: &ArgMatches<'_>) -> Option<Choices>
     ensures { IfSome result AreInRange }
 {
     let workers = matches.get_one::<usize>("workers").unwrap_or(1);

@@ -7,10 +7,11 @@ use Rattle.job_grammar.specs.Refusals.{Spells, IsRefused}
 use Rattle.job_meaning.specs.Meaning.{root_label, meaning, meaning_end, meaning_table}
 use Rattle.job_story.specs.Tell.{story_by}
 use Rattle.job_story.specs.Events.{Event, events_of}
-use Rattle.job_story.specs.Sentences.{story_text}
+use Rattle.job_story.specs.Sentences.{label_text, story_text}
 use Rattle.job_story.specs.Limit.{walked_to, story_to}
 use Rattle.job_story.specs.Focus.{story_of_task, story_of_task_to, task_named}
 use Rattle.nursery_app.specs.Verdict.{refusal_line}
+use Rattle.story_focus.specs.Nearest.{nearest_in}
 use Rattle.nursery_app.specs.declared.verdict.ServeFault.{ServeFault}
 use Rattle.nursery_app.specs.declared.verdict.ServeFault.TheVariants.{Send, NoMemory}
 use Rattle.story_app.specs.declared.verdict.StoryVerdict.{StoryVerdict}
@@ -47,15 +48,20 @@ told limit job input = told_if (nat_le (meaning_end job input) limit) limit job 
 
 -- ---- the task that was asked for
 
+-- how a label is written: nothing where there is none
+abbrev pub written : Option Label → List ℕ
+written None = []
+written (Some label) = label_text label
+
 -- where one was asked for by the text of its label, it is the first that is told
 abbrev pub IsAbout : Option (List ℕ) → List Event → Option Label → Type 0
 IsAbout None es task = task ≡ None
 IsAbout (Some text) es task = IsSome task × (task ≡ task_named text es)
 
--- and where none is told that has the label
-abbrev pub IsAboutNone : Option (List ℕ) → List Event → Type 0
-IsAboutNone None es = ⊥
-IsAboutNone (Some text) es = task_named text es ≡ None
+-- and where none is told that has the label, the nearest is named
+abbrev pub IsAboutNone : Option (List ℕ) → List Event → List ℕ → Type 0
+IsAboutNone None es nearest = ⊥
+IsAboutNone (Some text) es nearest = (task_named text es ≡ None) × (nearest ≡ written (nearest_in text es))
 
 -- ---- verdicts
 
@@ -73,7 +79,8 @@ IsJobVerdict job input limit asked Raised bytes =
     IsJobStory job input limit asked bytes × (meaning_end job input ≤ limit) × IsSome (meaning job input).exc
 IsJobVerdict job input limit asked (JobRefused fault) bytes = ⊥
 IsJobVerdict job input limit asked Limit bytes = IsJobStory job input limit asked bytes × (limit < meaning_end job input)
-IsJobVerdict job input limit asked (NoTask nearest) bytes = IsAboutNone asked (told limit job input) × (bytes ≡ [])
+IsJobVerdict job input limit asked (NoTask nearest) bytes =
+    IsAboutNone asked (told limit job input) nearest.items × (bytes ≡ [])
 
 -- A verdict and its bytes: that on the job which the text spells, or the refusal which the meaning names.
 abbrev pub IsVerdict : List ℕ → List ℕ → ℕ → Option (List ℕ) → StoryVerdict → List ℕ → Type 0

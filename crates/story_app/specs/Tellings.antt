@@ -1,13 +1,19 @@
 -- The steps from a run to the text of its story.
-use Rattle.std.specs.Prelude.{◌≡◌, ℕ, ◌≤◌, ◌<◌, Option, Some, None, List, [], IsSome, IsNone}
+use Rattle.std.specs.Prelude.{◌≡◌, ℕ, ◌≤◌, ◌<◌, Bool, true, nat_le, nat_lt, if◌then◌else◌, Option, Some, None, List, [], IsSome, IsNone}
 use Rattle.job_tree.specs.Tree.{Tree}
 use Rattle.exc_groups.specs.Exceptions.{Label}
 use Rattle.job_meaning.specs.Log.{Table}
 use Rattle.job_meaning.specs.Meaning.{meaning, meaning_end}
+use Rattle.job_meaning.specs.Shown.{Row}
+use Rattle.job_runner.specs.Runs.{root_is_well, root_end}
 use Rattle.job_story.specs.Events.{Event, in_order}
 use Rattle.job_story.specs.Sentences.{kept_text}
 use Rattle.job_story.specs.Limit.{by_limit, kept_text_to}
 use Rattle.job_story.specs.Focus.{concerned, of_tasks, task_named}
+use Rattle.story_focus.specs.Nearest.{nearest_in}
+use Rattle.story_app.specs.Stories.{written}
+use Rattle.story_app.specs.declared.verdict.StoryVerdict.{StoryVerdict}
+use Rattle.story_app.specs.declared.verdict.StoryVerdict.TheVariants as verdict
 use Rattle.story_app.specs.declared.telling.Ending.{Ending}
 use Rattle.story_app.specs.declared.telling.Ending.TheVariants.{Done, Raised, Late}
 use Rattle.story_app.specs.declared.about.About.{About}
@@ -19,11 +25,26 @@ IsEnding job input limit Done = (meaning_end job input ≤ limit) × IsNone (mea
 IsEnding job input limit Raised = (meaning_end job input ≤ limit) × IsSome (meaning job input).exc
 IsEnding job input limit Late = limit < meaning_end job input
 
+-- how a run with these rows ended
+abbrev pub ending_by : List Row → ℕ → Ending
+ending_by rows limit = if nat_lt limit (root_end rows) then Late else (if root_is_well rows then Done else Raised)
+
+-- the verdict on its story
+abbrev pub verdict_of : Ending → StoryVerdict
+verdict_of Done = verdict.Done
+verdict_of Raised = verdict.Raised
+verdict_of Late = verdict.Limit
+
 -- the limit, where the story ends at it
 abbrev pub until_of : Ending → ℕ → Option ℕ
 until_of Done limit = None
 until_of Raised limit = None
 until_of Late limit = Some limit
+
+-- whether a tick is no later than the last one, where there is one
+abbrev pub is_until : Option ℕ → ℕ → Bool
+is_until None t = true
+is_until (Some last) t = nat_le t last
 
 -- the events up to a tick, or all of them
 abbrev pub events_until : Option ℕ → List Event → List Event
@@ -47,4 +68,5 @@ story_told table until (Some task) walked =
 abbrev pub IsAsked : Option (List ℕ) → List Event → About → Type 0
 IsAsked asked es All = asked ≡ None
 IsAsked asked es (Task label) = (text : List ℕ) × (asked ≡ Some text) × (task_named text es ≡ Some label.now)
-IsAsked asked es (NoTask nearest) = (text : List ℕ) × (asked ≡ Some text) × (task_named text es ≡ None)
+IsAsked asked es (NoTask nearest) =
+    (text : List ℕ) × (asked ≡ Some text) × (task_named text es ≡ None) × (nearest.items ≡ written (nearest_in text es))

@@ -1,12 +1,15 @@
-ghost use Rattle.std.specs.Prelude.{map, IfOk};
+ghost use Rattle.std.specs.Prelude.{◌≡◌, [], map, IfOk};
 ghost use Rattle.std.specs.Option.{option_copied};
 ghost use Rattle.story_causes.specs.Seen.{seen};
+ghost use Rattle.story_focus.specs.Holds.{label_seen};
 ghost use Rattle.story_app.specs.Tellings.{IsAsked};
+ghost use Rattle.story_app.specs.Stories.{written};
 
 use exc_groups::Label;
 use job_story::Event;
 use std::alloc::{AllocError, Global};
-use story_focus::task_named;
+use story_focus::{nearest_task, task_named};
+use story_text::push_label;
 
 /// What a story is to be about.
 #[derive(Drop)]
@@ -23,20 +26,30 @@ pub enum About<'e> {
 }
 
 /// What a story with these events is to be about, where a task is asked for by the text of its label, or none is.
-pub(crate) fn about<'e>(
+pub(crate) fn asked_for<'e>(
     alloc: Global,
-    events: &[&'e Event<'_>],
+    events: &[&'e Event],
     task: Option<&[u8]>,
 ) -> Result<About<'e>, AllocError>
-    ensures { IfOk result (IsAsked (option_copied task) (map seen events.now)) }
+    ensures { IfOk result (IsAsked (option_copied task.entry) (map seen events.now)) }
 {
     let Some(text) = task else {
         return Ok(About::All);
     };
-    match task_named(alloc, events, text)? {
-        Some(label) => Ok(About::Task(label)),
-        None => Ok(About::NoTask {
-            nearest: nearest_task(alloc, events, text)?,
-        }),
+    if let Some(label) = task_named(alloc, events, text)? {
+        return Ok(About::Task(label));
     }
+    let nearest = text_of(alloc, nearest_task(alloc, events, text)?)?;
+    Ok(About::NoTask { nearest })
+}
+
+// How a label is written: nothing where there is none.
+fn text_of(alloc: Global, label: Option<&Label>) -> Result<Vec<u8>, AllocError>
+    ensures { IfOk result (λ text. text.items ≡ written (label_seen label.entry)) }
+{
+    let mut text = Vec::new(alloc);
+    if let Some(label) = label {
+        push_label(&mut text, label)?;
+    }
+    Ok(text)
 }

@@ -63,7 +63,9 @@ fn answer<R: Threads + Sync, P: Pick, G: Gate + Sync>(
 {
     match read_job(alloc, job_text) {
         Ok(job) => {
-            let (verdict, bytes) = job_verdict(rt, alloc, &job, input, settings, task, picker, gate)?;
+            let (verdict, bytes) = job_verdict(
+                rt, alloc, &job, input, settings, task, picker, gate,
+            )?;
             Ok((verdict, bytes))
         }
         Err(fault) => Ok((StoryVerdict::JobRefused(fault), refusal(alloc, fault)?)),

@@ -2,13 +2,14 @@ ghost use Rattle.std.specs.Prelude.{◌≡◌, ◌≤◌, length, map, IfOk};
 ghost use Rattle.std.specs.Option.{option_copied};
 ghost use Rattle.job_meaning.specs.declared.limits.TheConstants.{MOST_INPUT};
 ghost use Rattle.job_meaning.specs.Meaning.{meaning_table};
+ghost use Rattle.job_runner.specs.Runs.{rows_of};
 ghost use Rattle.job_story.specs.Froms.{table_in};
 ghost use Rattle.job_story.specs.Held.{event_of};
 ghost use Rattle.story_causes.specs.Seen.{seen};
 ghost use Rattle.story_app.specs.Stories.{IsJobVerdict};
-ghost use Rattle.story_app.specs.Tellings.{IsEnding, until_of, events_until};
+ghost use Rattle.story_app.specs.Tellings.{IsEnding, ending_by, verdict_of, until_of, is_until, events_until};
 
-use crate::about::{About, about};
+use crate::about::{About, asked_for};
 use crate::table::table_of;
 use crate::text::story;
 use crate::verdict::StoryVerdict;
@@ -32,7 +33,9 @@ pub enum Ending {
 
 impl Ending {
     // The verdict on the story of such a run.
-    fn verdict(self) -> StoryVerdict {
+    fn verdict(self) -> StoryVerdict
+        ensures { result ≡ verdict_of self }
+    {
         match self {
             Ending::Done => StoryVerdict::Done,
             Ending::Raised => StoryVerdict::Raised,
@@ -69,7 +72,7 @@ pub(crate) fn job_verdict<R: Threads + Sync, P: Pick, G: Gate + Sync>(
     let until = ending.until(settings.limit());
     let events = tell(alloc, job, input, &table)?;
     let walked = told_until(alloc, events.as_slice(), until)?;
-    match about(alloc, walked.as_slice(), task)? {
+    match asked_for(alloc, walked.as_slice(), task)? {
         About::All => {
             let bytes = story(alloc, walked.as_slice(), &table, None, until)?;
             Ok((ending.verdict(), bytes))
@@ -104,7 +107,9 @@ fn meaning_of<R: Threads + Sync, P: Pick, G: Gate + Sync>(
 }
 
 // How a run ended, by a limit.
-fn ending_of(run: &Run<'_>, limit: u64) -> Ending {
+fn ending_of(run: &Run<'_>, limit: u64) -> Ending
+    ensures { result ≡ ending_by (rows_of run.now) limit }
+{
     if run.end() > limit {
         return Ending::Late;
     }
@@ -116,11 +121,11 @@ fn ending_of(run: &Run<'_>, limit: u64) -> Ending {
 }
 
 // The events up to a tick, or all of them where there is none, in the same order.
-fn told_until<'e, 'a>(
+fn told_until<'e>(
     alloc: Global,
-    events: &'e [Event<'a>],
+    events: &'e [Event],
     until: Option<u64>,
-) -> Result<Vec<&'e Event<'a>>, AllocError>
+) -> Result<Vec<&'e Event>, AllocError>
     ensures { IfOk result (λ told. map seen told.items ≡ events_until until (map event_of events.now)) }
 {
     let mut told = Vec::new(alloc);
@@ -133,7 +138,9 @@ fn told_until<'e, 'a>(
 }
 
 // Whether a tick is no later than the last one, where there is one.
-fn is_by(tick: u64, until: Option<u64>) -> bool {
+fn is_by(tick: u64, until: Option<u64>) -> bool
+    ensures { result ≡ is_until until tick }
+{
     match until {
         Some(last) => tick <= last,
         None => true,

@@ -14,11 +14,7 @@ use story_causes::{Cause, Causes, Entering};
 
 impl<'k, 'e> Known<'k, 'e> {
     /// What is known by an index of these events and this table.
-    pub fn new(
-        events: &'k [&'e Event],
-        froms: &'k Froms,
-        causes: &'k Causes<'e>,
-    ) -> Known<'k, 'e>
+    pub fn new(events: &'k [&'e Event], froms: &'k Froms, causes: &'k Causes<'e>) -> Known<'k, 'e>
         requires { Knows causes.now (table_in froms.now) (map seen events.now) }
         ensures events { events_in result ≡ map seen events.now }
         ensures froms { froms_in result ≡ table_in froms.now }

@@ -6,10 +6,7 @@ use job_story::Event;
 use std::alloc::{AllocError, Global};
 
 /// The events of a walk in order: by tick, and within a tick in the order of the walk. Want of memory is the only error.
-pub fn in_order<'e>(
-    alloc: Global,
-    walked: &[&'e Event],
-) -> Result<Vec<&'e Event>, AllocError>
+pub fn in_order<'e>(alloc: Global, walked: &[&'e Event]) -> Result<Vec<&'e Event>, AllocError>
     ensures { IfOk result (λ sorted. map seen sorted.items ≡ ordered (map seen walked.now)) }
 {
     let mut events = Vec::from_slice(alloc, walked)?;

@@ -17,11 +17,7 @@ use std::alloc::AllocError;
 use story_causes::{Cause, Entering, is_cancellation};
 
 // Appends the sentence of an event.
-pub fn push_what(
-    out: &mut Vec<u8>,
-    known: &Known<'_, '_>,
-    event: &Event,
-) -> Result<(), AllocError>
+pub fn push_what(out: &mut Vec<u8>, known: &Known<'_, '_>, event: &Event) -> Result<(), AllocError>
     ensures { OnOk result (out.new.items
         ≡ out.old.items ++ what_text (froms_in known.now) (events_in known.now) event.now.tick (what_of event.now.what)) }
 {

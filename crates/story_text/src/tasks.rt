@@ -59,10 +59,7 @@ impl<'s, 'e> Tasks<'s, 'e> {
 }
 
 // The tasks that end in these events.
-fn ended_tasks<'e>(
-    alloc: Global,
-    events: &[&'e Event],
-) -> Result<IndexSet<&'e Label>, AllocError>
+fn ended_tasks<'e>(alloc: Global, events: &[&'e Event]) -> Result<IndexSet<&'e Label>, AllocError>
     ensures { IfOk result (λ ended. (l : tree.Label) → is_among ended l ≡ has_ended l (map seen events.now)) }
 {
     let mut ended = IndexSet::new(alloc);
