@@ -92,14 +92,37 @@ wants 1 'job main 2\ntask main 0 2 raised Boom(main@2)\n' ''
 : > in
 wants 2 'refused J3 Version at 0\n' 'standard input:1:1: a job text begins with the line `trio-job 1` or `trio-job 2`, ended by a newline alone\n\n^\n'
 
+# ---- the story
+
+story='tick 0\n  main  starts\n  main  sleeps until 2\ntick 2\n  main  raises Boom\n  main  ends: raised Boom(main@2)\n'
+wants 0 'tick 0\n  main  starts\n  main  finds 1 line\n  main  ends: done\n' '' explain find.job log.txt
+wants 0 'tick 0\n  main  starts\n  main  finds 0 lines\n  main  ends: done\n' '' explain find.job
+wants 1 "$story" '' explain raise.job log.txt
+wants 1 "$story" '' explain raise.job --limit 2 --order reverse --workers 64
+wants 1 "$story" '' explain raise.job --task main
+wants 3 'tick 0\n  main  starts\n  main  sleeps until 2\nlimit 1\n  main  sleeping until 2 since 0\n' '' explain raise.job --limit 1
+wants 3 'tick 0\n  main  starts\n  main  sleeps forever\nlimit 1000000\n  main  sleeping forever since 0\n' '' explain forever.job
+wants 2 '' 'error: no task has the label `mian`: did you mean `main`?\n' explain raise.job --task mian
+printf 'trio-job 1\njob hedge {\n  nursery calls {\n    start fast { sleep 2; cancel calls; }\n    start slow { sleep 9; }\n  }\n}\n' > hedge.job
+slow='tick 0\n  fast  starts in nursery calls\n  fast  sleeps until 2\n  slow  starts in nursery calls\n  slow  sleeps until 9\ntick 2\n  fast  cancels nursery calls from 3\n  fast  ends: done\ntick 3\n  slow  is cancelled while sleeping since 0 by nursery calls (cancelled by fast at 2)\n  slow  ends: cancelled\n'
+wants 0 "$slow" '' explain hedge.job --task slow
+"$nursery" explain --help > help
+printf "$slow" | while read -r line; do
+    grep -qF -- "$line" help || fail "help of explain has no line: $line"
+done
+cp raise.job in
+wants 1 "$story" '' explain -
+: > in
+
 # ---- 2: a refused job, told with its place
 
-# refuses TEXT LINE TOLD: the job text is refused by all three commands, with that line and that text behind `bad.job:`.
+# refuses TEXT LINE TOLD: the job text is refused by all four commands, with that line and that text behind `bad.job:`.
 refuses() {
     printf "$1" > bad.job
     wants 2 "$2\n" "bad.job:$3\n" run bad.job log.txt
     wants 2 "$2\n" "bad.job:$3\n" check bad.job
     wants 2 "$2\n" "bad.job:$3\n" upgrade bad.job
+    wants 2 "$2\n" "bad.job:$3\n" explain bad.job
 }
 
 refuses 'trio-job 1\njob main { sleep }\n' 'refused J6 Syntax at 28' \
@@ -169,18 +192,23 @@ words='run find.job log.txt --order up'; holds 2 err "'--order <ORDER>'" 'forwar
 words='run find.job log.txt --limit 4294967296'; holds 2 err "'--limit <T>'" '4294967295'
 words='run find.job'; holds 2 err '<INPUT>' 'Usage: nursery run '
 words='run'; holds 2 err '<JOB>' '<INPUT>'
+words='explain'; holds 2 err '<JOB>' 'Usage: nursery explain '
+words='explain find.job log.txt --workers 0'; holds 2 err "'--workers <N>'" '1..=64'
+words='explain find.job --limit 4294967296'; holds 2 err "'--limit <T>'" '4294967295'
 words='check'; holds 2 err '<JOB>' 'Usage: nursery check '
 words='upgrade'; holds 2 err '<JOB>' 'Usage: nursery upgrade '
 words='check find.job log.txt'; holds 2 err "'log.txt'"
 words='go'; holds 2 err "'go'" 'Usage: nursery '
 words='--fast'; holds 2 err "'--fast'"
 wants 2 '' 'error: JOB and INPUT cannot both be `-`: there is one standard input\n' run - -
+wants 2 '' 'error: JOB and INPUT cannot both be `-`: there is one standard input\n' explain - -
 wants 2 '' 'error: an argument is not UTF-8 text\n' check "$(printf 'a\377b')"
 
 # ---- help and version
 
 wants 0 'nursery 0.1.0\n' '' --version
-words='--help'; holds 0 out 'Usage: nursery <COMMAND>' '  run ' '  check ' '  upgrade ' '$ nursery run first.job log.txt' '  line 0+5 error' 'Exit status'
+words='explain --help'; holds 0 out 'Usage: nursery explain [OPTIONS] <JOB> [INPUT]' '--task <LABEL>' '--workers <N>' '--order <ORDER>' '--limit <T>'
+words='--help'; holds 0 out 'Usage: nursery <COMMAND>' '  run ' '  explain ' '  check ' '  upgrade ' '$ nursery run first.job log.txt' '  line 0+5 error' 'Exit status'
 words='help'; holds 0 out 'Usage: nursery <COMMAND>'
 words='run --help'; holds 0 out 'Usage: nursery run [OPTIONS] <JOB> <INPUT>' '--workers <N>' '--order <ORDER>' '--limit <T>' '  line 6+10 ERROR disk'
 words='check --help'; holds 0 out 'Usage: nursery check <JOB>' 'expected a number'
@@ -198,15 +226,18 @@ done
 
 # ---- 3: the limit
 
-wants 3 'limit 1\n' '' run raise.job log.txt --limit 1
-wants 3 'limit 1000000\n' '' run forever.job log.txt
-wants 3 'limit 4294967295\n' '' run forever.job log.txt --limit 4294967295
+# Standard error names the tasks that still run.
+wants 3 'limit 1\n' 'these tasks have not ended:\n  main  sleeping until 2 since 0\n' run raise.job log.txt --limit 1
+wants 3 'limit 1000000\n' 'these tasks have not ended:\n  main  sleeping forever since 0\n' run forever.job log.txt
+wants 3 'limit 4294967295\n' 'these tasks have not ended:\n  main  sleeping forever since 0\n' run forever.job log.txt --limit 4294967295
 
 # ---- 4 and 5: files that cannot be read, an input too long, little memory, an output that cannot be written
 
 wants 4 '' 'cannot read the job file\n' run no.job log.txt
 wants 4 '' 'cannot read the job file\n' check no.job
 wants 4 '' 'cannot read the job file\n' upgrade no.job
+wants 4 '' 'cannot read the job file\n' explain no.job
+wants 4 '' 'cannot read the input file\n' explain find.job no.txt
 wants 4 '' 'cannot read the input file\n' run find.job no.txt
 wants 4 '' 'cannot read the job file\n' run no.job no.txt
 wants 4 '' 'cannot read the job file\n' run a_folder log.txt
@@ -263,6 +294,7 @@ if [ -c /dev/full ]; then
     full run raise.job log.txt
     full run bad.job log.txt
     full run forever.job log.txt
+    full explain raise.job
     full check find.job
     full upgrade find.job
     full --help

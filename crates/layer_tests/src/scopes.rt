@@ -16,7 +16,7 @@ fn open(
     shield: bool,
     deadline: Option<u64>,
 ) -> Result<ScopeId, Fail>
-    requires { ForSome deadline (λ tick. tick < 2 ^ 41) }
+    requires { ForSome deadline (λ tick. tick < 2 ^ 63) }
 {
     let Some(id) = parent else {
         return Ok(tree.open(None, shield, deadline)?);
@@ -29,7 +29,7 @@ fn open(
 
 /// Cancels a scope, if it is open.
 fn cancel(tree: &mut ScopeTree, id: ScopeId, tick: u64)
-    requires { tick < 2 ^ 40 }
+    requires { tick < 2 ^ 62 }
 {
     if tree.is_open(id) {
         tree.cancel(id, tick);

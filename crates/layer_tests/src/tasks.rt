@@ -27,7 +27,7 @@ struct Turned<'a> {
 
 /// The first turn of a job's root, in a new world at that tick. A root that fell asleep may go on.
 fn first_turn<'a>(alloc: Global, job: &'a Job, tick: u64) -> Result<Turned<'a>, Fail>
-    requires { tick ≤ 2 ^ 40 }
+    requires { tick ≤ 2 ^ 62 }
     ensures tick { IfOk result (λ t. t.world.tick ≡ tick) }
     ensures modest { IfOk result (λ t. IsModestHalt t.task.halt) }
     ensures fits { IfOk result (λ t. Fits t.task.frames.items t.task t.world (waits_of t.task.halt)) }
@@ -116,7 +116,7 @@ fn push_turned(text: &mut Vec<u8>, turned: &Turned<'_>) -> Result<(), AllocError
 
 /// The text of a root's first turn.
 fn text_of_turn(alloc: Global, job: &Job, tick: u64) -> Result<Vec<u8>, Fail>
-    requires { tick ≤ 2 ^ 40 }
+    requires { tick ≤ 2 ^ 62 }
 {
     let mut text = Vec::new(alloc);
     let turned = first_turn(alloc, job, tick)?;
@@ -126,7 +126,7 @@ fn text_of_turn(alloc: Global, job: &Job, tick: u64) -> Result<Vec<u8>, Fail>
 
 /// The text of the first turn of the root of a job that is given as text.
 fn shown(alloc: Global, text: &[u8], tick: u64) -> Result<Vec<u8>, Fail>
-    requires { tick ≤ 2 ^ 40 }
+    requires { tick ≤ 2 ^ 62 }
 {
     let job = job(alloc, text)?;
     text_of_turn(alloc, &job, tick)
@@ -197,7 +197,7 @@ type Pair = (&'static [u8], &'static [u8]);
 
 /// Whether the first turn of a job's root at that tick has that text.
 fn is_shown(alloc: Global, text: &[u8], tick: u64, expected: &[u8]) -> Result<bool, Fail>
-    requires { tick ≤ 2 ^ 40 }
+    requires { tick ≤ 2 ^ 62 }
 {
     let found = shown(alloc, text, tick)?;
     Ok(found.as_slice() == expected)
@@ -271,7 +271,7 @@ fn stop_when_due<'a>(
     requires modest { IsModestHalt task.old.halt }
     requires asleep { WakesFrom task.old.halt task.old.part world.old.book wakes.Due }
     requires later { world.old.tick ≤ due }
-    requires bounded { due ≤ 2 ^ 40 }
+    requires bounded { due ≤ 2 ^ 62 }
 {
     world.set_now(due);
     task.turn(TaskId::of(0), Wake::Due, world)

@@ -1,5 +1,5 @@
 -- The exit status of the program.
-use Rattle.std.specs.Prelude.{◌≡◌, ℕ, List}
+use Rattle.std.specs.Prelude.{◌≡◌, ℕ, Option, List}
 use Rattle.nursery_app.specs.declared.verdict.Verdict.{Verdict}
 use Rattle.nursery_app.specs.declared.verdict.CheckVerdict.{CheckVerdict}
 use Rattle.nursery_app.specs.declared.verdict.ServeFault.{ServeFault}
@@ -8,6 +8,9 @@ use Rattle.nursery_app.specs.Verdict.{IsVerdict}
 use Rattle.nursery_app.specs.Checking.{IsAnswer}
 use Rattle.job_tree.specs.Tree.{Tree}
 use Rattle.nursery_app.specs.Statuses as verdicts
+use Rattle.story_app.specs.declared.verdict.StoryVerdict.{StoryVerdict}
+use Rattle.story_app.specs.Stories as stories
+use Rattle.story_app.specs.Statuses.{story_status_of}
 use Rattle.nursery.specs.declared.stop.Stop.{Stop}
 use Rattle.nursery.specs.declared.stop.Stop.TheVariants.{Words, NoText, JobFile, InputFile, TooLong, Write, NoMemory}
 
@@ -30,6 +33,11 @@ stop_of faults.NoMemory = NoMemory
 abbrev pub TellsVerdict : List ℕ → List ℕ → ℕ → ℕ → Type 0
 TellsVerdict text input limit status =
     (verdict : Verdict) × (bytes : List ℕ) × IsVerdict text input limit verdict bytes × (status ≡ verdicts.status_of verdict)
+
+-- the status is that of the verdict on the story of the job's meaning, or of the task that was asked for
+abbrev pub TellsStory : List ℕ → List ℕ → ℕ → Option (List ℕ) → ℕ → Type 0
+TellsStory text input limit asked status =
+    (verdict : StoryVerdict) × (bytes : List ℕ) × stories.IsVerdict text input limit asked verdict bytes × (status ≡ story_status_of verdict)
 
 -- the status is 0 where the text spells a job, and that of a refusal where it is refused
 abbrev pub TellsAnswer : (Tree → Tree) → List ℕ → ℕ → Type 0

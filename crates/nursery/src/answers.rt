@@ -1,8 +1,9 @@
-ghost use Rattle.std.specs.Prelude.{◌≤◌, length, IfOk};
+ghost use Rattle.std.specs.Prelude.{◌≤◌, length, vec_len, IfOk};
+ghost use Rattle.std.specs.Option.{option_copied};
 ghost use Rattle.job_meaning.specs.declared.limits.TheConstants.{MOST_INPUT};
 ghost use Rattle.job_meaning.specs.Laws.{in_format_2};
 ghost use Rattle.nursery_app.specs.Checking.{as_it_is};
-ghost use Rattle.nursery.specs.Statuses.{TellsVerdict, TellsAnswer};
+ghost use Rattle.nursery.specs.Statuses.{TellsVerdict, TellsStory, TellsAnswer};
 
 use crate::sources::{read_feed, read_input, read_job_text};
 use crate::stop::Stop;
@@ -15,6 +16,7 @@ use std::alloc::{AllocError, Global};
 use std::io::{self, IsTerminal};
 use std::rt::Files;
 use std::thread::Threads;
+use story_app::{StoryVerdict, explain, running_at_limit};
 
 /// What a run with no words at a terminal waits for.
 const AWAITED: &str =
@@ -42,8 +44,36 @@ where
     run_text(rt, "standard input", text, input, settings, &mut Forward)
 }
 
-/// Runs a job file over an input file, and gives the status. Both are read before anything is told: first a too long
-/// input, then a job file that cannot be read, then such an input.
+/// What a job is run with: the text of its file, and its input.
+struct Given {
+    text: Vec<u8>,
+    input: Vec<u8>,
+}
+
+// Reads a job file and an input file, or no input where none is named. Both are read before anything is told: first a too long input,
+// then a job file that cannot be read, then such an input.
+fn read_both<R: Files + Input + AllocGlobal>(
+    rt: &R,
+    job: &str,
+    input: Option<&str>,
+) -> Result<Given, Stop>
+    ensures { IfOk result (λ given. vec_len given.input ≤ MOST_INPUT) }
+{
+    let text = read_job_text(rt, job);
+    let input = match input {
+        Some(name) => read_input(rt, name),
+        None => Ok(Vec::new(rt.alloc())),
+    };
+    if matches!(input, Err(Stop::TooLong)) {
+        return Err(Stop::TooLong);
+    }
+    Ok(Given {
+        text: text?,
+        input: input?,
+    })
+}
+
+/// Runs a job file over an input file, and gives the status.
 pub(crate) fn run_job<R: Files + Input + Print + Eprint + Threads + Sync + AllocGlobal>(
     rt: &R,
     job: &str,
@@ -59,18 +89,86 @@ pub(crate) fn run_job<R: Files + Input + Print + Eprint + Threads + Sync + Alloc
     let Some(settings) = Settings::new(workers, limit) else {
         unreachable!()
     };
-    let text = read_job_text(rt, job);
-    let input = read_input(rt, input);
-    if matches!(input, Err(Stop::TooLong)) {
-        return Err(Stop::TooLong);
-    }
-    let text = text?;
-    let input = input?;
-    let (text, input) = (text.as_slice(), input.as_slice());
+    let given = read_both(rt, job, Some(input))?;
+    let (text, input) = (given.text.as_slice(), given.input.as_slice());
     match order {
         Order::Forward => run_text(rt, job, text, input, settings, &mut Forward),
         Order::Reverse => run_text(rt, job, text, input, settings, &mut Reverse),
         Order::Turn => run_text(rt, job, text, input, settings, &mut Turn { calls: 0 }),
+    }
+}
+
+/// Tells the story of a job file over an input file, or over no input, and gives the status.
+pub(crate) fn explain_job<R: Files + Input + Print + Eprint + Threads + Sync + AllocGlobal>(
+    rt: &R,
+    job: &str,
+    input: Option<&str>,
+    task: Option<&str>,
+    workers: usize,
+    limit: u64,
+    order: Order,
+) -> Result<u8, Stop>
+    requires some { 1 ≤ workers }
+    requires few { workers ≤ 64 }
+    requires limit { limit ≤ 4294967295 }
+{
+    let Some(settings) = Settings::new(workers, limit) else {
+        unreachable!()
+    };
+    let given = read_both(rt, job, input)?;
+    let (text, input) = (given.text.as_slice(), given.input.as_slice());
+    match order {
+        Order::Forward => explain_text(rt, job, text, input, task, settings, &mut Forward),
+        Order::Reverse => explain_text(rt, job, text, input, task, settings, &mut Reverse),
+        Order::Turn => explain_text(rt, job, text, input, task, settings, &mut Turn { calls: 0 }),
+    }
+}
+
+// Tells the story of a job text over an input, and gives the status.
+fn explain_text<R: Print + Eprint + Threads + Sync + AllocGlobal, P: Pick>(
+    rt: &R,
+    job: &str,
+    text: &[u8],
+    input: &[u8],
+    task: Option<&str>,
+    settings: Settings,
+    picker: &mut P,
+) -> Result<u8, Stop>
+    requires { length input.now ≤ MOST_INPUT }
+    ensures { IfOk result (TellsStory text.now input.now settings.limit (option_copied task.entry)) }
+{
+    let mut out = WriteOut::new(io::writer(rt));
+    let asked = task.map(|label| label.as_bytes());
+    let verdict = explain(
+        rt,
+        rt.alloc(),
+        text,
+        input,
+        settings,
+        asked,
+        picker,
+        &NoGate,
+        &mut out,
+    )?;
+    let status = verdict.status();
+    match verdict {
+        StoryVerdict::JobRefused(fault) => tell_refusal(rt, job, text, fault),
+        StoryVerdict::NoTask { nearest } => tell_no_task(rt, task, nearest),
+        _ => {}
+    }
+    Ok(status)
+}
+
+// Tells on standard error that no task has the label that was asked for, and which one is the nearest. Where memory or a write fails
+// here nothing more is told.
+fn tell_no_task<R: Eprint + AllocGlobal>(rt: &R, task: Option<&str>, nearest: Vec<u8>) {
+    let (Some(task), Ok(nearest)) = (task, String::from_utf8(nearest)) else {
+        return;
+    };
+    let message =
+        format!(in rt.alloc(); "error: no task has the label `{task}`: did you mean `{nearest}`?\n");
+    if let Ok(message) = message {
+        let _ = rt.eprint(message.as_str());
     }
 }
 
@@ -97,8 +195,10 @@ fn run_text<R: Print + Eprint + Threads + Sync + AllocGlobal, P: Pick>(
         &NoGate,
         &mut out,
     )?;
-    if let Verdict::JobRefused(fault) = verdict {
-        tell_refusal(rt, job, text, fault);
+    match verdict {
+        Verdict::JobRefused(fault) => tell_refusal(rt, job, text, fault),
+        Verdict::Limit => tell_running(rt, text, input, settings, picker),
+        Verdict::Done | Verdict::Raised => {}
     }
     Ok(verdict.status())
 }
@@ -144,6 +244,26 @@ fn upgrade_text<R: Print + Eprint + AllocGlobal>(rt: &R, job: &str, text: &[u8])
         CheckVerdict::Fine => {}
     }
     Ok(verdict.status())
+}
+
+// Tells on standard error which tasks have not ended at the limit, and what each is doing. The limit's line is on standard output
+// already, so where memory or a write fails here nothing more is told.
+fn tell_running<R: Eprint + Threads + Sync + AllocGlobal, P: Pick>(
+    rt: &R,
+    text: &[u8],
+    input: &[u8],
+    settings: Settings,
+    picker: &mut P,
+)
+    requires { length input.now ≤ MOST_INPUT }
+{
+    let Ok(lines) = running_at_limit(rt, rt.alloc(), text, input, settings, picker, &NoGate) else {
+        return;
+    };
+    if let Ok(lines) = String::from_utf8(lines) {
+        let _ = rt.eprint("these tasks have not ended:\n");
+        let _ = rt.eprint(lines.as_str());
+    }
 }
 
 // Tells a refusal on standard error. Its line is on standard output already, so where memory or a write fails here

@@ -20,7 +20,7 @@ use std::test::Fail;
 
 // Opens an outermost scope with a deadline, again where memory is refused.
 fn open_outermost(tree: &mut ScopeTree, deadline: u64) -> Result<ScopeId, AllocError>
-    requires { deadline < 2 ^ 41 }
+    requires { deadline < 2 ^ 63 }
 {
     if let Ok(id) = tree.open(None, false, Some(deadline)) {
         return Ok(id);
@@ -46,7 +46,7 @@ fn open_shielded_again(tree: &mut ScopeTree, parent: ScopeId) -> Result<ScopeId,
 
 // Cancels a scope, if it is open.
 fn cancel(tree: &mut ScopeTree, id: ScopeId, tick: u64)
-    requires { tick < 2 ^ 40 }
+    requires { tick < 2 ^ 62 }
 {
     if tree.is_open(id) {
         tree.cancel(id, tick);

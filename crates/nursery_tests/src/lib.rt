@@ -26,6 +26,8 @@ mod scale;
 #[cfg(test)]
 mod sizes;
 #[cfg(test)]
+mod stories;
+#[cfg(test)]
 mod streams;
 #[cfg(test)]
 mod upgraded;

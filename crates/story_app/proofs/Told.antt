@@ -1,18 +1,27 @@
 -- From a run to the verdict on its story.
-use Rattle.std.proofs.Common.{◌≡◌, ℕ, ◌≤◌, ◌<◌, Bool, true, false, Option, Some, None, List, [], refl, sym, ap, subst, ◌∙◌, arith, nat_le, nat_lt, if◌then◌else◌}
+use Rattle.std.proofs.Common.{◌≡◌, ℕ, ◌≤◌, ◌<◌, Bool, true, false, Option, Some, None, List, [], refl, sym, ap, subst, ◌∙◌, inl, inr, arith, nat_le, nat_lt, if◌then◌else◌}
 use Rattle.std.proofs.lemmas.Bool.Decides.{nat_tests}
 use Rattle.std.specs.Prelude.{IsSome, IsNone}
+use Rattle.std.specs.Borrow.{Bor}
+use Rattle.std.specs.Global.{Vec}
 use Rattle.job_tree.specs.Tree.{Tree}
 use Rattle.exc_groups.specs.Exceptions.{Label, Exc, cancelled, raised, too_slow, group}
+use Rattle.job_meaning.specs.Log.{Table}
 use Rattle.job_meaning.specs.Meaning.{root_label, meaning, meaning_end, meaning_table}
 use Rattle.job_meaning.specs.Shown.{Row, ending_of, meaning_rows}
 use Rattle.job_runner.specs.Runs.{is_well}
 use Rattle.job_story.specs.Tell.{story_by}
-use Rattle.job_story.specs.Events.{events_of}
+use Rattle.job_story.specs.Events.{Event, events_of}
+use Rattle.job_story.specs.Focus.{task_named}
+use Rattle.story_focus.specs.Nearest.{nearest_in}
+use Rattle.story_app.specs.declared.about.About.{About}
+use Rattle.story_app.specs.declared.about.About.TheVariants.{All, Task, NoTask}
+use Rattle.story_app.specs.declared.verdict.StoryVerdict.{StoryVerdict}
+use Rattle.story_app.specs.declared.verdict.StoryVerdict.TheVariants as verdict
 use Rattle.story_app.specs.declared.telling.Ending.{Ending}
 use Rattle.story_app.specs.declared.telling.Ending.TheVariants.{Done, Raised, Late}
-use Rattle.story_app.specs.Stories.{told, told_if, story_if, meaning_story, IsAbout, IsJobVerdict}
-use Rattle.story_app.specs.Tellings.{IsEnding, ending_by, verdict_of, until_of, events_until, story_told}
+use Rattle.story_app.specs.Stories.{told, told_if, story_if, meaning_story, written, IsAbout, IsAboutNone, IsJobVerdict}
+use Rattle.story_app.specs.Tellings.{IsEnding, IsAsked, IsTold, ending_by, verdict_of, until_of, events_until, story_told}
 
 le_test : (m n : ℕ) → m ≤ n → nat_le m n ≡ true
 le_test m n h = grind (arith, nat_tests)
@@ -28,7 +37,7 @@ le_of_test m n h = grind (arith, nat_tests)
 
 -- a root ended well where it has no exception
 well_none : (o : Option Exc) → is_well (ending_of o) ≡ true → IsNone o
-well_none None e = tt
+well_none None e = refl
 well_none (Some cancelled) e = let f : false ≡ true = e in absurd (cc)
 well_none (Some (raised name task tick)) e = let f : false ≡ true = e in absurd (cc)
 well_none (Some (too_slow scope tick)) e = let f : false ≡ true = e in absurd (cc)
@@ -36,7 +45,7 @@ well_none (Some (group whose parts)) e = let f : false ≡ true = e in absurd (c
 
 ill_some : (o : Option Exc) → is_well (ending_of o) ≡ false → IsSome o
 ill_some None e = let f : true ≡ false = e in absurd (cc)
-ill_some (Some x) e = tt
+ill_some (Some x) e = refl
 
 -- the run of a meaning ends as the meaning does
 ends_as : (job : Tree) (input : List ℕ) (limit : ℕ) (late well : Bool) → nat_lt limit (meaning_end job input) ≡ late →
@@ -81,10 +90,72 @@ story_is job input limit Late task h =
     subst (λ (b : Bool). story_told (meaning_table job input) (Some limit) task (told_if b limit job input) ≡ story_if b limit job input task)
     (sym (gt_test (meaning_end job input) limit h)) (front_is job input limit task)
 
--- the verdict on a story that was told
-pub verdict_is : (job : Tree) (input : List ℕ) (limit : ℕ) (asked : Option (List ℕ)) (ending : Ending) (task : Option Label)
+-- ---- which task was asked for
+
+about_all : (asked : Option (List ℕ)) (es : List Event) → asked ≡ None → IsAbout asked es None
+about_all None es e = refl
+about_all (Some text) es e = absurd (let f : Some text ≡ None = e in cc)
+
+about_task : (asked : Option (List ℕ)) (es : List Event) (label : Label) (text : List ℕ) → asked ≡ Some text →
+    task_named text es ≡ Some label → IsAbout asked es (Some label)
+about_task asked es label text e found =
+    subst (λ (o : Option (List ℕ)). IsAbout o es (Some label)) (sym e) (refl, sym found)
+
+about_none : (asked : Option (List ℕ)) (es : List Event) (nearest text : List ℕ) → asked ≡ Some text → task_named text es ≡ None →
+    nearest ≡ written (nearest_in text es) → IsAboutNone asked es nearest
+about_none asked es nearest text e none is = subst (λ (o : Option (List ℕ)). IsAboutNone o es nearest) (sym e) (none, is)
+
+pub told_of_all : (table : Table) (until : Option ℕ) (ending : Ending) (asked : Option (List ℕ)) (walked : List Event) (about : About)
+    (given : StoryVerdict) (bytes : List ℕ) → IsAsked asked walked about → about ≡ All → given ≡ verdict_of ending →
+    bytes ≡ story_told table until None walked → IsTold table until ending asked walked given bytes
+told_of_all table until ending asked walked about given bytes h e is text =
+    inl (None, about_all asked walked (subst (IsAsked asked walked) e h), is, text)
+
+pub told_of_task : (table : Table) (until : Option ℕ) (ending : Ending) (asked : Option (List ℕ)) (walked : List Event) (about : About)
+    (label : Bor Label) (given : StoryVerdict) (bytes : List ℕ) → IsAsked asked walked about → about ≡ Task label →
+    given ≡ verdict_of ending → bytes ≡ story_told table until (Some label.now) walked →
+    IsTold table until ending asked walked given bytes
+told_of_task table until ending asked walked about label given bytes h e is text =
+    let k = subst (IsAsked asked walked) e h in inl (Some label.now, about_task asked walked label.now k.0 k.1 k.2, is, text)
+
+pub told_of_none : (table : Table) (until : Option ℕ) (ending : Ending) (asked : Option (List ℕ)) (walked : List Event) (about : About)
+    (nearest : Vec ℕ) (given : StoryVerdict) (bytes : List ℕ) → IsAsked asked walked about → about ≡ NoTask nearest →
+    given ≡ verdict.NoTask nearest → bytes ≡ [] → IsTold table until ending asked walked given bytes
+told_of_none table until ending asked walked about nearest given bytes h e is text =
+    let k = subst (IsAsked asked walked) e h in inr (nearest, about_none asked walked nearest.items k.0 k.1 k.2 k.3, is, text)
+
+-- ---- the verdict on a job
+
+verdict_is : (job : Tree) (input : List ℕ) (limit : ℕ) (asked : Option (List ℕ)) (ending : Ending) (task : Option Label)
     (bytes : List ℕ) → IsEnding job input limit ending → IsAbout asked (told limit job input) task →
     bytes ≡ meaning_story limit job input task → IsJobVerdict job input limit asked (verdict_of ending) bytes
 verdict_is job input limit asked Done task bytes h about is = (record { task = task; about = about; story = is }, h.0, h.1)
 verdict_is job input limit asked Raised task bytes h about is = (record { task = task; about = about; story = is }, h.0, h.1)
 verdict_is job input limit asked Late task bytes h about is = (record { task = task; about = about; story = is }, h)
+
+by_told : (job : Tree) (input : List ℕ) (limit : ℕ) (asked : Option (List ℕ)) (ending : Ending) (given : StoryVerdict) (bytes : List ℕ) →
+    IsEnding job input limit ending →
+    IsTold (meaning_table job input) (until_of ending limit) ending asked (told limit job input) given bytes →
+    IsJobVerdict job input limit asked given bytes
+by_told job input limit asked ending given bytes h (inl t) =
+    subst (λ (v : StoryVerdict). IsJobVerdict job input limit asked v bytes) (sym t.2)
+    (verdict_is job input limit asked ending t.0 bytes h t.1 (t.3 ∙ story_is job input limit ending t.0 h))
+by_told job input limit asked ending given bytes h (inr t) =
+    subst (λ (v : StoryVerdict). IsJobVerdict job input limit asked v bytes) (sym t.2) (t.1, t.3)
+
+pub job_told : (job : Tree) (input : List ℕ) (limit : ℕ) (asked : Option (List ℕ)) (ending : Ending) (table : Table) (until : Option ℕ)
+    (events walked : List Event) (given : StoryVerdict) (bytes : List ℕ) → IsEnding job input limit ending →
+    table ≡ meaning_table job input → until ≡ until_of ending limit →
+    events ≡ events_of (root_label job.name) (story_by table job input) → walked ≡ events_until until events →
+    IsTold table until ending asked walked given bytes → IsJobVerdict job input limit asked given bytes
+job_told job input limit asked ending table until events walked given bytes h same until_is events_are walked_is t =
+    by_told job input limit asked ending given bytes h
+    (subst (λ (es : List Event). IsTold (meaning_table job input) (until_of ending limit) ending asked es given bytes) all
+    (subst (λ (u : Option ℕ). IsTold (meaning_table job input) u ending asked walked given bytes) until_is
+    (subst (λ (k : Table). IsTold k until ending asked walked given bytes) same t)))
+  where
+    all : walked ≡ told limit job input
+    all =
+        walked_is ∙ ap (events_until until) (events_are ∙ ap (λ (k : Table). events_of (root_label job.name) (story_by k job input)) same)
+        ∙ ap (λ (u : Option ℕ). events_until u (events_of (root_label job.name) (story_by (meaning_table job input) job input))) until_is
+        ∙ told_is job input limit ending h

@@ -1,3 +1,4 @@
 pub mod Statuses
 pub mod Stories
 pub mod Tellings
+pub mod Running

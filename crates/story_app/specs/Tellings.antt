@@ -1,5 +1,6 @@
 -- The steps from a run to the text of its story.
-use Rattle.std.specs.Prelude.{◌≡◌, ℕ, ◌≤◌, ◌<◌, Bool, true, nat_le, nat_lt, if◌then◌else◌, Option, Some, None, List, [], IsSome, IsNone}
+use Rattle.std.specs.Prelude.{◌≡◌, ◌⊎◌, ℕ, ◌≤◌, ◌<◌, Bool, true, nat_le, nat_lt, if◌then◌else◌, Option, Some, None, List, [], IsSome, IsNone}
+use Rattle.std.specs.Global.{Vec}
 use Rattle.job_tree.specs.Tree.{Tree}
 use Rattle.exc_groups.specs.Exceptions.{Label}
 use Rattle.job_meaning.specs.Log.{Table}
@@ -11,7 +12,7 @@ use Rattle.job_story.specs.Sentences.{kept_text}
 use Rattle.job_story.specs.Limit.{by_limit, kept_text_to}
 use Rattle.job_story.specs.Focus.{concerned, of_tasks, task_named}
 use Rattle.story_focus.specs.Nearest.{nearest_in}
-use Rattle.story_app.specs.Stories.{written}
+use Rattle.story_app.specs.Stories.{written, IsAbout, IsAboutNone}
 use Rattle.story_app.specs.declared.verdict.StoryVerdict.{StoryVerdict}
 use Rattle.story_app.specs.declared.verdict.StoryVerdict.TheVariants as verdict
 use Rattle.story_app.specs.declared.telling.Ending.{Ending}
@@ -70,3 +71,9 @@ IsAsked asked es All = asked ≡ None
 IsAsked asked es (Task label) = (text : List ℕ) × (asked ≡ Some text) × (task_named text es ≡ Some label.now)
 IsAsked asked es (NoTask nearest) =
     (text : List ℕ) × (asked ≡ Some text) × (task_named text es ≡ None) × (nearest.items ≡ written (nearest_in text es))
+
+-- a verdict on a story with these events, and its text: of all tasks, or of those that concern one; nothing where no task has the label
+abbrev pub IsTold : Table → Option ℕ → Ending → Option (List ℕ) → List Event → StoryVerdict → List ℕ → Type 0
+IsTold table until ending asked walked given bytes =
+    ((task : Option Label) × IsAbout asked walked task × (given ≡ verdict_of ending) × (bytes ≡ story_told table until task walked))
+    ⊎ ((nearest : Vec ℕ) × IsAboutNone asked walked nearest.items × (given ≡ verdict.NoTask nearest) × (bytes ≡ []))

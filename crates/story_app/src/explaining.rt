@@ -35,11 +35,11 @@ pub fn explain<R: Threads + Sync, P: Pick, G: Gate + Sync, W: Out>(
     requires countable { W.failed out.old < 18446744073709551615 }
 
     // The bytes written are the story of the meaning, or the refusal which it names.
-    ensures sent { IfOk result (IsSent job_text.now input.now settings.limit (option_copied task) (W.contents out.old) (W.contents out.new)) }
+    ensures sent { IfOk result (IsSent job_text.now input.now settings.limit (option_copied task.entry) (W.contents out.old) (W.contents out.new)) }
     ensures well { OnOk result (W.failed out.new ≡ W.failed out.old) }
 
     // A writer that failed took the front of those bytes; after want of memory nothing was sent.
-    ensures fault { IfErr result (IsStoryFault job_text.now input.now settings.limit (option_copied task) (W.contents out.old) (W.contents out.new)) }
+    ensures fault { IfErr result (IsStoryFault job_text.now input.now settings.limit (option_copied task.entry) (W.contents out.old) (W.contents out.new)) }
     ensures counted { IfErr result (CountsFailure (W.failed out.old) (W.failed out.new)) }
 {
     let (verdict, bytes) = answer(rt, alloc, job_text, input, settings, task, picker, gate)?;
@@ -59,7 +59,7 @@ fn answer<R: Threads + Sync, P: Pick, G: Gate + Sync>(
     gate: &G,
 ) -> Result<(StoryVerdict, Vec<u8>), AllocError>
     requires { length input.now ≤ MOST_INPUT }
-    ensures { IfOk result (λ r. IsVerdict job_text.now input.now settings.limit (option_copied task) r.0 r.1.items) }
+    ensures { IfOk result (λ r. IsVerdict job_text.now input.now settings.limit (option_copied task.entry) r.0 r.1.items) }
 {
     match read_job(alloc, job_text) {
         Ok(job) => {

@@ -8,10 +8,12 @@
 
 mod about;
 mod explaining;
+mod running;
 mod table;
 mod telling;
 mod text;
 mod verdict;
 
 pub use explaining::explain;
+pub use running::running_at_limit;
 pub use verdict::StoryVerdict;

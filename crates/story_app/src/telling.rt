@@ -7,7 +7,7 @@ ghost use Rattle.job_story.specs.Froms.{table_in};
 ghost use Rattle.job_story.specs.Held.{event_of};
 ghost use Rattle.story_causes.specs.Seen.{seen};
 ghost use Rattle.story_app.specs.Stories.{IsJobVerdict};
-ghost use Rattle.story_app.specs.Tellings.{IsEnding, ending_by, verdict_of, until_of, is_until, events_until};
+ghost use Rattle.story_app.specs.Tellings.{IsEnding, IsTold, ending_by, verdict_of, until_of, is_until, events_until};
 
 use crate::about::{About, asked_for};
 use crate::table::table_of;
@@ -54,7 +54,17 @@ impl Ending {
     }
 }
 
+/// What is known of the meaning of a job.
+#[derive(Drop)]
+pub struct Meaning {
+    /// How it ends, by the limit.
+    pub ending: Ending,
+    /// From which tick each scope and nursery is cancelled.
+    pub table: Froms,
+}
+
 /// The verdict on a job that was read, with its bytes.
+#[tactic(auto, using(crate::proofs::Told::job_told))]
 pub(crate) fn job_verdict<R: Threads + Sync, P: Pick, G: Gate + Sync>(
     rt: &R,
     alloc: Global,
@@ -66,27 +76,44 @@ pub(crate) fn job_verdict<R: Threads + Sync, P: Pick, G: Gate + Sync>(
     gate: &G,
 ) -> Result<(StoryVerdict, Vec<u8>), AllocError>
     requires { length input.now ≤ MOST_INPUT }
-    ensures { IfOk result (λ r. IsJobVerdict job.now input.now settings.limit (option_copied task) r.0 r.1.items) }
+    ensures { IfOk result (λ r. IsJobVerdict job.now input.now settings.limit (option_copied task.entry) r.0 r.1.items) }
 {
-    let (ending, table) = meaning_of(rt, alloc, job, input, settings, picker, gate)?;
-    let until = ending.until(settings.limit());
-    let events = tell(alloc, job, input, &table)?;
+    let meaning = meaning_of(rt, alloc, job, input, settings, picker, gate)?;
+    let until = meaning.ending.until(settings.limit());
+    let events = tell(alloc, job, input, &meaning.table)?;
     let walked = told_until(alloc, events.as_slice(), until)?;
-    match asked_for(alloc, walked.as_slice(), task)? {
+    let answer = told_about(alloc, walked.as_slice(), &meaning, until, task)?;
+    Ok(answer)
+}
+
+// The verdict on a story with these events, and its text.
+#[tactic(auto, using(crate::proofs::Told::told_of_all, crate::proofs::Told::told_of_task, crate::proofs::Told::told_of_none))]
+fn told_about(
+    alloc: Global,
+    walked: &[&Event],
+    meaning: &Meaning,
+    until: Option<u64>,
+    task: Option<&[u8]>,
+) -> Result<(StoryVerdict, Vec<u8>), AllocError>
+    ensures { IfOk result (λ r. IsTold (table_in meaning.now.table) until meaning.now.ending (option_copied task.entry)
+        (map seen walked.now) r.0 r.1.items) }
+{
+    match asked_for(alloc, walked, task)? {
         About::All => {
-            let bytes = story(alloc, walked.as_slice(), &table, None, until)?;
-            Ok((ending.verdict(), bytes))
+            let bytes = story(alloc, walked, &meaning.table, None, until)?;
+            Ok((meaning.ending.verdict(), bytes))
         }
         About::Task(label) => {
-            let bytes = story(alloc, walked.as_slice(), &table, Some(label), until)?;
-            Ok((ending.verdict(), bytes))
+            let bytes = story(alloc, walked, &meaning.table, Some(label), until)?;
+            Ok((meaning.ending.verdict(), bytes))
         }
         About::NoTask { nearest } => Ok((StoryVerdict::NoTask { nearest }, Vec::new(alloc))),
     }
 }
 
-// How the meaning of a job ends, by the limit, and its table.
-fn meaning_of<R: Threads + Sync, P: Pick, G: Gate + Sync>(
+/// How the meaning of a job ends, by the limit, and its table.
+#[tactic(auto, using(crate::proofs::Told::is_ending, crate::proofs::Tables::is_of_meaning))]
+pub(crate) fn meaning_of<R: Threads + Sync, P: Pick, G: Gate + Sync>(
     rt: &R,
     alloc: Global,
     job: &Job,
@@ -94,16 +121,16 @@ fn meaning_of<R: Threads + Sync, P: Pick, G: Gate + Sync>(
     settings: Settings,
     picker: &mut P,
     gate: &G,
-) -> Result<(Ending, Froms), AllocError>
+) -> Result<Meaning, AllocError>
     requires { length input.now ≤ MOST_INPUT }
-    ensures ending { IfOk result (λ r. IsEnding job.now input.now settings.limit r.0) }
-    ensures table { IfOk result (λ r. table_in r.1 ≡ meaning_table job.now input.now) }
+    ensures ending { IfOk result (λ meaning. IsEnding job.now input.now settings.limit meaning.ending) }
+    ensures table { IfOk result (λ meaning. table_in meaning.table ≡ meaning_table job.now input.now) }
 {
     law_froms_of_meaning();
     let run = run_to_end(rt, alloc, job, input, settings.workers(), picker, gate)?;
     let ending = ending_of(&run, settings.limit());
     let table = table_of(alloc, run)?;
-    Ok((ending, table))
+    Ok(Meaning { ending, table })
 }
 
 // How a run ended, by a limit.
@@ -120,8 +147,8 @@ fn ending_of(run: &Run<'_>, limit: u64) -> Ending
     }
 }
 
-// The events up to a tick, or all of them where there is none, in the same order.
-fn told_until<'e>(
+/// The events up to a tick, or all of them where there is none, in the same order.
+pub(crate) fn told_until<'e>(
     alloc: Global,
     events: &'e [Event],
     until: Option<u64>,

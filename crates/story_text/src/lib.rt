@@ -19,6 +19,6 @@ mod ticks;
 
 pub use known::Known;
 pub use label::push_label;
-pub use limit::kept_text_to;
+pub use limit::{kept_text_to, still_running};
 pub use lines::kept_text;
 pub use order::in_order;

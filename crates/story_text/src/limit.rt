@@ -3,6 +3,7 @@ ghost use Rattle.exc_groups.specs.Exceptions as tree;
 ghost use Rattle.job_story.specs.Held.{happening_of, what_of};
 ghost use Rattle.job_story.specs.Events as told;
 ghost use Rattle.job_story.specs.Limit.{has_ended, start_if, is_start, running_in, doing_text, last_of, running_text, kept_text_to};
+ghost use Rattle.job_story.specs.Sentences.{widest};
 ghost use Rattle.story_text.specs.Told.{events_in, froms_in};
 ghost use Rattle.story_text.specs.Tasks.{sorted_in, walked_in};
 ghost use Rattle.story_causes.specs.Seen.{seen};
@@ -34,6 +35,23 @@ pub fn kept_text_to<'e>(
     push_lines(&mut out, known, sorted, width)?;
     push_limit(&mut out, limit)?;
     let tasks = Tasks::of(alloc, sorted, walked)?;
+    push_running(&mut out, width, &tasks, walked)?;
+    Ok(out)
+}
+
+/// What the tasks of a story are doing that have not ended by these events, in order (`sorted`) and in the order of the walk (`walked`): a
+/// line for each, as at the end of `kept_text_to`. Want of memory is the only error.
+pub fn still_running(
+    alloc: Global,
+    sorted: &[&Event],
+    walked: &[&Event],
+) -> Result<Vec<u8>, AllocError>
+    ensures { IfOk result (λ text. text.items ≡ running_text (widest (map seen sorted.now)) (map seen sorted.now)
+        (running_in (map seen walked.now) (map seen walked.now))) }
+{
+    let width = label_width(alloc, sorted)?;
+    let tasks = Tasks::of(alloc, sorted, walked)?;
+    let mut out = Vec::new(alloc);
     push_running(&mut out, width, &tasks, walked)?;
     Ok(out)
 }

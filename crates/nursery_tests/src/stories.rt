@@ -1,0 +1,137 @@
+//! The stories that `explain` writes of worked jobs: the same under each order of picks, by 1 and by 64 workers.
+
+use crate::fixtures::LIMIT;
+use job_report::{MemOut, Out};
+use job_runner::{Forward, NoGate, Pick, Reverse, Settings};
+use nursery_app::ServeFault;
+use std::process::Abort;
+use std::test::Fail;
+use std::thread::Threads;
+use story_app::{StoryVerdict, explain, running_at_limit};
+
+// Calls `explain` with a writer that has not failed. Where memory is refused nothing was sent, and it is asked for again.
+fn explained<R: Abort + Threads + Sync + AllocGlobal, P: Pick>(
+    rt: &R,
+    text: &[u8],
+    task: Option<&[u8]>,
+    settings: Settings,
+    picker: &mut P,
+    out: &mut MemOut,
+) -> Result<StoryVerdict, ServeFault> {
+    assert!(rt; out.failures() == 0);
+    match explain(rt, rt.alloc(), text, b"", settings, task, picker, &NoGate, out) {
+        Err(ServeFault::NoMemory) => {
+            assert!(rt; out.taken().is_empty());
+            explain(rt, rt.alloc(), text, b"", settings, task, picker, &NoGate, out)
+        }
+        answer => answer,
+    }
+}
+
+// The status and the story of a job text, or of a task.
+fn story<R: Abort + Threads + Sync + AllocGlobal, P: Pick>(
+    rt: &R,
+    text: &[u8],
+    task: Option<&[u8]>,
+    workers: usize,
+    picker: &mut P,
+) -> Result<(u8, MemOut), Fail> {
+    let settings = Settings::new(workers, LIMIT).ok_or("settings")?;
+    let mut out = MemOut::new(rt.alloc(), 1_000_000, 7, None)?;
+    let verdict = explained(rt, text, task, settings, picker, &mut out)?;
+    Ok((verdict.status(), out))
+}
+
+const FAILS: &str = "trio-job 1\njob m { nursery n { start a { sleep 2; raise A; } start b { forever; } } }";
+
+const WHOLE: &[u8] = b"tick 0
+  m  starts
+  m  enters nursery n
+  a  starts in nursery n
+  a  sleeps until 2
+  b  starts in nursery n
+  b  sleeps forever
+  m  waits for nursery n
+tick 2
+  a  raises A
+  a  ends: raised A(a@2); nursery n is cancelled from 3
+tick 3
+  b  is cancelled while sleeping since 0 by nursery n (a failed at 2)
+  b  ends: cancelled
+  m  leaves nursery n: cancellation caught, n[A(a@2)] propagates
+  m  ends: raised n[A(a@2)]
+";
+
+const OF_A: &[u8] = b"tick 0
+  a  starts in nursery n
+  a  sleeps until 2
+tick 2
+  a  raises A
+  a  ends: raised A(a@2); nursery n is cancelled from 3
+";
+
+const LATE: &[u8] = b"tick 0
+  m  starts
+  m  sleeps until 101
+limit 100
+  m  sleeping until 101 since 0
+";
+
+// A job text, the task that is asked for, the status, and the story.
+const STORIES: &[(&str, Option<&[u8]>, u8, &[u8])] = &[
+    ("trio-job 1\njob m { }", None, 0, b"tick 0\n  m  starts\n  m  ends: done\n"),
+    (FAILS, None, 1, WHOLE),
+    (FAILS, Some(b"a"), 1, OF_A),
+    (FAILS, Some(b"c"), 2, b""),
+    ("trio-job 1\njob m { cancel x; }", None, 2, b"refused J9 NotEnclosing at 26\n"),
+    ("trio-job 1\njob m { sleep 101; }", None, 3, LATE),
+];
+
+#[test]
+fn explain_tells_the_story(rt: HostRuntime) -> Result<(), Fail> {
+    for &(text, task, status, expected) in STORIES {
+        let (told, out) = story(&rt, text.as_bytes(), task, 1, &mut Forward)?;
+        assert_eq!(rt; told, status);
+        assert_eq!(rt; out.taken(), expected);
+        let (told, out) = story(&rt, text.as_bytes(), task, 64, &mut Reverse)?;
+        assert_eq!(rt; told, status);
+        assert_eq!(rt; out.taken(), expected);
+    }
+    Ok(())
+}
+
+#[test]
+fn the_nearest_task_is_named(rt: HostRuntime) -> Result<(), Fail> {
+    let settings = Settings::new(1, LIMIT).ok_or("settings")?;
+    let mut out = MemOut::new(rt.alloc(), 1_000, 7, None)?;
+    let text = b"trio-job 1\njob main { nursery n { start reader { } start p over 2 { } } }";
+    let verdict = explained(&rt, text, Some(b"raeder"), settings, &mut Forward, &mut out)?;
+    let StoryVerdict::NoTask { nearest } = verdict else {
+        return Err(Fail::from("a story"));
+    };
+    assert_eq!(rt; nearest.as_slice(), b"reader");
+    Ok(())
+}
+
+#[test]
+fn a_writer_that_fails_has_the_front_of_a_story(rt: HostRuntime) -> Result<(), Fail> {
+    let settings = Settings::new(1, LIMIT).ok_or("settings")?;
+    let mut out = MemOut::new(rt.alloc(), 10, 7, None)?;
+    let stopped = explained(&rt, FAILS.as_bytes(), None, settings, &mut Forward, &mut out);
+    assert!(rt; matches!(stopped, Err(ServeFault::Send { sent: 10 })));
+    assert_eq!(rt; out.taken(), b"tick 0\n  m");
+    Ok(())
+}
+
+#[test]
+fn what_still_runs_at_the_limit_is_told(rt: HostRuntime) -> Result<(), Fail> {
+    let settings = Settings::new(1, 1).ok_or("settings")?;
+    let text = FAILS.as_bytes();
+    let lines = running_at_limit(&rt, rt.alloc(), text, b"", settings, &mut Forward, &NoGate)?;
+    let expected = b"  m  waiting for nursery n since 0
+  a  sleeping until 2 since 0
+  b  sleeping forever since 0
+";
+    assert_eq!(rt; lines.as_slice(), expected);
+    Ok(())
+}

@@ -1,0 +1,24 @@
+-- What is running at a limit.
+use Rattle.std.specs.Prelude.{◌≡◌, ◌⊎◌, ℕ, ◌≤◌, ◌<◌, List, []}
+use Rattle.job_tree.specs.Tree.{Tree}
+use Rattle.job_grammar.specs.declared.fault.JobFault.{JobFault}
+use Rattle.job_grammar.specs.Refusals.{Spells, IsRefused}
+use Rattle.job_meaning.specs.Meaning.{meaning_end, meaning_table}
+use Rattle.job_story.specs.Events.{Event, in_order}
+use Rattle.job_story.specs.Sentences.{widest}
+use Rattle.job_story.specs.Limit.{running_in, running_text, walked_to}
+
+-- the lines that end the text of these events up to a limit
+abbrev pub running_lines : List Event → List ℕ
+running_lines walked = running_text (widest (in_order walked)) (in_order walked) (running_in walked walked)
+
+-- the lines of a job that ends later than the limit: what its tasks are doing that have not ended by it
+pub record IsJobRunning (job : Tree) (input : List ℕ) (limit : ℕ) (lines : List ℕ) : Type 0 where
+  pub late : limit < meaning_end job input → lines ≡ running_lines (walked_to (meaning_table job input) limit job input)
+  pub in_time : meaning_end job input ≤ limit → lines ≡ []
+
+-- the same of the job that a text spells, and nothing where the text is refused
+abbrev pub AreRunning : List ℕ → List ℕ → ℕ → List ℕ → Type 0
+AreRunning text input limit lines =
+    ((job : Tree) × Spells text job × IsJobRunning job input limit lines)
+    ⊎ ((fault : JobFault) × IsRefused text fault.kind fault.at × (lines ≡ []))

@@ -1,0 +1,64 @@
+ghost use Rattle.std.specs.Prelude.{◌≤◌, length, IfOk};
+ghost use Rattle.job_meaning.specs.declared.limits.TheConstants.{MOST_INPUT};
+ghost use Rattle.story_app.specs.Running.{AreRunning, IsJobRunning};
+
+use crate::telling::{Ending, meaning_of, told_until};
+use job_grammar::{Job, JobKind, read_job};
+use job_runner::{Gate, Pick, Settings};
+use job_teller::tell;
+use std::alloc::{AllocError, Global};
+use std::thread::Threads;
+use story_text::{in_order, still_running};
+
+/// What the tasks of a job are doing at the limit that have not ended by it: the lines that end the story which `explain` writes of
+/// such a job. Nothing, where the job ends by the limit or the text is refused. Picker, workers and gate change no byte. Want of memory
+/// is the only error.
+pub fn running_at_limit<R: Threads + Sync, P: Pick, G: Gate + Sync>(
+    rt: &R,
+    alloc: Global,
+    job_text: &[u8],
+    input: &[u8],
+    settings: Settings,
+    picker: &mut P,
+    gate: &G,
+) -> Result<Vec<u8>, AllocError>
+    requires { length input.now ≤ MOST_INPUT }
+    ensures { IfOk result (λ lines. AreRunning job_text.now input.now settings.limit lines.items) }
+{
+    match read_job(alloc, job_text) {
+        Ok(job) => {
+            let lines = running_of(rt, alloc, &job, input, settings, picker, gate)?;
+            Ok(lines)
+        }
+        Err(fault) => match fault.kind {
+            JobKind::NoMemory => Err(AllocError),
+            _ => Ok(Vec::new(alloc)),
+        },
+    }
+}
+
+// The same of a job that was read.
+fn running_of<R: Threads + Sync, P: Pick, G: Gate + Sync>(
+    rt: &R,
+    alloc: Global,
+    job: &Job,
+    input: &[u8],
+    settings: Settings,
+    picker: &mut P,
+    gate: &G,
+) -> Result<Vec<u8>, AllocError>
+    requires { length input.now ≤ MOST_INPUT }
+    ensures { IfOk result (λ lines. IsJobRunning job.now input.now settings.limit lines.items) }
+{
+    let meaning = meaning_of(rt, alloc, job, input, settings, picker, gate)?;
+    match meaning.ending {
+        Ending::Done | Ending::Raised => Ok(Vec::new(alloc)),
+        Ending::Late => {
+            let events = tell(alloc, job, input, &meaning.table)?;
+            let walked = told_until(alloc, events.as_slice(), Some(settings.limit()))?;
+            let sorted = in_order(alloc, walked.as_slice())?;
+            let lines = still_running(alloc, sorted.as_slice(), walked.as_slice())?;
+            Ok(lines)
+        }
+    }
+}
