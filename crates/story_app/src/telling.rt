@@ -64,7 +64,6 @@ pub struct Meaning {
 }
 
 /// The verdict on a job that was read, with its bytes.
-#[tactic(auto, using(crate::proofs::Told::job_told))]
 pub(crate) fn job_verdict<R: Threads + Sync, P: Pick, G: Gate + Sync>(
     rt: &R,
     alloc: Global,
@@ -79,10 +78,10 @@ pub(crate) fn job_verdict<R: Threads + Sync, P: Pick, G: Gate + Sync>(
     ensures { IfOk result (λ r. IsJobVerdict job.now input.now settings.limit (option_copied task.entry) r.0 r.1.items) }
 {
     let meaning = meaning_of(rt, alloc, job, input, settings, picker, gate)?;
-    let until = meaning.ending.until(settings.limit());
+    let last = meaning.ending.until(settings.limit());
     let events = tell(alloc, job, input, &meaning.table)?;
-    let walked = told_until(alloc, events.as_slice(), until)?;
-    let answer = told_about(alloc, walked.as_slice(), &meaning, until, task)?;
+    let walked = told_until(alloc, events.as_slice(), last)?;
+    let answer = told_about(alloc, walked.as_slice(), &meaning, last, task)?;
     Ok(answer)
 }
 
