@@ -45,6 +45,7 @@ where
 }
 
 /// What a job is run with: the text of its file, and its input.
+#[derive(Drop)]
 struct Given {
     text: Vec<u8>,
     input: Vec<u8>,
@@ -165,8 +166,9 @@ fn tell_no_task<R: Eprint + AllocGlobal>(rt: &R, task: Option<&str>, nearest: Ve
     let (Some(task), Ok(nearest)) = (task, String::from_utf8(nearest)) else {
         return;
     };
-    let message =
-        format!(in rt.alloc(); "error: no task has the label `{task}`: did you mean `{nearest}`?\n");
+    let message = format!(in rt.alloc();
+        "error: no task has the label `{task}`: did you mean `{nearest}`?\n"
+    );
     if let Ok(message) = message {
         let _ = rt.eprint(message.as_str());
     }

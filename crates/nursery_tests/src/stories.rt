@@ -19,10 +19,30 @@ fn explained<R: Abort + Threads + Sync + AllocGlobal, P: Pick>(
     out: &mut MemOut,
 ) -> Result<StoryVerdict, ServeFault> {
     assert!(rt; out.failures() == 0);
-    match explain(rt, rt.alloc(), text, b"", settings, task, picker, &NoGate, out) {
+    match explain(
+        rt,
+        rt.alloc(),
+        text,
+        b"",
+        settings,
+        task,
+        picker,
+        &NoGate,
+        out,
+    ) {
         Err(ServeFault::NoMemory) => {
             assert!(rt; out.taken().is_empty());
-            explain(rt, rt.alloc(), text, b"", settings, task, picker, &NoGate, out)
+            explain(
+                rt,
+                rt.alloc(),
+                text,
+                b"",
+                settings,
+                task,
+                picker,
+                &NoGate,
+                out,
+            )
         }
         answer => answer,
     }
@@ -42,7 +62,8 @@ fn story<R: Abort + Threads + Sync + AllocGlobal, P: Pick>(
     Ok((verdict.status(), out))
 }
 
-const FAILS: &str = "trio-job 1\njob m { nursery n { start a { sleep 2; raise A; } start b { forever; } } }";
+const FAILS: &str =
+    "trio-job 1\njob m { nursery n { start a { sleep 2; raise A; } start b { forever; } } }";
 
 const WHOLE: &[u8] = b"tick 0
   m  starts
@@ -79,11 +100,21 @@ limit 100
 
 // A job text, the task that is asked for, the status, and the story.
 const STORIES: &[(&str, Option<&[u8]>, u8, &[u8])] = &[
-    ("trio-job 1\njob m { }", None, 0, b"tick 0\n  m  starts\n  m  ends: done\n"),
+    (
+        "trio-job 1\njob m { }",
+        None,
+        0,
+        b"tick 0\n  m  starts\n  m  ends: done\n",
+    ),
     (FAILS, None, 1, WHOLE),
     (FAILS, Some(b"a"), 1, OF_A),
     (FAILS, Some(b"c"), 2, b""),
-    ("trio-job 1\njob m { cancel x; }", None, 2, b"refused J9 NotEnclosing at 26\n"),
+    (
+        "trio-job 1\njob m { cancel x; }",
+        None,
+        2,
+        b"refused J9 NotEnclosing at 26\n",
+    ),
     ("trio-job 1\njob m { sleep 101; }", None, 3, LATE),
 ];
 
@@ -117,7 +148,14 @@ fn the_nearest_task_is_named(rt: HostRuntime) -> Result<(), Fail> {
 fn a_writer_that_fails_has_the_front_of_a_story(rt: HostRuntime) -> Result<(), Fail> {
     let settings = Settings::new(1, LIMIT).ok_or("settings")?;
     let mut out = MemOut::new(rt.alloc(), 10, 7, None)?;
-    let stopped = explained(&rt, FAILS.as_bytes(), None, settings, &mut Forward, &mut out);
+    let stopped = explained(
+        &rt,
+        FAILS.as_bytes(),
+        None,
+        settings,
+        &mut Forward,
+        &mut out,
+    );
     assert!(rt; matches!(stopped, Err(ServeFault::Send { sent: 10 })));
     assert_eq!(rt; out.taken(), b"tick 0\n  m");
     Ok(())
