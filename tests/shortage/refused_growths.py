@@ -110,6 +110,12 @@ def refuse_each(shim, words, status, right, told):
         growth += 1
 
 
+# The stories of some of them.
+STORIES = {
+    "a search": b"tick 0\n  main  starts\n  main  finds 1 line\n  main  ends: done\n",
+    "a job past its limit": b"tick 0\n  main  starts\n  main  sleeps until 101\nlimit 100\n  main  sleeping until 101 since 0\n",
+}
+
 # What a test says that ends for want of memory.
 WANT_OF_MEMORY = [b"AllocError", b"AllocFailed", b"NoMemory"]
 
@@ -178,7 +184,9 @@ def runs_of_program(folder):
         data = written(folder, f"input_{number}", buffer)
         for workers in ["1", "3"]:
             words = ["run", job, data, "--limit", "100", "--workers", workers]
-            yield f"{name}, run with {workers} workers", words, status, right, status == 2
+            yield f"{name}, run with {workers} workers", words, status, right, status in (2, 3)
+        if name in STORIES:
+            yield f"{name}, explain", ["explain", job, data, "--limit", "100"], status, STORIES[name], status == 2
         if name in CHECKS:
             yield f"{name}, check", ["check", job], status, CHECKS[name], status == 2
 
