@@ -223,6 +223,21 @@ class Bench:
             each = (run.seconds - empty.seconds) * 1e9 / turns
             table.row(name, turns, milliseconds(run.seconds), f"{each:.0f}", run.memory // 1024)
 
+    def stories(self):
+        """Stories of large jobs, in format 2."""
+        table = Table("Work", "events", "ms", "ns an event", "MB", "bytes an event")
+        cancelled = started_in_one(b"sleep 9;", 2000).replace(b"nursery n{", b"nursery n after 5 {")
+        for name, body in [
+            ("499,000 sleeps in one task", b"repeat 499 { repeat 1000 { sleep 1; } }"),
+            ("333,000 scopes with a sleep each", b"repeat 333 { repeat 1000 { scope s { sleep 1; } } }"),
+            ("128,000 tasks that are cancelled together", cancelled),
+        ]:
+            run = Run(name, self.program, "explain", self.file("story.job", job_of_format_2(body)))
+            measure([run], min(self.rounds, 3))
+            with open(Run.out, "rb") as out:
+                events = sum(line.startswith(b"  ") for line in out)
+            table.row(name, events, milliseconds(run.seconds), f"{run.seconds * 1e9 / events:.0f}", run.memory // 1024, run.memory * 1024 // events)
+
     def workers(self):
         """Workers beside one another: 64 searches of the whole input, its 64 parts, and many small requests."""
         data = self.made("all.txt", lambda: log(16 * MIB, 0.03))
@@ -257,7 +272,7 @@ def main():
     with tempfile.TemporaryDirectory() as folder:
         Run.out = os.path.join(folder, "out")
         bench = Bench(program, rounds, folder)
-        for table in [bench.lines, bench.turns, bench.large, bench.workers, bench.trio]:
+        for table in [bench.lines, bench.turns, bench.large, bench.stories, bench.workers, bench.trio]:
             print(f"\n{table.__doc__.splitlines()[0]}\n")
             table()
     return 0
