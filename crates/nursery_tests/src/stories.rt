@@ -131,6 +131,18 @@ fn explain_tells_the_story(rt: HostRuntime) -> Result<(), Fail> {
     Ok(())
 }
 
+// How the task is written that is the nearest to `raeder`.
+const NEAREST: &[u8] = b"reader";
+
+// The first ten bytes of the story.
+const FRONT: &[u8] = b"tick 0\n  m";
+
+// What the tasks are doing at tick 1.
+const RUNNING: &[u8] = b"  m  waiting for nursery n since 0
+  a  sleeping until 2 since 0
+  b  sleeping forever since 0
+";
+
 #[test]
 fn the_nearest_task_is_named(rt: HostRuntime) -> Result<(), Fail> {
     let settings = Settings::new(1, LIMIT).ok_or("settings")?;
@@ -140,7 +152,7 @@ fn the_nearest_task_is_named(rt: HostRuntime) -> Result<(), Fail> {
     let StoryVerdict::NoTask { nearest } = verdict else {
         return Err(Fail::from("a story"));
     };
-    assert_eq!(rt; nearest.as_slice(), b"reader");
+    assert_eq!(rt; nearest.as_slice(), NEAREST);
     Ok(())
 }
 
@@ -157,7 +169,7 @@ fn a_writer_that_fails_has_the_front_of_a_story(rt: HostRuntime) -> Result<(), F
         &mut out,
     );
     assert!(rt; matches!(stopped, Err(ServeFault::Send { sent: 10 })));
-    assert_eq!(rt; out.taken(), b"tick 0\n  m");
+    assert_eq!(rt; out.taken(), FRONT);
     Ok(())
 }
 
@@ -166,10 +178,6 @@ fn what_still_runs_at_the_limit_is_told(rt: HostRuntime) -> Result<(), Fail> {
     let settings = Settings::new(1, 1).ok_or("settings")?;
     let text = FAILS.as_bytes();
     let lines = running_at_limit(&rt, rt.alloc(), text, b"", settings, &mut Forward, &NoGate)?;
-    let expected = b"  m  waiting for nursery n since 0
-  a  sleeping until 2 since 0
-  b  sleeping forever since 0
-";
-    assert_eq!(rt; lines.as_slice(), expected);
+    assert_eq!(rt; lines.as_slice(), RUNNING);
     Ok(())
 }

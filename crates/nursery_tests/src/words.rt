@@ -49,6 +49,7 @@ fn word_of(command: &Command) -> &'static str {
     match command {
         Command::Feed => "feed",
         Command::Run { .. } => "run",
+        Command::Explain { .. } => "explain",
         Command::Check { .. } => "check",
         Command::Upgrade { .. } => "upgrade",
         Command::Help { .. } => "help",
@@ -60,6 +61,7 @@ fn text_of(command: &Command) -> &str {
     match command {
         Command::Feed => "",
         Command::Run { job, .. } => job.as_str(),
+        Command::Explain { job, .. } => job.as_str(),
         Command::Check { job } => job.as_str(),
         Command::Upgrade { job } => job.as_str(),
         Command::Help { text } => text.as_str(),
@@ -73,6 +75,8 @@ const NAMED: &[(&str, &str, &str)] = &[
     ("check -", "check", "-"),
     ("upgrade j", "upgrade", "j"),
     ("run j i", "run", "j"),
+    ("explain j", "explain", "j"),
+    ("explain j i --task t.1 --limit 7", "explain", "j"),
     ("--version", "help", "nursery 0.1.0\n"),
 ];
 
@@ -137,6 +141,9 @@ const REFUSED: &[Row] = &[
     ("run j", "<INPUT>"),
     ("run", "<JOB>"),
     ("run j i k", "'k'"),
+    ("explain", "<JOB>"),
+    ("explain - -", "JOB and INPUT cannot both be `-`"),
+    ("explain j --workers 0", "0 is not in 1..=64"),
     ("check", "Usage: nursery check <JOB>"),
     ("check j i", "'i'"),
     ("run - -", "one standard input"),
