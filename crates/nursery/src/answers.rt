@@ -1,4 +1,4 @@
-ghost use Rattle.std.specs.Prelude.{◌≤◌, length, vec_len, IfOk};
+ghost use Rattle.std.specs.Prelude.{◌≡◌, ◌≤◌, length, vec_len, IfOk};
 ghost use Rattle.std.specs.Option.{option_copied};
 ghost use Rattle.job_meaning.specs.declared.limits.TheConstants.{MOST_INPUT};
 ghost use Rattle.job_meaning.specs.Laws.{in_format_2};
@@ -139,7 +139,7 @@ fn explain_text<R: Print + Eprint + Threads + Sync + AllocGlobal, P: Pick>(
     ensures { IfOk result (TellsStory text.now input.now settings.limit (option_copied task.entry)) }
 {
     let mut out = WriteOut::new(io::writer(rt));
-    let asked = task.map(|label| label.as_bytes());
+    let asked = bytes_of(task);
     let verdict = explain(
         rt,
         rt.alloc(),
@@ -158,6 +158,16 @@ fn explain_text<R: Print + Eprint + Threads + Sync + AllocGlobal, P: Pick>(
         _ => {}
     }
     Ok(status)
+}
+
+// The bytes of a label, where there is one.
+fn bytes_of(label: Option<&str>) -> Option<&[u8]>
+    ensures { option_copied result ≡ option_copied label.entry }
+{
+    match label {
+        Some(label) => Some(label.as_bytes()),
+        None => None,
+    }
 }
 
 // Tells on standard error that no task has the label that was asked for, and which one is the nearest. Where memory or a write fails

@@ -9,8 +9,8 @@ use std::test::Fail;
 use std::thread::Threads;
 use story_app::{StoryVerdict, explain, running_at_limit};
 
-// Calls `explain` with a writer that has not failed. Where memory is refused nothing was sent, and it is asked for again.
-fn explained<R: Abort + Threads + Sync + AllocGlobal, P: Pick>(
+// Calls `explain` with a writer that has not failed.
+fn explained_into<R: Abort + Threads + Sync + AllocGlobal, P: Pick>(
     rt: &R,
     text: &[u8],
     task: Option<&[u8]>,
@@ -19,7 +19,7 @@ fn explained<R: Abort + Threads + Sync + AllocGlobal, P: Pick>(
     out: &mut MemOut,
 ) -> Result<StoryVerdict, ServeFault> {
     assert!(rt; out.failures() == 0);
-    match explain(
+    explain(
         rt,
         rt.alloc(),
         text,
@@ -29,23 +29,24 @@ fn explained<R: Abort + Threads + Sync + AllocGlobal, P: Pick>(
         picker,
         &NoGate,
         out,
-    ) {
-        Err(ServeFault::NoMemory) => {
-            assert!(rt; out.taken().is_empty());
-            explain(
-                rt,
-                rt.alloc(),
-                text,
-                b"",
-                settings,
-                task,
-                picker,
-                &NoGate,
-                out,
-            )
-        }
-        answer => answer,
+    )
+}
+
+// Calls `explain`. Where memory is refused nothing was sent, and it is called again.
+fn explained<R: Abort + Threads + Sync + AllocGlobal, P: Pick>(
+    rt: &R,
+    text: &[u8],
+    task: Option<&[u8]>,
+    settings: Settings,
+    picker: &mut P,
+    out: &mut MemOut,
+) -> Result<StoryVerdict, ServeFault> {
+    let verdict = explained_into(rt, text, task, settings, picker, out);
+    if !matches!(verdict, Err(ServeFault::NoMemory)) {
+        return verdict;
     }
+    assert!(rt; out.taken().is_empty());
+    explained_into(rt, text, task, settings, picker, out)
 }
 
 // The status and the story of a job text, or of a task.
