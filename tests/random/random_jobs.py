@@ -180,6 +180,7 @@ class Program:
 
     def examine_story(self, text, answer):
         """The story has the status of the run, and its tasks end as in the report."""
+        self.run(text)
         status, story, _ = self.call(["explain", self.job, self.input])
         reverse = self.call(["explain", self.job, self.input, "--order", "reverse", "--workers", "64"])
         if status != answer[0] or reverse[:2] != (status, story):
