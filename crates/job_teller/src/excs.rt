@@ -100,6 +100,7 @@ pub(crate) fn boxed_copy(alloc: Global, exc: &Option<Exc>) -> Result<Option<Box<
 }
 
 /// A copy of a label, if there is one.
+#[inline(never)]
 pub(crate) fn copied(alloc: Global, label: Option<&Label>) -> Result<Option<Label>, AllocError>
     ensures { IfOk result (λ copy. copy ≡ option_copied label.entry) }
 {

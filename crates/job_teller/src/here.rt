@@ -38,6 +38,7 @@ impl<'a, 's> Here<'a, 's> {
         self.place.named(self.alloc, name)
     }
     /// The scope or nursery of that name that is entered here, with its label and the tick from which it is cancelled.
+    #[inline(never)]
     pub(crate) fn block(
         &self,
         kind: Kind,

@@ -25,6 +25,7 @@ use std::alloc::AllocError;
 const FAR: u64 = 1_099_511_627_776;
 
 /// Walks a step that has no block of steps in it, from a tick on.
+#[inline(never)]
 pub(crate) fn tell_leaf<'a>(
     step: &'a Step,
     here: Here<'a, '_>,

@@ -20,6 +20,7 @@ use job_story::{Event, Happening, What};
 use std::alloc::{AllocError, Global};
 
 /// Appends one event of a task.
+#[inline(never)]
 pub(crate) fn add<'a>(
     alloc: Global,
     task: &Label,
@@ -35,6 +36,7 @@ pub(crate) fn add<'a>(
 }
 
 /// Appends an event of the task that the walk is in.
+#[inline(never)]
 pub(crate) fn note<'a>(
     here: Here<'a, '_>,
     tick: u64,
@@ -48,6 +50,7 @@ pub(crate) fn note<'a>(
 }
 
 /// Appends the event of a sleep, unless it takes no tick.
+#[inline(never)]
 pub(crate) fn note_sleep<'a>(
     here: Here<'a, '_>,
     until: Option<u64>,
@@ -66,6 +69,7 @@ pub(crate) fn note_sleep<'a>(
 
 /// Appends the event of a `Cancelled` that is raised in `tick`, since a cancellation from the tick `from` on is seen. `since` is the tick
 /// at which the task fell asleep, if it slept.
+#[inline(never)]
 pub(crate) fn note_cancelled<'a>(
     here: Here<'a, '_>,
     from: u64,
@@ -87,6 +91,7 @@ pub(crate) fn note_cancelled<'a>(
 }
 
 /// Appends the event of an exception of a `finally` block that takes the place of an earlier one, if there are both.
+#[inline(never)]
 pub(crate) fn note_replaced<'a>(
     here: Here<'a, '_>,
     lost: &Option<Exc>,
@@ -110,6 +115,7 @@ pub(crate) fn note_replaced<'a>(
 }
 
 /// Ends a nursery whose body was walked: appends the event that the task waits for the children, and gathers what they come to.
+#[inline(never)]
 pub(crate) fn wait<'a>(
     label: &Label,
     told: Told,
@@ -127,6 +133,7 @@ pub(crate) fn wait<'a>(
 }
 
 /// Leaves a scope or nursery whose inside was walked, and appends that event.
+#[inline(never)]
 pub(crate) fn leave<'a>(
     block: &Block,
     inside: Told,

@@ -78,6 +78,7 @@ impl Told {
     }
 
     /// This stretch, which ended well, and the next as one: the next one's end, and the children of both.
+    #[inline(never)]
     pub(crate) fn join(self, next: Told) -> Result<Told, AllocError>
         ensures { IfOk result (λ w. (a b : Tale) → IsTold self a → IsTold next b → IsTold w (and_tale a b)) }
     {
@@ -102,6 +103,7 @@ impl Told {
     }
 
     /// A `try` body and its handler as one. What the handler did not take goes on, in a group with what it raised itself.
+    #[inline(never)]
     pub(crate) fn handled(
         self,
         alloc: Global,
@@ -117,6 +119,7 @@ impl Told {
     }
 
     /// A `try` with its `finally` block as one. An exception of that block takes the place of the earlier one.
+    #[inline(never)]
     pub(crate) fn cleaned(self, alloc: Global, next: Told) -> Result<Told, AllocError>
         ensures { IfOk result (λ w. (a b : Tale) → IsTold self a → IsTold next b → IsTold w (cleaned_by a b)) }
     {
@@ -128,6 +131,7 @@ impl Told {
 
     /// The end of a nursery whose body is this stretch: it ends with its last member, and the exceptions of the body and the children are
     /// one group.
+    #[inline(never)]
     pub(crate) fn gather(self, alloc: Global, label: &Label) -> Result<Told, AllocError>
         ensures { IfOk result (λ w. (a : Tale) → IsTold self a → IsTold w (tell_gathered label.now a)) }
     {
@@ -148,6 +152,7 @@ impl Told {
 
     /// A started task whose whole walk this is, as the task that started it sees it: that one goes on in the tick of the start, with one
     /// more child.
+    #[inline(never)]
     pub(crate) fn into_child(self, alloc: Global, tick: u64) -> Result<Told, AllocError>
         ensures { IfOk result (λ w. (label : TreeLabel) (home : Option TreeLabel) (scene : Scene) (a : Tale) → IsTold self a
             → IsTold w (tell_child label home scene tick a)) }

@@ -50,6 +50,7 @@ fn tell_steps<'a>(
 
 // Walks one step, from a tick on.
 #[cycle(telling)]
+#[inline(never)]
 fn tell_step<'a>(
     step: &'a Step,
     here: Here<'a, '_>,
@@ -124,6 +125,7 @@ fn tell_block<'a>(
 
 // Walks the inside of a scope or nursery. A nursery ends with the last of its children.
 #[cycle(telling)]
+#[inline(never)]
 fn tell_inside<'a>(
     block: &Block,
     body: &'a Body,
@@ -158,6 +160,7 @@ fn tell_inside<'a>(
 
 // Walks what a `start` starts: one task on the whole part, or one on each cut of it.
 #[cycle(telling)]
+#[inline(never)]
 fn tell_start<'a>(
     name: &Name,
     over: Option<u64>,
@@ -277,6 +280,7 @@ fn tell_passes<'a>(
 
 // Walks one pass of a `repeat`, of which what it enters or starts has the number in its label.
 #[cycle(telling)]
+#[inline(never)]
 fn tell_pass<'a>(
     number: u64,
     body: &'a Body,
@@ -299,6 +303,7 @@ fn tell_pass<'a>(
 
 // Walks a `try`: its body, its handler where that is wanted, and its `finally` block.
 #[cycle(telling)]
+#[inline(never)]
 fn tell_try<'a>(
     body: &'a Body,
     handler: &'a Option<Handler>,
@@ -324,6 +329,7 @@ fn tell_try<'a>(
 
 // Goes on with the handler of a `try` whose body was walked, where there is one and its name matches what the body raised.
 #[cycle(telling)]
+#[inline(never)]
 fn tell_handler<'a>(
     handler: &'a Option<Handler>,
     told: Told,
@@ -360,6 +366,7 @@ fn tell_handler<'a>(
 
 // Goes on with the `finally` block of a `try`, where there is one.
 #[cycle(telling)]
+#[inline(never)]
 fn tell_cleanup<'a>(
     cleanup: &'a Option<Body>,
     told: Told,
