@@ -98,6 +98,7 @@ printf 'trio-job 1\njob main { nursery n { start a over 64 { nursery m { start b
 for job in scopes nurseries cleanups handlers sleeps leaves grid; do
     in_little_stack run $job.job log.txt
     in_little_stack run $job.job log.txt --workers 64
+    in_little_stack explain $job.job log.txt
     in_little_stack check $job.job
 done
 { printf 'trio-job 1\njob main '; head -c 65000 /dev/zero | tr '\0' '{'; } > open.job
