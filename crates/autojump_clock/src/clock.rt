@@ -61,7 +61,7 @@ impl MockClock {
     }
 
     /// Gives the task a timer that is due at that later tick. On want of memory nothing changes. The caller sees to it that
-    /// the task has no timer yet, and that the tick is below 2 to the 41.
+    /// the task has no timer yet, and that the tick is below 2 to the 63.
     pub fn sleep_until(&mut self, task: TaskId, due: u64) -> Result<(), AllocError>
         requires awake { due_of self.old task ≡ None }
         requires later { now_of self.old < due }

@@ -16,7 +16,7 @@ use std::marker::Model;
 /// parent, and so on to the outermost; and whether its sight was lowered since it was last handed out.
 ///
 /// The caller sees to it that ids are open, that a scope is closed after those in it, and that deadlines and ticks (of
-/// `cancel` the tick after) are below 2 to the 41.
+/// `cancel` the tick after) are below 2 to the 63.
 #[derive(Drop)]
 pub struct ScopeTree {
     store: Store,

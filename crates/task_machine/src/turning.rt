@@ -36,7 +36,7 @@ impl<'a> Task<'a> {
     ///
     /// The caller sees to it that the wake fits the stop: `Begin` comes first, `Due` or `Seen` after `Sleep`, after `Ask` the
     /// answer to what was asked, and after `Wait` comes `Settled`, once that nursery is; that nothing comes after `Ended`; and
-    /// that the tick is at most 2 to the 40. Want of memory is the only error, after which the task and the world may only be
+    /// that the tick is at most 2 to the 62. Want of memory is the only error, after which the task and the world may only be
     /// dropped.
     pub fn turn(
         &mut self,

@@ -19,7 +19,7 @@ use std::collections::VecDeque;
 /// What tasks share: the tick, the cancel scopes, each with its label, the nurseries, and the tasks that were started and
 /// that nobody took yet.
 ///
-/// The caller sees to it that ticks are at most 1,099,511,627,776 (2 to the 40).
+/// The caller sees to it that ticks are at most 4,611,686,018,427,387,904 (2 to the 62).
 #[derive(Drop)]
 pub struct World<'a> {
     pub(crate) alloc: Global,
