@@ -2,8 +2,8 @@
 //! at run time.
 //!
 //! The layer promises seven laws of these definitions: monotone sight, the root, causality, the settled table, that labels
-//! are given once, that a job means the same in format 2, and a tick by which every job has ended. It stands on the definitions of the tree, the input's parts,
-//! the kernels, the exceptions and the sight.
+//! are given once, that a job means the same in format 2, and a tick by which every job has ended. It stands on the definitions of
+//! the tree, the input's parts, the kernels, the exceptions and the sight.
 #![tactic(auto)]
 
 mod laws;

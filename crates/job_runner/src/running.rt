@@ -73,6 +73,8 @@ pub fn run_to_end<'a, R: Threads + Sync, P: Pick, G: Gate + Sync>(
     requires few_workers { workers ≤ MOST_WORKERS }
     ensures name { IfOk result (λ run. name_of run ≡ job.now.name) }
     ensures records { IfOk result (λ run. rows_of run ≡ meaning_rows job.now input.now) }
+    ensures lines { IfOk result (λ run. AreSlices input.now (records_in run)) }
+    ensures turns { IfOk result (λ run. turns_of run ≤ 2 * size_of job.now.steps + 1) }
     ensures froms { IfOk result (λ run. scope_froms_of run ≡ meaning_froms job.now input.now) }
 {
     spelled_jobs_are_sound();

@@ -1,4 +1,4 @@
-ghost use Rattle.std.specs.Prelude.{◌≡◌, OnOk, None, if◌then◌else◌};
+ghost use Rattle.std.specs.Prelude.{◌≡◌, OnOk, OnErr, None, if◌then◌else◌};
 ghost use Rattle.exc_groups.specs.Exceptions as tree;
 ghost use Rattle.job_meaning.specs.Log.{same_label};
 ghost use Rattle.job_story.specs.Froms.{table_in};
@@ -24,10 +24,11 @@ impl Froms {
     }
 
     /// From now on the scope or nursery of this label is cancelled from this tick on, or never where it is none. Where there is no
-    /// memory for it, the table is not to be used.
+    /// memory for it, the table stays as it is.
     pub fn set(&mut self, label: Label, from: Option<u64>) -> Result<(), AllocError>
-        ensures { OnOk result ((other : tree.Label) →
+        ensures set { OnOk result ((other : tree.Label) →
             table_in self.new other ≡ (if same_label label other then from else table_in self.old other)) }
+        ensures err { OnErr result ((other : tree.Label) → table_in self.new other ≡ table_in self.old other) }
     {
         self.all.insert(label, from)?;
         Ok(())

@@ -6,7 +6,7 @@ use itoa::Buffer;
 use std::alloc::AllocError;
 
 // Appends a number in decimal digits.
-pub fn push_number(out: &mut Vec<u8>, n: u64) -> Result<(), AllocError>
+pub(crate) fn push_number(out: &mut Vec<u8>, n: u64) -> Result<(), AllocError>
     ensures { OnOk result (out.new.items ≡ out.old.items ++ decimal n) }
 {
     let mut buffer = Buffer::new();
@@ -36,7 +36,7 @@ fn push_indices(out: &mut Vec<u8>, indices: &[u64]) -> Result<(), AllocError>
 }
 
 // Appends the label and the tick, as `(p.1@7)`.
-pub fn push_place(out: &mut Vec<u8>, label: &Label, tick: u64) -> Result<(), AllocError>
+pub(crate) fn push_place(out: &mut Vec<u8>, label: &Label, tick: u64) -> Result<(), AllocError>
     ensures { OnOk result (out.new.items ≡ out.old.items ++ at_text label.now tick) }
 {
     out.extend_from_slice(b"(")?;
@@ -47,7 +47,7 @@ pub fn push_place(out: &mut Vec<u8>, label: &Label, tick: u64) -> Result<(), All
 }
 
 // Appends the label, and spaces up to a width.
-pub fn push_padded(out: &mut Vec<u8>, width: usize, label: &Label) -> Result<(), AllocError>
+pub(crate) fn push_padded(out: &mut Vec<u8>, width: usize, label: &Label) -> Result<(), AllocError>
     ensures { OnOk result (out.new.items ≡ out.old.items ++ padded width (label_text label.now)) }
 {
     let start = out.len();

@@ -27,7 +27,7 @@ pub fn kept_text(
 }
 
 // The length of the longest label.
-pub fn label_width(alloc: Global, events: &[&Event]) -> Result<usize, AllocError>
+pub(crate) fn label_width(alloc: Global, events: &[&Event]) -> Result<usize, AllocError>
     ensures { IfOk result (λ width. width ≡ widest (map seen events.now)) }
 {
     let mut width: usize = 0;
@@ -41,7 +41,7 @@ pub fn label_width(alloc: Global, events: &[&Event]) -> Result<usize, AllocError
 }
 
 // Appends the lines for all events, each after the line for its tick where the one before it is of another tick.
-pub fn push_lines(
+pub(crate) fn push_lines(
     out: &mut Vec<u8>,
     known: &Known<'_, '_>,
     events: &[&Event],

@@ -17,7 +17,11 @@ use std::alloc::AllocError;
 use story_causes::{Cause, Entering, is_cancellation};
 
 // Appends the sentence of an event.
-pub fn push_what(out: &mut Vec<u8>, known: &Known<'_, '_>, event: &Event) -> Result<(), AllocError>
+pub(crate) fn push_what(
+    out: &mut Vec<u8>,
+    known: &Known<'_, '_>,
+    event: &Event,
+) -> Result<(), AllocError>
     ensures { OnOk result (out.new.items
         ≡ out.old.items ++ what_text (froms_in known.now) (events_in known.now) event.now.tick (what_of event.now.what)) }
 {
@@ -151,7 +155,7 @@ fn push_shield(out: &mut Vec<u8>, shield: bool) -> Result<(), AllocError>
 }
 
 // Appends until when a task sleeps.
-pub fn push_until(out: &mut Vec<u8>, until: Option<u64>) -> Result<(), AllocError>
+pub(crate) fn push_until(out: &mut Vec<u8>, until: Option<u64>) -> Result<(), AllocError>
     ensures { OnOk result (out.new.items ≡ out.old.items ++ until_text until) }
 {
     let Some(tick) = until else {

@@ -14,7 +14,7 @@ use std::alloc::{AllocError, Global};
 // What is known of the tasks of a story: who has ended, by the events in the order of the walk, and what each did last, by the events
 // in order. A look-up takes constant time.
 #[derive(Drop)]
-pub struct Tasks<'s, 'e> {
+pub(crate) struct Tasks<'s, 'e> {
     pub sorted: &'s [&'e Event],
     pub walked: &'s [&'e Event],
     ended: IndexSet<&'e Label>,
@@ -25,7 +25,7 @@ pub struct Tasks<'s, 'e> {
 
 impl<'s, 'e> Tasks<'s, 'e> {
     // The tasks of these events. Each event takes constant time.
-    pub fn of(
+    pub(crate) fn of(
         alloc: Global,
         sorted: &'s [&'e Event],
         walked: &'s [&'e Event],
@@ -44,14 +44,14 @@ impl<'s, 'e> Tasks<'s, 'e> {
     }
 
     // Whether a task has ended.
-    pub fn has_ended(&self, label: &Label) -> bool
+    pub(crate) fn has_ended(&self, label: &Label) -> bool
         ensures { result ≡ has_ended label.now (map seen self.now.walked.now) }
     {
         self.ended.contains(&label)
     }
 
     // The last event of a task.
-    pub fn last(&self, label: &Label) -> Option<&'e Event>
+    pub(crate) fn last(&self, label: &Label) -> Option<&'e Event>
         ensures { last_text result ≡ last_of label.now (map seen self.now.sorted.now) [] }
     {
         self.lasts.get(&label).copied()

@@ -6,7 +6,7 @@ use crate::known::Known;
 use exc_groups::Label;
 
 // Whether a tick that may never come is this one.
-pub fn is_tick(from: Option<u64>, tick: u64) -> bool
+pub(crate) fn is_tick(from: Option<u64>, tick: u64) -> bool
     ensures { result ≡ is_from from tick }
 {
     match from {
@@ -16,7 +16,7 @@ pub fn is_tick(from: Option<u64>, tick: u64) -> bool
 }
 
 // The tick after this one, where a scope or nursery is cancelled from then on.
-pub fn next_from(known: &Known<'_, '_>, label: &Label, tick: u64) -> Option<u64>
+pub(crate) fn next_from(known: &Known<'_, '_>, label: &Label, tick: u64) -> Option<u64>
     ensures value { IfSome result (λ from. from ≡ tick + 1) }
     ensures some { is_some result ≡ is_from (froms_in known.now label.now) (tick + 1) }
 {
