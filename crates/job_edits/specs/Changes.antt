@@ -1,0 +1,24 @@
+-- A text with changes: pieces in the place of some of its bytes, and all other bytes as they were.
+use Rattle.std.specs.Prelude.{ℕ, ◌-◌, List, [], ◌∷◌, ◌++◌, take, drop, codes, decimal}
+use Rattle.job_edits.specs.declared.change.Piece.{Piece}
+use Rattle.job_edits.specs.declared.change.Piece.TheVariants.{Raise, ThenRaise, Forever, Cancel, OpenScope, Close, Number}
+use Rattle.job_edits.specs.declared.change.Change.{Change}
+
+-- how a piece is written; the semicolon after the step that it stands in, or the brace after it, is the author's
+abbrev pub piece_text : Piece → List ℕ
+piece_text (Raise name) = codes "raise " ++ name
+piece_text (ThenRaise name) = codes "; raise " ++ name
+piece_text Forever = codes "forever"
+piece_text (Cancel name) = codes "cancel " ++ name ++ codes "; "
+piece_text (OpenScope name) = codes "{ scope " ++ name ++ codes " "
+piece_text Close = codes " }"
+piece_text (Number n) = decimal n
+
+-- the text from a place on, with changes from there on, in the order of their places
+abbrev pub changed_from : ℕ → List ℕ → List Change → List ℕ
+changed_from at text [] = drop at text
+changed_from at text (c ∷ cs) = take (c.from - at) (drop at text) ++ piece_text c.piece ++ changed_from c.to text cs
+
+-- a text with its changes
+abbrev pub changed : List ℕ → List Change → List ℕ
+changed text changes = changed_from 0 text changes

@@ -1,0 +1,100 @@
+-- The faults of a waiting step, and the changes of the text that each of them is.
+use Rattle.std.specs.Prelude.{ℕ, List, [], ◌∷◌, ◌++◌, Option, Some, None, codes}
+use Rattle.job_tokens.specs.declared.token.Token.{Token}
+use Rattle.job_tokens.specs.declared.token.Mark.TheVariants.{Open}
+use Rattle.job_edits.specs.declared.change.Piece.{Piece}
+use Rattle.job_edits.specs.declared.change.Piece.TheVariants as piece
+use Rattle.job_edits.specs.declared.change.Change.{Change}
+use Rattle.job_edits.specs.declared.waiting.Wait.{Wait}
+use Rattle.job_edits.specs.declared.waiting.Wait.TheVariants.{Sleep, Checkpoint, Forever, Pace, Need}
+use Rattle.job_edits.specs.declared.waiting.Waiting.{Waiting}
+use Rattle.job_edits.specs.declared.fault.Fault.{Fault}
+use Rattle.job_edits.specs.declared.fault.Fault.TheVariants.{Fails, FailsLate, Hangs, Cancelled, Misses}
+use Rattle.job_edits.specs.declared.fault.Variant.{Variant}
+use Rattle.job_edits.specs.declared.plan.Plan.{Plan}
+use Rattle.job_edits.specs.Waiting.{first_mark, waiting_in}
+use Rattle.job_edits.specs.Fresh.{fresh}
+
+-- ---- which faults
+
+-- the faults of a step: a `need` can only miss; what never ends does not fail late, and what takes no time fails in no other way late
+abbrev pub faults_of : Wait → List Fault
+faults_of (Sleep n) = Fails ∷ FailsLate ∷ Hangs ∷ Cancelled ∷ []
+faults_of Checkpoint = Fails ∷ Hangs ∷ Cancelled ∷ []
+faults_of Forever = Fails ∷ Cancelled ∷ []
+faults_of (Pace n) = Fails ∷ FailsLate ∷ Hangs ∷ Cancelled ∷ []
+faults_of (Need text name) = Misses name ∷ []
+
+abbrev pub variants_with : Waiting → List Fault → List Variant
+variants_with step [] = []
+variants_with step (f ∷ fs) = record { step = step; fault = f } ∷ variants_with step fs
+
+-- each fault of each step, in the order of places
+abbrev pub variants_of : List Waiting → List Variant
+variants_of [] = []
+variants_of (w ∷ ws) = variants_with w (faults_of w.wait) ++ variants_of ws
+
+abbrev pub variants_in : List Token → List Variant
+variants_in tokens = variants_of (waiting_in tokens)
+
+-- ---- where, and with which names
+
+abbrev pub place_or : ℕ → Option ℕ → ℕ
+place_or other None = other
+place_or other (Some at) = at
+
+abbrev pub last_place : ℕ → List Token → ℕ
+last_place at [] = at
+last_place at (t ∷ ts) = last_place t.at ts
+
+-- The block of a job begins at its first brace and ends at its last token. The scope around its steps and the exception that tells
+-- whether a step is reached have names that the text does not have.
+abbrev pub plan_of : List ℕ → List Token → Plan
+plan_of name tokens =
+    record {
+      name = name;
+      outside = fresh (codes "outside") tokens;
+      reached = fresh (codes "reached") tokens;
+      opening = place_or 0 (first_mark Open tokens);
+      closing = last_place 0 tokens;
+    }
+
+-- ---- the changes
+
+abbrev pub instead : Waiting → Piece → Change
+instead step p = record { from = step.from; to = step.to; piece = p }
+
+abbrev pub inserted : ℕ → Piece → Change
+inserted at p = record { from = at; to = at; piece = p }
+
+abbrev pub changes_by : Plan → Waiting → Fault → List Change
+changes_by plan step Fails = instead step (piece.Raise plan.name) ∷ []
+changes_by plan step FailsLate = inserted step.to (piece.ThenRaise plan.name) ∷ []
+changes_by plan step Hangs = instead step piece.Forever ∷ []
+changes_by plan step Cancelled =
+    inserted plan.opening (piece.OpenScope plan.outside) ∷ inserted step.from (piece.Cancel plan.outside)
+    ∷ inserted plan.closing piece.Close ∷ []
+changes_by plan step (Misses name) = instead step (piece.Raise name) ∷ []
+
+-- the changes that a fault of a step is
+abbrev pub changes_of : Plan → Variant → List Change
+changes_of plan v = changes_by plan v.step v.fault
+
+-- The change that tells whether a fault is reached: an exception of a name of its own is raised where the fault stands.
+abbrev pub probe_by : Plan → Waiting → Fault → Change
+probe_by plan step Fails = instead step (piece.Raise plan.reached)
+probe_by plan step FailsLate = inserted step.to (piece.ThenRaise plan.reached)
+probe_by plan step Hangs = instead step (piece.Raise plan.reached)
+probe_by plan step Cancelled = instead step (piece.Raise plan.reached)
+probe_by plan step (Misses name) = instead step (piece.Raise plan.reached)
+
+abbrev pub probe_of : Plan → Variant → Change
+probe_of plan v = probe_by plan v.step v.fault
+
+-- the name that a fault raises, where it raises one
+abbrev pub raised_by : Plan → Fault → Option (List ℕ)
+raised_by plan Fails = Some plan.name
+raised_by plan FailsLate = Some plan.name
+raised_by plan Hangs = None
+raised_by plan Cancelled = None
+raised_by plan (Misses name) = Some name

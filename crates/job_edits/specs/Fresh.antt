@@ -1,0 +1,31 @@
+-- Words that a text does not have.
+use Rattle.std.specs.Prelude.{ℕ, zero, suc, ◌+◌, Bool, false, ◌||◌, List, [], ◌∷◌, ◌++◌, length, Option, Some, None, codes, decimal, if◌then◌else◌}
+use Rattle.std.specs.Str.{bytes_eq}
+use Rattle.job_tree.specs.Words.{is_word}
+use Rattle.job_tokens.specs.declared.token.Token.{Token}
+use Rattle.job_tokens.specs.Shapes.{word_in}
+
+abbrev pub is_this : List ℕ → Option (List ℕ) → Bool
+is_this word None = false
+is_this word (Some other) = bytes_eq other word
+
+-- whether some token is this word
+abbrev pub occurs : List ℕ → List Token → Bool
+occurs word [] = false
+occurs word (t ∷ ts) = is_this word (word_in t.shape) || occurs word ts
+
+abbrev pub word_or : List ℕ → List ℕ → List ℕ
+word_or other word = if is_word word then word else other
+
+-- a word with a number after it, or the word alone where that is too long for a word
+abbrev pub numbered : List ℕ → ℕ → List ℕ
+numbered word n = word_or word (word ++ codes "_" ++ decimal n)
+
+-- the first of `word_n`, `word_n+1`, .. that no token is, by so many tries
+abbrev pub fresh_from : ℕ → ℕ → List ℕ → List Token → List ℕ
+fresh_from zero n word ts = numbered word n
+fresh_from (suc tries) n word ts = if occurs (numbered word n) ts then fresh_from tries (n + 1) word ts else numbered word n
+
+-- the first of `word`, `word_1`, `word_2`, .. that no token is
+abbrev pub fresh : List ℕ → List Token → List ℕ
+fresh word ts = if occurs word ts then fresh_from (length ts) 1 word ts else word

@@ -1,0 +1,50 @@
+ghost use Rattle.std.specs.Prelude.{◌≡◌, IfOk};
+ghost use Rattle.job_edits.specs.Fresh.{occurs, numbered, fresh};
+
+use job_tokens::Token;
+use job_tree::Name;
+use std::alloc::{AllocError, Global};
+
+// The first of `word`, `word_1`, `word_2`, .. that no token is. A job text has fewer words than numbers are tried.
+pub(crate) fn fresh(alloc: Global, word: Name, tokens: &[Token]) -> Result<Name, AllocError>
+    ensures { IfOk result (λ name. name ≡ fresh word tokens.now) }
+{
+    if !occurs(word, tokens) {
+        return Ok(word);
+    }
+    let mut n = 1;
+    let mut tries = tokens.len();
+    'tries: while tries > 0 {
+        let name = numbered(alloc, word, n)?;
+        if !occurs(name, tokens) {
+            return Ok(name);
+        }
+        n += 1;
+        tries -= 1;
+    }
+    numbered(alloc, word, n)
+}
+
+// Whether some token is this word.
+fn occurs(word: Name, tokens: &[Token]) -> bool
+    ensures { result ≡ occurs word tokens.now }
+{
+    'tokens: for token in tokens {
+        if token.shape.word() == Some(word) {
+            return true;
+        }
+    }
+    false
+}
+
+// A word with a number after it, or the word alone where that is too long for a word.
+fn numbered(alloc: Global, word: Name, n: usize) -> Result<Name, AllocError>
+    ensures { IfOk result (λ name. name ≡ numbered word n) }
+{
+    let mut bytes = Vec::new(alloc);
+    bytes.extend_from_slice(word.bytes())?;
+    bytes.extend_from_slice(b"_")?;
+    let digits = n.to_string(alloc)?;
+    bytes.extend_from_slice(digits.as_bytes())?;
+    Ok(Name::new(bytes.as_slice()).unwrap_or(word))
+}

@@ -1,0 +1,172 @@
+ghost use Rattle.std.specs.Prelude.{◌≡◌, [], ◌++◌, IfOk, OnOk};
+ghost use Rattle.job_edits.specs.Numbers.{number_of, number_at, number_first, deadline_if, deadline_in, after_name, block_if, block_at, with_name, blocks_in, deadline_of, set_to};
+
+use crate::change::{Change, Piece};
+use crate::waiting::{first_name, keyword_in};
+use job_syntax::Keyword;
+use job_tokens::Token;
+use job_tree::Name;
+use std::alloc::{AllocError, Global};
+
+/// A number of a job text, whose value can be changed.
+#[derive(Clone, Copy, Debug, PartialEq, Eq)]
+pub struct Number {
+    /// The place of its first digit, counted from the start of the text.
+    pub from: usize,
+    /// The place after its last digit.
+    pub to: usize,
+    /// Its value.
+    pub value: u64,
+}
+
+impl Number {
+    /// The change of the text that puts another number in its place.
+    pub fn set_to(self, value: u64) -> Change
+        ensures { result ≡ set_to self value }
+    {
+        Change {
+            from: self.from,
+            to: self.to,
+            piece: Piece::Number(value),
+        }
+    }
+}
+
+/// The number of a job text that stands at a place, by the text's tokens: none where no token begins there, or one that is no number in the range of numbers. Want of
+/// memory is the only error.
+pub fn number_at(
+    alloc: Global,
+    place: usize,
+    tokens: &[Token],
+) -> Result<Option<Number>, AllocError>
+    ensures { IfOk result (λ number. number ≡ number_at place tokens.now) }
+{
+    'tokens: for token in tokens {
+        if token.at == place {
+            return number_of(alloc, *token);
+        }
+    }
+    Ok(None)
+}
+
+/// The deadline of the scope or nursery of a name, by the text's tokens: none where no scope or nursery has that name, or it has no
+/// deadline. Want of memory is the only error.
+pub fn deadline_of(
+    alloc: Global,
+    name: Name,
+    tokens: &[Token],
+) -> Result<Option<Number>, AllocError>
+    ensures { IfOk result (λ number. number ≡ deadline_of name tokens.now) }
+{
+    let mut rest = tokens;
+    'tokens: while let Some((token, others)) = rest.split_first() {
+        if block_at(*token, others) == Some(name) {
+            return after_name(alloc, others);
+        }
+        rest = others;
+    }
+    Ok(None)
+}
+
+/// The names of the scopes and nurseries of a job text, in the order of their places, by the text's tokens. Want of memory is the only
+/// error.
+pub fn block_names(alloc: Global, tokens: &[Token]) -> Result<Vec<Name>, AllocError>
+    ensures { IfOk result (λ names. names.items ≡ blocks_in tokens.now) }
+{
+    let mut names = Vec::new(alloc);
+    let mut rest = tokens;
+    'tokens: while let Some((token, others)) = rest.split_first() {
+        push_block(&mut names, *token, others)?;
+        rest = others;
+    }
+    Ok(names)
+}
+
+// The number that a token is, where it is one.
+fn number_of(alloc: Global, token: Token) -> Result<Option<Number>, AllocError>
+    ensures { IfOk result (λ number. number ≡ number_of token) }
+{
+    let from = token.at;
+    let Some(value) = token.shape.number() else {
+        return Ok(None);
+    };
+    let digits = value.to_string(alloc)?;
+    let Some(to) = from.checked_add(digits.len()) else {
+        return Ok(None);
+    };
+    Ok(Some(Number { from, to, value }))
+}
+
+// The number that the first token is, where it is one.
+fn number_first(alloc: Global, tokens: &[Token]) -> Result<Option<Number>, AllocError>
+    ensures { IfOk result (λ number. number ≡ number_first tokens.now) }
+{
+    let Some((token, _)) = tokens.split_first() else {
+        return Ok(None);
+    };
+    number_of(alloc, *token)
+}
+
+// The number of a deadline, by its keyword and the tokens after it.
+fn deadline_if(
+    alloc: Global,
+    keyword: Option<Keyword>,
+    tokens: &[Token],
+) -> Result<Option<Number>, AllocError>
+    ensures { IfOk result (λ number. number ≡ deadline_if keyword tokens.now) }
+{
+    match keyword {
+        Some(Keyword::After) => number_first(alloc, tokens),
+        Some(Keyword::At) => number_first(alloc, tokens),
+        _ => Ok(None),
+    }
+}
+
+// The number of the deadline that the first token begins, where it begins one.
+fn deadline_in(alloc: Global, tokens: &[Token]) -> Result<Option<Number>, AllocError>
+    ensures { IfOk result (λ number. number ≡ deadline_in tokens.now) }
+{
+    let Some((token, others)) = tokens.split_first() else {
+        return Ok(None);
+    };
+    deadline_if(alloc, keyword_in(*token), others)
+}
+
+// The number of the deadline of a scope or nursery, by the tokens from its name on.
+fn after_name(alloc: Global, tokens: &[Token]) -> Result<Option<Number>, AllocError>
+    ensures { IfOk result (λ number. number ≡ after_name tokens.now) }
+{
+    let Some((_, others)) = tokens.split_first() else {
+        return Ok(None);
+    };
+    deadline_in(alloc, others)
+}
+
+// The name of a scope or nursery, by its keyword and the tokens after it.
+fn block_if(keyword: Option<Keyword>, tokens: &[Token]) -> Option<Name>
+    ensures { result ≡ block_if keyword tokens.now }
+{
+    match keyword {
+        Some(Keyword::Scope) => first_name(tokens),
+        Some(Keyword::Nursery) => first_name(tokens),
+        _ => None,
+    }
+}
+
+// The name of the scope or nursery that a token begins, by the tokens after it.
+fn block_at(token: Token, others: &[Token]) -> Option<Name>
+    ensures { result ≡ block_at token others.now }
+{
+    block_if(keyword_in(token), others)
+}
+
+// Appends the name of the scope or nursery that a token begins, where it begins one, by the tokens after it.
+fn push_block(names: &mut Vec<Name>, token: Token, others: &[Token]) -> Result<(), AllocError>
+    ensures { OnOk result (names.new.items ≡ names.old.items ++ with_name (block_at token others.now) []) }
+{
+    let Some(name) = block_at(token, others) else {
+        return Ok(());
+    };
+    names.push(name)?;
+    Ok(())
+}

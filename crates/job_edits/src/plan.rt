@@ -1,0 +1,146 @@
+ghost use Rattle.std.specs.Prelude.{◌≡◌, [], ◌∷◌, IfOk, IsTrue};
+ghost use Rattle.job_tree.specs.Words.{is_word};
+ghost use Rattle.job_edits.specs.declared.fault.Fault.TheVariants.{Cancelled};
+ghost use Rattle.job_edits.specs.Faults.{plan_of, last_place, instead, inserted, changes_by, changes_of, probe_of, raised_by};
+ghost use Rattle.job_edits.specs.Fresh.{fresh};
+
+use crate::change::{Change, Piece};
+use crate::fault::{Fault, Variant};
+use crate::fresh::fresh;
+use crate::waiting::{Waiting, first_mark};
+use job_tokens::{Mark, Token};
+use job_tree::Name;
+use std::alloc::{AllocError, Global};
+
+/// What the changes of a job text need beside the step that they are made at.
+#[derive(Clone, Copy)]
+pub struct Plan {
+    /// The name of the exception that a faulty step raises.
+    pub name: Name,
+    /// The name of the scope around all steps of the job, which the text does not have.
+    pub outside: Name,
+    /// The name of the exception that tells whether a fault is reached, which the text does not have.
+    pub reached: Name,
+    /// The place of the brace that opens the job.
+    pub opening: usize,
+    /// The place of the brace that closes the job.
+    pub closing: usize,
+}
+
+impl Plan {
+    /// The plan for a job text of these tokens, with the name of the exception that a faulty step raises. Want of memory is the only error.
+    pub fn of(alloc: Global, name: Name, tokens: &[Token]) -> Result<Plan, AllocError>
+        ensures { IfOk result (λ plan. plan ≡ plan_of name tokens.now) }
+    {
+        Ok(Plan {
+            name,
+            outside: fresh_word(alloc, b"outside", tokens)?,
+            reached: fresh_word(alloc, b"reached", tokens)?,
+            opening: first_mark(Mark::Open, tokens).unwrap_or(0),
+            closing: last_place(tokens),
+        })
+    }
+
+    /// The changes of the text that a fault of a step is. Want of memory is the only error.
+    pub fn changes(&self, alloc: Global, variant: Variant) -> Result<Vec<Change>, AllocError>
+        ensures { IfOk result (λ changes. changes.items ≡ changes_of self.now variant) }
+    {
+        let step = variant.step;
+        let fault = variant.fault;
+        match fault {
+            Fault::Fails => one(alloc, step.from, step.to, Piece::Raise(self.name)),
+            Fault::FailsLate => one(alloc, step.to, step.to, Piece::ThenRaise(self.name)),
+            Fault::Hangs => one(alloc, step.from, step.to, Piece::Forever),
+            Fault::Cancelled => self.cancelled(alloc, step),
+            Fault::Misses(name) => one(alloc, step.from, step.to, Piece::Raise(name)),
+        }
+    }
+
+    // The changes with which the whole job is cancelled in front of a step.
+    fn cancelled(&self, alloc: Global, step: Waiting) -> Result<Vec<Change>, AllocError>
+        ensures { IfOk result (λ changes. changes.items ≡ changes_by self.now step Cancelled) }
+    {
+        let mut changes = Vec::new(alloc);
+        changes.push(inserted(self.opening, Piece::OpenScope(self.outside)))?;
+        changes.push(inserted(step.from, Piece::Cancel(self.outside)))?;
+        changes.push(inserted(self.closing, Piece::Close))?;
+        Ok(changes)
+    }
+
+    /// The change that tells whether a fault is reached: an exception of a name of its own is raised where the fault stands.
+    pub fn probe(&self, variant: Variant) -> Change
+        ensures { result ≡ probe_of self.now variant }
+    {
+        let step = variant.step;
+        match variant.fault {
+            Fault::FailsLate => inserted(step.to, Piece::ThenRaise(self.reached)),
+            Fault::Fails | Fault::Hangs | Fault::Cancelled | Fault::Misses(_) => {
+                instead(step, Piece::Raise(self.reached))
+            }
+        }
+    }
+
+    /// The name of the exception that a fault raises: none where it raises none.
+    pub fn raised(&self, fault: Fault) -> Option<Name>
+        ensures { result ≡ raised_by self.now fault }
+    {
+        match fault {
+            Fault::Fails | Fault::FailsLate => Some(self.name),
+            Fault::Hangs | Fault::Cancelled => None,
+            Fault::Misses(name) => Some(name),
+        }
+    }
+}
+
+// The first of a word, and this word with numbers after it, that no token is.
+fn fresh_word(alloc: Global, word: &[u8], tokens: &[Token]) -> Result<Name, AllocError>
+    requires { IsTrue (is_word word.now) }
+    ensures { IfOk result (λ name. name ≡ fresh word.now tokens.now) }
+{
+    let Some(name) = Name::new(word) else {
+        unreachable!()
+    };
+    fresh(alloc, name, tokens)
+}
+
+// The place of the last token.
+fn last_place(tokens: &[Token]) -> usize
+    ensures { result ≡ last_place 0 tokens.now }
+{
+    let mut at = 0;
+    'tokens: for token in tokens {
+        at = token.at;
+    }
+    at
+}
+
+// The change that puts a piece in the place of a step, up to the semicolon after it.
+fn instead(step: Waiting, piece: Piece) -> Change
+    ensures { result ≡ instead step piece }
+{
+    Change {
+        from: step.from,
+        to: step.to,
+        piece,
+    }
+}
+
+// The change that puts a piece in front of a place, and leaves nothing out.
+fn inserted(at: usize, piece: Piece) -> Change
+    ensures { result ≡ inserted at piece }
+{
+    Change {
+        from: at,
+        to: at,
+        piece,
+    }
+}
+
+// A change alone: this piece in the place of the bytes from one place up to another.
+fn one(alloc: Global, from: usize, to: usize, piece: Piece) -> Result<Vec<Change>, AllocError>
+    ensures { IfOk result (λ changes. changes.items ≡ record { from = from; to = to; piece = piece } ∷ []) }
+{
+    let mut changes = Vec::new(alloc);
+    changes.push(Change { from, to, piece })?;
+    Ok(changes)
+}

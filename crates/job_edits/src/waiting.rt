@@ -1,0 +1,156 @@
+ghost use Rattle.std.specs.Prelude.{◌≡◌, [], ◌++◌, decimal, IfOk, OnOk};
+ghost use Rattle.job_tokens.specs.Shapes.{word_in};
+ghost use Rattle.job_edits.specs.Waiting.{wait_of, wait_if, keyword_in, need_in, first_number, first_name, first_mark, waiting_at, with_waiting, waiting_in, wait_text};
+
+use job_syntax::Keyword;
+use job_tokens::{Mark, Shape, Token, push_canon};
+use job_tree::{Name, Text};
+use std::alloc::{AllocError, Global};
+
+/// What a waiting step waits for.
+#[derive(Clone, Copy)]
+pub enum Wait {
+    /// `sleep`: so many ticks.
+    Sleep(u64),
+    /// `checkpoint`: takes no time, and sees a cancellation.
+    Checkpoint,
+    /// `forever`: a cancellation.
+    Forever,
+    /// `pace`: one tick for so many lines of the task's part of the input.
+    Pace(u64),
+    /// `need`: a line that contains a string, or it raises an exception of this name.
+    Need(Text, Name),
+}
+
+/// A waiting step of a job text.
+#[derive(Clone, Copy)]
+pub struct Waiting {
+    /// The place of its first byte, counted from the start of the text.
+    pub from: usize,
+    /// The place of the semicolon after it.
+    pub to: usize,
+    /// What it waits for.
+    pub wait: Wait,
+}
+
+/// The waiting steps of a job text, in the order of their places, by the text's tokens. Want of memory is the only error.
+pub fn waiting_steps(alloc: Global, tokens: &[Token]) -> Result<Vec<Waiting>, AllocError>
+    ensures { IfOk result (λ steps. steps.items ≡ waiting_in tokens.now) }
+{
+    let mut steps = Vec::new(alloc);
+    let mut rest = tokens;
+    'tokens: while let Some((token, others)) = rest.split_first() {
+        push_step(&mut steps, *token, others)?;
+        rest = others;
+    }
+    Ok(steps)
+}
+
+// Appends the waiting step that a token begins, where it begins one, by the tokens after it.
+fn push_step(steps: &mut Vec<Waiting>, token: Token, others: &[Token]) -> Result<(), AllocError>
+    ensures { OnOk result (steps.new.items ≡ steps.old.items ++ with_waiting (waiting_at token others.now) []) }
+{
+    let from = token.at;
+    let Some(wait) = wait_at(token, others) else {
+        return Ok(());
+    };
+    let Some(to) = first_mark(Mark::Semicolon, others) else {
+        return Ok(());
+    };
+    steps.push(Waiting { from, to, wait })?;
+    Ok(())
+}
+
+// What the step waits for that a token begins, by the tokens after it.
+fn wait_at(token: Token, others: &[Token]) -> Option<Wait>
+    ensures { result ≡ wait_if (keyword_in (word_in token.shape)) others.now }
+{
+    let keyword = keyword_in(token)?;
+    wait_of(keyword, others)
+}
+
+// The keyword that a token is, where it is one.
+pub(crate) fn keyword_in(token: Token) -> Option<Keyword>
+    ensures { result ≡ keyword_in (word_in token.shape) }
+{
+    Keyword::of(token.shape.word()?)
+}
+
+// What the step waits for that a keyword begins, by the tokens after the keyword.
+fn wait_of(keyword: Keyword, others: &[Token]) -> Option<Wait>
+    ensures { result ≡ wait_of keyword others.now }
+{
+    match keyword {
+        Keyword::Sleep => Some(Wait::Sleep(first_number(others)?)),
+        Keyword::Checkpoint => Some(Wait::Checkpoint),
+        Keyword::Forever => Some(Wait::Forever),
+        Keyword::Pace => Some(Wait::Pace(first_number(others)?)),
+        Keyword::Need => need_in(others),
+        _ => None,
+    }
+}
+
+// A `need` by its string and the name behind it.
+fn need_in(tokens: &[Token]) -> Option<Wait>
+    ensures { result ≡ need_in tokens.now }
+{
+    let (text, others) = tokens.split_first()?;
+    let text = text.shape.text()?;
+    let name = first_name(others)?;
+    Some(Wait::Need(text, name))
+}
+
+// The number that the first token is.
+fn first_number(tokens: &[Token]) -> Option<u64>
+    ensures { result ≡ first_number tokens.now }
+{
+    let (token, _) = tokens.split_first()?;
+    token.shape.number()
+}
+
+// The name that the first token is.
+pub(crate) fn first_name(tokens: &[Token]) -> Option<Name>
+    ensures { result ≡ first_name tokens.now }
+{
+    let (token, _) = tokens.split_first()?;
+    token.shape.word()
+}
+
+// The place of the first of these tokens that is such a mark.
+pub(crate) fn first_mark(mark: Mark, tokens: &[Token]) -> Option<usize>
+    ensures { result ≡ first_mark mark tokens.now }
+{
+    'tokens: for token in tokens {
+        if token.shape.mark() == Some(mark) {
+            return Some(token.at);
+        }
+    }
+    None
+}
+
+/// Appends a waiting step as it is shown: its tokens, with a space between two of them. Want of memory is the only error.
+pub fn push_wait(alloc: Global, out: &mut Vec<u8>, wait: Wait) -> Result<(), AllocError>
+    ensures { OnOk result (out.new.items ≡ out.old.items ++ wait_text wait) }
+{
+    match wait {
+        Wait::Sleep(ticks) => push_counted(alloc, out, b"sleep ", ticks),
+        Wait::Checkpoint => out.extend_from_slice(b"checkpoint"),
+        Wait::Forever => out.extend_from_slice(b"forever"),
+        Wait::Pace(lines) => push_counted(alloc, out, b"pace ", lines),
+        Wait::Need(text, name) => {
+            out.extend_from_slice(b"need ")?;
+            push_canon(alloc, out, &[Shape::Text(text)])?;
+            out.extend_from_slice(b" ")?;
+            out.extend_from_slice(name.bytes())
+        }
+    }
+}
+
+// Appends some words, and a number.
+fn push_counted(alloc: Global, out: &mut Vec<u8>, words: &[u8], n: u64) -> Result<(), AllocError>
+    ensures { OnOk result (out.new.items ≡ out.old.items ++ (words.now ++ decimal n)) }
+{
+    out.extend_from_slice(words)?;
+    let digits = n.to_string(alloc)?;
+    out.extend_from_slice(digits.as_bytes())
+}
