@@ -1,0 +1,90 @@
+-- What the events of a story say of a fault.
+use Rattle.std.specs.Prelude.{ℕ, Bool, true, false, ◌&&◌, ◌||◌, not, Option, Some, None, List, [], ◌∷◌, ◌++◌, if◌then◌else◌}
+use Rattle.std.specs.Str.{bytes_eq}
+use Rattle.exc_groups.specs.Exceptions.{Label, Exc, cancelled, raised, too_slow, group, Excs, no_parts, part}
+use Rattle.job_meaning.specs.Log.{same_label}
+use Rattle.job_story.specs.Story.{sleeps, is_cancelled, raises, handles}
+use Rattle.job_story.specs.Events.{What, happens, ends, Event}
+use Rattle.job_story.specs.Limit.{is_start, start_if}
+use Rattle.job_story.specs.Focus.{is_among}
+
+-- ---- what became of each task
+
+-- what the last event of a task is, by the events in the order of the walk: where none is its, what is given
+abbrev pub last_what : Label → List Event → Option What → Option What
+last_what l [] what = what
+last_what l (e ∷ es) what = last_what l es (if same_label l e.task then Some e.what else what)
+
+-- a task fell asleep forever
+abbrev pub sleeps_forever : Option What → Bool
+sleeps_forever (Some (happens (sleeps None))) = true
+sleeps_forever _ = false
+
+-- the tasks whose last event is that they fell asleep forever, in the order in which the walk starts them
+abbrev pub sleeping_among : List Event → List Event → List Label
+sleeping_among all [] = []
+sleeping_among all (e ∷ es) =
+    start_if (is_start e.what && sleeps_forever (last_what e.task all None)) e.task (sleeping_among all es)
+
+abbrev pub sleeping_in : List Event → List Label
+sleeping_in es = sleeping_among es es
+
+-- ---- cleanups that were cut
+
+-- `Cancelled` was raised in a cleanup
+abbrev pub cuts : What → Bool
+cuts (happens (is_cancelled by since in_cleanup)) = in_cleanup
+cuts _ = false
+
+-- a label at the end of others, if it is not among them
+abbrev pub noted : Label → List Label → List Label
+noted l ls = if is_among l ls then ls else ls ++ l ∷ []
+
+-- the tasks that were cancelled in a cleanup, in the order of the events, each once
+abbrev pub cut_after : List Label → List Event → List Label
+cut_after ls [] = ls
+cut_after ls (e ∷ es) = cut_after (if cuts e.what then noted e.task ls else ls) es
+
+abbrev pub cut_in : List Event → List Label
+cut_in es = cut_after [] es
+
+-- ---- exceptions that were lost
+
+-- an exception has a leaf of this name, which a `raise` or a `need` made
+abbrev mutual
+  pub has_leaf : List ℕ → Exc → Bool
+  has_leaf name cancelled = false
+  has_leaf name (raised other task tick) = bytes_eq other name
+  has_leaf name (too_slow scope tick) = false
+  has_leaf name (group whose parts) = some_leaf name parts
+
+  pub some_leaf : List ℕ → Excs → Bool
+  some_leaf name no_parts = false
+  some_leaf name (part e es) = has_leaf name e || some_leaf name es
+
+abbrev pub raises_it : List ℕ → What → Bool
+raises_it name (happens (raises other)) = bytes_eq other name
+raises_it name _ = false
+
+abbrev pub handles_it : List ℕ → What → Bool
+handles_it name (happens (handles matched rest)) = has_leaf name matched
+handles_it name _ = false
+
+-- the root ends with it
+abbrev pub escapes : List ℕ → What → Bool
+escapes name (ends None (Some e)) = has_leaf name e
+escapes name _ = false
+
+-- some event passes a test
+abbrev pub some_event : (What → Bool) → List Event → Bool
+some_event test [] = false
+some_event test (e ∷ es) = test e.what || some_event test es
+
+-- an exception of this name is raised, handled by no handler, and not in the root's outcome
+abbrev pub is_lost : List ℕ → List Event → Bool
+is_lost name es =
+    some_event (raises_it name) es && (not (some_event (handles_it name) es) && not (some_event (escapes name) es))
+
+-- an exception of this name is raised
+abbrev pub is_raised : List ℕ → List Event → Bool
+is_raised name es = some_event (raises_it name) es

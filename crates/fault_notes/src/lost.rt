@@ -1,0 +1,113 @@
+ghost use Rattle.std.specs.Prelude.{◌≡◌, map};
+ghost use Rattle.exc_groups.specs.Held.{exc_of, excs_of};
+ghost use Rattle.job_story.specs.Held.{what_of};
+ghost use Rattle.story_causes.specs.Seen.{seen};
+ghost use Rattle.fault_notes.specs.Notes.{has_leaf, some_leaf, raises_it, handles_it, escapes, some_event, is_lost, is_raised};
+
+use exc_groups::Exc;
+use job_story::{Event, Happening, What};
+use job_tree::Name;
+
+/// Whether an exception of this name is lost in a story of these events: a `raise` raises it, no handler handles it, and the root task
+/// does not end with it.
+pub fn is_lost(events: &[&Event], name: Name) -> bool
+    ensures { result ≡ is_lost name (map seen events.now) }
+{
+    is_raised(events, name) && !is_handled(events, name) && !has_escaped(events, name)
+}
+
+/// Whether a `raise` of this name is among these events.
+pub fn is_raised(events: &[&Event], name: Name) -> bool
+    ensures { result ≡ is_raised name (map seen events.now) }
+{
+    'events: for event in events {
+        if raises_it(&event.what, name) {
+            return true;
+        }
+    }
+    false
+}
+
+// Whether some handler handles an exception of this name.
+fn is_handled(events: &[&Event], name: Name) -> bool
+    ensures { result ≡ some_event (handles_it name) (map seen events.now) }
+{
+    'events: for event in events {
+        if handles_it(&event.what, name) {
+            return true;
+        }
+    }
+    false
+}
+
+// Whether the root task ends with an exception of this name.
+fn has_escaped(events: &[&Event], name: Name) -> bool
+    ensures { result ≡ some_event (escapes name) (map seen events.now) }
+{
+    'events: for event in events {
+        if escapes(&event.what, name) {
+            return true;
+        }
+    }
+    false
+}
+
+// Whether an event is a `raise` of this name.
+fn raises_it(what: &What, name: Name) -> bool
+    ensures { result ≡ raises_it name (what_of what.now) }
+{
+    match what {
+        What::Happens(Happening::Raises { name: other }) => *other == name,
+        _ => false,
+    }
+}
+
+// Whether an event is that a handler handles an exception of this name.
+fn handles_it(what: &What, name: Name) -> bool
+    ensures { result ≡ handles_it name (what_of what.now) }
+{
+    match what {
+        What::Happens(Happening::Handles { matched, .. }) => has_leaf(matched, name),
+        _ => false,
+    }
+}
+
+// Whether an event is that the root ends with an exception of this name.
+fn escapes(what: &What, name: Name) -> bool
+    ensures { result ≡ escapes name (what_of what.now) }
+{
+    match what {
+        What::Ends {
+            home: None,
+            exc: Some(exc),
+        } => has_leaf(exc, name),
+        _ => false,
+    }
+}
+
+// Whether an exception has a leaf of this name, which a `raise` or a `need` made.
+#[cycle(leaves)]
+fn has_leaf(exc: &Exc, name: Name) -> bool
+    ensures { result ≡ has_leaf name (exc_of exc.now) }
+{
+    match exc {
+        Exc::Raised { name: other, .. } => *other == name,
+        Exc::Cancelled | Exc::TooSlow { .. } => false,
+        Exc::Group { parts, .. } => some_leaf(parts.as_slice(), name),
+    }
+}
+
+// Whether one of the parts of a group has one.
+#[cycle(leaves)]
+fn some_leaf(parts: &[Exc], name: Name) -> bool
+    ensures { result ≡ some_leaf name (excs_of parts.now) }
+{
+    let mut rest = parts;
+    'parts: while let Some((part, others)) = rest.split_first() {
+        if has_leaf(part, name) {
+            return true;
+        }
+        rest = others;
+    }
+    false
+}
