@@ -16,4 +16,6 @@ mod verdict;
 
 pub use explaining::explain;
 pub use running::running_at_limit;
+pub use table::table_of;
+pub use telling::told_until;
 pub use verdict::StoryVerdict;

@@ -8,9 +8,9 @@ use job_runner::{Run, ScopeFrom};
 use job_story::Froms;
 use std::alloc::{AllocError, Global};
 
-/// From which tick each scope and nursery of a run was cancelled, as a table.
+/// From which tick each scope and nursery of a run was cancelled, as a table. Want of memory is the only error.
 #[tactic(auto, using(crate::proofs::Tables::from_never))]
-pub(crate) fn table_of(alloc: Global, run: Run<'_>) -> Result<Froms, AllocError>
+pub fn table_of(alloc: Global, run: Run<'_>) -> Result<Froms, AllocError>
     ensures { IfOk result (λ froms. (label : tree.Label) → table_in froms label ≡ set_in never (scope_froms_of run.entry) label) }
 {
     let mut table = Froms::new(alloc);

@@ -146,8 +146,8 @@ fn ending_of(run: &Run<'_>, limit: u64) -> Ending
     }
 }
 
-/// The events up to a tick, or all of them where there is none, in the same order.
-pub(crate) fn told_until<'e>(
+/// The events up to a tick, or all of them where there is none, in the same order. Want of memory is the only error.
+pub fn told_until<'e>(
     alloc: Global,
     events: &'e [Event],
     until: Option<u64>,

@@ -16,9 +16,9 @@ fn push_whose(out: &mut Vec<u8>, whose: &Whose) -> Result<(), AllocError>
     }
 }
 
-// Appends an exception, a group with its parts in brackets.
+/// Appends how an exception is written: a group with its parts in brackets. Want of memory is the only error.
 #[cycle(exc)]
-pub(crate) fn push_exc(out: &mut Vec<u8>, exc: &Exc) -> Result<(), AllocError>
+pub fn push_exc(out: &mut Vec<u8>, exc: &Exc) -> Result<(), AllocError>
     ensures { OnOk result (out.new.items ≡ out.old.items ++ exc_text (exc_of exc.now)) }
 {
     match exc {

@@ -17,6 +17,7 @@ mod sentences;
 mod tasks;
 mod ticks;
 
+pub use exc::push_exc;
 pub use known::Known;
 pub use label::push_label;
 pub use limit::{kept_text_to, still_running};
