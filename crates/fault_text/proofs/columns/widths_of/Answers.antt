@@ -1,0 +1,14 @@
+use Rattle.std.proofs.Common.{arith}
+use Rattle.fault_text.specs.Table.{place_text, step_text, kind_text}
+use Rattle.fault_text.proofs.Widest.{at_least, at_end, same_widths}
+use Rattle.fault_text.proofs.columns.widths_of.Goals as goal
+
+pub lines-init : goal.lines-init
+lines-init c = (at_least place_text 0 _, at_least step_text 0 _, at_least kind_text 8 _, omega arith)
+
+pub returns : goal.returns
+returns c =
+    same_widths _ _ _ _
+    (at_end place_text 0 _ _ _ _ c.lines-test.false (omega arith) c.lines.invariant.0)
+    (at_end step_text 0 _ _ _ _ c.lines-test.false (omega arith) c.lines.invariant.1)
+    (at_end kind_text 8 _ _ _ _ c.lines-test.false c.lines.invariant.3 c.lines.invariant.2)

@@ -1,0 +1,4 @@
+pub mod Fates
+pub mod Table
+pub mod Views
+pub mod Examples

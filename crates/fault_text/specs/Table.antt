@@ -1,0 +1,117 @@
+-- The text of all lines: what becomes of the job as it is, and with each fault.
+use Rattle.std.specs.Prelude.{ℕ, zero, suc, ◌+◌, ◌-◌, ◌==◌, Bool, true, ◌&&◌, ◌||◌, not, max, if◌then◌else◌, List, [], ◌∷◌, ◌++◌, length, replicate, codes, decimal}
+use Rattle.job_edits.specs.declared.fault.Fault.{Fault}
+use Rattle.job_edits.specs.declared.fault.Fault.TheVariants.{Fails, FailsLate, Hangs, Cancelled, Misses}
+use Rattle.job_edits.specs.declared.fault.Variant.{Variant}
+use Rattle.job_edits.specs.Waiting.{wait_text}
+use Rattle.fault_text.specs.declared.columns.Widths.{Widths}
+use Rattle.fault_text.specs.declared.deny.Deny.{Deny}
+use Rattle.fault_text.specs.Fates.{Fate, fate_text, is_stuck, has_cut, has_lost, is_refused}
+
+-- what became of a variant of a job text, and whether its fault was reached; its step stands in a line and a column
+pub record Line : Type 0 where
+  pub line : ℕ
+  pub column : ℕ
+  pub variant : Variant
+  pub fate : Fate
+  pub reached : Bool
+
+-- ---- columns
+
+abbrev pub fault_text : Fault → List ℕ
+fault_text Fails = codes "fails"
+fault_text FailsLate = codes "fails late"
+fault_text Hangs = codes "hangs"
+fault_text Cancelled = codes "cancelled"
+fault_text (Misses name) = codes "misses"
+
+abbrev pub place_text : Line → List ℕ
+place_text l = decimal l.line ++ codes ":" ++ decimal l.column
+
+abbrev pub step_text : Line → List ℕ
+step_text l = wait_text l.variant.step.wait
+
+abbrev pub kind_text : Line → List ℕ
+kind_text l = fault_text l.variant.fault
+
+-- the length of the longest of some texts, and at least so many
+abbrev pub widest : (Line → List ℕ) → ℕ → List Line → ℕ
+widest text least [] = least
+widest text least (l ∷ ls) = max (length (text l)) (widest text least ls)
+
+abbrev pub spaces : ℕ → List ℕ
+spaces n = replicate n 32
+
+abbrev pub left_text : ℕ → List ℕ → List ℕ
+left_text width text = text ++ spaces (width - length text)
+
+abbrev pub right_text : ℕ → List ℕ → List ℕ
+right_text width text = spaces (width - length text) ++ text
+
+-- the widths of the columns: places, steps and faults
+abbrev pub widths_of : List Line → Widths
+widths_of ls = record { place = widest place_text 0 ls; step = widest step_text 0 ls; fault = widest kind_text 8 ls }
+
+-- ---- lines
+
+-- The job as it is: its fate stands where the others' do. Nothing is said of faults.
+abbrev pub first_text : ℕ → Widths → Fate → List ℕ
+first_text limit w fate =
+    spaces w.place ++ spaces w.step ++ codes "    " ++ left_text w.fault (codes "as it is") ++ codes "  " ++ fate_text limit true fate ++ codes "\n"
+
+abbrev pub line_text : ℕ → Widths → Line → List ℕ
+line_text limit w l =
+    right_text w.place (place_text l) ++ codes "  " ++ left_text w.step (step_text l) ++ codes "  " ++ left_text w.fault (kind_text l)
+    ++ codes "  " ++ fate_text limit l.reached l.fate ++ codes "\n"
+
+abbrev pub lines_text : ℕ → Widths → List Line → List ℕ
+lines_text limit w [] = []
+lines_text limit w (l ∷ ls) = line_text limit w l ++ lines_text limit w ls
+
+-- ---- counts
+
+abbrev pub count : (Line → Bool) → List Line → ℕ
+count test [] = 0
+count test (l ∷ ls) = (if test l then 1 else 0) + count test ls
+
+abbrev pub faults_text : ℕ → List ℕ
+faults_text n = decimal n ++ (if n == 1 then codes " fault: " else codes " faults: ")
+
+abbrev pub refused_text : ℕ → List ℕ
+refused_text zero = []
+refused_text (suc n) = codes ", " ++ decimal (suc n) ++ codes " refused"
+
+-- a fault is not reached where its text is read and its step is not
+abbrev pub is_unreached : Line → Bool
+is_unreached l = not l.reached && not (is_refused l.fate)
+
+abbrev pub counts_text : List Line → List ℕ
+counts_text ls =
+    faults_text (length ls) ++ decimal (count (λ l. is_stuck l.fate) ls) ++ codes " stuck, "
+    ++ decimal (count (λ l. has_cut l.fate) ls) ++ codes " cut a cleanup, "
+    ++ decimal (count (λ l. has_lost l.fate) ls) ++ codes " lost, "
+    ++ decimal (count is_unreached ls) ++ codes " not reached"
+    ++ refused_text (count (λ l. is_refused l.fate) ls) ++ codes "\n"
+
+-- the text of all lines
+abbrev pub table_text : ℕ → Fate → List Line → List ℕ
+table_text limit first ls =
+    let w = widths_of ls in first_text limit w first ++ lines_text limit w ls ++ counts_text ls
+
+-- ---- what is denied
+
+-- what becomes of a job is denied
+abbrev pub denies : Deny → Fate → Bool
+denies d fate = (d.stuck && is_stuck fate) || ((d.cut && has_cut fate) || (d.lost && has_lost fate))
+
+abbrev pub first_denied : ℕ → Deny → Widths → Fate → List ℕ
+first_denied limit d w fate = if denies d fate then first_text limit w fate else []
+
+abbrev pub denied_lines : ℕ → Deny → Widths → List Line → List ℕ
+denied_lines limit d w [] = []
+denied_lines limit d w (l ∷ ls) = (if denies d l.fate then line_text limit w l else []) ++ denied_lines limit d w ls
+
+-- the lines that are denied, as they stand among all
+abbrev pub denied_text : ℕ → Deny → Fate → List Line → List ℕ
+denied_text limit d first ls =
+    let w = widths_of ls in first_denied limit d w first ++ denied_lines limit d w ls

@@ -1,0 +1,86 @@
+ghost use Rattle.std.specs.Prelude.{◌≡◌, ◌++◌, OnOk, decimal, map};
+ghost use Rattle.fault_text.specs.Fates.{is_stuck, has_cut, has_lost, is_refused};
+ghost use Rattle.fault_text.specs.Table.{count, is_unreached, faults_text, refused_text, counts_text};
+ghost use Rattle.fault_text.specs.Views.{line_held};
+
+use crate::line::Line;
+use crate::pieces::push_number;
+use std::alloc::AllocError;
+
+// Appends how many lines are of each kind.
+pub(crate) fn push_counts(out: &mut Vec<u8>, lines: &[Line]) -> Result<(), AllocError>
+    ensures { OnOk result (out.new.items ≡ out.old.items ++ counts_text (map line_held lines.now)) }
+{
+    push_faults(out, lines.len())?;
+    push_count(out, stuck_in(lines), b" stuck, ")?;
+    push_count(out, cut_in(lines), b" cut a cleanup, ")?;
+    push_count(out, lost_in(lines), b" lost, ")?;
+    push_count(out, unreached_in(lines), b" not reached")?;
+    push_refused(out, refused_in(lines))?;
+    out.extend_from_slice(b"\n")
+}
+
+// How many jobs do not end by the limit.
+fn stuck_in(lines: &[Line]) -> usize
+    ensures { result ≡ count (λ l. is_stuck l.fate) (map line_held lines.now) }
+{
+    lines.iter().filter(|line| line.fate.is_stuck()).count()
+}
+
+// How many jobs cut a cleanup.
+fn cut_in(lines: &[Line]) -> usize
+    ensures { result ≡ count (λ l. has_cut l.fate) (map line_held lines.now) }
+{
+    lines.iter().filter(|line| line.fate.has_cut()).count()
+}
+
+// How many jobs lose the fault's exception.
+fn lost_in(lines: &[Line]) -> usize
+    ensures { result ≡ count (λ l. has_lost l.fate) (map line_held lines.now) }
+{
+    lines.iter().filter(|line| line.fate.has_lost()).count()
+}
+
+// How many faults are not reached.
+fn unreached_in(lines: &[Line]) -> usize
+    ensures { result ≡ count is_unreached (map line_held lines.now) }
+{
+    lines.iter().filter(|line| line.is_unreached()).count()
+}
+
+// How many texts are refused.
+fn refused_in(lines: &[Line]) -> usize
+    ensures { result ≡ count (λ l. is_refused l.fate) (map line_held lines.now) }
+{
+    lines.iter().filter(|line| line.fate.is_refused()).count()
+}
+
+// Appends a number, and what it counts.
+fn push_count(out: &mut Vec<u8>, n: usize, what: &[u8]) -> Result<(), AllocError>
+    ensures { OnOk result (out.new.items ≡ out.old.items ++ (decimal n ++ what.now)) }
+{
+    push_number(out, n as u64)?;
+    out.extend_from_slice(what)
+}
+
+// Appends how many faults there are.
+fn push_faults(out: &mut Vec<u8>, n: usize) -> Result<(), AllocError>
+    ensures { OnOk result (out.new.items ≡ out.old.items ++ faults_text n) }
+{
+    if n == 1 {
+        push_count(out, n, b" fault: ")
+    } else {
+        push_count(out, n, b" faults: ")
+    }
+}
+
+// Appends how many texts were refused, if any were.
+fn push_refused(out: &mut Vec<u8>, n: usize) -> Result<(), AllocError>
+    ensures { OnOk result (out.new.items ≡ out.old.items ++ refused_text n) }
+{
+    if n == 0 {
+        return Ok(());
+    }
+    out.extend_from_slice(b", ")?;
+    push_count(out, n, b" refused")
+}

@@ -1,0 +1,97 @@
+ghost use Rattle.std.specs.Prelude.{◌≡◌, ◌++◌, IfOk, OnOk, map};
+ghost use Rattle.fault_text.specs.Table.{first_text, line_text, lines_text, table_text, denied_text};
+ghost use Rattle.fault_text.specs.Views.{fate_held, line_held};
+
+use crate::columns::{Widths, fault_name, place_of, step_of, widths_of};
+use crate::counts::push_counts;
+use crate::deny::Deny;
+use crate::fate::Fate;
+use crate::line::Line;
+use crate::notes::push_fate;
+use crate::pieces::{push_left, push_right, push_spaces};
+use std::alloc::{AllocError, Global};
+
+/// The text that tells what becomes of a job: as it is (`first`), with each fault, and how many faults are of each kind. The limit is the
+/// last tick at which the job may end. Want of memory is the only error.
+pub fn table(alloc: Global, limit: u64, first: &Fate, lines: &[Line]) -> Result<Vec<u8>, AllocError>
+    ensures { IfOk result (λ text. text.items ≡ table_text limit (fate_held first.now) (map line_held lines.now)) }
+{
+    let widths = widths_of(alloc, lines)?;
+    let mut out = Vec::new(alloc);
+    push_first(&mut out, limit, widths, first)?;
+    push_lines(alloc, &mut out, limit, widths, lines)?;
+    push_counts(&mut out, lines)?;
+    Ok(out)
+}
+
+/// The lines of the table that are denied, as they stand in it: none are where the text is empty. Want of memory is the only error.
+pub fn denied(
+    alloc: Global,
+    limit: u64,
+    first: &Fate,
+    lines: &[Line],
+    deny: Deny,
+) -> Result<Vec<u8>, AllocError>
+    ensures { IfOk result (λ text. text.items ≡ denied_text limit deny (fate_held first.now) (map line_held lines.now)) }
+{
+    let widths = widths_of(alloc, lines)?;
+    let mut out = Vec::new(alloc);
+    if deny.denies(first) {
+        push_first(&mut out, limit, widths, first)?;
+    }
+    'lines: for line in lines {
+        if deny.denies(&line.fate) {
+            push_line(alloc, &mut out, limit, widths, line)?;
+        }
+    }
+    Ok(out)
+}
+
+// Appends what becomes of the job as it is.
+fn push_first(out: &mut Vec<u8>, limit: u64, widths: Widths, fate: &Fate) -> Result<(), AllocError>
+    ensures { OnOk result (out.new.items ≡ out.old.items ++ first_text limit widths (fate_held fate.now)) }
+{
+    push_spaces(out, widths.place)?;
+    push_spaces(out, widths.step)?;
+    out.extend_from_slice(b"    ")?;
+    push_left(out, widths.fault, b"as it is")?;
+    out.extend_from_slice(b"  ")?;
+    push_fate(out, limit, true, fate)?;
+    out.extend_from_slice(b"\n")
+}
+
+// Appends what becomes of the job with each fault.
+fn push_lines(
+    alloc: Global,
+    out: &mut Vec<u8>,
+    limit: u64,
+    widths: Widths,
+    lines: &[Line],
+) -> Result<(), AllocError>
+    ensures { OnOk result (out.new.items ≡ out.old.items ++ lines_text limit widths (map line_held lines.now)) }
+{
+    'lines: for line in lines {
+        push_line(alloc, out, limit, widths, line)?;
+    }
+    Ok(())
+}
+
+// Appends what becomes of the job with a fault.
+fn push_line(
+    alloc: Global,
+    out: &mut Vec<u8>,
+    limit: u64,
+    widths: Widths,
+    line: &Line,
+) -> Result<(), AllocError>
+    ensures { OnOk result (out.new.items ≡ out.old.items ++ line_text limit widths (line_held line.now)) }
+{
+    push_right(out, widths.place, place_of(alloc, line)?.as_slice())?;
+    out.extend_from_slice(b"  ")?;
+    push_left(out, widths.step, step_of(alloc, line)?.as_slice())?;
+    out.extend_from_slice(b"  ")?;
+    push_left(out, widths.fault, fault_name(line.variant.fault))?;
+    out.extend_from_slice(b"  ")?;
+    push_fate(out, limit, line.reached, &line.fate)?;
+    out.extend_from_slice(b"\n")
+}

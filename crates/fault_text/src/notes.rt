@@ -1,0 +1,148 @@
+ghost use Rattle.std.specs.Prelude.{◌≡◌, ◌++◌, Some, OnOk, codes, decimal};
+ghost use Rattle.std.specs.Option.{option_map};
+ghost use Rattle.exc_groups.specs.Held.{exc_of};
+ghost use Rattle.job_story.specs.Sentences.{end_text};
+ghost use Rattle.fault_text.specs.Fates.{more_names, names_text, names_note, reached_note, lost_note, fate_text};
+ghost use Rattle.fault_text.specs.Views.{fate_held};
+
+use crate::fate::Fate;
+use crate::pieces::push_number;
+use exc_groups::{Exc, Label};
+use std::alloc::AllocError;
+use story_text::{push_exc, push_label};
+
+// Appends what becomes of a job, and notes: by the limit, and whether the fault was reached.
+pub(crate) fn push_fate(
+    out: &mut Vec<u8>,
+    limit: u64,
+    reached: bool,
+    fate: &Fate,
+) -> Result<(), AllocError>
+    ensures { OnOk result (out.new.items ≡ out.old.items ++ fate_text limit reached (fate_held fate.now)) }
+{
+    match fate {
+        Fate::Refused => out.extend_from_slice(b"refused"),
+        Fate::Stuck { sleeping } => {
+            out.extend_from_slice(b"stuck at ")?;
+            push_number(out, limit)?;
+            push_reached(out, reached)?;
+            push_names_note(out, b"sleeping forever: ", sleeping.as_slice())
+        }
+        Fate::Ended {
+            end,
+            exc,
+            cancelled,
+            cut,
+            lost,
+        } => {
+            push_end(out, *end, exc)?;
+            push_reached(out, reached)?;
+            push_names_note(out, b"cancelled: ", cancelled.as_slice())?;
+            push_names_note(out, b"cleanup cut: ", cut.as_slice())?;
+            push_lost(out, *lost)
+        }
+    }
+}
+
+// Appends the end of a job, and how it ended.
+fn push_end(out: &mut Vec<u8>, end: u64, exc: &Option<Exc>) -> Result<(), AllocError>
+    ensures { OnOk result (out.new.items ≡ out.old.items ++ (decimal end ++ codes " " ++ end_text (option_map exc_of exc.now))) }
+{
+    push_number(out, end)?;
+    out.extend_from_slice(b" ")?;
+    push_outcome(out, exc)
+}
+
+// Appends how a job ended: well, or with an exception.
+fn push_outcome(out: &mut Vec<u8>, exc: &Option<Exc>) -> Result<(), AllocError>
+    ensures { OnOk result (out.new.items ≡ out.old.items ++ end_text (option_map exc_of exc.now)) }
+{
+    let Some(exc) = exc else {
+        return out.extend_from_slice(b"done");
+    };
+    push_end_exc(out, exc)
+}
+
+// Appends with what exception a job ended: a cancellation, or another.
+fn push_end_exc(out: &mut Vec<u8>, exc: &Exc) -> Result<(), AllocError>
+    ensures { OnOk result (out.new.items ≡ out.old.items ++ end_text (Some (exc_of exc.now))) }
+{
+    match exc {
+        Exc::Cancelled => out.extend_from_slice(b"cancelled"),
+        Exc::Raised { .. } | Exc::TooSlow { .. } | Exc::Group { .. } => {
+            out.extend_from_slice(b"raised ")?;
+            push_exc(out, exc)
+        }
+    }
+}
+
+// Appends the note on a fault that was not reached.
+fn push_reached(out: &mut Vec<u8>, reached: bool) -> Result<(), AllocError>
+    ensures { OnOk result (out.new.items ≡ out.old.items ++ reached_note reached) }
+{
+    if reached {
+        return Ok(());
+    }
+    out.extend_from_slice(b"; not reached")
+}
+
+// Appends the note on an exception that was lost.
+fn push_lost(out: &mut Vec<u8>, lost: bool) -> Result<(), AllocError>
+    ensures { OnOk result (out.new.items ≡ out.old.items ++ lost_note lost) }
+{
+    if !lost {
+        return Ok(());
+    }
+    out.extend_from_slice(b"; fault lost")
+}
+
+/// Appends a note that names some tasks, if there are any: a semicolon, a title, at most three names, and how many more there are. Want of
+/// memory is the only error.
+pub fn push_names_note(out: &mut Vec<u8>, title: &[u8], labels: &[Label]) -> Result<(), AllocError>
+    ensures { OnOk result (out.new.items ≡ out.old.items ++ names_note title.now labels.now) }
+{
+    if labels.is_empty() {
+        return Ok(());
+    }
+    out.extend_from_slice(b"; ")?;
+    out.extend_from_slice(title)?;
+    push_names(out, labels)
+}
+
+// Appends at most three names, and how many more there are.
+fn push_names(out: &mut Vec<u8>, labels: &[Label]) -> Result<(), AllocError>
+    ensures { OnOk result (out.new.items ≡ out.old.items ++ names_text labels.now) }
+{
+    let Some((first, others)) = labels.split_first() else {
+        return Ok(());
+    };
+    push_label(out, first)?;
+    push_more_names(out, 2, others)
+}
+
+// Appends so many more names after a comma, and how many are left.
+fn push_more_names(out: &mut Vec<u8>, most: usize, labels: &[Label]) -> Result<(), AllocError>
+    ensures { OnOk result (out.new.items ≡ out.old.items ++ more_names most labels.now) }
+{
+    let mut left = most;
+    let mut rest = labels;
+    'names: while let Some((label, others)) = rest.split_first() {
+        if left == 0 {
+            return push_left_over(out, rest.len());
+        }
+        out.extend_from_slice(b", ")?;
+        push_label(out, label)?;
+        left -= 1;
+        rest = others;
+    }
+    Ok(())
+}
+
+// Appends how many names are left.
+fn push_left_over(out: &mut Vec<u8>, count: usize) -> Result<(), AllocError>
+    ensures { OnOk result (out.new.items ≡ out.old.items ++ (codes " and " ++ decimal count ++ codes " more")) }
+{
+    out.extend_from_slice(b" and ")?;
+    push_number(out, count as u64)?;
+    out.extend_from_slice(b" more")
+}

@@ -1,0 +1,39 @@
+ghost use Rattle.std.specs.Prelude.{◌≡◌, ◌++◌, OnOk, decimal};
+ghost use Rattle.fault_text.specs.Table.{spaces, left_text, right_text};
+
+use itoa::Buffer;
+use std::alloc::AllocError;
+
+/// Appends a number in decimal digits. Want of memory is the only error.
+pub fn push_number(out: &mut Vec<u8>, n: u64) -> Result<(), AllocError>
+    ensures { OnOk result (out.new.items ≡ out.old.items ++ decimal n) }
+{
+    let mut buffer = Buffer::new();
+    out.extend_from_slice(buffer.format(n).as_bytes())
+}
+
+// Appends so many spaces.
+pub(crate) fn push_spaces(out: &mut Vec<u8>, count: usize) -> Result<(), AllocError>
+    ensures { OnOk result (out.new.items ≡ out.old.items ++ spaces count) }
+{
+    'spaces: for _i in 0..count {
+        out.push(b' ')?;
+    }
+    Ok(())
+}
+
+/// Appends a text, and spaces up to a width. Want of memory is the only error.
+pub fn push_left(out: &mut Vec<u8>, width: usize, text: &[u8]) -> Result<(), AllocError>
+    ensures { OnOk result (out.new.items ≡ out.old.items ++ left_text width text.now) }
+{
+    out.extend_from_slice(text)?;
+    push_spaces(out, width.saturating_sub(text.len()))
+}
+
+// Appends spaces up to a width, and a text after them.
+pub(crate) fn push_right(out: &mut Vec<u8>, width: usize, text: &[u8]) -> Result<(), AllocError>
+    ensures { OnOk result (out.new.items ≡ out.old.items ++ right_text width text.now) }
+{
+    push_spaces(out, width.saturating_sub(text.len()))?;
+    out.extend_from_slice(text)
+}
