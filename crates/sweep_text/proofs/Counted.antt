@@ -1,0 +1,18 @@
+-- A count of values as definitions speak of them, by the values that the code holds.
+use Rattle.std.proofs.Common.{◌≡◌, ℕ, List, ◌+◌, arith, refl, cond}
+use Rattle.std.proofs.lemmas.List.Recursion.{is_count_by}
+use Rattle.std.specs.Prelude.{Bool, true, false, count_by, map, if◌then◌else◌}
+use Rattle.fault_text.specs.Fates.{Fate}
+use Rattle.fault_text.specs.Views.{fate_held}
+use Rattle.sweep_text.specs.Sweeps as told
+use Rattle.sweep_text.specs.Views.{value_held}
+use Rattle.sweep_text.specs.declared.value.Value.{Value}
+
+one_more : (b : Bool) (n : ℕ) → (if b then 1 else 0) + n ≡ cond b (1 + n) n
+one_more true n = refl
+one_more false n = omega arith
+
+pub counted : (test : Fate → Bool) (vs : List Value) → told.count test (map value_held vs) ≡ count_by (λ v. test (fate_held v.fate)) vs
+counted test vs =
+    is_count_by (λ xs. told.count test (map value_held xs)) (λ v. test (fate_held v.fate)) refl
+    (λ x xs. one_more (test (fate_held x.fate)) (told.count test (map value_held xs))) vs

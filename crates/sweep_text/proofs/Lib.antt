@@ -1,0 +1,3 @@
+pub mod Backwards
+pub mod Counted
+pub mod Widest

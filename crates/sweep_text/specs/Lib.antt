@@ -1,0 +1,4 @@
+pub mod Groups
+pub mod Sweeps
+pub mod Views
+pub mod Examples

@@ -1,0 +1,17 @@
+-- Values and groups as the code holds them.
+use Rattle.std.specs.Option.{option_map}
+use Rattle.fault_text.specs.Views.{fate_held}
+use Rattle.sweep_text.specs.Groups as told
+use Rattle.sweep_text.specs.declared.group.Ends.{Ends}
+use Rattle.sweep_text.specs.declared.group.Group.{Group}
+use Rattle.sweep_text.specs.declared.value.Value.{Value}
+
+abbrev pub ends_held : Ends → told.Ends
+ends_held e = record { least = e.least; greatest = e.greatest }
+
+abbrev pub group_held : Group → told.Group
+group_held g =
+    record { first = g.first; last = g.last; head = g.head.items; notes = g.notes.items; ends = option_map ends_held g.ends }
+
+abbrev pub value_held : Value → told.Value
+value_held v = record { value = v.value; fate = fate_held v.fate }

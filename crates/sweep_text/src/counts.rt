@@ -1,0 +1,74 @@
+ghost use Rattle.std.specs.Prelude.{◌≡◌, ◌++◌, OnOk, decimal, map};
+ghost use Rattle.fault_text.specs.Fates.{is_stuck, has_cut, is_refused};
+ghost use Rattle.fault_text.specs.Table.{refused_text};
+ghost use Rattle.sweep_text.specs.Sweeps.{count, values_text, counts_text};
+ghost use Rattle.sweep_text.specs.Views.{value_held};
+
+use crate::value::Value;
+use fault_text::push_number;
+use std::alloc::AllocError;
+
+// Appends how many values are of each kind.
+pub(crate) fn push_counts(out: &mut Vec<u8>, values: &[Value]) -> Result<(), AllocError>
+    ensures { OnOk result (out.new.items ≡ out.old.items ++ counts_text (map value_held values.now)) }
+{
+    push_values(out, values.len())?;
+    push_count(out, stuck_in(values), b" stuck, ")?;
+    push_count(out, cut_in(values), b" cut a cleanup")?;
+    push_refused(out, refused_in(values))?;
+    out.extend_from_slice(b"\n")
+}
+
+// For how many values the job does not end by the limit.
+fn stuck_in(values: &[Value]) -> usize
+    ensures { result ≡ count is_stuck (map value_held values.now) }
+{
+    values.iter().filter(|value| value.fate.is_stuck()).count()
+}
+
+// For how many values the job cuts a cleanup.
+fn cut_in(values: &[Value]) -> usize
+    ensures { result ≡ count has_cut (map value_held values.now) }
+{
+    values.iter().filter(|value| value.fate.has_cut()).count()
+}
+
+// For how many values the text is refused.
+fn refused_in(values: &[Value]) -> usize
+    ensures { result ≡ count is_refused (map value_held values.now) }
+{
+    values
+        .iter()
+        .filter(|value| value.fate.is_refused())
+        .count()
+}
+
+// Appends a number, and what it counts.
+fn push_count(out: &mut Vec<u8>, n: usize, what: &[u8]) -> Result<(), AllocError>
+    ensures { OnOk result (out.new.items ≡ out.old.items ++ (decimal n ++ what.now)) }
+{
+    push_number(out, n as u64)?;
+    out.extend_from_slice(what)
+}
+
+// Appends how many values there are.
+fn push_values(out: &mut Vec<u8>, n: usize) -> Result<(), AllocError>
+    ensures { OnOk result (out.new.items ≡ out.old.items ++ values_text n) }
+{
+    if n == 1 {
+        push_count(out, n, b" value: ")
+    } else {
+        push_count(out, n, b" values: ")
+    }
+}
+
+// Appends for how many values the text is refused, if there are any.
+fn push_refused(out: &mut Vec<u8>, n: usize) -> Result<(), AllocError>
+    ensures { OnOk result (out.new.items ≡ out.old.items ++ refused_text n) }
+{
+    if n == 0 {
+        return Ok(());
+    }
+    out.extend_from_slice(b", ")?;
+    push_count(out, n, b" refused")
+}

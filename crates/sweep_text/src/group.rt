@@ -1,0 +1,95 @@
+ghost use Rattle.std.specs.Prelude.{◌≡◌, IfOk};
+ghost use Rattle.std.specs.Option.{option_map};
+ghost use Rattle.fault_text.specs.Views.{fate_held};
+ghost use Rattle.sweep_text.specs.Groups.{alone, shares, joined, ends_of, with_ends};
+ghost use Rattle.sweep_text.specs.Views.{ends_held, group_held};
+
+use crate::told::{push_head, push_notes};
+use fault_text::Fate;
+use std::alloc::{AllocError, Global};
+
+// The earliest and the latest of some ends.
+#[derive(Clone, Copy)]
+pub(crate) struct Ends {
+    pub least: u64,
+    pub greatest: u64,
+}
+
+// Values from a first to a last one, what is told of them, and when the job ends.
+#[derive(Drop)]
+pub(crate) struct Group {
+    pub first: u64,
+    pub last: u64,
+    pub head: Vec<u8>,
+    pub notes: Vec<u8>,
+    pub ends: Option<Ends>,
+}
+
+impl Group {
+    // A value alone.
+    pub(crate) fn alone(
+        alloc: Global,
+        limit: u64,
+        value: u64,
+        fate: &Fate,
+    ) -> Result<Group, AllocError>
+        ensures { IfOk result (λ group. group_held group ≡ alone limit value (fate_held fate.now)) }
+    {
+        let mut head = Vec::new(alloc);
+        push_head(&mut head, limit, fate)?;
+        let mut notes = Vec::new(alloc);
+        push_notes(&mut notes, fate)?;
+        Ok(Group {
+            first: value,
+            last: value,
+            head,
+            notes,
+            ends: ends_of(fate),
+        })
+    }
+
+    // Whether the same is told of both.
+    pub(crate) fn shares(&self, other: &Group) -> bool
+        ensures { result ≡ shares (group_held self.now) (group_held other.now) }
+    {
+        self.head.as_slice() == other.head.as_slice()
+            && self.notes.as_slice() == other.notes.as_slice()
+    }
+
+    // Takes in a group whose values come right before.
+    pub(crate) fn join(&mut self, earlier: &Group)
+        ensures { group_held self.new ≡ joined (group_held earlier.now) (group_held self.old) }
+    {
+        self.first = earlier.first;
+        self.ends = with_ends(earlier.ends, self.ends);
+    }
+}
+
+// When a job ends, if it does.
+fn ends_of(fate: &Fate) -> Option<Ends>
+    ensures { option_map ends_held result ≡ ends_of (fate_held fate.now) }
+{
+    match fate {
+        Fate::Refused | Fate::Stuck { .. } => None,
+        Fate::Ended { end, .. } => Some(Ends {
+            least: *end,
+            greatest: *end,
+        }),
+    }
+}
+
+// The earliest and the latest of all ends of two groups.
+fn with_ends(earlier: Option<Ends>, later: Option<Ends>) -> Option<Ends>
+    ensures { option_map ends_held result ≡ with_ends (option_map ends_held earlier) (option_map ends_held later) }
+{
+    let Some(a) = earlier else {
+        return later;
+    };
+    let Some(b) = later else {
+        return earlier;
+    };
+    Some(Ends {
+        least: a.least.min(b.least),
+        greatest: a.greatest.max(b.greatest),
+    })
+}

@@ -1,0 +1,64 @@
+ghost use Rattle.std.specs.Prelude.{◌≡◌, ◌++◌, Some, OnOk};
+ghost use Rattle.std.specs.Option.{option_map};
+ghost use Rattle.exc_groups.specs.Held.{exc_of};
+ghost use Rattle.fault_text.specs.Views.{fate_held};
+ghost use Rattle.sweep_text.specs.Groups.{end_sans, head_text, notes_text};
+
+use crate::exc::push_sans;
+use exc_groups::Exc;
+use fault_text::{Fate, push_names_note, push_number};
+use std::alloc::AllocError;
+
+// Appends what becomes of a job, without ticks: by the limit.
+pub(crate) fn push_head(out: &mut Vec<u8>, limit: u64, fate: &Fate) -> Result<(), AllocError>
+    ensures { OnOk result (out.new.items ≡ out.old.items ++ head_text limit (fate_held fate.now)) }
+{
+    match fate {
+        Fate::Refused => out.extend_from_slice(b"refused"),
+        Fate::Stuck { .. } => {
+            out.extend_from_slice(b"stuck at ")?;
+            push_number(out, limit)
+        }
+        Fate::Ended { exc, .. } => push_end(out, exc),
+    }
+}
+
+// Appends how a job ended: well, or with an exception.
+fn push_end(out: &mut Vec<u8>, exc: &Option<Exc>) -> Result<(), AllocError>
+    ensures { OnOk result (out.new.items ≡ out.old.items ++ end_sans (option_map exc_of exc.now)) }
+{
+    let Some(exc) = exc else {
+        return out.extend_from_slice(b"done");
+    };
+    push_end_exc(out, exc)
+}
+
+// Appends with what exception a job ended: a cancellation, or another.
+fn push_end_exc(out: &mut Vec<u8>, exc: &Exc) -> Result<(), AllocError>
+    ensures { OnOk result (out.new.items ≡ out.old.items ++ end_sans (Some (exc_of exc.now))) }
+{
+    match exc {
+        Exc::Cancelled => out.extend_from_slice(b"cancelled"),
+        Exc::Raised { .. } | Exc::TooSlow { .. } | Exc::Group { .. } => {
+            out.extend_from_slice(b"raised ")?;
+            push_sans(out, exc)
+        }
+    }
+}
+
+// Appends the notes on what becomes of a job.
+pub(crate) fn push_notes(out: &mut Vec<u8>, fate: &Fate) -> Result<(), AllocError>
+    ensures { OnOk result (out.new.items ≡ out.old.items ++ notes_text (fate_held fate.now)) }
+{
+    match fate {
+        Fate::Refused => Ok(()),
+        Fate::Stuck { sleeping } => {
+            push_names_note(out, b"sleeping forever: ", sleeping.as_slice())
+        }
+        Fate::Ended { cancelled, cut, .. } => {
+            push_names_note(out, b"cancelled: ", cancelled.as_slice())?;
+            push_names_note(out, b"cleanup cut: ", cut.as_slice())?;
+            Ok(())
+        }
+    }
+}
