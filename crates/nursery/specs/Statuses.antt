@@ -11,6 +11,10 @@ use Rattle.nursery_app.specs.Statuses as verdicts
 use Rattle.story_app.specs.declared.verdict.StoryVerdict.{StoryVerdict}
 use Rattle.story_app.specs.Stories as stories
 use Rattle.story_app.specs.Statuses.{story_status_of}
+use Rattle.fault_text.specs.declared.deny.Deny.{Deny}
+use Rattle.fault_app.specs.declared.verdict.FaultsVerdict.{FaultsVerdict}
+use Rattle.fault_app.specs.Verdicts as fates
+use Rattle.fault_app.specs.Statuses.{faults_status_of}
 use Rattle.nursery.specs.declared.stop.Stop.{Stop}
 use Rattle.nursery.specs.declared.stop.Stop.TheVariants.{Words, NoText, JobFile, InputFile, TooLong, Write, NoMemory}
 
@@ -38,6 +42,12 @@ TellsVerdict text input limit status =
 abbrev pub TellsStory : List ℕ → List ℕ → ℕ → Option (List ℕ) → ℕ → Type 0
 TellsStory text input limit asked status =
     (verdict : StoryVerdict) × (bytes : List ℕ) × stories.IsVerdict text input limit asked verdict bytes × (status ≡ story_status_of verdict)
+
+-- the status is that of the verdict on the job with each fault
+abbrev pub TellsFaults : List ℕ → List ℕ → ℕ → List ℕ → Deny → ℕ → Type 0
+TellsFaults text input limit name deny status =
+    (verdict : FaultsVerdict) × (bytes : List ℕ) × fates.IsVerdict text input limit name deny verdict bytes
+    × (status ≡ faults_status_of verdict)
 
 -- the status is 0 where the text spells a job, and that of a refusal where it is refused
 abbrev pub TellsAnswer : (Tree → Tree) → List ℕ → ℕ → Type 0

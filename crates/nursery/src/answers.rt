@@ -46,14 +46,14 @@ where
 
 /// What a job is run with: the text of its file, and its input.
 #[derive(Drop)]
-struct Given {
-    text: Vec<u8>,
-    input: Vec<u8>,
+pub(crate) struct Given {
+    pub text: Vec<u8>,
+    pub input: Vec<u8>,
 }
 
 // Reads a job file and an input file, or no input where none is named. Both are read before anything is told: first a too long input,
 // then a job file that cannot be read, then such an input.
-fn read_both<R: Files + Input + AllocGlobal>(
+pub(crate) fn read_both<R: Files + Input + AllocGlobal>(
     rt: &R,
     job: &str,
     input: Option<&str>,
@@ -280,7 +280,12 @@ fn tell_running<R: Eprint + Threads + Sync + AllocGlobal, P: Pick>(
 
 // Tells a refusal on standard error. Its line is on standard output already, so where memory or a write fails here
 // nothing more is told.
-fn tell_refusal<R: Eprint + AllocGlobal>(rt: &R, job: &str, text: &[u8], fault: JobFault) {
+pub(crate) fn tell_refusal<R: Eprint + AllocGlobal>(
+    rt: &R,
+    job: &str,
+    text: &[u8],
+    fault: JobFault,
+) {
     let Ok(name) = shown_name(rt.alloc(), job) else {
         return;
     };

@@ -1,14 +1,17 @@
-//! The program `nursery`: `run` runs a job file over an input file, `explain` tells the story of such a run, `check` writes a job's
+//! The program `nursery`: `run` runs a job file over an input file, `explain` tells the story of such a run, `faults` what
+//! becomes of the job where any one of its waiting steps fails or hangs, `check` writes a job's
 //! canonical text, `upgrade` that of the same job in format 2, and with no words it serves standard input: a job text, a line that is
 //! exactly `%input`, and the input. Its answer goes to standard output, and what went wrong to standard error. The work is in
 //! `nursery_app` and `story_app`.
 #![tactic(auto)]
 
 mod answers;
+mod faults;
 mod sources;
 mod stop;
 
 use crate::answers::{check_job, explain_job, run_feed, run_job, show_help, upgrade_job};
+use crate::faults::faults_job;
 use crate::stop::Stop;
 use nursery_app::{Command, CommandFault, read_command};
 use std::env;
@@ -63,6 +66,19 @@ where
             let input = input.as_ref().map(|name| name.as_str());
             let task = task.as_ref().map(|label| label.as_str());
             explain_job(rt, job.as_str(), input, task, workers, limit, order)
+        }
+        Ok(
+            Command::Faults {
+                job,
+                input,
+                name,
+                denied,
+                workers,
+                limit,
+            },
+        ) => {
+            let input = input.as_ref().map(|name| name.as_str());
+            faults_job(rt, job.as_str(), input, &name, denied, workers, limit)
         }
         Ok(Command::Check { job }) => check_job(rt, job.as_str()),
         Ok(Command::Upgrade { job }) => upgrade_job(rt, job.as_str()),

@@ -1,15 +1,25 @@
 -- What the words of a command line may ask for.
-use Rattle.std.specs.Prelude.{◌≤◌}
+use Rattle.std.specs.Prelude.{ℕ, ◌≤◌, Bool, ◌&&◌, not, ◌||◌, List, IsTrue, is_some, codes, string_bytes}
+use Rattle.std.specs.Str.{bytes_eq}
+use Rattle.job_tree.specs.Words.{is_word}
+use Rattle.job_syntax.specs.Keywords.{keyword_of}
 use Rattle.job_runner.specs.declared.limits.TheConstants.{MOST_WORKERS, GREATEST_LIMIT}
 use Rattle.nursery_app.specs.declared.words.Command.{Command}
-use Rattle.nursery_app.specs.declared.words.Command.TheVariants.{Feed, Run, Explain, Check, Upgrade, Help}
+use Rattle.nursery_app.specs.declared.words.Command.TheVariants.{Feed, Run, Explain, Faults, Check, Upgrade, Help}
 use Rattle.nursery_app.specs.declared.words.Choices.{Choices}
+
+-- a word that a step may raise: no keyword, and neither of the names that stand for cancellations and deadlines
+abbrev pub may_be_raised : List ℕ → Bool
+may_be_raised word =
+    is_word word && not (is_some (keyword_of word) || (bytes_eq word (codes "Cancelled") || bytes_eq word (codes "TooSlow")))
 
 -- the settings of a run lie in their ranges
 abbrev pub IsFit : Command → Type 0
 IsFit Feed = Unit {0}
 IsFit (Run job input workers order limit) = (1 ≤ workers) × (workers ≤ MOST_WORKERS) × (limit ≤ GREATEST_LIMIT)
 IsFit (Explain job input task workers order limit) = (1 ≤ workers) × (workers ≤ MOST_WORKERS) × (limit ≤ GREATEST_LIMIT)
+IsFit (Faults job input name denied workers limit) =
+    IsTrue (may_be_raised (string_bytes name)) × (1 ≤ workers) × (workers ≤ MOST_WORKERS) × (limit ≤ GREATEST_LIMIT)
 IsFit (Check job) = Unit {0}
 IsFit (Upgrade job) = Unit {0}
 IsFit (Help text) = Unit {0}

@@ -5,6 +5,9 @@ use std::alloc::{AllocError, Global};
 /// The limit where none is asked for, in ticks.
 pub const DEFAULT_LIMIT: u64 = 1_000_000;
 
+/// The name of the exception that a faulty step raises where none is asked for.
+pub(crate) const DEFAULT_FAULT: &str = "Fault";
+
 // The same, as the help shows it.
 const SHOWN_LIMIT: &str = "1000000";
 
@@ -69,6 +72,28 @@ const EXPLAIN_EXAMPLE: &str = "Example: who cancelled `slow`, and when?
       slow  is cancelled while sleeping since 0 by nursery calls (cancelled by fast at 2)
       slow  ends: cancelled";
 
+const FAULTS_EXAMPLE: &str =
+    "A fault is a change of one waiting step: an exception is raised in its place (`fails`) or after it
+(`fails late`), it never ends (`hangs`), or the whole job is cancelled from outside (`cancelled`); a
+`need` finds no line (`misses`).
+
+Example: what if one of two calls hangs?
+
+    $ cat calls.job
+    trio-job 1
+    job calls {
+      nursery all {
+        start user { sleep 2; }
+        start mail { scope limit after 5 { sleep 3; } }
+      }
+    }
+    $ nursery faults calls.job --deny stuck
+                   as it is    3 done
+     4:18  sleep 2  fails       0 raised all[Fault(user@0)]; cancelled: mail
+     4:18  sleep 2  fails late  2 raised all[Fault(user@2)]; cancelled: mail
+     4:18  sleep 2  hangs       stuck at 1000000; sleeping forever: user
+     ...";
+
 const CHECK_EXAMPLE: &str = "Example:
 
     $ cat wait.job
@@ -105,6 +130,7 @@ pub(crate) fn parser<'a>(alloc: Global) -> Result<Command<'a>, AllocError> {
         .subcommand_required(true)
         .subcommand(run_parser(alloc)?)?
         .subcommand(explain_parser(alloc)?)?
+        .subcommand(faults_parser(alloc)?)?
         .subcommand(check_parser(alloc)?)?
         .subcommand(upgrade_parser(alloc)?)
 }
@@ -144,6 +170,35 @@ fn explain_parser<'a>(alloc: Global) -> Result<Command<'a>, AllocError> {
         .arg(task)?
         .arg(workers_option(alloc))?
         .arg(order_option(alloc))?
+        .arg(limit_option(alloc))
+}
+
+// What reads the words after `faults`.
+fn faults_parser<'a>(alloc: Global) -> Result<Command<'a>, AllocError> {
+    let input = Arg::new(alloc, "input").value_name("INPUT").help(
+        "The input file, or `-` for standard input; without one the input is empty",
+    );
+    let name = Arg::new(alloc, "name")
+        .long("name")
+        .value_name("NAME")
+        .help("The name of the exception that a faulty step raises")
+        .default_value(DEFAULT_FAULT);
+    let deny = Arg::new(alloc, "deny")
+        .long("deny")
+        .value_name("KINDS")
+        .help(
+            "`stuck`, `cut` and `lost`, with commas between them: where a line is of such a kind the status is 1, and standard error has these lines again",
+        );
+    Command::new(alloc, "faults")
+        .about(
+            "Tells what becomes of a job where any one of its waiting steps fails, hangs or is cancelled",
+        )
+        .after_help(FAULTS_EXAMPLE)
+        .arg(job_argument(alloc))?
+        .arg(input)?
+        .arg(name)?
+        .arg(deny)?
+        .arg(workers_option(alloc))?
         .arg(limit_option(alloc))
 }
 

@@ -1,8 +1,8 @@
 ghost use Rattle.std.specs.Prelude.{◌≡◌, ◌≤◌, ◌+◌, length, take};
 ghost use Rattle.nursery_app.specs.Places.{line_of, column_of};
 
-// The line of a place, counted from 1.
-pub(crate) fn line_of(text: &[u8], at: usize) -> usize
+/// The line of a place in a text, counted from 1: the place is a number of bytes from the start of the text.
+pub fn line_of(text: &[u8], at: usize) -> usize
     ensures value { result ≡ line_of text.now at }
     ensures from_one { 1 ≤ result }
 {
@@ -16,8 +16,8 @@ pub(crate) fn line_of(text: &[u8], at: usize) -> usize
     line
 }
 
-// The column of a place, in bytes, counted from 1.
-pub(crate) fn column_of(text: &[u8], at: usize) -> usize
+/// The column of a place in a text, in bytes, counted from 1.
+pub fn column_of(text: &[u8], at: usize) -> usize
     ensures value { result ≡ column_of text.now at }
     ensures from_one { 1 ≤ result }
     ensures inside { result ≤ length (take at text.now) + 1 }

@@ -1,12 +1,14 @@
 ghost use Rattle.std.specs.Prelude.{◌≡◌, [], Ok, IfOk, IfSome};
 ghost use Rattle.nursery_app.specs.declared.words.Command.TheVariants.{Feed};
 ghost use Rattle.nursery_app.specs.declared.words.CommandFault.TheVariants.{NoMemory};
-ghost use Rattle.nursery_app.specs.Words.{IsFit, IsAsked, AreInRange};
+ghost use Rattle.nursery_app.specs.Words.{IsFit, IsAsked, AreInRange, may_be_raised};
 
-use crate::command_line::{DEFAULT_LIMIT, parser};
+use crate::command_line::{DEFAULT_FAULT, DEFAULT_LIMIT, parser};
 use clap::ArgMatches;
 use clap::error::ErrorKind;
+use job_grammar::Name;
 use job_runner::{GREATEST_LIMIT, MOST_WORKERS};
+use job_syntax::Keyword;
 use std::alloc::{AllocError, Global};
 use thiserror::Error;
 
@@ -26,6 +28,17 @@ pub enum Order {
     Reverse,
     /// One after the other, by the number of picks so far.
     Turn,
+}
+
+/// What a build denies of a job with faults.
+#[derive(Clone, Copy, Debug, PartialEq, Eq)]
+pub struct Denied {
+    /// That it does not end by the limit.
+    pub stuck: bool,
+    /// That a task is cancelled in a cleanup.
+    pub cut: bool,
+    /// That the exception which a fault raised is lost.
+    pub lost: bool,
 }
 
 /// What the words after the program's name ask for.
@@ -59,6 +72,21 @@ pub enum Command {
         /// The order of turns.
         order: Order,
         /// The last tick of the story, at most 4,294,967,295.
+        limit: u64,
+    },
+    /// What becomes of a job over an input with each fault of its waiting steps.
+    Faults {
+        /// The job file, or `-` for standard input.
+        job: String,
+        /// The input file, or `-` for standard input; none is an empty input.
+        input: Option<String>,
+        /// The name of the exception that a faulty step raises: a word, and no word that a step may not raise.
+        name: String,
+        /// What is denied.
+        denied: Denied,
+        /// The number of threads, 1 to 64.
+        workers: usize,
+        /// The last tick at which a job may end, at most 4,294,967,295.
         limit: u64,
     },
     /// The canonical text of a job.
@@ -150,6 +178,7 @@ fn chosen(alloc: Global, matches: &ArgMatches<'_>) -> Result<Command, CommandFau
     match name {
         "run" => run_command(alloc, job, inner),
         "explain" => explain_command(alloc, job, inner),
+        "faults" => faults_command(alloc, job, inner),
         "upgrade" => Ok(Command::Upgrade {
             job: String::from_str(alloc, job)?,
         }),
@@ -176,7 +205,7 @@ fn run_command(alloc: Global, job: &str, matches: &ArgMatches<'_>) -> Result<Com
         job: String::from_str(alloc, job)?,
         input: String::from_str(alloc, input)?,
         workers: choices.workers,
-        order: choices.order,
+        order: order_named(matches.get_str("order")),
         limit: choices.limit,
     })
 }
@@ -201,20 +230,97 @@ fn explain_command(
         input: owned(alloc, input)?,
         task: owned(alloc, matches.get_str("task"))?,
         workers: choices.workers,
-        order: choices.order,
+        order: order_named(matches.get_str("order")),
         limit: choices.limit,
     })
+}
+
+// The command `faults` with its settings.
+fn faults_command(
+    alloc: Global,
+    job: &str,
+    matches: &ArgMatches<'_>,
+) -> Result<Command, CommandFault>
+    ensures { IfOk result IsAsked }
+{
+    let input = matches.get_str("input");
+    if job == "-" && input == Some("-") {
+        return refused(alloc, BOTH_STANDARD);
+    }
+    let Some(choices) = choices_of(matches) else {
+        return refused(alloc, OUT_OF_RANGE);
+    };
+    let name = matches.get_str("name").unwrap_or(DEFAULT_FAULT);
+    if !may_be_raised(name.as_bytes()) {
+        return refused_name(alloc, name);
+    }
+    let denied = denied_kinds(alloc, matches.get_str("deny").unwrap_or(""))?;
+    Ok(Command::Faults {
+        job: String::from_str(alloc, job)?,
+        input: owned(alloc, input)?,
+        name: String::from_str(alloc, name)?,
+        denied,
+        workers: choices.workers,
+        limit: choices.limit,
+    })
+}
+
+// Whether a step may raise an exception of this name.
+fn may_be_raised(name: &[u8]) -> bool
+    ensures { result ≡ may_be_raised name.now }
+{
+    match Name::new(name) {
+        Some(word) => Keyword::of(word).is_none()
+            && name != b"Cancelled".as_slice()
+            && name != b"TooSlow".as_slice(),
+        None => false,
+    }
+}
+
+// The refusal of a name that no step may raise.
+fn refused_name(alloc: Global, name: &str) -> Result<Command, CommandFault>
+    ensures { IfOk result IsAsked }
+{
+    let text = format!(in alloc;
+        "error: no step can raise `{name}`: --name takes a letter, then letters, digits and `_`, at most 32 in all\n"
+    )?;
+    Err(CommandFault::Refused { text })
+}
+
+// The kinds that are denied, by their names with commas between them.
+fn denied_kinds(alloc: Global, names: &str) -> Result<Denied, CommandFault> {
+    let mut denied = Denied {
+        stuck: false,
+        cut: false,
+        lost: false,
+    };
+    if names.is_empty() {
+        return Ok(denied);
+    }
+    'names: for name in names.split(',') {
+        match name {
+            "stuck" => denied.stuck = true,
+            "cut" => denied.cut = true,
+            "lost" => denied.lost = true,
+            _ => {
+                let text = format!(in alloc;
+                    "error: `{name}` cannot be denied: --deny takes `stuck`, `cut` and `lost`, with commas between them\n"
+                )?;
+                return Err(CommandFault::Refused { text });
+            }
+        }
+    }
+    Ok(denied)
 }
 
 // How a job is to be run.
 #[derive(Clone, Copy)]
 struct Choices {
     workers: usize,
-    order: Order,
     limit: u64,
 }
 
-// The number of workers, the order and the limit, where they are in their ranges.
+// The number of workers and the limit, where they are in their ranges.
 fn choices_of(matches: &ArgMatches<'_>) -> Option<Choices>
     ensures { IfSome result AreInRange }
 {
@@ -223,11 +329,7 @@ fn choices_of(matches: &ArgMatches<'_>) -> Option<Choices>
     if workers < 1 || workers > MOST_WORKERS || limit > GREATEST_LIMIT {
         return None;
     }
-    Some(Choices {
-        workers,
-        order: order_named(matches.get_str("order")),
-        limit,
-    })
+    Some(Choices { workers, limit })
 }
 
 // A word as a string of its own, where there is one.

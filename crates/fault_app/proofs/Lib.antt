@@ -1,0 +1,6 @@
+pub mod Outcomes
+pub mod Summaries
+pub mod Fated
+pub mod Filled
+pub mod Lexed
+pub mod Tabled

@@ -1,0 +1,31 @@
+-- What becomes of a text that is read as a job, over an input.
+use Rattle.std.specs.Prelude.{◌≡◌, ◌⊎◌, ℕ, Bool, true, Option, Some, None, List, [], ◌∷◌}
+use Rattle.job_tree.specs.Tree.{Tree}
+use Rattle.job_grammar.specs.declared.fault.JobFault.{JobFault}
+use Rattle.job_grammar.specs.Refusals.{Spells, IsRefused}
+use Rattle.nursery_app.specs.Places.{line_of, column_of}
+use Rattle.job_edits.specs.Changes.{changed}
+use Rattle.job_edits.specs.Faults.{changes_of, probe_of, raised_by}
+use Rattle.job_edits.specs.declared.plan.Plan.{Plan}
+use Rattle.fault_text.specs.Fates.{Fate, refused, fate_of, reaches}
+use Rattle.fault_text.specs.Table.{Line}
+
+-- what becomes of the job that a text spells, or the text is refused
+abbrev pub IsFate : List ℕ → List ℕ → ℕ → Option (List ℕ) → Fate → Type 0
+IsFate text input limit name fate =
+    ((job : Tree) × Spells text job × (fate ≡ fate_of limit name job input))
+    ⊎ ((fault : JobFault) × IsRefused text fault.kind fault.at × (fate ≡ refused))
+
+-- whether the job that a text spells raises an exception of a name by the limit; where the text is refused, nothing is said of that
+abbrev pub IsReached : List ℕ → List ℕ → ℕ → List ℕ → Bool → Type 0
+IsReached text input limit name reached =
+    ((job : Tree) × Spells text job × (reached ≡ reaches limit name job input))
+    ⊎ ((fault : JobFault) × IsRefused text fault.kind fault.at × (reached ≡ true))
+
+-- A line tells of the text that the fault makes of the author's text: what becomes of it, and whether the fault is reached. Its place is that of the
+-- step in the author's text.
+pub record IsLine (text input : List ℕ) (limit : ℕ) (plan : Plan) (l : Line) : Type 0 where
+  pub line : l.line ≡ line_of text l.variant.step.from
+  pub column : l.column ≡ column_of text l.variant.step.from
+  pub fate : IsFate (changed text (changes_of plan l.variant)) input limit (raised_by plan l.variant.fault) l.fate
+  pub reached : IsReached (changed text (probe_of plan l.variant ∷ [])) input limit plan.reached l.reached

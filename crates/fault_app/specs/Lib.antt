@@ -1,0 +1,4 @@
+pub mod Fates
+pub mod Verdicts
+pub mod Statuses
+pub mod Slots

@@ -1,0 +1,43 @@
+-- What the threads fill.
+use Rattle.std.specs.Prelude.{◌≡◌, ℕ, List, [], ◌∷◌, IfSome, map}
+use Rattle.std.specs.Option.{option_map}
+use Rattle.exc_groups.specs.Held.{exc_of}
+use Rattle.job_tree.specs.Tree.{Tree}
+use Rattle.job_meaning.specs.Meaning.{meaning, meaning_end}
+use Rattle.job_meaning.specs.Shown.{Ending, well, Row, meaning_rows}
+use Rattle.job_story.specs.Held.{event_of}
+use Rattle.fault_text.specs.Fates.{cancelled_in, walked}
+use Rattle.fault_text.specs.Views.{line_held}
+use Rattle.fault_app.specs.Fates.{IsLine}
+use Rattle.fault_text.specs.declared.line.Line.{Line}
+use Rattle.job_edits.specs.declared.fault.Variant.{Variant}
+use Rattle.fault_app.specs.declared.summary.Summary.{Summary}
+use Rattle.fault_app.specs.declared.lines.Author.{Author}
+use Rattle.fault_app.specs.declared.lines.Slot.{Slot}
+
+-- what is kept of a run is what the meaning says
+pub record IsSummary (job : Tree) (input : List ℕ) (s : Summary) : Type 0 where
+  pub end : s.end ≡ meaning_end job input
+  pub exc : option_map exc_of s.exc ≡ (meaning job input).exc
+  pub cancelled : s.cancelled.items ≡ cancelled_in (meaning_rows job input)
+  pub events : map event_of s.events.items ≡ walked job input
+
+-- how the root ended, whose row is the first
+abbrev pub root_ending : List Row → Ending
+root_ending [] = well
+root_ending (r ∷ rs) = r.ending
+
+abbrev pub variant_of : Line → Variant
+variant_of l = l.variant
+
+abbrev pub variant_in : Slot → Variant
+variant_in s = s.variant
+
+-- a line is true of the author's text
+abbrev pub IsLineOf : Author → Line → Type 0
+IsLineOf author l = IsLine author.text.now author.input.now author.limit author.plan (line_held l)
+
+-- where a slot has a line it is a true one, of its variant
+pub record IsFilled (author : Author) (slot : Slot) : Type 0 where
+  pub variant : IfSome slot.line (λ l. l.variant ≡ slot.variant)
+  pub line : IfSome slot.line (IsLineOf author)

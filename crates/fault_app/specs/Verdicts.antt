@@ -1,0 +1,49 @@
+-- What `faults` answers: what becomes of a job with each fault, or the refusal of its text.
+use Rattle.std.specs.Prelude.{◌≡◌, ℕ, ◌<◌, Option, Some, None, List, [], length, take, map, All}
+use Rattle.std.specs.Io.KnownBytes.{Appends}
+use Rattle.job_tree.specs.Tree.{Tree}
+use Rattle.job_tokens.specs.declared.token.Token.{Token}
+use Rattle.job_grammar.specs.Refusals.{Spells, HasTokens, IsRefused}
+use Rattle.nursery_app.specs.Verdict.{refusal_line}
+use Rattle.nursery_app.specs.declared.verdict.ServeFault.{ServeFault}
+use Rattle.nursery_app.specs.declared.verdict.ServeFault.TheVariants.{Send, NoMemory}
+use Rattle.job_edits.specs.Faults.{variants_in, plan_of}
+use Rattle.fault_text.specs.Fates.{fate_of}
+use Rattle.fault_text.specs.Table.{Line, table_text, denied_text}
+use Rattle.fault_text.specs.declared.deny.Deny.{Deny}
+use Rattle.fault_app.specs.Fates.{IsLine}
+use Rattle.fault_app.specs.declared.verdict.FaultsVerdict.{FaultsVerdict}
+use Rattle.fault_app.specs.declared.verdict.FaultsVerdict.TheVariants.{Told, JobRefused}
+
+-- There is a line for each fault of each waiting step of the text, in the order of places, each kind once; and each is true.
+pub record AreLines (text input : List ℕ) (limit : ℕ) (name : List ℕ) (tokens : List Token) (lines : List Line) : Type 0 where
+  pub variants : map (λ l. l.variant) lines ≡ variants_in tokens
+  pub each : All (IsLine text input limit (plan_of name tokens)) lines
+
+-- These bytes tell what becomes of the job as it is, and with each fault; and these lines of them are denied.
+pub record IsTable (text input : List ℕ) (limit : ℕ) (name : List ℕ) (deny : Deny) (bytes denied : List ℕ) : Type 0 where
+  pub job : Tree
+  pub spells : Spells text job
+  pub tokens : List Token
+  pub tokens_are : HasTokens text tokens None
+  pub lines : List Line
+  pub lines_are : AreLines text input limit name tokens lines
+  pub table : bytes ≡ table_text limit (fate_of limit None job input) lines
+  pub denied_are : denied ≡ denied_text limit deny (fate_of limit None job input) lines
+
+-- a verdict and its bytes
+abbrev pub IsVerdict : List ℕ → List ℕ → ℕ → List ℕ → Deny → FaultsVerdict → List ℕ → Type 0
+IsVerdict text input limit name deny (Told denied) bytes = IsTable text input limit name deny bytes denied.items
+IsVerdict text input limit name deny (JobRefused fault) bytes = IsRefused text fault.kind fault.at × (bytes ≡ refusal_line fault)
+
+-- The verdict's bytes were sent, all of them.
+abbrev pub IsSent : List ℕ → List ℕ → ℕ → List ℕ → Deny → Option (List ℕ) → Option (List ℕ) → FaultsVerdict → Type 0
+IsSent text input limit name deny before after verdict =
+    (bytes : List ℕ) × IsVerdict text input limit name deny verdict bytes × Appends before after bytes
+
+-- The writer failed after the first `sent` of the verdict's bytes; or memory was refused, and nothing was sent.
+abbrev pub IsFaultsFault : List ℕ → List ℕ → ℕ → List ℕ → Deny → Option (List ℕ) → Option (List ℕ) → ServeFault → Type 0
+IsFaultsFault text input limit name deny before after (Send sent) =
+    (verdict : FaultsVerdict) × (bytes : List ℕ) × IsVerdict text input limit name deny verdict bytes × (sent < length bytes)
+    × Appends before after (take sent bytes)
+IsFaultsFault text input limit name deny before after NoMemory = after ≡ before

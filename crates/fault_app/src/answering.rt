@@ -1,0 +1,129 @@
+ghost use Rattle.std.specs.Prelude.{◌≡◌, ◌<◌, ◌≤◌, drop, length, IfOk, IfErr, OnOk, None};
+ghost use Rattle.job_meaning.specs.declared.limits.TheConstants.{MOST_INPUT};
+ghost use Rattle.job_grammar.specs.Refusals.{Spells, HasTokens};
+ghost use Rattle.nursery_app.specs.Verdict.{CountsFailure};
+ghost use Rattle.fault_app.specs.Verdicts.{IsVerdict, IsTable, IsSent, IsFaultsFault};
+
+use crate::fate::fate_of_job;
+use crate::lines::{Author, lines_with};
+use crate::verdict::FaultsVerdict;
+use fault_text::{Deny, denied, table};
+use job_edits::{Plan, variants};
+use job_grammar::{FIRST_LINE_LENGTH, Job, Name, read_job};
+use job_report::{Out, send};
+use job_runner::Settings;
+use job_tokens::{Lexed, Token, lex};
+use nursery_app::{Gate, ServeFault, refusal};
+use std::alloc::{AllocError, Global};
+use std::thread::Threads;
+
+/// Writes what becomes of a job over an input: as it is, and with each fault of each of its waiting steps, one line for each, in the order of
+/// the steps' places; and how many faults are of each kind. A fault is a change of the job text (`job_edits`), and its line tells of the
+/// changed text by the job's one-thread meaning: the tick at which the job ends and how, or that it does not end by the limit, and
+/// what is to be noted of it. A step that fails raises an exception of the given name. A job text that is refused has its refusal written.
+///
+/// The settings' number of workers is the number of threads among which the faults are split; the gate is called around each fault, with its
+/// place among the lines, by the thread that works on it. Neither changes a byte. All bytes are built
+/// before the first is sent, so after `NoMemory` nothing was sent.
+pub fn faults<R: Threads + Sync, G: Gate + Sync, W: Out>(
+    rt: &R,
+    alloc: Global,
+    job_text: &[u8],
+    input: &[u8],
+    settings: Settings,
+    name: Name,
+    deny: Deny,
+    gate: &G,
+    out: &mut W,
+) -> Result<FaultsVerdict, ServeFault>
+    requires input { length input.now ≤ MOST_INPUT }
+    requires countable { W.failed out.old < 18446744073709551615 }
+
+    // The bytes written tell of each fault, or are the refusal of the text.
+    ensures sent { IfOk result (IsSent job_text.now input.now settings.limit name deny (W.contents out.old) (W.contents out.new)) }
+    ensures well { OnOk result (W.failed out.new ≡ W.failed out.old) }
+
+    // A writer that failed took the front of those bytes; after want of memory nothing was sent.
+    ensures fault { IfErr result (IsFaultsFault job_text.now input.now settings.limit name deny (W.contents out.old) (W.contents out.new)) }
+    ensures counted { IfErr result (CountsFailure (W.failed out.old) (W.failed out.new)) }
+{
+    let (verdict, bytes) = answer(rt, alloc, job_text, input, settings, name, deny, gate)?;
+    send(bytes.as_slice(), out)?;
+    Ok(verdict)
+}
+
+// The verdict and all its bytes.
+fn answer<R: Threads + Sync, G: Gate + Sync>(
+    rt: &R,
+    alloc: Global,
+    job_text: &[u8],
+    input: &[u8],
+    settings: Settings,
+    name: Name,
+    deny: Deny,
+    gate: &G,
+) -> Result<(FaultsVerdict, Vec<u8>), AllocError>
+    requires { length input.now ≤ MOST_INPUT }
+    ensures { IfOk result (λ r. IsVerdict job_text.now input.now settings.limit name deny r.0 r.1.items) }
+{
+    match read_job(alloc, job_text) {
+        Ok(job) => {
+            let (denied, bytes) = told_of(
+                rt, alloc, job_text, &job, input, settings, name, deny, gate,
+            )?;
+            Ok((FaultsVerdict::Told { denied }, bytes))
+        }
+        Err(fault) => Ok((FaultsVerdict::JobRefused(fault), refusal(alloc, fault)?)),
+    }
+}
+
+// The lines that are denied, and all bytes.
+fn told_of<R: Threads + Sync, G: Gate + Sync>(
+    rt: &R,
+    alloc: Global,
+    job_text: &[u8],
+    job: &Job,
+    input: &[u8],
+    settings: Settings,
+    name: Name,
+    deny: Deny,
+    gate: &G,
+) -> Result<(Vec<u8>, Vec<u8>), AllocError>
+    requires input { length input.now ≤ MOST_INPUT }
+    requires spells { Spells job_text.now job.now }
+    ensures { IfOk result (λ r. IsTable job_text.now input.now settings.limit name deny r.1.items r.0.items) }
+{
+    let tokens = tokens_of(alloc, job_text, job)?;
+    let variants = variants(alloc, tokens.as_slice())?;
+    let author = Author {
+        text: job_text,
+        input,
+        limit: settings.limit(),
+        plan: Plan::of(alloc, name, tokens.as_slice())?,
+    };
+    let first = fate_of_job(rt, alloc, job, input, author.limit, None)?;
+    let workers = settings.workers();
+    let lines = lines_with(rt, alloc, &author, variants.as_slice(), workers, gate)?;
+    let bytes = table(alloc, author.limit, &first, lines.as_slice())?;
+    let denied = denied(alloc, author.limit, &first, lines.as_slice(), deny)?;
+    Ok((denied, bytes))
+}
+
+// The tokens of a text that spells a job.
+fn tokens_of(alloc: Global, text: &[u8], job: &Job) -> Result<Vec<Token>, AllocError>
+    requires { Spells text.now job.now }
+    ensures { IfOk result (λ tokens. HasTokens text.now tokens.items None) }
+{
+    let Lexed { tokens, fault } = lex(alloc, after_first_line(text), text.len())?;
+    match fault {
+        None => Ok(tokens),
+        Some(_) => unreachable!(),
+    }
+}
+
+// The bytes after the first line of a text.
+fn after_first_line(text: &[u8]) -> &[u8]
+    ensures { result.now ≡ drop 11 text.now }
+{
+    text.split_at(FIRST_LINE_LENGTH.min(text.len())).1
+}

@@ -1,0 +1,175 @@
+ghost use Rattle.std.specs.Prelude.{◌≡◌, ◌≤◌, length, IfOk, map, Some, None};
+ghost use Rattle.job_meaning.specs.declared.limits.TheConstants.{MOST_INPUT};
+ghost use Rattle.job_story.specs.Events.{in_order};
+ghost use Rattle.job_story.specs.Held.{event_of};
+ghost use Rattle.job_story.specs.Limit.{by_limit};
+ghost use Rattle.fault_notes.specs.Notes.{sleeping_in, cut_in, is_raised};
+ghost use Rattle.fault_notes.specs.Lasts.{labels_in};
+ghost use Rattle.std.specs.Option.{option_map};
+ghost use Rattle.exc_groups.specs.Held.{exc_of};
+ghost use Rattle.fault_text.specs.Fates as fates;
+ghost use Rattle.fault_text.specs.Fates.{fate_of, loses, reaches};
+ghost use Rattle.fault_text.specs.Views.{fate_held};
+ghost use Rattle.fault_app.specs.Fates.{IsFate, IsReached};
+
+use crate::summary::{Summary, summary_of};
+use exc_groups::Label;
+use fault_notes::{cut_in_cleanup, is_lost, is_raised, sleeping_forever};
+use fault_text::Fate;
+use job_grammar::{Job, JobKind, Name, read_job};
+use job_story::Event;
+use std::alloc::{AllocError, Global};
+use std::thread::Threads;
+use story_app::told_until;
+use story_text::in_order;
+
+// What becomes of the job that a text spells, by a limit, where the fault in it raises an exception of this name or none. A text that
+// is refused is one of the fates.
+pub(crate) fn fate_of_text<R: Threads + Sync>(
+    rt: &R,
+    alloc: Global,
+    text: &[u8],
+    input: &[u8],
+    limit: u64,
+    name: Option<Name>,
+) -> Result<Fate, AllocError>
+    requires { length input.now ≤ MOST_INPUT }
+    ensures { IfOk result (λ fate. IsFate text.now input.now limit name (fate_held fate)) }
+{
+    match read_job(alloc, text) {
+        Ok(job) => {
+            let fate = fate_of_job(rt, alloc, &job, input, limit, name)?;
+            Ok(fate)
+        }
+        Err(fault) => match fault.kind {
+            JobKind::NoMemory => Err(AllocError),
+            _ => Ok(Fate::Refused),
+        },
+    }
+}
+
+// Whether the job that a text spells raises an exception of this name by the limit; where the text is refused, yes.
+pub(crate) fn reaches_in_text<R: Threads + Sync>(
+    rt: &R,
+    alloc: Global,
+    text: &[u8],
+    input: &[u8],
+    limit: u64,
+    name: Name,
+) -> Result<bool, AllocError>
+    requires { length input.now ≤ MOST_INPUT }
+    ensures { IfOk result (IsReached text.now input.now limit name) }
+{
+    match read_job(alloc, text) {
+        Ok(job) => {
+            let reached = reaches_in_job(rt, alloc, &job, input, limit, name)?;
+            Ok(reached)
+        }
+        Err(fault) => match fault.kind {
+            JobKind::NoMemory => Err(AllocError),
+            _ => Ok(true),
+        },
+    }
+}
+
+// What becomes of a job by a limit.
+#[tactic(auto, using(crate::proofs::Fated::stuck_is, crate::proofs::Fated::ended_is))]
+pub(crate) fn fate_of_job<R: Threads + Sync>(
+    rt: &R,
+    alloc: Global,
+    job: &Job,
+    input: &[u8],
+    limit: u64,
+    name: Option<Name>,
+) -> Result<Fate, AllocError>
+    requires { length input.now ≤ MOST_INPUT }
+    ensures { IfOk result (λ fate. fate_held fate ≡ fate_of limit name job.now input.now) }
+{
+    let summary = summary_of(rt, alloc, job, input)?;
+    if summary.end > limit {
+        let sleeping = sleeping_tasks(alloc, summary.events.as_slice(), limit)?;
+        return Ok(Fate::Stuck { sleeping });
+    }
+    ended(alloc, summary, name)
+}
+
+// Whether a job raises an exception of this name by the limit.
+#[tactic(auto, using(crate::proofs::Fated::reaches_is))]
+fn reaches_in_job<R: Threads + Sync>(
+    rt: &R,
+    alloc: Global,
+    job: &Job,
+    input: &[u8],
+    limit: u64,
+    name: Name,
+) -> Result<bool, AllocError>
+    requires { length input.now ≤ MOST_INPUT }
+    ensures { IfOk result (λ reached. reached ≡ reaches limit name job.now input.now) }
+{
+    let summary = summary_of(rt, alloc, job, input)?;
+    let walked = told_until(alloc, summary.events.as_slice(), Some(limit))?;
+    Ok(is_raised(walked.as_slice(), name))
+}
+
+// What becomes of a job that ends by the limit.
+fn ended(alloc: Global, summary: Summary, name: Option<Name>) -> Result<Fate, AllocError>
+    ensures { IfOk result (λ fate. fate_held fate ≡ fates.ended summary.end (option_map exc_of summary.exc) summary.cancelled.items
+        (cut_in (in_order (map event_of summary.events.items))) (loses name (map event_of summary.events.items))) }
+{
+    let cut = cut_tasks(alloc, summary.events.as_slice())?;
+    let lost = loses(alloc, summary.events.as_slice(), name)?;
+    let Summary {
+        end,
+        exc,
+        cancelled,
+        ..
+    } = summary;
+    Ok(Fate::Ended {
+        end,
+        exc,
+        cancelled,
+        cut,
+        lost,
+    })
+}
+
+// The tasks that sleep forever at the limit.
+fn sleeping_tasks(alloc: Global, events: &[Event], limit: u64) -> Result<Vec<Label>, AllocError>
+    ensures { IfOk result (λ tasks. tasks.items ≡ sleeping_in (by_limit limit (map event_of events.now))) }
+{
+    let walked = told_until(alloc, events, Some(limit))?;
+    let tasks = sleeping_forever(alloc, walked.as_slice())?;
+    copies(alloc, tasks.as_slice())
+}
+
+// The tasks that were cancelled in a cleanup.
+fn cut_tasks(alloc: Global, events: &[Event]) -> Result<Vec<Label>, AllocError>
+    ensures { IfOk result (λ tasks. tasks.items ≡ cut_in (in_order (map event_of events.now))) }
+{
+    let walked = told_until(alloc, events, None)?;
+    let sorted = in_order(alloc, walked.as_slice())?;
+    let tasks = cut_in_cleanup(alloc, sorted.as_slice())?;
+    copies(alloc, tasks.as_slice())
+}
+
+// Whether the exception that the fault raises is lost, where it raises one.
+fn loses(alloc: Global, events: &[Event], name: Option<Name>) -> Result<bool, AllocError>
+    ensures { IfOk result (λ lost. lost ≡ loses name (map event_of events.now)) }
+{
+    let Some(name) = name else {
+        return Ok(false);
+    };
+    let walked = told_until(alloc, events, None)?;
+    Ok(is_lost(walked.as_slice(), name))
+}
+
+// Labels of their own.
+fn copies(alloc: Global, labels: &[&Label]) -> Result<Vec<Label>, AllocError>
+    ensures { IfOk result (λ copies. copies.items ≡ labels_in labels.now) }
+{
+    let mut copies = Vec::new(alloc);
+    'labels: for label in labels {
+        copies.push(label.copy(alloc)?)?;
+    }
+    Ok(copies)
+}

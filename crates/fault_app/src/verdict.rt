@@ -1,0 +1,28 @@
+ghost use Rattle.std.specs.Prelude.{◌≡◌};
+ghost use Rattle.fault_app.specs.Statuses.{faults_status_of};
+
+use job_grammar::JobFault;
+
+/// What `faults` wrote.
+#[derive(Debug, Drop)]
+pub enum FaultsVerdict {
+    /// What becomes of the job with each fault.
+    Told {
+        /// The lines that are denied, as they stand among all: empty where none is.
+        denied: Vec<u8>,
+    },
+    /// The refusal of the job text.
+    JobRefused(JobFault),
+}
+
+impl FaultsVerdict {
+    /// The exit status of the program that wrote this: 0 where no line is denied, 1 where one is, 2 where the job text was refused.
+    pub fn status(&self) -> u8
+        ensures { result ≡ faults_status_of self.now }
+    {
+        match self {
+            FaultsVerdict::Told { denied } => { if denied.is_empty() { 0 } else { 1 } }
+            FaultsVerdict::JobRefused(_) => 2,
+        }
+    }
+}
