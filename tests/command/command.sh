@@ -114,15 +114,39 @@ cp raise.job in
 wants 1 "$story" '' explain -
 : > in
 
+# ---- faults
+
+none='    as it is  0 done\n0 faults: 0 stuck, 0 cut a cleanup, 0 lost, 0 not reached\n'
+wants 0 "$none" '' faults find.job
+wants 0 "$none" '' faults find.job log.txt --deny stuck,cut,lost
+hung='2:12  sleep 2  hangs       stuck at 1000000; sleeping forever: main\n'
+faulty="               as it is    2 raised Boom(main@2)\n2:12  sleep 2  fails       0 raised Fault(main@0)\n2:12  sleep 2  fails late  2 raised Fault(main@2)\n${hung}2:12  sleep 2  cancelled   1 done\n4 faults: 1 stuck, 0 cut a cleanup, 0 lost, 0 not reached\n"
+wants 0 "$faulty" '' faults raise.job log.txt
+wants 0 "$faulty" '' faults raise.job --workers 64
+wants 0 "$faulty" '' faults raise.job --deny cut,lost
+wants 1 "$faulty" "$hung" faults raise.job --deny stuck
+wants 1 "$faulty" "$hung" faults raise.job --deny lost,stuck --workers 3
+wants 0 "$(printf "$faulty" | sed 's/Fault/Late/g')\n" '' faults raise.job --name Late
+at_one=$(printf "$faulty" | sed 's/2 raised Boom(main@2)/stuck at 1/; s/2 raised Fault(main@2)/stuck at 1; not reached/; s/1000000/1/; s/^4 faults: 1 stuck, 0 cut a cleanup, 0 lost, 0/4 faults: 2 stuck, 0 cut a cleanup, 0 lost, 1/')
+wants 0 "$at_one\n" '' faults raise.job --limit 1
+cp raise.job in
+wants 0 "$faulty" '' faults -
+: > in
+wants 2 '' 'error: `late` cannot be denied: --deny takes `stuck`, `cut` and `lost`, with commas between them\n' faults raise.job --deny stuck,late
+for word in sleep Cancelled TooSlow 1st a-b; do
+    wants 2 '' "error: no step can raise \`$word\`: --name takes a letter, then letters, digits and \`_\`, at most 32 in all\n" faults raise.job --name "$word"
+done
+
 # ---- 2: a refused job, told with its place
 
-# refuses TEXT LINE TOLD: the job text is refused by all four commands, with that line and that text behind `bad.job:`.
+# refuses TEXT LINE TOLD: the job text is refused by all five commands, with that line and that text behind `bad.job:`.
 refuses() {
     printf "$1" > bad.job
     wants 2 "$2\n" "bad.job:$3\n" run bad.job log.txt
     wants 2 "$2\n" "bad.job:$3\n" check bad.job
     wants 2 "$2\n" "bad.job:$3\n" upgrade bad.job
     wants 2 "$2\n" "bad.job:$3\n" explain bad.job
+    wants 2 "$2\n" "bad.job:$3\n" faults bad.job
 }
 
 refuses 'trio-job 1\njob main { sleep }\n' 'refused J6 Syntax at 28' \
@@ -195,6 +219,8 @@ words='run'; holds 2 err '<JOB>' '<INPUT>'
 words='explain'; holds 2 err '<JOB>' 'Usage: nursery explain '
 words='explain find.job log.txt --workers 0'; holds 2 err "'--workers <N>'" '1..=64'
 words='explain find.job --limit 4294967296'; holds 2 err "'--limit <T>'" '4294967295'
+words='faults'; holds 2 err '<JOB>' 'Usage: nursery faults '
+words='faults find.job --workers 65'; holds 2 err "'--workers <N>'" '1..=64'
 words='check'; holds 2 err '<JOB>' 'Usage: nursery check '
 words='upgrade'; holds 2 err '<JOB>' 'Usage: nursery upgrade '
 words='check find.job log.txt'; holds 2 err "'log.txt'"
@@ -202,15 +228,17 @@ words='go'; holds 2 err "'go'" 'Usage: nursery '
 words='--fast'; holds 2 err "'--fast'"
 wants 2 '' 'error: JOB and INPUT cannot both be `-`: there is one standard input\n' run - -
 wants 2 '' 'error: JOB and INPUT cannot both be `-`: there is one standard input\n' explain - -
+wants 2 '' 'error: JOB and INPUT cannot both be `-`: there is one standard input\n' faults - -
 wants 2 '' 'error: an argument is not UTF-8 text\n' check "$(printf 'a\377b')"
 
 # ---- help and version
 
 wants 0 'nursery 0.1.0\n' '' --version
 words='explain --help'; holds 0 out 'Usage: nursery explain [OPTIONS] <JOB> [INPUT]' '--task <LABEL>' '--workers <N>' '--order <ORDER>' '--limit <T>'
-words='--help'; holds 0 out 'Usage: nursery <COMMAND>' '  run ' '  explain ' '  check ' '  upgrade ' '$ nursery run first.job log.txt' '  line 0+5 error' 'Exit status'
+words='--help'; holds 0 out 'Usage: nursery <COMMAND>' '  run ' '  explain ' '  faults ' '  check ' '  upgrade ' '$ nursery run first.job log.txt' '  line 0+5 error' 'Exit status'
 words='help'; holds 0 out 'Usage: nursery <COMMAND>'
 words='run --help'; holds 0 out 'Usage: nursery run [OPTIONS] <JOB> <INPUT>' '--workers <N>' '--order <ORDER>' '--limit <T>' '  line 6+10 ERROR disk'
+words='faults --help'; holds 0 out 'Usage: nursery faults [OPTIONS] <JOB> [INPUT]' '--name <NAME>' '--deny <KINDS>' '--workers <N>' '--limit <T>'
 words='check --help'; holds 0 out 'Usage: nursery check <JOB>' 'expected a number'
 words='upgrade --help'; holds 0 out 'Usage: nursery upgrade <JOB>' 'job main{find"er";}'
 
@@ -295,6 +323,7 @@ if [ -c /dev/full ]; then
     full run bad.job log.txt
     full run forever.job log.txt
     full explain raise.job
+    full faults raise.job
     full check find.job
     full upgrade find.job
     full --help

@@ -1,10 +1,11 @@
 #!/usr/bin/env python3
-"""Compares the jobs and reports that docs/COOKBOOK.md and README.md show with examples/.
+"""Compares the jobs, reports and faults that docs/COOKBOOK.md and README.md show with examples/ and tests/faults/.
 
     python3 tests/pages/cookbook.py
 
 It wants Python 3.10 or later, and no program: tests/pages/examples.sh compares the stored reports with it. Where a paragraph names an
-example, as (`examples/NAME.feed`), the next two indented blocks are its job, without the first line and the input, and its report.
+example, as (`examples/NAME.feed`), the next two indented blocks are its job, without the first line and the input, and its report; where
+it names a feed as (`tests/faults/NAME.feed`), they are its job and what becomes of it with each fault.
 In the cookbook there is no other block, and a job has the feed's own layout; in README other blocks stand too, and a job may have
 its line ends elsewhere.
 """
@@ -15,7 +16,7 @@ import sys
 
 ROOT = os.path.join(os.path.dirname(os.path.abspath(__file__)), "..", "..")
 FIRST_LINES = ("trio-job 1\n", "trio-job 2\n")
-NAMED = re.compile(r"\(`examples/(\w+)\.feed`")
+NAMED = re.compile(r"\(`(examples|tests/faults)/(\w+)\.feed`")
 
 
 class Wrong(Exception):
@@ -37,10 +38,10 @@ def pieces_of(page):
             yield False, piece
 
 
-def job_of(name):
-    feed = content_of("examples", name + ".feed")
+def job_of(folder, name):
+    feed = content_of(folder, name + ".feed")
     if not feed.startswith(FIRST_LINES):
-        raise Wrong(f"examples/{name}.feed does not begin with the line `trio-job 1` or `trio-job 2`")
+        raise Wrong(f"{folder}/{name}.feed does not begin with the line `trio-job 1` or `trio-job 2`")
     return feed.partition("\n")[2].partition("%input\n")[0]
 
 
@@ -49,16 +50,17 @@ def compare_page(page, text, is_cookbook):
     shown, wanted = [], []
     for is_block, piece in pieces_of(text):
         if not is_block:
-            for name in NAMED.findall(piece):
+            for folder, name in NAMED.findall(piece):
                 if wanted:
                     raise Wrong(f"{page} does not show the {wanted[0][1]} of {wanted[0][0]}")
-                wanted = [(name, "job", job_of(name)), (name, "report", content_of("examples", name + ".report"))]
+                what = "report" if folder == "examples" else "faults"
+                wanted = [(name, "job", job_of(folder, name)), (name, what, content_of(folder, f"{name}.{what}"))]
                 shown.append(name)
         elif wanted:
             name, what, right = wanted.pop(0)
             same_words = what == "job" and not is_cookbook and piece.split() == right.split()
             if piece != right and not same_words:
-                raise Wrong(f"{page} shows another {what} of {name} than examples/ has:\n{piece}")
+                raise Wrong(f"{page} shows another {what} of {name} than is stored:\n{piece}")
         elif is_cookbook:
             raise Wrong(f"{page} shows a block of no example:\n{piece}")
     if wanted:
@@ -73,7 +75,7 @@ def main():
             shown = compare_page(page, content_of(*path), is_cookbook)
             if is_cookbook and not shown:
                 raise Wrong(f"{page} shows no example")
-            print(f"cookbook.py: {page} shows as examples/ has them: {', '.join(shown)}")
+            print(f"cookbook.py: {page} shows as they are stored: {', '.join(shown)}")
     except (Wrong, OSError) as wrong:
         print(f"cookbook.py: {wrong}", file=sys.stderr)
         return 1

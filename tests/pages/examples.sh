@@ -1,5 +1,6 @@
 #!/bin/sh
-# Each example's report and story, by the program that the gate built, and the stories of tests/stories/, which end at a limit.
+# Each example's report, story and faults, by the program that the gate built, and those of tests/stories/, which end at a limit, and
+# of tests/faults/.
 set -eu
 cd "$(dirname "$0")/../.."
 nursery=$PWD/crates/nursery/out/nursery
@@ -30,4 +31,22 @@ for name in retry shutdown supervisor; do
     tells "examples/$name.feed" "$status"
 done
 tells tests/stories/endless.feed 3 --limit 100
+
+# faults FEED WORD..: what becomes of a feed's job with each fault, with these options, is what is stored beside it.
+faults() {
+    feed=$1
+    shift
+    sed '/^%input$/,$d' "$feed" > "$folder/job"
+    sed '1,/^%input$/d' "$feed" > "$folder/input"
+    "$nursery" faults "$folder/job" "$folder/input" "$@" | cmp - "${feed%.feed}.faults"
+    echo "$feed: its faults are as stored"
+}
+
+for workers in 1 3 64; do
+    for feed in examples/cleanup examples/request examples/supervisor tests/faults/miss tests/faults/ingest tests/faults/ingest_in_time \
+        tests/faults/close tests/faults/close_in_time; do
+        faults "$feed.feed" --workers "$workers"
+    done
+done
+for feed in tests/faults/again tests/faults/again_in_budget; do faults "$feed.feed" --limit 20; done
 for order in forward reverse turn; do tells examples/race.feed 0 --order "$order" --workers 64; done

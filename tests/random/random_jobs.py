@@ -5,7 +5,7 @@
 
 PROGRAM is the built executable. It wants Python 3.10 or later. Of each text: the bytes and the status are the same under
 every order and with 1, 3 and 64 workers, and as a feed; each line shown is the input's slice at its place; a job's canonical
-text is its own canonical text and has the same report; its story ends each task as the report does; the status fits what was written. Three texts in four are jobs, the
+text is its own canonical text and has the same report; its story starts and ends each task as the report does, under each order; the status fits what was written. Three texts in four are jobs, the
 others jobs with a few bytes changed, or bytes. Before them come the jobs of examples/, cut behind each of their bytes: none
 of those is a job but the whole one, and none is refused at a place behind its end.
 """
@@ -27,7 +27,8 @@ ORDERS = ["forward", "reverse", "turn"]
 WORKERS = ["1", "3", "64"]
 LIMIT = 1_000_000
 LINE = re.compile(rb"  line (\d+)\+(\d+) (.*)")
-TASK = re.compile(rb"task (\S+) \d+ (\d+) (.*)")
+TASK = re.compile(rb"task (\S+) (\d+) (\d+) (.*)")
+START = re.compile(rb"  (\S+) +starts( in nursery \S+)?")
 END = re.compile(rb"  (\S+) +ends: ([^;]*)(; .*)?")
 REFUSED = re.compile(rb"refused J([1-9]|1[01]) (\w+) at (\d+)\n")
 KINDS = "TooLong NotAscii Version Token Number Syntax Depth Twice NotEnclosing Reserved TooLarge".split()
@@ -101,20 +102,22 @@ def check_lines(report, data):
             raise Wrong(f"no whole line of the input: {line!r}")
 
 
-def ends_reported(report):
-    """Each task of a report with its end and its outcome."""
-    return sorted((found[1], int(found[2]), found[3]) for line in report.split(b"\n") if (found := TASK.fullmatch(line)))
+def tasks_reported(report):
+    """Each task of a report with its start, its end and its outcome."""
+    return sorted((found[1], int(found[2]), int(found[3]), found[4]) for line in report.split(b"\n") if (found := TASK.fullmatch(line)))
 
 
-def ends_told(story):
+def tasks_told(story):
     """The same of a story."""
-    ends, tick = [], 0
+    starts, tasks, tick = {}, [], 0
     for line in story.split(b"\n"):
         if line.startswith(b"tick "):
             tick = int(line[5:])
+        elif found := START.fullmatch(line):
+            starts[found[1]] = tick
         elif found := END.fullmatch(line):
-            ends.append((found[1], tick, found[2]))
-    return sorted(ends)
+            tasks.append((found[1], starts[found[1]], tick, found[2]))
+    return sorted(tasks)
 
 
 def check_status(status, out, err, text):
@@ -179,14 +182,15 @@ class Program:
         return status
 
     def examine_story(self, text, answer):
-        """The story has the status of the run, and its tasks end as in the report."""
+        """The story has the status of the run, under each order, and its tasks start and end as in the report."""
         self.run(text)
         status, story, _ = self.call(["explain", self.job, self.input])
-        reverse = self.call(["explain", self.job, self.input, "--order", "reverse", "--workers", "64"])
-        if status != answer[0] or reverse[:2] != (status, story):
-            raise Wrong(f"the story has status {status}, and {reverse[0]} in reverse")
-        if status in (0, 1) and ends_told(story) != ends_reported(answer[1]):
-            raise Wrong(f"the story ends otherwise than the report: {story!r}")
+        for order, workers in [("reverse", "64"), ("turn", "3")]:
+            other = self.call(["explain", self.job, self.input, "--order", order, "--workers", workers])
+            if status != answer[0] or other[:2] != (status, story):
+                raise Wrong(f"the story has status {status}, and {other[0]} with --order {order} --workers {workers}")
+        if status in (0, 1) and tasks_told(story) != tasks_reported(answer[1]):
+            raise Wrong(f"the story's tasks start or end otherwise than the report's: {story!r}")
         if status == 2 and story != answer[1]:
             raise Wrong("explain and run refuse differently")
 

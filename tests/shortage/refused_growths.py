@@ -113,7 +113,24 @@ def refuse_each(shim, words, status, right, told):
 # The stories of some of them.
 STORIES = {
     "a search": b"tick 0\n  main  starts\n  main  finds 1 line\n  main  ends: done\n",
+    "a member that fails": b"tick 0\n  main  starts\n  main  enters nursery n\n  a     starts in nursery n\n  a     sleeps until 2\n"
+    b"  b     starts in nursery n\n  b     sleeps until 10\n  c     starts in nursery n\n  c     sleeps until 2\n  main  waits for nursery n\n"
+    b"tick 2\n  a     raises Boom\n  a     ends: raised Boom(a@2); nursery n is cancelled from 3\n  c     ends: done\n"
+    b"tick 3\n  b     is cancelled while sleeping since 0 by nursery n (a failed at 2)\n  b     ends: cancelled\n"
+    b"  main  leaves nursery n: cancellation caught, n[Boom(a@2)] propagates\n  main  ends: raised n[Boom(a@2)]\n",
+    "a cleanup with a shield": b"tick 0\n  main  starts\n  main  enters scope s (deadline 4)\n  main  sleeps forever\n"
+    b"tick 4\n  main  is cancelled while sleeping since 0 by scope s (deadline)\n  main  runs cleanup after Cancelled\n"
+    b"  main  enters scope g (shielded)\n  main  sleeps until 7\ntick 7\n  main  leaves scope g: completed\n"
+    b"  main  is cancelled during cleanup at a checkpoint by scope s (deadline)\n  main  replaces Cancelled with Cancelled\n"
+    b"  main  leaves scope s: cancellation caught\n  main  ends: done\n",
     "a job past its limit": b"tick 0\n  main  starts\n  main  sleeps until 101\nlimit 100\n  main  sleeping until 101 since 0\n",
+}
+
+# What becomes of some of them with each fault.
+FAULTS = {
+    "a job past its limit": b"                 as it is    stuck at 100\n2:12  sleep 101  fails       0 raised Fault(main@0)\n"
+    b"2:12  sleep 101  fails late  stuck at 100; not reached\n2:12  sleep 101  hangs       stuck at 100; sleeping forever: main\n"
+    b"2:12  sleep 101  cancelled   1 done\n4 faults: 2 stuck, 0 cut a cleanup, 0 lost, 1 not reached\n",
 }
 
 # What a test says that ends for want of memory.
@@ -187,6 +204,10 @@ def runs_of_program(folder):
             yield f"{name}, run with {workers} workers", words, status, right, status in (2, 3)
         if name in STORIES:
             yield f"{name}, explain", ["explain", job, data, "--limit", "100"], status, STORIES[name], status == 2
+        if name in FAULTS:
+            for workers in ["1", "3"]:
+                words = ["faults", job, data, "--limit", "100", "--workers", workers]
+                yield f"{name}, faults with {workers} workers", words, 0, FAULTS[name], False
         if name in CHECKS:
             yield f"{name}, check", ["check", job], status, CHECKS[name], status == 2
 

@@ -1,4 +1,4 @@
-//! The tests of the crates `job_runner`, `job_report` and `nursery_app`, through what these make public.
+//! The tests of the crates `job_runner`, `job_report`, `nursery_app`, `story_app` and `fault_app`, through what these make public.
 //!
 //! They show what no clause says: that the reports of worked jobs, worked out by hand, are what the definitions give; how words and
 //! refused texts are answered; what becomes of readers and writers that fail; and, of the layers below too, that a call which was
@@ -11,6 +11,8 @@ mod again;
 mod batchwise;
 #[cfg(test)]
 mod explained;
+#[cfg(test)]
+mod faulty;
 #[cfg(test)]
 mod fixtures;
 #[cfg(test)]

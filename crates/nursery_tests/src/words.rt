@@ -50,6 +50,7 @@ fn word_of(command: &Command) -> &'static str {
         Command::Feed => "feed",
         Command::Run { .. } => "run",
         Command::Explain { .. } => "explain",
+        Command::Faults { .. } => "faults",
         Command::Check { .. } => "check",
         Command::Upgrade { .. } => "upgrade",
         Command::Help { .. } => "help",
@@ -62,6 +63,7 @@ fn text_of(command: &Command) -> &str {
         Command::Feed => "",
         Command::Run { job, .. } => job.as_str(),
         Command::Explain { job, .. } => job.as_str(),
+        Command::Faults { job, .. } => job.as_str(),
         Command::Check { job } => job.as_str(),
         Command::Upgrade { job } => job.as_str(),
         Command::Help { text } => text.as_str(),
@@ -77,6 +79,12 @@ const NAMED: &[(&str, &str, &str)] = &[
     ("run j i", "run", "j"),
     ("explain j", "explain", "j"),
     ("explain j i --task t.1 --limit 7", "explain", "j"),
+    ("faults j", "faults", "j"),
+    (
+        "faults j i --name Late --deny stuck,cut --workers 3",
+        "faults",
+        "j",
+    ),
     ("--version", "help", "nursery 0.1.0\n"),
 ];
 
