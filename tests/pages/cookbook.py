@@ -6,8 +6,8 @@
 It wants Python 3.10 or later, and no program: tests/pages/examples.sh compares the stored reports with it. Where a paragraph names an
 example, as (`examples/NAME.feed`), the next two indented blocks are its job, without the first line and the input, and its report; where
 it names a feed as (`tests/faults/NAME.feed`), they are its job and what becomes of it with each fault.
-In the cookbook there is no other block, and a job has the feed's own layout; in README other blocks stand too, and a job may have
-its line ends elsewhere.
+In the cookbook a block of lines of its story may follow, and stands for each example; there is no other block, and a job has the feed's own
+layout. In README other blocks stand too, and a job may have its line ends elsewhere.
 """
 
 import os
@@ -45,15 +45,22 @@ def job_of(folder, name):
     return feed.partition("\n")[2].partition("%input\n")[0]
 
 
+def are_told(name, block):
+    """Whether these are lines of an example's story, in its order."""
+    story = iter(content_of("examples", name + ".story").splitlines())
+    return all(line in story for line in block.splitlines())
+
+
 def compare_page(page, text, is_cookbook):
     """Compares each block shown of an example. Gives the names of the examples shown."""
-    shown, wanted = [], []
+    shown, wanted, untold = [], [], []
     for is_block, piece in pieces_of(text):
         if not is_block:
             for folder, name in NAMED.findall(piece):
                 if wanted:
                     raise Wrong(f"{page} does not show the {wanted[0][1]} of {wanted[0][0]}")
                 what = "report" if folder == "examples" else "faults"
+                untold += [name] * (folder == "examples" and is_cookbook)
                 wanted = [(name, "job", job_of(folder, name)), (name, what, content_of(folder, f"{name}.{what}"))]
                 shown.append(name)
         elif wanted:
@@ -62,9 +69,12 @@ def compare_page(page, text, is_cookbook):
             if piece != right and not same_words:
                 raise Wrong(f"{page} shows another {what} of {name} than is stored:\n{piece}")
         elif is_cookbook:
-            raise Wrong(f"{page} shows a block of no example:\n{piece}")
+            if shown[-1:] != untold[-1:] or not are_told(untold.pop(), piece):
+                raise Wrong(f"{page} shows a block of no example and no story:\n{piece}")
     if wanted:
         raise Wrong(f"{page} does not show the {wanted[0][1]} of {wanted[0][0]}")
+    if untold:
+        raise Wrong(f"{page} does not show lines of the story of {untold[0]}")
     return shown
 
 

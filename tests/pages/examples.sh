@@ -24,7 +24,7 @@ for feed in examples/*.feed; do
     "$nursery" < "$feed" | cmp - "${feed%.feed}.report"
     echo "$feed: its report is as stored"
 done
-for name in cleanup hedge race; do tells "examples/$name.feed" 0; done
+for name in cleanup heartbeat hedge race request scan shards; do tells "examples/$name.feed" 0; done
 for name in retry shutdown supervisor; do
     status=0
     "$nursery" < "examples/$name.feed" > "$folder/report" || status=$?
