@@ -4,8 +4,8 @@ ghost use Rattle.fault_text.specs.Table.{count, is_unreached, faults_text, refus
 ghost use Rattle.fault_text.specs.Views.{line_held};
 
 use crate::line::Line;
-use crate::pieces::push_number;
 use std::alloc::AllocError;
+use story_text::push_number;
 
 // Appends how many lines are of each kind.
 pub(crate) fn push_counts(out: &mut Vec<u8>, lines: &[Line]) -> Result<(), AllocError>
@@ -55,8 +55,8 @@ fn refused_in(lines: &[Line]) -> usize
     lines.iter().filter(|line| line.fate.is_refused()).count()
 }
 
-// Appends a number, and what it counts.
-fn push_count(out: &mut Vec<u8>, n: usize, what: &[u8]) -> Result<(), AllocError>
+/// Appends a number, and what it counts. Want of memory is the only error.
+pub fn push_count(out: &mut Vec<u8>, n: usize, what: &[u8]) -> Result<(), AllocError>
     ensures { OnOk result (out.new.items ≡ out.old.items ++ (decimal n ++ what.now)) }
 {
     push_number(out, n as u64)?;
@@ -74,8 +74,8 @@ fn push_faults(out: &mut Vec<u8>, n: usize) -> Result<(), AllocError>
     }
 }
 
-// Appends how many texts were refused, if any were.
-fn push_refused(out: &mut Vec<u8>, n: usize) -> Result<(), AllocError>
+/// Appends after a comma how many texts were refused, if any were. Want of memory is the only error.
+pub fn push_refused(out: &mut Vec<u8>, n: usize) -> Result<(), AllocError>
     ensures { OnOk result (out.new.items ≡ out.old.items ++ refused_text n) }
 {
     if n == 0 {

@@ -14,9 +14,10 @@ mod lines;
 mod notes;
 mod pieces;
 
+pub use counts::{push_count, push_refused};
 pub use deny::Deny;
 pub use fate::Fate;
 pub use line::Line;
 pub use lines::{denied, table};
 pub use notes::push_names_note;
-pub use pieces::{push_left, push_number};
+pub use pieces::{push_left, push_right};

@@ -6,10 +6,9 @@ ghost use Rattle.fault_text.specs.Fates.{more_names, names_text, names_note, rea
 ghost use Rattle.fault_text.specs.Views.{fate_held};
 
 use crate::fate::Fate;
-use crate::pieces::push_number;
 use exc_groups::{Exc, Label};
 use std::alloc::AllocError;
-use story_text::{push_exc, push_label};
+use story_text::{push_exc, push_label, push_number};
 
 // Appends what becomes of a job, and notes: by the limit, and whether the fault was reached.
 pub(crate) fn push_fate(

@@ -1,16 +1,7 @@
-ghost use Rattle.std.specs.Prelude.{◌≡◌, ◌++◌, OnOk, decimal};
+ghost use Rattle.std.specs.Prelude.{◌≡◌, ◌++◌, OnOk};
 ghost use Rattle.fault_text.specs.Table.{spaces, left_text, right_text};
 
-use itoa::Buffer;
 use std::alloc::AllocError;
-
-/// Appends a number in decimal digits. Want of memory is the only error.
-pub fn push_number(out: &mut Vec<u8>, n: u64) -> Result<(), AllocError>
-    ensures { OnOk result (out.new.items ≡ out.old.items ++ decimal n) }
-{
-    let mut buffer = Buffer::new();
-    out.extend_from_slice(buffer.format(n).as_bytes())
-}
 
 // Appends so many spaces.
 pub(crate) fn push_spaces(out: &mut Vec<u8>, count: usize) -> Result<(), AllocError>
@@ -30,8 +21,8 @@ pub fn push_left(out: &mut Vec<u8>, width: usize, text: &[u8]) -> Result<(), All
     push_spaces(out, width.saturating_sub(text.len()))
 }
 
-// Appends spaces up to a width, and a text after them.
-pub(crate) fn push_right(out: &mut Vec<u8>, width: usize, text: &[u8]) -> Result<(), AllocError>
+/// Appends spaces up to a width, and a text after them. Want of memory is the only error.
+pub fn push_right(out: &mut Vec<u8>, width: usize, text: &[u8]) -> Result<(), AllocError>
     ensures { OnOk result (out.new.items ≡ out.old.items ++ right_text width text.now) }
 {
     push_spaces(out, width.saturating_sub(text.len()))?;

@@ -6,8 +6,8 @@ use crate::label::{push_label, push_place};
 use exc_groups::{Exc, Whose};
 use std::alloc::AllocError;
 
-// Appends who made a group.
-fn push_whose(out: &mut Vec<u8>, whose: &Whose) -> Result<(), AllocError>
+/// Appends who made a group of exceptions: the label of a nursery, or `*` for a handler. Want of memory is the only error.
+pub fn push_whose(out: &mut Vec<u8>, whose: &Whose) -> Result<(), AllocError>
     ensures { OnOk result (out.new.items ≡ out.old.items ++ whose_text (whose_of whose.now)) }
 {
     match whose {

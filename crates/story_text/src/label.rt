@@ -5,8 +5,8 @@ use exc_groups::Label;
 use itoa::Buffer;
 use std::alloc::AllocError;
 
-// Appends a number in decimal digits.
-pub(crate) fn push_number(out: &mut Vec<u8>, n: u64) -> Result<(), AllocError>
+/// Appends a number in decimal digits. Want of memory is the only error.
+pub fn push_number(out: &mut Vec<u8>, n: u64) -> Result<(), AllocError>
     ensures { OnOk result (out.new.items ≡ out.old.items ++ decimal n) }
 {
     let mut buffer = Buffer::new();

@@ -1,11 +1,10 @@
-ghost use Rattle.std.specs.Prelude.{◌≡◌, ◌++◌, OnOk, decimal, map};
+ghost use Rattle.std.specs.Prelude.{◌≡◌, ◌++◌, OnOk, map};
 ghost use Rattle.fault_text.specs.Fates.{is_stuck, has_cut, is_refused};
-ghost use Rattle.fault_text.specs.Table.{refused_text};
 ghost use Rattle.sweep_text.specs.Sweeps.{count, values_text, counts_text};
 ghost use Rattle.sweep_text.specs.Views.{value_held};
 
 use crate::value::Value;
-use fault_text::push_number;
+use fault_text::{push_count, push_refused};
 use std::alloc::AllocError;
 
 // Appends how many values are of each kind.
@@ -43,14 +42,6 @@ fn refused_in(values: &[Value]) -> usize
         .count()
 }
 
-// Appends a number, and what it counts.
-fn push_count(out: &mut Vec<u8>, n: usize, what: &[u8]) -> Result<(), AllocError>
-    ensures { OnOk result (out.new.items ≡ out.old.items ++ (decimal n ++ what.now)) }
-{
-    push_number(out, n as u64)?;
-    out.extend_from_slice(what)
-}
-
 // Appends how many values there are.
 fn push_values(out: &mut Vec<u8>, n: usize) -> Result<(), AllocError>
     ensures { OnOk result (out.new.items ≡ out.old.items ++ values_text n) }
@@ -60,15 +51,4 @@ fn push_values(out: &mut Vec<u8>, n: usize) -> Result<(), AllocError>
     } else {
         push_count(out, n, b" values: ")
     }
-}
-
-// Appends for how many values the text is refused, if there are any.
-fn push_refused(out: &mut Vec<u8>, n: usize) -> Result<(), AllocError>
-    ensures { OnOk result (out.new.items ≡ out.old.items ++ refused_text n) }
-{
-    if n == 0 {
-        return Ok(());
-    }
-    out.extend_from_slice(b", ")?;
-    push_count(out, n, b" refused")
 }

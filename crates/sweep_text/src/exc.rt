@@ -1,16 +1,15 @@
 ghost use Rattle.std.specs.Prelude.{◌≡◌, ◌++◌, OnOk, codes};
 ghost use Rattle.exc_groups.specs.Exceptions as tree;
-ghost use Rattle.exc_groups.specs.Held.{exc_of, excs_of, whose_of};
-ghost use Rattle.job_story.specs.Sentences.{whose_text};
+ghost use Rattle.exc_groups.specs.Held.{exc_of, excs_of};
 ghost use Rattle.sweep_text.specs.Groups.{sans_text, sans_parts, sans_more};
 
-use exc_groups::{Exc, Label, Whose};
+use exc_groups::Exc;
 use std::alloc::AllocError;
-use story_text::push_label;
+use story_text::{push_label, push_whose};
 
-// Appends an exception without the ticks in which it was raised, a group with its parts in brackets.
+/// Appends an exception without the ticks in which it was raised, a group with its parts in brackets. Want of memory is the only error.
 #[cycle(exc)]
-pub(crate) fn push_sans(out: &mut Vec<u8>, exc: &Exc) -> Result<(), AllocError>
+pub fn push_sans(out: &mut Vec<u8>, exc: &Exc) -> Result<(), AllocError>
     ensures { OnOk result (out.new.items ≡ out.old.items ++ sans_text (exc_of exc.now)) }
 {
     match exc {
@@ -32,16 +31,6 @@ pub(crate) fn push_sans(out: &mut Vec<u8>, exc: &Exc) -> Result<(), AllocError>
             push_sans_parts(out, parts.as_slice())?;
             out.extend_from_slice(b"]")
         }
-    }
-}
-
-// Appends who made a group.
-fn push_whose(out: &mut Vec<u8>, whose: &Whose) -> Result<(), AllocError>
-    ensures { OnOk result (out.new.items ≡ out.old.items ++ whose_text (whose_of whose.now)) }
-{
-    match whose {
-        Whose::Nursery(label) => push_label(out, label),
-        Whose::Handler => out.extend_from_slice(b"*"),
     }
 }
 

@@ -13,5 +13,6 @@ mod lines;
 mod told;
 mod value;
 
+pub use exc::push_sans;
 pub use lines::sweep_table;
 pub use value::Value;

@@ -10,8 +10,9 @@ use crate::counts::push_counts;
 use crate::group::{Ends, Group};
 use crate::groups::groups_of;
 use crate::value::Value;
-use fault_text::{Fate, push_left, push_number};
+use fault_text::{Fate, push_left};
 use std::alloc::{AllocError, Global};
+use story_text::push_number;
 
 /// The text that tells what becomes of a job: as it is (`first`), for each group of neighbouring values for which the same becomes of it,
 /// and how many values are of each kind. The limit is the last tick at which the job may end. Want of memory is the only error.

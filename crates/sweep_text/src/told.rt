@@ -6,8 +6,9 @@ ghost use Rattle.sweep_text.specs.Groups.{end_sans, head_text, notes_text};
 
 use crate::exc::push_sans;
 use exc_groups::Exc;
-use fault_text::{Fate, push_names_note, push_number};
+use fault_text::{Fate, push_names_note};
 use std::alloc::AllocError;
+use story_text::push_number;
 
 // Appends what becomes of a job, without ticks: by the limit.
 pub(crate) fn push_head(out: &mut Vec<u8>, limit: u64, fate: &Fate) -> Result<(), AllocError>
