@@ -16,6 +16,6 @@ mod waiting;
 
 pub use change::{Change, Piece, changed_text};
 pub use fault::{Fault, Variant, variants};
-pub use number::{Number, block_names, deadline_of, number_at};
+pub use number::{Number, Target, block_names, deadline_of, number_at};
 pub use plan::Plan;
 pub use waiting::{Wait, Waiting, push_wait, waiting_steps};

@@ -19,6 +19,20 @@ pub struct Number {
     pub value: u64,
 }
 
+/// Which number of a job text is meant.
+#[derive(Clone, Copy)]
+pub enum Target {
+    /// The deadline of the scope or nursery of this name.
+    DeadlineOf(Name),
+    /// The number whose first digit is at a line and a column, both counted from 1.
+    At {
+        /// The line.
+        line: usize,
+        /// The column, in bytes.
+        column: usize,
+    },
+}
+
 impl Number {
     /// The change of the text that puts another number in its place.
     pub fn set_to(self, value: u64) -> Change
