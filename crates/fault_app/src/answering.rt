@@ -68,7 +68,7 @@ fn answer<R: Threads + Sync, G: Gate + Sync>(
 {
     match read_job(alloc, job_text) {
         Ok(job) => {
-            let (denied, bytes) = told_of(
+            let (denied, bytes) = table_and_denied(
                 rt, alloc, job_text, &job, input, settings, name, deny, gate,
             )?;
             Ok((FaultsVerdict::Told { denied }, bytes))
@@ -77,8 +77,8 @@ fn answer<R: Threads + Sync, G: Gate + Sync>(
     }
 }
 
-// The lines that are denied, and all bytes.
-fn told_of<R: Threads + Sync, G: Gate + Sync>(
+// The lines that are denied, and the bytes of the table.
+fn table_and_denied<R: Threads + Sync, G: Gate + Sync>(
     rt: &R,
     alloc: Global,
     job_text: &[u8],
@@ -109,8 +109,8 @@ fn told_of<R: Threads + Sync, G: Gate + Sync>(
     Ok((denied, bytes))
 }
 
-// The tokens of a text that spells a job.
-fn tokens_of(alloc: Global, text: &[u8], job: &Job) -> Result<Vec<Token>, AllocError>
+/// The tokens of a text that spells a job. Want of memory is the only error.
+pub fn tokens_of(alloc: Global, text: &[u8], job: &Job) -> Result<Vec<Token>, AllocError>
     requires { Spells text.now job.now }
     ensures { IfOk result (λ tokens. HasTokens text.now tokens.items None) }
 {

@@ -23,9 +23,9 @@ use std::thread::Threads;
 use story_app::told_until;
 use story_text::in_order;
 
-// What becomes of the job that a text spells, by a limit, where the fault in it raises an exception of this name or none. A text that
-// is refused is one of the fates.
-pub(crate) fn fate_of_text<R: Threads + Sync>(
+/// What becomes of the job that a text spells, by a limit in ticks, where the fault in it raises an exception of this name or none. A text
+/// that is refused is one of the fates. The job runs in the calling thread. Want of memory is the only error.
+pub fn fate_of_text<R: Threads + Sync>(
     rt: &R,
     alloc: Global,
     text: &[u8],
@@ -72,9 +72,10 @@ pub(crate) fn reaches_in_text<R: Threads + Sync>(
     }
 }
 
-// What becomes of a job by a limit.
+/// What becomes of a job by a limit in ticks, where the fault in it raises an exception of this name or none. It runs in the calling
+/// thread. Want of memory is the only error.
 #[tactic(auto, using(crate::proofs::Fated::stuck_is, crate::proofs::Fated::ended_is))]
-pub(crate) fn fate_of_job<R: Threads + Sync>(
+pub fn fate_of_job<R: Threads + Sync>(
     rt: &R,
     alloc: Global,
     job: &Job,

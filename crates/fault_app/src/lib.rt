@@ -13,6 +13,7 @@ mod outcome;
 mod summary;
 mod verdict;
 
-pub use answering::faults;
+pub use answering::{faults, tokens_of};
+pub use fate::{fate_of_job, fate_of_text};
 pub use fault_text::Deny;
 pub use verdict::FaultsVerdict;

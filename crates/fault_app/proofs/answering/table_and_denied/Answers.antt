@@ -1,6 +1,6 @@
 use Rattle.fault_text.specs.Views.{fate_held}
 use Rattle.fault_app.proofs.Tabled.{is_table}
-use Rattle.fault_app.proofs.answering.told_of.Goals as goal
+use Rattle.fault_app.proofs.answering.table_and_denied.Goals as goal
 
 pub returns : goal.returns
 returns g c =
