@@ -48,6 +48,10 @@ headed job line column sentence = job ++ codes ":" ++ decimal line ++ codes ":" 
 abbrev pub pointed : List ℕ → ℕ → List ℕ
 pointed text at = before text at ++ behind text at ++ codes "\n" ++ replicate (width_before text at) 32 ++ codes "^\n"
 
+-- what is said of a place
+abbrev pub pointed_message : List ℕ → List ℕ → ℕ → List ℕ → List ℕ
+pointed_message job text at sentence = headed job (line_of text at) (column_of text at) sentence ++ pointed text at
+
 abbrev pub meant_line : List ℕ → List ℕ
 meant_line bytes = codes "did you mean `" ++ map shown_byte bytes ++ codes "`?\n"
 
@@ -75,5 +79,4 @@ hint_of job text (Some h) = hint_line job text h
 abbrev pub Tells : List ℕ → List ℕ → JobFault → List ℕ → Type 0
 Tells job text fault message =
     (symbol : Option Symbol) × (help : Option Hint) × IsAsked fault.kind text symbol × IsHint fault.kind text fault.at help
-    × (message ≡ headed job (line_of text fault.at) (column_of text fault.at) (sentence_of fault.kind (slice_get text fault.at) symbol)
-    ++ pointed text fault.at ++ hint_of job text help)
+    × (message ≡ pointed_message job text fault.at (sentence_of fault.kind (slice_get text fault.at) symbol) ++ hint_of job text help)

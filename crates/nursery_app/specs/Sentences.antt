@@ -11,7 +11,7 @@ token_sentence None = codes "a word, a number, a string or one of `{`, `}` and `
 token_sentence (Some b) =
     if b == 34 then
     codes "a string of 1 to 64 bytes was expected: printable, or `\\\"`, `\\\\` or `\\x` and two of 0-9a-f, and closed by a quote"
-    else if is_digit b then codes "a letter or `_` stands directly behind this number"
+    else if is_digit b then codes "a letter or `_` directly follows this number"
     else if is_letter b then codes "this word has more than 32 bytes"
     else codes "a word, a number, a string or one of `{`, `}` and `;` was expected"
 
@@ -34,7 +34,7 @@ expected_sentence (Some symbol.Over) = codes "expected `over N` or `{`"
 expected_sentence (Some symbol.Given) = codes "expected a name"
 expected_sentence (Some symbol.Raised) = codes "expected the name of an exception"
 expected_sentence (Some symbol.Handled) = codes "expected the name of an exception"
-expected_sentence (Some symbol.Target) = codes "expected the name of a scope or nursery round it"
+expected_sentence (Some symbol.Target) = codes "expected the name of an enclosing scope or nursery"
 expected_sentence (Some symbol.Number) = codes "expected a number"
 expected_sentence (Some symbol.Text) = codes "expected a string, as `\"error\"`"
 expected_sentence (Some symbol.Open) = codes "expected `{`"
@@ -49,10 +49,10 @@ sentence_of Token byte asked = token_sentence byte
 sentence_of Number byte asked =
     codes "a number out of its range: `over` takes 1 to 64, `pace` 1 to 1000000, `repeat` 0 to 1000, others 0 to 1000000000; no leading zero"
 sentence_of Syntax byte asked = expected_sentence asked
-sentence_of Depth byte asked = codes "more than 32 blocks stand in one another"
+sentence_of Depth byte asked = codes "blocks are nested more than 32 deep"
 sentence_of Twice byte asked = codes "this name was given before: jobs, scopes, nurseries and starts need names of their own"
-sentence_of NotEnclosing byte asked = codes "no scope or nursery round this `cancel` has this name"
-sentence_of Reserved byte asked = codes "this name is reserved: no keyword, not `Cancelled`, and `TooSlow` only behind `except`"
+sentence_of NotEnclosing byte asked = codes "no enclosing scope or nursery has this name"
+sentence_of Reserved byte asked = codes "this name is reserved: no keyword, not `Cancelled`, and `TooSlow` only after `except`"
 sentence_of TooLarge byte asked =
     codes "the job has more than 100000 steps, in format 2 more than 1000000, the copies that `over` makes and the passes of `repeat` counted"
 sentence_of NoMemory byte asked = codes "no memory"

@@ -1,7 +1,7 @@
 ghost use Rattle.std.specs.Prelude.{◌≡◌, ◌++◌, ◌<◌, ◌≤◌, length, take, map, replicate, codes, decimal, IfOk, OnOk};
 ghost use Rattle.std.specs.List.{before_first};
 ghost use Rattle.std.specs.String.{string_bytes};
-ghost use Rattle.nursery_app.specs.Explaining.{Tells, headed, shown_byte, is_newline, last_of, most_behind, hint_of, hint_line, meant_line, place_line};
+ghost use Rattle.nursery_app.specs.Explaining.{Tells, pointed_message, headed, shown_byte, is_newline, last_of, most_behind, hint_of, hint_line, meant_line, place_line};
 ghost use Rattle.job_syntax.specs.Keywords.{spelling};
 ghost use Rattle.nursery_app.specs.Places.{line_of, column_of};
 
@@ -19,11 +19,9 @@ const MOST_BEFORE: usize = 60;
 
 const MOST_BEHIND: usize = 40;
 
-/// Tells a refusal to the user: `JOB:LINE:COLUMN: ` and a sentence, the line of the job text, and a caret under the
-/// place. Of a long line the 60 bytes in front of the place and the 40 from it on are shown. A byte that is no printable
-/// ASCII is shown as `?`, and a tab or a carriage return as a space. Where something may help, a line tells it: that format 2 has
+/// Tells a refusal to the user, as `pointed_message` does. Where something may help, a line tells it: that format 2 has
 /// what stands there, a keyword that was nearly spelled, the block that is not closed, where a name was first given. `job` is
-/// the name that the user gave the text.
+/// the name that the user gave the text. Want of memory is the only error.
 pub fn refusal_message(
     alloc: Global,
     job: &str,
@@ -32,11 +30,30 @@ pub fn refusal_message(
 ) -> Result<String, AllocError>
     ensures { IfOk result (λ message. Tells job.now text.now fault (string_bytes message)) }
 {
-    let line = line_of(text, fault.at);
-    let column = column_of(text, fault.at);
     let asked = asked(alloc, text, fault.kind)?;
-    let (front, rest) = text.split_at(fault.at.min(text.len()));
+    let (_, rest) = text.split_at(fault.at.min(text.len()));
     let sentence = sentence_of(fault.kind, rest.first().copied(), asked);
+    let mut message = pointed_message(alloc, job, text, fault.at, sentence)?;
+    push_help(&mut message, job, text, hint_for(alloc, text, fault)?)?;
+    Ok(message)
+}
+
+/// Says something of a place of a job text to the user: `JOB:LINE:COLUMN: ` and a sentence, the line of the job text, and a caret under
+/// the place. Of a long line the 60 bytes before the place and the 40 from it on are shown. A byte that is no printable
+/// ASCII is shown as `?`, and a tab or a carriage return as a space. `job` is the name that the user gave the text. Want of memory is
+/// the only error.
+pub fn pointed_message(
+    alloc: Global,
+    job: &str,
+    text: &[u8],
+    at: usize,
+    sentence: &str,
+) -> Result<String, AllocError>
+    ensures { IfOk result (λ message. string_bytes message ≡ pointed_message job.now text.now at sentence.now) }
+{
+    let line = line_of(text, at);
+    let column = column_of(text, at);
+    let (front, rest) = text.split_at(at.min(text.len()));
     let mut message = headed(alloc, job, line, column, sentence)?;
     let shown = (column - 1).min(MOST_BEFORE);
     push_shown(&mut message, last_bytes(front, shown))?;
@@ -44,7 +61,6 @@ pub fn refusal_message(
     message.push_str("\n")?;
     push_spaces(&mut message, shown)?;
     message.push_str("^\n")?;
-    push_help(&mut message, job, text, hint_for(alloc, text, fault)?)?;
     Ok(message)
 }
 

@@ -6,7 +6,6 @@
 #![tactic(auto)]
 
 mod checking;
-mod command_line;
 mod expecting;
 mod explaining;
 mod feed;
@@ -19,17 +18,14 @@ mod scanning;
 mod sentences;
 mod serving;
 mod verdict;
-mod words;
 
 pub use checking::{check, upgrade};
-pub use command_line::DEFAULT_LIMIT;
-pub use explaining::refusal_message;
+pub use explaining::{pointed_message, refusal_message};
 pub use feed::split_feed;
 pub use job_report::{MemOut, Out, PutFault, SendFault, WriteOut, send};
 pub use job_runner::{Forward, Gate, MOST_INPUT, NoGate, Pick, Reverse, Settings, Turn};
 pub use lines::refusal;
-pub use places::{column_of, line_of};
+pub use places::{column_of, line_of, place_at};
 pub use read::{ReadFault, read_whole};
 pub use serving::serve;
 pub use verdict::{CheckVerdict, ServeFault, Verdict};
-pub use words::{Command, CommandFault, Denied, Order, read_command};

@@ -1,5 +1,5 @@
 ghost use Rattle.std.specs.Prelude.{◌≡◌, ◌≤◌, ◌+◌, length, take};
-ghost use Rattle.nursery_app.specs.Places.{line_of, column_of};
+ghost use Rattle.nursery_app.specs.Places.{line_of, column_of, place_of};
 
 /// The line of a place in a text, counted from 1: the place is a number of bytes from the start of the text.
 pub fn line_of(text: &[u8], at: usize) -> usize
@@ -28,4 +28,29 @@ pub fn column_of(text: &[u8], at: usize) -> usize
         column = if *b == b'\n' { 1 } else { column + 1 };
     }
     column
+}
+
+/// The place of a line and a column of a text, both counted from 1: the number of bytes before it. It may be the place of a newline, or
+/// the text's end. None where the text has fewer lines, or the line fewer columns.
+#[tactic(auto, using(crate::proofs::Placed::is_found))]
+pub fn place_at(text: &[u8], line: usize, column: usize) -> Option<usize>
+    ensures { result ≡ place_of text.now line column }
+{
+    let mut at_line = 1;
+    let mut at_column = 1;
+    'bytes: for (at, b) in text.iter().enumerate() {
+        if at_line == line && at_column == column {
+            return Some(at);
+        }
+        if *b == b'\n' {
+            at_line += 1;
+            at_column = 1;
+        } else {
+            at_column += 1;
+        }
+    }
+    if at_line == line && at_column == column {
+        return Some(text.len());
+    }
+    None
 }

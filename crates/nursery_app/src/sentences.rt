@@ -18,12 +18,12 @@ pub(crate) fn sentence_of(kind: JobKind, byte: Option<u8>, asked: Option<Symbol>
             "a number out of its range: `over` takes 1 to 64, `pace` 1 to 1000000, `repeat` 0 to 1000, others 0 to 1000000000; no leading zero"
         }
         JobKind::Syntax => expected_sentence(asked),
-        JobKind::Depth => "more than 32 blocks stand in one another",
+        JobKind::Depth => "blocks are nested more than 32 deep",
         JobKind::Twice =>
             "this name was given before: jobs, scopes, nurseries and starts need names of their own",
-        JobKind::NotEnclosing => "no scope or nursery round this `cancel` has this name",
+        JobKind::NotEnclosing => "no enclosing scope or nursery has this name",
         JobKind::Reserved =>
-            "this name is reserved: no keyword, not `Cancelled`, and `TooSlow` only behind `except`",
+            "this name is reserved: no keyword, not `Cancelled`, and `TooSlow` only after `except`",
         JobKind::TooLarge =>
             "the job has more than 100000 steps, in format 2 more than 1000000, the copies that `over` makes and the passes of `repeat` counted",
         JobKind::NoMemory => "no memory",
@@ -38,7 +38,7 @@ fn token_sentence(byte: Option<u8>) -> &'static str
         Some(b'"') => {
             "a string of 1 to 64 bytes was expected: printable, or `\\\"`, `\\\\` or `\\x` and two of 0-9a-f, and closed by a quote"
         }
-        Some(b'0'..=b'9') => "a letter or `_` stands directly behind this number",
+        Some(b'0'..=b'9') => "a letter or `_` directly follows this number",
         Some(b'A'..=b'Z' | b'a'..=b'z') => "this word has more than 32 bytes",
         _ => "a word, a number, a string or one of `{`, `}` and `;` was expected",
     }
@@ -68,7 +68,7 @@ fn expected_sentence(symbol: Option<Symbol>) -> &'static str
         Some(Symbol::Over) => "expected `over N` or `{`",
         Some(Symbol::Given) => "expected a name",
         Some(Symbol::Raised | Symbol::Handled) => "expected the name of an exception",
-        Some(Symbol::Target) => "expected the name of a scope or nursery round it",
+        Some(Symbol::Target) => "expected the name of an enclosing scope or nursery",
         Some(Symbol::Number) => "expected a number",
         Some(Symbol::Text) => "expected a string, as `\"error\"`",
         Some(Symbol::Open) => "expected `{`",

@@ -1,31 +1,21 @@
-use Rattle.std.proofs.Common.{◌≡◌, ◌∙◌, ◌++◌, ℕ, List, replicate, ap}
+use Rattle.std.proofs.Common.{◌≡◌, ◌∙◌, ◌++◌, ℕ, List, ap}
 use Rattle.std.specs.Prelude.{Option}
-use Rattle.std.specs.String.{string_bytes}
-use Rattle.nursery_app.specs.Explaining.{width_before, hint_of}
+use Rattle.nursery_app.specs.Explaining.{pointed_message, hint_of}
 use Rattle.nursery_app.specs.Sentences.{sentence_of}
-use Rattle.nursery_app.proofs.Told.{pieces, cut_front, cut_back, width_is, before_is, behind_is, headed_same, first_at}
+use Rattle.nursery_app.proofs.Told.{cut_back, first_at}
 use Rattle.nursery_app.proofs.explaining.refusal_message.Goals as goal
 
 pub returns : goal.returns
 returns c =
     let text = c.args.text.now in
     let at = c.args.fault.at in
-    let width : c.min-shown.result ≡ width_before text at = width_is text at _ _ c.column_of-column.ensures.value c.min-shown.ensures in
-    let front = before_is text _ _ at _ (cut_front text _ at _ c.split_at.ensures.front c.min.ensures) width c.last_bytes.ensures in
-    let rest = cut_back text _ at _ c.split_at.ensures.back c.min.ensures in
-    let back = behind_is text _ _ _ at rest c.first_bytes.ensures c.first_line.ensures in (
+    let rest = cut_back text _ at _ c.split_at.ensures.back c.min.ensures in (
       c.in_ok-asked.asked,
       c.in_ok-hint_for.field-0,
       c.in_ok-asked.ensures,
       c.in_ok-hint_for.ensures,
-      c.in_ok-push_help.ensures ∙ ap (λ (x : List ℕ). x ++ hint_of c.args.job.now c.args.text.now c.in_ok-hint_for.field-0)
-          (pieces _ _ _ _ _ _ _ _ _ _ _ _
-          (c.in_ok-message.ensures ∙ headed_same c.args.job.now _ _ _ _ _ _ c.line_of-line.ensures.value c.column_of-column.ensures.value
+      c.in_ok-push_help.ensures ∙ ap (λ (x : List ℕ). x ++ hint_of c.args.job.now text c.in_ok-hint_for.field-0)
+          (c.in_ok-message.ensures ∙ ap (pointed_message c.args.job.now text at)
           (c.sentence_of-sentence.ensures ∙ ap (λ (x : Option ℕ). sentence_of c.args.fault.kind x c.in_ok-asked.asked)
-          (c.copied.ensures ∙ c.first.ensures.value ∙ first_at text _ at rest)))
-          (c.in_ok-push_shown.ensures ∙ ap (λ (x : List ℕ). string_bytes c.in_ok-message.message ++ x) front)
-          (c.in_ok-push_shown-2.ensures ∙ ap (λ (x : List ℕ). string_bytes c.push_shown.new.message ++ x) back)
-          c.in_ok-push_str.ensures.bytes
-          (c.in_ok-push_spaces.ensures ∙ ap (λ (x : ℕ). string_bytes c.push_str.new.self ++ replicate x 32) width)
-          c.in_ok-push_str-2.ensures.bytes),
+          (c.copied.ensures ∙ c.first.ensures.value ∙ first_at text _ at rest))),
     )

@@ -1,4 +1,8 @@
-use clap::{Arg, Command, value_parser};
+use crate::examples::{
+    CHECK_EXAMPLE, EXAMPLE, EXPLAIN_EXAMPLE, FAULTS_EXAMPLE, RUN_EXAMPLE, SWEEP_EXAMPLE,
+    UPGRADE_EXAMPLE,
+};
+use clap::{Arg, ArgGroup, Command, value_parser};
 use job_runner::{GREATEST_LIMIT, MOST_WORKERS};
 use std::alloc::{AllocError, Global};
 
@@ -13,108 +17,6 @@ const SHOWN_LIMIT: &str = "1000000";
 
 const ABOUT: &str =
     "Runs a job of nurseries and cancel scopes over an input, and reports what each task did";
-
-const EXAMPLE: &str =
-    "With no words at all, nursery reads standard input: a job text, a line that is exactly `%input`,
-and the input.
-
-Example: `first.job` shows each line of its input that holds \"er\".
-
-    $ cat first.job
-    trio-job 1
-    job main {
-      find \"er\";
-    }
-    $ printf 'error\\nok\\n' > log.txt
-    $ nursery run first.job log.txt
-    job main 0
-    task main 0 0 done
-      line 0+5 error
-
-Exit status: 0 the job ended well, or `check` or `upgrade` found a job; 1 it ended with an exception;
-2 the job or the command line was refused; 3 it ends later than the limit; 4 a file could not
-be read or written, or the input is too long; 5 no memory.";
-
-const RUN_EXAMPLE: &str =
-    "Example: the job `watch.job` waits at most 10 ticks, and shows the lines that hold \"ERROR\".
-
-    $ cat watch.job
-    trio-job 1
-    job watch {
-      scope limit after 10 { pace 2; find \"ERROR\"; }
-    }
-    $ printf 'start\\nERROR disk\\n' | nursery run watch.job - --limit 100
-    job watch 1
-    task watch 0 1 done
-      line 6+10 ERROR disk
-      scope limit 1 passed";
-
-const EXPLAIN_EXAMPLE: &str = "Example: who cancelled `slow`, and when?
-
-    $ cat hedge.job
-    trio-job 1
-    job hedge {
-      nursery calls {
-        start fast { sleep 2; cancel calls; }
-        start slow { sleep 9; }
-      }
-    }
-    $ nursery explain hedge.job --task slow
-    tick 0
-      fast  starts in nursery calls
-      fast  sleeps until 2
-      slow  starts in nursery calls
-      slow  sleeps until 9
-    tick 2
-      fast  cancels nursery calls from 3
-      fast  ends: done
-    tick 3
-      slow  is cancelled while sleeping since 0 by nursery calls (cancelled by fast at 2)
-      slow  ends: cancelled";
-
-const FAULTS_EXAMPLE: &str =
-    "A fault is a change of one waiting step: an exception is raised in its place (`fails`) or after it
-(`fails late`), it never ends (`hangs`), or the whole job is cancelled from outside (`cancelled`); a
-`need` finds no line (`misses`).
-
-Example: what if one of two calls hangs?
-
-    $ cat calls.job
-    trio-job 1
-    job calls {
-      nursery all {
-        start user { sleep 2; }
-        start mail { scope limit after 5 { sleep 3; } }
-      }
-    }
-    $ nursery faults calls.job --deny stuck
-                   as it is    3 done
-     4:18  sleep 2  fails       0 raised all[Fault(user@0)]; cancelled: mail
-     4:18  sleep 2  fails late  2 raised all[Fault(user@2)]; cancelled: mail
-     4:18  sleep 2  hangs       stuck at 1000000; sleeping forever: user
-     ...";
-
-const CHECK_EXAMPLE: &str = "Example:
-
-    $ cat wait.job
-    trio-job 1
-    job main { sleep }
-    $ nursery check wait.job
-    refused J6 Syntax at 28
-    wait.job:2:18: expected a number
-    job main { sleep }
-                     ^";
-
-const UPGRADE_EXAMPLE: &str = "Example:
-
-    $ cat first.job
-    trio-job 1
-    job main {
-      find \"er\";
-    }
-    $ nursery upgrade first.job
-    trio-job 2
-    job main{find\"er\";}";
 
 // The program's version, as `--version` tells it.
 const VERSION: &str = "0.1.0";
@@ -131,6 +33,7 @@ pub(crate) fn parser<'a>(alloc: Global) -> Result<Command<'a>, AllocError> {
         .subcommand(run_parser(alloc)?)?
         .subcommand(explain_parser(alloc)?)?
         .subcommand(faults_parser(alloc)?)?
+        .subcommand(sweep_parser(alloc)?)?
         .subcommand(check_parser(alloc)?)?
         .subcommand(upgrade_parser(alloc)?)
 }
@@ -153,9 +56,6 @@ fn run_parser<'a>(alloc: Global) -> Result<Command<'a>, AllocError> {
 
 // What reads the words after `explain`.
 fn explain_parser<'a>(alloc: Global) -> Result<Command<'a>, AllocError> {
-    let input = Arg::new(alloc, "input").value_name("INPUT").help(
-        "The input file, or `-` for standard input; without one the input is empty",
-    );
     let task = Arg::new(alloc, "task")
         .long("task")
         .value_name("LABEL")
@@ -166,7 +66,7 @@ fn explain_parser<'a>(alloc: Global) -> Result<Command<'a>, AllocError> {
         .about("Runs a job over an input and tells what happened to each task, when and why")
         .after_help(EXPLAIN_EXAMPLE)
         .arg(job_argument(alloc))?
-        .arg(input)?
+        .arg(optional_input(alloc))?
         .arg(task)?
         .arg(workers_option(alloc))?
         .arg(order_option(alloc))?
@@ -175,9 +75,6 @@ fn explain_parser<'a>(alloc: Global) -> Result<Command<'a>, AllocError> {
 
 // What reads the words after `faults`.
 fn faults_parser<'a>(alloc: Global) -> Result<Command<'a>, AllocError> {
-    let input = Arg::new(alloc, "input").value_name("INPUT").help(
-        "The input file, or `-` for standard input; without one the input is empty",
-    );
     let name = Arg::new(alloc, "name")
         .long("name")
         .value_name("NAME")
@@ -195,9 +92,42 @@ fn faults_parser<'a>(alloc: Global) -> Result<Command<'a>, AllocError> {
         )
         .after_help(FAULTS_EXAMPLE)
         .arg(job_argument(alloc))?
-        .arg(input)?
+        .arg(optional_input(alloc))?
         .arg(name)?
         .arg(deny)?
+        .arg(workers_option(alloc))?
+        .arg(limit_option(alloc))
+}
+
+// What reads the words after `sweep`.
+fn sweep_parser<'a>(alloc: Global) -> Result<Command<'a>, AllocError> {
+    let of = Arg::new(alloc, "of")
+        .long("of")
+        .value_name("NAME")
+        .help("Vary the deadline of the scope or nursery of this name");
+    let at = Arg::new(alloc, "at").long("at").value_name("LINE:COL").help(
+        "Vary the number that begins at this place of the job file",
+    );
+    let target = ArgGroup::new(alloc, "target")
+        .arg("of")?
+        .arg("at")?
+        .required(true);
+    let values = Arg::new(alloc, "values")
+        .long("values")
+        .value_name("A..B[:STEP]")
+        .help(
+            "The values: A, then each STEP above the one before it, up to B; at most 100000 of them",
+        )
+        .required(true);
+    Command::new(alloc, "sweep")
+        .about("Tells what becomes of a job for each value of one of its numbers")
+        .after_help(SWEEP_EXAMPLE)
+        .arg(job_argument(alloc))?
+        .arg(optional_input(alloc))?
+        .arg(of)?
+        .arg(at)?
+        .arg(values)?
+        .group(target)?
         .arg(workers_option(alloc))?
         .arg(limit_option(alloc))
 }
@@ -225,6 +155,12 @@ fn job_argument<'a>(alloc: Global) -> Arg<'a> {
         .value_name("JOB")
         .help("The job file, or `-` for standard input")
         .required(true)
+}
+
+fn optional_input<'a>(alloc: Global) -> Arg<'a> {
+    Arg::new(alloc, "input").value_name("INPUT").help(
+        "The input file, or `-` for standard input; without one the input is empty",
+    )
 }
 
 fn workers_option<'a>(alloc: Global) -> Arg<'a> {

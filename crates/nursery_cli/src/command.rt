@@ -1,0 +1,121 @@
+ghost use Rattle.std.specs.Prelude.{◌≡◌};
+ghost use Rattle.nursery_cli.specs.declared.command.CommandFault.TheVariants.{NoMemory};
+
+use fault_text::Deny;
+use job_edits::Target;
+use job_tree::Name;
+use std::alloc::AllocError;
+use thiserror::Error;
+
+/// The order in which the ready tasks of a batch have their turns.
+#[derive(Clone, Copy, Debug, PartialEq, Eq)]
+pub enum Order {
+    /// The first of those left, always.
+    Forward,
+    /// The last of those left, always.
+    Reverse,
+    /// One after the other, by the number of picks so far.
+    Turn,
+}
+
+/// What the words after the program's name ask for.
+#[derive(Drop)]
+pub enum Command {
+    /// No words: a feed on standard input.
+    Feed,
+    /// A job over an input, each named by its file, or `-` for standard input.
+    Run {
+        /// The job file.
+        job: String,
+        /// The input file.
+        input: String,
+        /// The number of workers, 1 to 64.
+        workers: usize,
+        /// The order of turns.
+        order: Order,
+        /// The last tick at which the job may end, at most 4,294,967,295.
+        limit: u64,
+    },
+    /// The story of a job over an input: why each task ended as it did.
+    Explain {
+        /// The job file, or `-` for standard input.
+        job: String,
+        /// The input file, or `-` for standard input; none is an empty input.
+        input: Option<String>,
+        /// The label of the one task that the story is to be about; none is all of them.
+        task: Option<String>,
+        /// The number of workers, 1 to 64.
+        workers: usize,
+        /// The order of turns.
+        order: Order,
+        /// The last tick of the story, at most 4,294,967,295.
+        limit: u64,
+    },
+    /// What becomes of a job over an input with each fault of its waiting steps.
+    Faults {
+        /// The job file, or `-` for standard input.
+        job: String,
+        /// The input file, or `-` for standard input; none is an empty input.
+        input: Option<String>,
+        /// The name of the exception that a faulty step raises: no word that a step may not raise.
+        name: Name,
+        /// The lines that are denied.
+        deny: Deny,
+        /// The number of threads, 1 to 64.
+        workers: usize,
+        /// The last tick at which a job may end, at most 4,294,967,295.
+        limit: u64,
+    },
+    /// What becomes of a job over an input for each value of one of its numbers.
+    Sweep {
+        /// The job file, or `-` for standard input.
+        job: String,
+        /// The input file, or `-` for standard input; none is an empty input.
+        input: Option<String>,
+        /// Which number takes the values.
+        target: Target,
+        /// The values, 1 to 100,000 of them, from the smallest to the greatest.
+        values: Vec<u64>,
+        /// The number of threads, 1 to 64.
+        workers: usize,
+        /// The last tick at which a job may end, at most 4,294,967,295.
+        limit: u64,
+    },
+    /// The canonical text of a job.
+    Check {
+        /// The job file, or `-` for standard input.
+        job: String,
+    },
+    /// The canonical text of the same job in format 2.
+    Upgrade {
+        /// The job file, or `-` for standard input.
+        job: String,
+    },
+    /// A text that was asked for: help, or the version.
+    Help {
+        /// The text, with its last newline.
+        text: String,
+    },
+}
+
+/// Why words are no command.
+#[derive(Debug, PartialEq, Eq, Drop, Error)]
+pub enum CommandFault {
+    /// The words ask for nothing that the program does.
+    #[error("{text}")]
+    Refused {
+        /// What is wrong, for the user, with its last newline.
+        text: String,
+    },
+    /// Memory was refused.
+    #[error("no memory")]
+    NoMemory,
+}
+
+impl From<AllocError> for CommandFault {
+    ghost from_gives = { λ _ e. e ≡ NoMemory };
+
+    fn from(_error: AllocError) -> CommandFault {
+        CommandFault::NoMemory
+    }
+}

@@ -1,0 +1,137 @@
+// The examples that help shows. `tests/command` compares those of `explain`, `faults` and `sweep` with what the program writes.
+
+pub(crate) const EXAMPLE: &str =
+    "With no words at all, nursery reads standard input: a job text, a line that is exactly `%input`,
+and the input.
+
+Example: `first.job` shows each line of its input that holds \"er\".
+
+    $ cat first.job
+    trio-job 1
+    job main {
+      find \"er\";
+    }
+    $ printf 'error\\nok\\n' > log.txt
+    $ nursery run first.job log.txt
+    job main 0
+    task main 0 0 done
+      line 0+5 error
+
+Exit status: 0 the job ended well, or `check` or `upgrade` found a job; 1 it ended with an exception;
+2 the job or the command line was refused; 3 it ends later than the limit; 4 a file could not
+be read or written, or the input is too long; 5 no memory.";
+
+pub(crate) const RUN_EXAMPLE: &str =
+    "Example: the job `watch.job` waits at most 10 ticks, and shows the lines that hold \"ERROR\".
+
+    $ cat watch.job
+    trio-job 1
+    job watch {
+      scope limit after 10 { pace 2; find \"ERROR\"; }
+    }
+    $ printf 'start\\nERROR disk\\n' | nursery run watch.job - --limit 100
+    job watch 1
+    task watch 0 1 done
+      line 6+10 ERROR disk
+      scope limit 1 passed";
+
+pub(crate) const EXPLAIN_EXAMPLE: &str = "Example: who cancelled `slow`, and when?
+
+    $ cat hedge.job
+    trio-job 1
+    job hedge {
+      nursery calls {
+        start fast { sleep 2; cancel calls; }
+        start slow { sleep 9; }
+      }
+    }
+    $ nursery explain hedge.job --task slow
+    tick 0
+      fast  starts in nursery calls
+      fast  sleeps until 2
+      slow  starts in nursery calls
+      slow  sleeps until 9
+    tick 2
+      fast  cancels nursery calls from 3
+      fast  ends: done
+    tick 3
+      slow  is cancelled while sleeping since 0 by nursery calls (cancelled by fast at 2)
+      slow  ends: cancelled";
+
+pub(crate) const FAULTS_EXAMPLE: &str =
+    "A fault is a change of one waiting step: an exception is raised in its place (`fails`) or after it
+(`fails late`), it never ends (`hangs`), or the whole job is cancelled from outside (`cancelled`); a
+`need` finds no line (`misses`).
+
+Example: what if one of two calls fails or hangs?
+
+    $ cat calls.job
+    trio-job 1
+    job calls {
+      nursery all {
+        start user { sleep 2; }
+        start mail { scope limit after 5 { sleep 3; } }
+      }
+    }
+    $ nursery faults calls.job
+                   as it is    3 done
+    4:18  sleep 2  fails       1 raised all[Fault(user@0)]; cancelled: mail
+    4:18  sleep 2  fails late  3 raised all[Fault(user@2)]; cancelled: mail
+    4:18  sleep 2  hangs       stuck at 1000000; sleeping forever: user
+    4:18  sleep 2  cancelled   1 done; cancelled: user, mail
+    5:40  sleep 3  fails       1 raised all[Fault(mail@0)]; cancelled: user
+    5:40  sleep 3  fails late  3 raised all[Fault(mail@3)]
+    5:40  sleep 3  hangs       5 done
+    5:40  sleep 3  cancelled   1 done; cancelled: user, mail
+    8 faults: 1 stuck, 0 cut a cleanup, 0 lost, 0 not reached
+
+Exit status: 0, or 1 where a line is denied; the others are those of `run`.";
+
+pub(crate) const SWEEP_EXAMPLE: &str =
+    "Neighbouring values share a line where the same becomes of the job, apart from ticks. A value that the
+job text cannot have is told as `refused`.
+
+Example: how long a deadline do these two calls need?
+
+    $ cat fetch.job
+    trio-job 1
+    job fetch {
+      scope limit after 5 fail { sleep 3; sleep 4; }
+    }
+    $ nursery sweep fetch.job --of limit --values 1..20
+    as it is  raised TooSlow(limit), ends 5
+    1..7      raised TooSlow(limit), ends 1..7
+    8..20     done, ends 7
+    20 values: 0 stuck, 0 cut a cleanup
+
+The same by the place of the number, which begins in column 21 of line 3:
+
+    $ nursery sweep fetch.job --at 3:21 --values 7..8
+    as it is  raised TooSlow(limit), ends 5
+    7         raised TooSlow(limit), ends 7
+    8         done, ends 7
+    2 values: 0 stuck, 0 cut a cleanup
+
+Exit status: 0; the others are those of `run`.";
+
+pub(crate) const CHECK_EXAMPLE: &str = "Example:
+
+    $ cat wait.job
+    trio-job 1
+    job main { sleep }
+    $ nursery check wait.job
+    refused J6 Syntax at 28
+    wait.job:2:18: expected a number
+    job main { sleep }
+                     ^";
+
+pub(crate) const UPGRADE_EXAMPLE: &str = "Example:
+
+    $ cat first.job
+    trio-job 1
+    job main {
+      find \"er\";
+    }
+    $ nursery upgrade first.job
+    trio-job 2
+    job main{find\"er\";}";

@@ -1,0 +1,221 @@
+ghost use Rattle.std.specs.Prelude.{◌≡◌, [], Ok, IfOk, IfSome, IsTrue};
+ghost use Rattle.nursery_cli.specs.declared.command.Command.TheVariants.{Feed};
+ghost use Rattle.nursery_cli.specs.Words.{IsFit, IsAsked, may_be_raised};
+
+use crate::command::{Command, CommandFault, Order};
+use crate::common::{choices_of, owned, refusal};
+use crate::parser::{DEFAULT_FAULT, parser};
+use crate::sweeping::{target_of, values_of};
+use clap::ArgMatches;
+use clap::error::ErrorKind;
+use fault_text::Deny;
+use job_syntax::Keyword;
+use job_tree::Name;
+use std::alloc::Global;
+
+/// Reads the words after the program's name.
+pub fn read_command(alloc: Global, words: &[String]) -> Result<Command, CommandFault>
+    ensures feed { words.now ≡ [] → result ≡ Ok Feed }
+    ensures only { result ≡ Ok Feed → words.now ≡ [] }
+    ensures fit { IfOk result IsFit }
+{
+    if words.is_empty() {
+        return Ok(Command::Feed);
+    }
+    asked(alloc, words)
+}
+
+// The command of some words.
+fn asked(alloc: Global, words: &[String]) -> Result<Command, CommandFault>
+    ensures { IfOk result IsAsked }
+{
+    match parser(alloc)?.try_get_matches_from(words) {
+        Ok(matches) => chosen(alloc, &matches),
+        Err(error) => unmatched(alloc, &error),
+    }
+}
+
+// The text that was asked for, or that says what is wrong.
+fn unmatched(alloc: Global, error: &clap::Error) -> Result<Command, CommandFault>
+    ensures { IfOk result IsAsked }
+{
+    match error.kind() {
+        ErrorKind::OutOfMemory => Err(CommandFault::NoMemory),
+        ErrorKind::DisplayHelp | ErrorKind::DisplayVersion => Ok(Command::Help {
+            text: error.to_string(alloc)?,
+        }),
+        _ => Err(CommandFault::Refused {
+            text: error.to_string(alloc)?,
+        }),
+    }
+}
+
+// The command of words that fit the parser.
+fn chosen(alloc: Global, matches: &ArgMatches<'_>) -> Result<Command, CommandFault>
+    ensures { IfOk result IsAsked }
+{
+    let Some((name, inner)) = matches.subcommand() else {
+        return Err(refusal(alloc, "error: name a command\n"));
+    };
+    let Some(job) = inner.get_str("job") else {
+        return Err(refusal(alloc, "error: name the job file\n"));
+    };
+    match name {
+        "run" => run_command(alloc, job, inner),
+        "explain" => explain_command(alloc, job, inner),
+        "faults" => faults_command(alloc, job, inner),
+        "sweep" => sweep_command(alloc, job, inner),
+        "upgrade" => Ok(Command::Upgrade {
+            job: String::from_str(alloc, job)?,
+        }),
+        _ => Ok(Command::Check {
+            job: String::from_str(alloc, job)?,
+        }),
+    }
+}
+
+// The command `run` with its settings.
+fn run_command(alloc: Global, job: &str, matches: &ArgMatches<'_>) -> Result<Command, CommandFault>
+    ensures { IfOk result IsAsked }
+{
+    let Some(input) = matches.get_str("input") else {
+        return Err(refusal(alloc, "error: name the input file\n"));
+    };
+    let choices = choices_of(alloc, job, Some(input), matches)?;
+    Ok(Command::Run {
+        job: String::from_str(alloc, job)?,
+        input: String::from_str(alloc, input)?,
+        workers: choices.workers,
+        order: order_named(matches.get_str("order")),
+        limit: choices.limit,
+    })
+}
+
+// The command `explain` with its settings.
+fn explain_command(
+    alloc: Global,
+    job: &str,
+    matches: &ArgMatches<'_>,
+) -> Result<Command, CommandFault>
+    ensures { IfOk result IsAsked }
+{
+    let input = matches.get_str("input");
+    let choices = choices_of(alloc, job, input, matches)?;
+    Ok(Command::Explain {
+        job: String::from_str(alloc, job)?,
+        input: owned(alloc, input)?,
+        task: owned(alloc, matches.get_str("task"))?,
+        workers: choices.workers,
+        order: order_named(matches.get_str("order")),
+        limit: choices.limit,
+    })
+}
+
+// The command `faults` with its settings.
+fn faults_command(
+    alloc: Global,
+    job: &str,
+    matches: &ArgMatches<'_>,
+) -> Result<Command, CommandFault>
+    ensures { IfOk result IsAsked }
+{
+    let input = matches.get_str("input");
+    let choices = choices_of(alloc, job, input, matches)?;
+    let name = raised_name(alloc, matches.get_str("name").unwrap_or(DEFAULT_FAULT))?;
+    let deny = denied_kinds(alloc, matches.get_str("deny").unwrap_or(""))?;
+    Ok(Command::Faults {
+        job: String::from_str(alloc, job)?,
+        input: owned(alloc, input)?,
+        name,
+        deny,
+        workers: choices.workers,
+        limit: choices.limit,
+    })
+}
+
+// The command `sweep` with its settings.
+fn sweep_command(
+    alloc: Global,
+    job: &str,
+    matches: &ArgMatches<'_>,
+) -> Result<Command, CommandFault>
+    ensures { IfOk result IsAsked }
+{
+    let input = matches.get_str("input");
+    let choices = choices_of(alloc, job, input, matches)?;
+    let target = target_of(alloc, matches.get_str("of"), matches.get_str("at"))?;
+    let values = values_of(alloc, matches.get_str("values").unwrap_or(""))?;
+    Ok(Command::Sweep {
+        job: String::from_str(alloc, job)?,
+        input: owned(alloc, input)?,
+        target,
+        values,
+        workers: choices.workers,
+        limit: choices.limit,
+    })
+}
+
+// The name of that exception, where a step may raise it.
+fn raised_name(alloc: Global, word: &str) -> Result<Name, CommandFault>
+    ensures { IfOk result (λ name. IsTrue (may_be_raised name)) }
+{
+    match Name::new(word.as_bytes()) {
+        Some(name) if may_be_raised(name) => Ok(name),
+        _ => Err(refused_name(alloc, word)),
+    }
+}
+
+// Whether a step may raise an exception of this name.
+fn may_be_raised(name: Name) -> bool
+    ensures { result ≡ may_be_raised name }
+{
+    Keyword::of(name).is_none()
+        && name.bytes() != b"Cancelled".as_slice()
+        && name.bytes() != b"TooSlow".as_slice()
+}
+
+// The refusal of a name that no step may raise.
+fn refused_name(alloc: Global, word: &str) -> CommandFault {
+    let text = format!(in alloc;
+        "error: no step can raise `{word}`: --name takes a letter, then letters, digits and `_`, at most 32 in all, and no keyword, `Cancelled` or `TooSlow`\n"
+    );
+    match text {
+        Ok(text) => CommandFault::Refused { text },
+        Err(_) => CommandFault::NoMemory,
+    }
+}
+
+// The kinds that are denied, by their names with commas between them.
+fn denied_kinds(alloc: Global, names: &str) -> Result<Deny, CommandFault> {
+    let mut deny = Deny {
+        stuck: false,
+        cut: false,
+        lost: false,
+    };
+    if names.is_empty() {
+        return Ok(deny);
+    }
+    'names: for name in names.split(',') {
+        match name {
+            "stuck" => deny.stuck = true,
+            "cut" => deny.cut = true,
+            "lost" => deny.lost = true,
+            _ => {
+                let text = format!(in alloc;
+                    "error: `{name}` cannot be denied: --deny takes `stuck`, `cut` and `lost`, with commas between them\n"
+                )?;
+                return Err(CommandFault::Refused { text });
+            }
+        }
+    }
+    Ok(deny)
+}
+
+// The order of that name; forward where none is given.
+fn order_named(name: Option<&str>) -> Order {
+    match name {
+        Some("reverse") => Order::Reverse,
+        Some("turn") => Order::Turn,
+        _ => Order::Forward,
+    }
+}

@@ -1,0 +1,116 @@
+ghost use Rattle.std.specs.Prelude.{◌≡◌, ◌≤◌, length, vec_len, IfOk};
+ghost use Rattle.nursery_cli.specs.Values.{values_from};
+ghost use Rattle.nursery_cli.specs.Words.{AreValues};
+
+use crate::command::CommandFault;
+use crate::common::refusal;
+use job_edits::Target;
+use job_tree::Name;
+use std::alloc::{AllocError, Global};
+
+// The most values of a sweep.
+const MOST_VALUES: u32 = 100_000;
+
+/// The number that a sweep varies, by the name of a scope or nursery or by a place.
+pub(crate) fn target_of(
+    alloc: Global,
+    of: Option<&str>,
+    at: Option<&str>,
+) -> Result<Target, CommandFault> {
+    match (of, at) {
+        (Some(word), _) => named_target(alloc, word),
+        (None, Some(place)) => placed_target(alloc, place),
+        (None, None) => Err(refusal(
+            alloc,
+            "error: name the number to vary: --of NAME or --at LINE:COL\n",
+        )),
+    }
+}
+
+// The deadline of the scope or nursery of a name.
+fn named_target(alloc: Global, word: &str) -> Result<Target, CommandFault> {
+    if let Some(name) = Name::new(word.as_bytes()) {
+        return Ok(Target::DeadlineOf(name));
+    }
+    let text = format!(in alloc;
+        "error: `{word}` is no name: --of takes the name of a scope or nursery\n"
+    )?;
+    Err(CommandFault::Refused { text })
+}
+
+// The number at a place, as `4:18`.
+fn placed_target(alloc: Global, place: &str) -> Result<Target, CommandFault> {
+    if let Some((line, column)) = place.split_once(':') {
+        if let (Ok(line), Ok(column)) = (line.parse::<usize>(), column.parse::<usize>()) {
+            return Ok(Target::At { line, column });
+        }
+    }
+    let text = format!(in alloc; "error: `{place}` is no place: --at takes LINE:COL, as 4:18\n")?;
+    Err(CommandFault::Refused { text })
+}
+
+// A first and a last value, and the step from one to the next.
+#[derive(Clone, Copy)]
+struct Span {
+    first: u32,
+    last: u32,
+    step: u32,
+}
+
+/// The values of a span, as `1..60` or `1..60:5`.
+pub(crate) fn values_of(alloc: Global, span: &str) -> Result<Vec<u64>, CommandFault>
+    ensures { IfOk result (λ values. AreValues values.items) }
+{
+    let Some(Span { first, last, step }) = span_of(span) else {
+        return Err(refused_span(alloc, span));
+    };
+    if step == 0 || last < first {
+        return Err(refused_span(alloc, span));
+    }
+    let more = (last - first) / step;
+    if more >= MOST_VALUES {
+        let text = format!(in alloc; "error: `{span}` has more than {MOST_VALUES} values\n")?;
+        return Err(CommandFault::Refused { text });
+    }
+    Ok(values_from(alloc, first, step, more + 1)?)
+}
+
+// The numbers of a span, as `1..60` or `1..60:5`: a step of 1 where none is given.
+fn span_of(span: &str) -> Option<Span> {
+    let (first, rest) = span.split_once("..")?;
+    let (last, step) = match rest.split_once(':') {
+        Some((last, step)) => (last, step.parse::<u32>().ok()?),
+        None => (rest, 1),
+    };
+    Some(Span {
+        first: first.parse::<u32>().ok()?,
+        last: last.parse::<u32>().ok()?,
+        step,
+    })
+}
+
+// The refusal of words that are no span.
+fn refused_span(alloc: Global, span: &str) -> CommandFault {
+    let text = format!(in alloc;
+        "error: `{span}` gives no values: --values takes A..B or A..B:STEP, as 1..60 or 10..100:5, with A at most B and STEP at least 1\n"
+    );
+    match text {
+        Ok(text) => CommandFault::Refused { text },
+        Err(_) => CommandFault::NoMemory,
+    }
+}
+
+// So many values from a first one on, each a step above the one before it.
+fn values_from(alloc: Global, first: u32, step: u32, count: u32) -> Result<Vec<u64>, AllocError>
+    ensures { IfOk result (λ values. values.items ≡ values_from first step count) }
+{
+    let mut values = Vec::new(alloc);
+    let mut value = u64::from(first);
+    let mut left = count;
+    'values: while left > 0 {
+        values.push(value)?;
+        value += u64::from(step);
+        left -= 1;
+    }
+    Ok(values)
+}
