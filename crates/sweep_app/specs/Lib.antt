@@ -1,0 +1,5 @@
+pub mod Nearest
+pub mod Targets
+pub mod Slots
+pub mod Verdicts
+pub mod Statuses

@@ -1,0 +1,75 @@
+ghost use Rattle.std.specs.Prelude.{IfOk};
+ghost use Rattle.sweep_app.specs.Targets.{IsFound};
+ghost use Rattle.sweep_app.specs.declared.number.Found.TheVariants as found;
+ghost use Rattle.job_edits.specs.declared.number.Target.TheVariants as target;
+
+use crate::nearest::{is_one_of, nearest_in};
+use crate::verdict::Missing;
+use job_edits::{Number, Target, block_names, deadline_of, number_at};
+use job_tokens::Token;
+use job_tree::Name;
+use nursery_app::place_at;
+use std::alloc::{AllocError, Global};
+
+/// The number that is meant, or why there is none.
+#[derive(Clone, Copy)]
+pub enum Found {
+    /// The number.
+    Number(Number),
+    /// Why the text does not have it.
+    Missing(Missing),
+}
+
+/// The number of a text of these tokens that is meant.
+pub(crate) fn number_for(
+    alloc: Global,
+    text: &[u8],
+    tokens: &[Token],
+    target: Target,
+) -> Result<Found, AllocError>
+    ensures { IfOk result (IsFound text.now tokens.now target) }
+{
+    match target {
+        Target::DeadlineOf(name) => deadline_for(alloc, text, tokens, name),
+        Target::At { line, column } => number_on(alloc, text, tokens, line, column),
+    }
+}
+
+// The deadline of the scope or nursery of a name.
+fn deadline_for(
+    alloc: Global,
+    text: &[u8],
+    tokens: &[Token],
+    name: Name,
+) -> Result<Found, AllocError>
+    ensures { IfOk result (IsFound text.now tokens.now (target.DeadlineOf name)) }
+{
+    let blocks = block_names(alloc, tokens)?;
+    if !is_one_of(name, blocks.as_slice()) {
+        let nearest = nearest_in(alloc, name, blocks.as_slice())?;
+        return Ok(Found::Missing(Missing::NoBlock { nearest }));
+    }
+    match deadline_of(alloc, name, tokens)? {
+        Some(number) => Ok(Found::Number(number)),
+        None => Ok(Found::Missing(Missing::NoDeadline)),
+    }
+}
+
+// The number at a line and a column.
+fn number_on(
+    alloc: Global,
+    text: &[u8],
+    tokens: &[Token],
+    line: usize,
+    column: usize,
+) -> Result<Found, AllocError>
+    ensures { IfOk result (IsFound text.now tokens.now (target.At line column)) }
+{
+    let Some(at) = place_at(text, line, column) else {
+        return Ok(Found::Missing(Missing::NoPlace));
+    };
+    match number_at(alloc, at, tokens)? {
+        Some(number) => Ok(Found::Number(number)),
+        None => Ok(Found::Missing(Missing::NoNumber { at })),
+    }
+}

@@ -1,0 +1,135 @@
+ghost use Rattle.std.specs.Prelude.{◌≡◌, ◌<◌, ◌≤◌, length, IfOk, IfErr, OnOk, map, None};
+ghost use Rattle.job_meaning.specs.declared.limits.TheConstants.{MOST_INPUT};
+ghost use Rattle.job_grammar.specs.Refusals.{Spells};
+ghost use Rattle.nursery_app.specs.Verdict.{CountsFailure};
+ghost use Rattle.fault_text.specs.Fates.{fate_of};
+ghost use Rattle.sweep_text.specs.Sweeps.{sweep_text};
+ghost use Rattle.sweep_app.specs.Slots.{IsToldOf};
+ghost use Rattle.sweep_app.specs.Verdicts.{IsVerdict, IsJobVerdict, IsSent, IsSweepFault};
+
+use crate::number::{Found, number_for};
+use crate::slots::{Swept, fates_for};
+use crate::verdict::SweepVerdict;
+use fault_app::{fate_of_job, tokens_of};
+use job_edits::Target;
+use job_grammar::{Job, read_job};
+use job_report::{Out, send};
+use job_runner::Settings;
+use nursery_app::{Gate, ServeFault, refusal};
+use std::alloc::{AllocError, Global};
+use std::thread::Threads;
+use sweep_text::sweep_table;
+
+/// Writes what becomes of a job over an input for each of these values of one of its numbers, in their order: as it is first, then a line
+/// for each group of neighbouring values for which the same becomes of the job apart from ticks, and how many values are of each kind. A
+/// value is put into the job text in the place of the number's digits, and its line tells of the changed text by the job's one-thread
+/// meaning; a value that the text cannot have there is told as refused. A job text that is refused has its refusal written. Where the text
+/// does not have the number that is meant, nothing is written.
+///
+/// The settings' number of workers is the number of threads among which the values are split; the gate is called around each value, with its
+/// place among them, by the thread that works on it. Neither changes a byte. All bytes are built before the first is sent, so after
+/// `NoMemory` nothing was sent.
+pub fn sweep<R: Threads + Sync, G: Gate + Sync, W: Out>(
+    rt: &R,
+    alloc: Global,
+    job_text: &[u8],
+    input: &[u8],
+    settings: Settings,
+    target: Target,
+    values: &[u64],
+    gate: &G,
+    out: &mut W,
+) -> Result<SweepVerdict, ServeFault>
+    requires input { length input.now ≤ MOST_INPUT }
+    requires countable { W.failed out.old < 18446744073709551615 }
+
+    // The bytes written tell of each value, or are the refusal of the text, or are none.
+    ensures sent { IfOk result (IsSent job_text.now input.now settings.limit target values.now (W.contents out.old) (W.contents out.new)) }
+    ensures well { OnOk result (W.failed out.new ≡ W.failed out.old) }
+
+    // A writer that failed took the front of those bytes; after want of memory nothing was sent.
+    ensures fault { IfErr result (IsSweepFault job_text.now input.now settings.limit target values.now (W.contents out.old) (W.contents out.new)) }
+    ensures counted { IfErr result (CountsFailure (W.failed out.old) (W.failed out.new)) }
+{
+    let (verdict, bytes) = answer(rt, alloc, job_text, input, settings, target, values, gate)?;
+    send(bytes.as_slice(), out)?;
+    Ok(verdict)
+}
+
+// The verdict and all its bytes.
+fn answer<R: Threads + Sync, G: Gate + Sync>(
+    rt: &R,
+    alloc: Global,
+    job_text: &[u8],
+    input: &[u8],
+    settings: Settings,
+    target: Target,
+    values: &[u64],
+    gate: &G,
+) -> Result<(SweepVerdict, Vec<u8>), AllocError>
+    requires { length input.now ≤ MOST_INPUT }
+    ensures { IfOk result (λ r. IsVerdict job_text.now input.now settings.limit target values.now r.0 r.1.items) }
+{
+    match read_job(alloc, job_text) {
+        Ok(job) => {
+            let answer = answer_for_job(
+                rt, alloc, job_text, &job, input, settings, target, values, gate,
+            )?;
+            Ok(answer)
+        }
+        Err(fault) => Ok((SweepVerdict::JobRefused(fault), refusal(alloc, fault)?)),
+    }
+}
+
+// The verdict on a text that spells a job, and all its bytes.
+#[tactic(auto, using(crate::proofs::Tabled::is_sweep, crate::proofs::Tabled::has_no_target))]
+fn answer_for_job<R: Threads + Sync, G: Gate + Sync>(
+    rt: &R,
+    alloc: Global,
+    job_text: &[u8],
+    job: &Job,
+    input: &[u8],
+    settings: Settings,
+    target: Target,
+    values: &[u64],
+    gate: &G,
+) -> Result<(SweepVerdict, Vec<u8>), AllocError>
+    requires input { length input.now ≤ MOST_INPUT }
+    requires spells { Spells job_text.now job.now }
+    ensures { IfOk result (λ r. IsJobVerdict job_text.now job.now input.now settings.limit target values.now r.0 r.1.items) }
+{
+    let tokens = tokens_of(alloc, job_text, job)?;
+    match number_for(alloc, job_text, tokens.as_slice(), target)? {
+        Found::Number(number) => {
+            let swept = Swept {
+                text: job_text,
+                input,
+                limit: settings.limit(),
+                number,
+            };
+            let bytes = table(rt, alloc, job, &swept, values, settings.workers(), gate)?;
+            Ok((SweepVerdict::Told, bytes))
+        }
+        Found::Missing(missing) => Ok((SweepVerdict::NoTarget(missing), Vec::new(alloc))),
+    }
+}
+
+// The text that tells what becomes of the job for each value.
+#[tactic(auto, using(crate::proofs::Tabled::is_told))]
+fn table<R: Threads + Sync, G: Gate + Sync>(
+    rt: &R,
+    alloc: Global,
+    job: &Job,
+    swept: &Swept<'_>,
+    values: &[u64],
+    workers: usize,
+    gate: &G,
+) -> Result<Vec<u8>, AllocError>
+    requires input { length swept.now.input.now ≤ MOST_INPUT }
+    requires some_workers { 1 ≤ workers }
+    ensures { IfOk result (λ bytes. IsToldOf job.now swept.now values.now bytes.items) }
+{
+    let first = fate_of_job(rt, alloc, job, swept.input, swept.limit, None)?;
+    let told = fates_for(rt, alloc, swept, values, workers, gate)?;
+    sweep_table(alloc, swept.limit, &first, told.as_slice())
+}
