@@ -15,6 +15,10 @@ use Rattle.fault_text.specs.declared.deny.Deny.{Deny}
 use Rattle.fault_app.specs.declared.verdict.FaultsVerdict.{FaultsVerdict}
 use Rattle.fault_app.specs.Verdicts as fates
 use Rattle.fault_app.specs.Statuses.{faults_status_of}
+use Rattle.job_edits.specs.declared.number.Target.{Target}
+use Rattle.sweep_app.specs.declared.verdict.SweepVerdict.{SweepVerdict}
+use Rattle.sweep_app.specs.Verdicts as sweeps
+use Rattle.sweep_app.specs.Statuses.{sweep_status_of}
 use Rattle.nursery.specs.declared.stop.Stop.{Stop}
 use Rattle.nursery.specs.declared.stop.Stop.TheVariants.{Words, NoText, JobFile, InputFile, TooLong, Write, NoMemory}
 
@@ -48,6 +52,12 @@ abbrev pub TellsFaults : List ℕ → List ℕ → ℕ → List ℕ → Deny →
 TellsFaults text input limit name deny status =
     (verdict : FaultsVerdict) × (bytes : List ℕ) × fates.IsVerdict text input limit name deny verdict bytes
     × (status ≡ faults_status_of verdict)
+
+-- the status is that of the verdict on the job for each value of a number
+abbrev pub TellsSweep : List ℕ → List ℕ → ℕ → Target → List ℕ → ℕ → Type 0
+TellsSweep text input limit target values status =
+    (verdict : SweepVerdict) × (bytes : List ℕ) × sweeps.IsVerdict text input limit target values verdict bytes
+    × (status ≡ sweep_status_of verdict)
 
 -- the status is 0 where the text spells a job, and that of a refusal where it is refused
 abbrev pub TellsAnswer : (Tree → Tree) → List ℕ → ℕ → Type 0

@@ -9,9 +9,10 @@ use crate::sources::{read_feed, read_input, read_job_text};
 use crate::stop::Stop;
 use job_grammar::JobFault;
 use nursery_app::{
-    CheckVerdict, DEFAULT_LIMIT, Forward, MOST_INPUT, NoGate, Order, Pick, Reverse, Settings, Turn,
-    Verdict, WriteOut, check, refusal_message, send, serve, split_feed, upgrade,
+    CheckVerdict, Forward, MOST_INPUT, NoGate, Pick, Reverse, Settings, Turn, Verdict, WriteOut,
+    check, refusal_message, send, serve, split_feed, upgrade,
 };
+use nursery_cli::{DEFAULT_LIMIT, Order};
 use std::alloc::{AllocError, Global};
 use std::io::{self, IsTerminal};
 use std::rt::Files;
@@ -20,7 +21,7 @@ use story_app::{StoryVerdict, explain, running_at_limit};
 
 /// What a run with no words at a terminal waits for.
 const AWAITED: &str =
-    "reading a feed: a job text, a line `%input`, the input, and Ctrl-D behind it (--help tells more)\n";
+    "reading a feed: a job text, a line `%input`, the input, and Ctrl-D after it (--help tells more)\n";
 
 /// Serves standard input with the defaults, and gives the status. Where that is a terminal, standard error says first
 /// what is waited for.
@@ -295,7 +296,7 @@ pub(crate) fn tell_refusal<R: Eprint + AllocGlobal>(
 }
 
 // A file's name as it is told: with a control character in it, it stands between quotes and is escaped.
-fn shown_name(alloc: Global, name: &str) -> Result<String, AllocError> {
+pub(crate) fn shown_name(alloc: Global, name: &str) -> Result<String, AllocError> {
     if name.chars().any(|c| c.is_control()) {
         return format!(in alloc; "{name:?}");
     }

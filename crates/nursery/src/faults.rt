@@ -1,29 +1,30 @@
-ghost use Rattle.std.specs.Prelude.{◌≤◌, length, IfOk, IsTrue, string_bytes};
+ghost use Rattle.std.specs.Prelude.{◌≤◌, length, IfOk};
 ghost use Rattle.job_meaning.specs.declared.limits.TheConstants.{MOST_INPUT};
-ghost use Rattle.nursery_app.specs.Words.{may_be_raised};
 ghost use Rattle.nursery.specs.Statuses.{TellsFaults};
 
 use crate::answers::{read_both, tell_refusal};
+use crate::progress::Progress;
 use crate::stop::Stop;
 use fault_app::{Deny, FaultsVerdict, faults};
 use job_grammar::Name;
-use nursery_app::{Denied, NoGate, Settings, WriteOut};
+use nursery_app::{Settings, WriteOut};
 use std::io;
 use std::rt::Files;
 use std::thread::Threads;
+use std::time::Clock;
 
 /// Tells what becomes of a job file over an input file, or over no input, with each fault of it, and gives the status. The name is that of
-/// the exception which a faulty step raises.
-pub(crate) fn faults_job<R: Files + Input + Print + Eprint + Threads + Sync + AllocGlobal>(
+/// the exception which a faulty step raises. Progress is shown where standard error is a terminal.
+pub(crate) fn faults_job<R: Files + Input + Print + Eprint + Clock + Threads + Sync + AllocGlobal>(
     rt: &R,
     job: &str,
     input: Option<&str>,
-    name: &String,
-    denied: Denied,
+    name: Name,
+    deny: Deny,
     workers: usize,
     limit: u64,
+    at_terminal: bool,
 ) -> Result<u8, Stop>
-    requires name { IsTrue (may_be_raised (string_bytes name.now)) }
     requires some { 1 ≤ workers }
     requires few { workers ≤ 64 }
     requires limit { limit ≤ 4294967295 }
@@ -31,28 +32,14 @@ pub(crate) fn faults_job<R: Files + Input + Print + Eprint + Threads + Sync + Al
     let Some(settings) = Settings::new(workers, limit) else {
         unreachable!()
     };
-    let Some(name) = Name::new(name.as_bytes()) else {
-        unreachable!()
-    };
     let given = read_both(rt, job, input)?;
-    let deny = Deny {
-        stuck: denied.stuck,
-        cut: denied.cut,
-        lost: denied.lost,
-    };
-    faults_text(
-        rt,
-        job,
-        given.text.as_slice(),
-        given.input.as_slice(),
-        settings,
-        name,
-        deny,
-    )
+    let progress = Progress::new(rt, at_terminal);
+    let (text, input) = (given.text.as_slice(), given.input.as_slice());
+    faults_text(rt, job, text, input, settings, name, deny, &progress)
 }
 
 // Tells what becomes of a job text over an input with each fault of it, and gives the status.
-fn faults_text<R: Print + Eprint + Threads + Sync + AllocGlobal>(
+fn faults_text<R: Print + Eprint + Clock + Threads + Sync + AllocGlobal>(
     rt: &R,
     job: &str,
     text: &[u8],
@@ -60,12 +47,13 @@ fn faults_text<R: Print + Eprint + Threads + Sync + AllocGlobal>(
     settings: Settings,
     name: Name,
     deny: Deny,
+    progress: &Progress<'_, R>,
 ) -> Result<u8, Stop>
     requires { length input.now ≤ MOST_INPUT }
     ensures { IfOk result (TellsFaults text.now input.now settings.limit name deny) }
 {
     let mut out = WriteOut::new(io::writer(rt));
-    let verdict = faults(
+    let told = faults(
         rt,
         rt.alloc(),
         text,
@@ -73,9 +61,11 @@ fn faults_text<R: Print + Eprint + Threads + Sync + AllocGlobal>(
         settings,
         name,
         deny,
-        &NoGate,
+        progress,
         &mut out,
-    )?;
+    );
+    progress.clear();
+    let verdict = told?;
     let status = verdict.status();
     match verdict {
         FaultsVerdict::JobRefused(fault) => tell_refusal(rt, job, text, fault),

@@ -1,26 +1,30 @@
 //! The program `nursery`: `run` runs a job file over an input file, `explain` tells the story of such a run, `faults` what
-//! becomes of the job where any one of its waiting steps fails or hangs, `check` writes a job's
-//! canonical text, `upgrade` that of the same job in format 2, and with no words it serves standard input: a job text, a line that is
-//! exactly `%input`, and the input. Its answer goes to standard output, and what went wrong to standard error. The work is in
-//! `nursery_app` and `story_app`.
+//! becomes of the job where any one of its waiting steps fails or hangs, `sweep` the same for each value of one of its numbers, `check`
+//! writes a job's canonical text, `upgrade` that of the same job in format 2, and with no words it serves standard input: a job text, a
+//! line that is exactly `%input`, and the input. Its answer goes to standard output, and what went wrong to standard error. The work is
+//! in `nursery_app`, `story_app`, `fault_app` and `sweep_app`.
 #![tactic(auto)]
 
 mod answers;
 mod faults;
+mod progress;
 mod sources;
 mod stop;
+mod sweep;
 
 use crate::answers::{check_job, explain_job, run_feed, run_job, show_help, upgrade_job};
 use crate::faults::faults_job;
 use crate::stop::Stop;
-use nursery_app::{Command, CommandFault, read_command};
+use crate::sweep::sweep_job;
+use nursery_cli::{Command, CommandFault, read_command};
 use std::env;
 use std::io::{self, IsTerminal};
 use std::process::ExitCode;
 use std::rt::{Env, Files};
 use std::thread::Threads;
+use std::time::Clock;
 
-// The words behind the program's name.
+// The words after the program's name.
 fn words<R: Env + AllocGlobal>(rt: &R) -> Result<Vec<String>, Stop> {
     let mut words = match env::args(rt) {
         Ok(words) => words,
@@ -34,9 +38,10 @@ fn words<R: Env + AllocGlobal>(rt: &R) -> Result<Vec<String>, Stop> {
     }
 }
 
-// Does what the words ask for, and gives the status.
-fn obey<R: Files + Env + Input + Print + Eprint + Threads + Sync + AllocGlobal>(
+// Does what the words ask for, and gives the status. Commands that may take long show their progress where standard error is a terminal.
+fn obey<R: Files + Env + Input + Print + Eprint + Clock + Threads + Sync + AllocGlobal>(
     rt: &R,
+    at_terminal: bool,
 ) -> Result<u8, Stop>
 where
     R::Reader: IsTerminal,
@@ -72,13 +77,44 @@ where
                 job,
                 input,
                 name,
-                denied,
+                deny,
                 workers,
                 limit,
             },
         ) => {
             let input = input.as_ref().map(|name| name.as_str());
-            faults_job(rt, job.as_str(), input, &name, denied, workers, limit)
+            faults_job(
+                rt,
+                job.as_str(),
+                input,
+                name,
+                deny,
+                workers,
+                limit,
+                at_terminal,
+            )
+        }
+        Ok(
+            Command::Sweep {
+                job,
+                input,
+                target,
+                values,
+                workers,
+                limit,
+            },
+        ) => {
+            let input = input.as_ref().map(|name| name.as_str());
+            sweep_job(
+                rt,
+                job.as_str(),
+                input,
+                target,
+                values.as_slice(),
+                workers,
+                limit,
+                at_terminal,
+            )
         }
         Ok(Command::Check { job }) => check_job(rt, job.as_str()),
         Ok(Command::Upgrade { job }) => upgrade_job(rt, job.as_str()),
@@ -89,7 +125,7 @@ where
 }
 
 fn main(rt: HostRuntime) -> ExitCode {
-    match obey(&rt) {
+    match obey(&rt, rt.stderr().is_terminal()) {
         Ok(status) => ExitCode::from(status),
         Err(stop) => {
             let _ = rt.eprint(&stop);

@@ -1,0 +1,167 @@
+ghost use Rattle.std.specs.Prelude.{◌≤◌, length, IfOk};
+ghost use Rattle.job_meaning.specs.declared.limits.TheConstants.{MOST_INPUT};
+ghost use Rattle.nursery.specs.Statuses.{TellsSweep};
+
+use crate::answers::{read_both, shown_name, tell_refusal};
+use crate::progress::Progress;
+use crate::stop::Stop;
+use job_edits::Target;
+use job_tree::Name;
+use nursery_app::{Settings, WriteOut, pointed_message};
+use std::alloc::{AllocError, Global};
+use std::io;
+use std::rt::Files;
+use std::thread::Threads;
+use std::time::Clock;
+use sweep_app::{Missing, SweepVerdict, sweep};
+
+/// Tells what becomes of a job file over an input file, or over no input, for each of these values of one of its numbers, and gives the
+/// status. Progress is shown where standard error is a terminal.
+pub(crate) fn sweep_job<R: Files + Input + Print + Eprint + Clock + Threads + Sync + AllocGlobal>(
+    rt: &R,
+    job: &str,
+    input: Option<&str>,
+    target: Target,
+    values: &[u64],
+    workers: usize,
+    limit: u64,
+    at_terminal: bool,
+) -> Result<u8, Stop>
+    requires some { 1 ≤ workers }
+    requires few { workers ≤ 64 }
+    requires limit { limit ≤ 4294967295 }
+{
+    let Some(settings) = Settings::new(workers, limit) else {
+        unreachable!()
+    };
+    let given = read_both(rt, job, input)?;
+    let progress = Progress::new(rt, at_terminal);
+    let (text, input) = (given.text.as_slice(), given.input.as_slice());
+    sweep_text(rt, job, text, input, settings, target, values, &progress)
+}
+
+// Tells what becomes of a job text over an input for each value, and gives the status.
+fn sweep_text<R: Print + Eprint + Clock + Threads + Sync + AllocGlobal>(
+    rt: &R,
+    job: &str,
+    text: &[u8],
+    input: &[u8],
+    settings: Settings,
+    target: Target,
+    values: &[u64],
+    progress: &Progress<'_, R>,
+) -> Result<u8, Stop>
+    requires { length input.now ≤ MOST_INPUT }
+    ensures { IfOk result (TellsSweep text.now input.now settings.limit target values.now) }
+{
+    let mut out = WriteOut::new(io::writer(rt));
+    let told = sweep(
+        rt,
+        rt.alloc(),
+        text,
+        input,
+        settings,
+        target,
+        values,
+        progress,
+        &mut out,
+    );
+    progress.clear();
+    let verdict = told?;
+    let status = verdict.status();
+    match verdict {
+        SweepVerdict::JobRefused(fault) => tell_refusal(rt, job, text, fault),
+        SweepVerdict::NoTarget(missing) => tell_missing(rt, job, text, &target, &missing),
+        SweepVerdict::Told => {}
+    }
+    Ok(status)
+}
+
+// Tells on standard error why the text does not have the number that is meant. Where memory or a write fails here nothing more is told.
+fn tell_missing<R: Eprint + AllocGlobal>(
+    rt: &R,
+    job: &str,
+    text: &[u8],
+    target: &Target,
+    missing: &Missing,
+) {
+    if let Ok(message) = missing_message(rt.alloc(), job, text, target, missing) {
+        let _ = rt.eprint(message.as_str());
+    }
+}
+
+// Why the text does not have the number that is meant.
+fn missing_message(
+    alloc: Global,
+    job: &str,
+    text: &[u8],
+    target: &Target,
+    missing: &Missing,
+) -> Result<String, AllocError> {
+    match missing {
+        Missing::NoNumber { at } => no_number_message(alloc, job, text, *at),
+        Missing::NoPlace => no_place_message(alloc, target),
+        Missing::NoDeadline => no_deadline_message(alloc, target),
+        Missing::NoBlock { nearest } => no_block_message(alloc, target, nearest),
+    }
+}
+
+// That no number begins at a place, and what stands there.
+fn no_number_message(
+    alloc: Global,
+    job: &str,
+    text: &[u8],
+    at: usize,
+) -> Result<String, AllocError> {
+    let name = shown_name(alloc, job)?;
+    pointed_message(alloc, name.as_str(), text, at, "no number begins here")
+}
+
+// That the text has no such line and column.
+fn no_place_message(alloc: Global, target: &Target) -> Result<String, AllocError> {
+    match target {
+        Target::At { line, column } => format!(in alloc;
+            "error: the job text has no line {line} with a column {column}\n"
+        ),
+        Target::DeadlineOf(_) => Ok(String::new(alloc)),
+    }
+}
+
+// That the scope or nursery has no deadline.
+fn no_deadline_message(alloc: Global, target: &Target) -> Result<String, AllocError> {
+    let name = name_in(target);
+    format!(in alloc; "error: `{name}` has no deadline that could be varied: give it `after N`\n")
+}
+
+// That no scope or nursery has the name, and which one is the nearest.
+fn no_block_message(
+    alloc: Global,
+    target: &Target,
+    nearest: &Option<Name>,
+) -> Result<String, AllocError> {
+    let name = name_in(target);
+    match nearest {
+        Some(nearest) => {
+            let nearest = shown_word(nearest.bytes());
+            format!(in alloc;
+                "error: no scope or nursery has the name `{name}`: did you mean `{nearest}`?\n"
+            )
+        }
+        None => format!(in alloc;
+            "error: no scope or nursery has the name `{name}`: the job has none\n"
+        ),
+    }
+}
+
+// The name of the scope or nursery whose deadline is meant: nothing where none is.
+fn name_in(target: &Target) -> &str {
+    match target {
+        Target::DeadlineOf(name) => shown_word(name.bytes()),
+        Target::At { .. } => "",
+    }
+}
+
+// A name as text. Its bytes are ASCII.
+fn shown_word(word: &[u8]) -> &str {
+    str::from_utf8(word).unwrap_or("?")
+}
