@@ -60,6 +60,15 @@ holds() {
     cases=$((cases + 1))
 }
 
+# helps COMMAND TEXT: the command's help shows each line of the text, four columns further right.
+helps() {
+    "$nursery" "$1" --help > help
+    printf "$2" > lines
+    while IFS= read -r line; do
+        grep -qxF -- "    $line" help || fail "help of $1 has no line: $line"
+    done < lines
+}
+
 : > in
 printf 'trio-job 1\njob main {\n  find "er";\n}\n' > find.job
 printf 'trio-job 1\njob main { sleep 2; raise Boom; }\n' > raise.job
@@ -106,10 +115,7 @@ wants 2 '' 'error: no task has the label `mian`: did you mean `main`?\n' explain
 printf 'trio-job 1\njob hedge {\n  nursery calls {\n    start fast { sleep 2; cancel calls; }\n    start slow { sleep 9; }\n  }\n}\n' > hedge.job
 slow='tick 0\n  fast  starts in nursery calls\n  fast  sleeps until 2\n  slow  starts in nursery calls\n  slow  sleeps until 9\ntick 2\n  fast  cancels nursery calls from 3\n  fast  ends: done\ntick 3\n  slow  is cancelled while sleeping since 0 by nursery calls (cancelled by fast at 2)\n  slow  ends: cancelled\n'
 wants 0 "$slow" '' explain hedge.job --task slow
-"$nursery" explain --help > help
-printf "$slow" | while read -r line; do
-    grep -qF -- "$line" help || fail "help of explain has no line: $line"
-done
+helps explain "$slow"
 cp raise.job in
 wants 1 "$story" '' explain -
 : > in
@@ -134,12 +140,54 @@ wants 0 "$faulty" '' faults -
 : > in
 wants 2 '' 'error: `late` cannot be denied: --deny takes `stuck`, `cut` and `lost`, with commas between them\n' faults raise.job --deny stuck,late
 for word in sleep Cancelled TooSlow 1st a-b; do
-    wants 2 '' "error: no step can raise \`$word\`: --name takes a letter, then letters, digits and \`_\`, at most 32 in all\n" faults raise.job --name "$word"
+    wants 2 '' "error: no step can raise \`$word\`: --name takes a letter, then letters, digits and \`_\`, at most 32 in all, and no keyword, \`Cancelled\` or \`TooSlow\`\n" faults raise.job --name "$word"
 done
+
+printf 'trio-job 1\njob calls {\n  nursery all {\n    start user { sleep 2; }\n    start mail { scope limit after 5 { sleep 3; } }\n  }\n}\n' > calls.job
+calls='               as it is    3 done\n4:18  sleep 2  fails       1 raised all[Fault(user@0)]; cancelled: mail\n4:18  sleep 2  fails late  3 raised all[Fault(user@2)]; cancelled: mail\n4:18  sleep 2  hangs       stuck at 1000000; sleeping forever: user\n4:18  sleep 2  cancelled   1 done; cancelled: user, mail\n5:40  sleep 3  fails       1 raised all[Fault(mail@0)]; cancelled: user\n5:40  sleep 3  fails late  3 raised all[Fault(mail@3)]\n5:40  sleep 3  hangs       5 done\n5:40  sleep 3  cancelled   1 done; cancelled: user, mail\n8 faults: 1 stuck, 0 cut a cleanup, 0 lost, 0 not reached\n'
+wants 0 "$calls" '' faults calls.job
+helps faults "$calls"
+
+# ---- sweeps
+
+printf 'trio-job 1\njob fetch {\n  scope limit after 5 fail { sleep 3; sleep 4; }\n}\n' > fetch.job
+fetch='as it is  raised TooSlow(limit), ends 5\n1..7      raised TooSlow(limit), ends 1..7\n8..20     done, ends 7\n20 values: 0 stuck, 0 cut a cleanup\n'
+wants 0 "$fetch" '' sweep fetch.job --of limit --values 1..20
+wants 0 "$fetch" '' sweep fetch.job log.txt --at 3:21 --values 1..20:1 --workers 64
+helps sweep "$fetch"
+two='as it is  raised TooSlow(limit), ends 5\n7         raised TooSlow(limit), ends 7\n8         done, ends 7\n2 values: 0 stuck, 0 cut a cleanup\n'
+wants 0 "$two" '' sweep fetch.job --at 3:21 --values 7..8
+helps sweep "$two"
+wants 0 'as it is  raised TooSlow(limit), ends 5\n6         raised TooSlow(limit), ends 6\n11..16    done, ends 7\n3 values: 0 stuck, 0 cut a cleanup\n' '' sweep fetch.job --of limit --values 6..20:5
+wants 0 'as it is  raised TooSlow(limit), ends 5\n5         raised TooSlow(limit), ends 5\n1 value: 0 stuck, 0 cut a cleanup\n' '' sweep fetch.job --of limit --values 5..5
+wants 0 'as it is                raised TooSlow(limit), ends 5\n1000000000              done, ends 7\n1000000001..1000000002  refused\n3 values: 0 stuck, 0 cut a cleanup, 2 refused\n' '' sweep fetch.job --of limit --values 1000000000..1000000002
+wants 0 'as it is  stuck at 4\n1..4      raised TooSlow(limit), ends 1..4\n5         stuck at 4\n5 values: 1 stuck, 0 cut a cleanup\n' '' sweep fetch.job --of limit --values 1..5 --limit 4
+cp fetch.job in
+wants 0 "$fetch" '' sweep - --of limit --values 1..20
+: > in
+wants 2 '' 'error: no scope or nursery has the name `limt`: did you mean `limit`?\n' sweep fetch.job --of limt --values 1..2
+wants 2 '' 'error: no scope or nursery has the name `limit`: the job has none\n' sweep raise.job --of limit --values 1..2
+wants 2 '' 'error: `calls` has no deadline that could be varied: give it `after N`\n' sweep hedge.job --of calls --values 1..2
+wants 2 '' 'error: the job text has no line 3 with a column 50\n' sweep fetch.job --at 3:50 --values 1..2
+wants 2 '' 'error: the job text has no line 0 with a column 1\n' sweep fetch.job --at 0:1 --values 1..2
+wants 2 '' 'fetch.job:3:9: no number begins here\n  scope limit after 5 fail { sleep 3; sleep 4; }\n        ^\n' sweep fetch.job --at 3:9 --values 1..2
+wants 2 '' 'fetch.job:5:1: no number begins here\n\n^\n' sweep fetch.job --at 5:1 --values 1..2
+wants 2 '' 'error: `a b` is no name: --of takes the name of a scope or nursery\n' sweep fetch.job --of 'a b' --values 1..2
+for place in 3 3: :21 a:1 3:21:4; do
+    wants 2 '' "error: \`$place\` is no place: --at takes LINE:COL, as 4:18\n" sweep fetch.job --at "$place" --values 1..2
+done
+for span in '' 1 1.. ..5 5..4 1..9:0 1..9: a..b 1..5000000000 1..2..3; do
+    wants 2 '' "error: \`$span\` gives no values: --values takes A..B or A..B:STEP, as 1..60 or 10..100:5, with A at most B and STEP at least 1\n" sweep fetch.job --of limit --values "$span"
+done
+wants 2 '' 'error: `0..100000` has more than 100000 values\n' sweep fetch.job --of limit --values 0..100000
+name='nursery sweep with 100000 values'
+"$nursery" sweep fetch.job --of limit --values 1..100000 --workers 4 > out 2> err || fail "$(cat err)"
+printf 'as it is   raised TooSlow(limit), ends 5\n1..7       raised TooSlow(limit), ends 1..7\n8..100000  done, ends 7\n100000 values: 0 stuck, 0 cut a cleanup\n' | cmp -s - out || fail "standard output: $(cat out)"
+cases=$((cases + 1))
 
 # ---- 2: a refused job, told with its place
 
-# refuses TEXT LINE TOLD: the job text is refused by all five commands, with that line and that text behind `bad.job:`.
+# refuses TEXT LINE TOLD: the job text is refused by all six commands, with that line and that text after `bad.job:`.
 refuses() {
     printf "$1" > bad.job
     wants 2 "$2\n" "bad.job:$3\n" run bad.job log.txt
@@ -147,6 +195,7 @@ refuses() {
     wants 2 "$2\n" "bad.job:$3\n" upgrade bad.job
     wants 2 "$2\n" "bad.job:$3\n" explain bad.job
     wants 2 "$2\n" "bad.job:$3\n" faults bad.job
+    wants 2 "$2\n" "bad.job:$3\n" sweep bad.job --at 1:1 --values 1..2
 }
 
 refuses 'trio-job 1\njob main { sleep }\n' 'refused J6 Syntax at 28' \
@@ -159,7 +208,7 @@ refuses 'trio-job 3\n' 'refused J3 Version at 0' \
 refuses 'trio-job 1\r\njob main { }\n' 'refused J3 Version at 0' \
     '1:1: a job text begins with the line `trio-job 1` or `trio-job 2`, ended by a newline alone\ntrio-job 1 \n^\nits line ends are carriage returns and newlines: save it with newlines alone'
 refuses 'trio-job 1\njob main { sleep 1s; }\n' 'refused J4 Token at 28' \
-    '2:18: a letter or `_` stands directly behind this number\njob main { sleep 1s; }\n                 ^'
+    '2:18: a letter or `_` directly follows this number\njob main { sleep 1s; }\n                 ^'
 refuses 'trio-job 1\njob main { pace 0; }\n' 'refused J5 Number at 27' \
     '2:17: a number out of its range: `over` takes 1 to 64, `pace` 1 to 1000000, `repeat` 0 to 1000, others 0 to 1000000000; no leading zero\njob main { pace 0; }\n                ^'
 refuses 'trio-job 1\njob main { scope s { } scope s { } }\n' 'refused J8 Twice at 40' \
@@ -173,9 +222,9 @@ refuses 'trio-job 2\njob main { repeat 1000 { repeat 1000 { } } }\n' 'refused J1
 refuses 'trio-job 1\njob main {\n  scope s {\n    sleep 1;\n}\n' 'refused J6 Syntax at 49' \
     '6:1: expected a step, as `sleep 1;`, or `}` (a `start` stands only right inside a nursery)\n\n^\nthe innermost block that is not closed begins at bad.job:2:10'
 refuses 'trio-job 1\njob main { cancel x; }\n' 'refused J9 NotEnclosing at 29' \
-    '2:19: no scope or nursery round this `cancel` has this name\njob main { cancel x; }\n                  ^'
+    '2:19: no enclosing scope or nursery has this name\njob main { cancel x; }\n                  ^'
 refuses 'trio-job 1\njob main { raise Cancelled; }\n' 'refused J10 Reserved at 28' \
-    '2:18: this name is reserved: no keyword, not `Cancelled`, and `TooSlow` only behind `except`\njob main { raise Cancelled; }\n                 ^'
+    '2:18: this name is reserved: no keyword, not `Cancelled`, and `TooSlow` only after `except`\njob main { raise Cancelled; }\n                 ^'
 nest=$(printf 'scope s%d { ' 1 2 3 4 5 6 7 8 9 10 11 12 13 14 15 16 17 18 19 20 21 22 23 24 25 26 27 28 29 30 31 32)
 printf 'trio-job 1\njob main { %s' "$nest" > bad.job
 for _ in 0 1 2 3 4 5 6 7 8 9 10 11 12 13 14 15 16 17 18 19 20 21 22 23 24 25 26 27 28 29 30 31 32; do printf '}' >> bad.job; done
@@ -185,7 +234,7 @@ got=0
 "$nursery" check bad.job > out 2> err || got=$?
 [ "$got" = 2 ] || fail "status $got"
 shows out 'refused J7 Depth at '
-shows err ': more than 32 blocks stand in one another'
+shows err ': blocks are nested more than 32 deep'
 cases=$((cases + 1))
 
 # A file's name with a control character is told escaped, on one line.
@@ -221,6 +270,10 @@ words='explain find.job log.txt --workers 0'; holds 2 err "'--workers <N>'" '1..
 words='explain find.job --limit 4294967296'; holds 2 err "'--limit <T>'" '4294967295'
 words='faults'; holds 2 err '<JOB>' 'Usage: nursery faults '
 words='faults find.job --workers 65'; holds 2 err "'--workers <N>'" '1..=64'
+words='sweep find.job'; holds 2 err '--of <NAME>' '--at <LINE:COL>' '--values <A..B[:STEP]>'
+words='sweep find.job --of s'; holds 2 err '--values <A..B[:STEP]>'
+words='sweep find.job --values 1..2'; holds 2 err '--of <NAME>' '--at <LINE:COL>'
+words='sweep find.job --of s --at 1:1 --values 1..2'; holds 2 err '--of <NAME>' 'cannot be used with'
 words='check'; holds 2 err '<JOB>' 'Usage: nursery check '
 words='upgrade'; holds 2 err '<JOB>' 'Usage: nursery upgrade '
 words='check find.job log.txt'; holds 2 err "'log.txt'"
@@ -229,27 +282,27 @@ words='--fast'; holds 2 err "'--fast'"
 wants 2 '' 'error: JOB and INPUT cannot both be `-`: there is one standard input\n' run - -
 wants 2 '' 'error: JOB and INPUT cannot both be `-`: there is one standard input\n' explain - -
 wants 2 '' 'error: JOB and INPUT cannot both be `-`: there is one standard input\n' faults - -
+wants 2 '' 'error: JOB and INPUT cannot both be `-`: there is one standard input\n' sweep - - --of s --values 1..2
 wants 2 '' 'error: an argument is not UTF-8 text\n' check "$(printf 'a\377b')"
 
 # ---- help and version
 
 wants 0 'nursery 0.1.0\n' '' --version
 words='explain --help'; holds 0 out 'Usage: nursery explain [OPTIONS] <JOB> [INPUT]' '--task <LABEL>' '--workers <N>' '--order <ORDER>' '--limit <T>'
-words='--help'; holds 0 out 'Usage: nursery <COMMAND>' '  run ' '  explain ' '  faults ' '  check ' '  upgrade ' '$ nursery run first.job log.txt' '  line 0+5 error' 'Exit status'
+words='--help'; holds 0 out 'Usage: nursery <COMMAND>' '  run ' '  explain ' '  faults ' '  sweep ' '  check ' '  upgrade ' '$ nursery run first.job log.txt' '  line 0+5 error' 'Exit status'
 words='help'; holds 0 out 'Usage: nursery <COMMAND>'
 words='run --help'; holds 0 out 'Usage: nursery run [OPTIONS] <JOB> <INPUT>' '--workers <N>' '--order <ORDER>' '--limit <T>' '  line 6+10 ERROR disk'
 words='faults --help'; holds 0 out 'Usage: nursery faults [OPTIONS] <JOB> [INPUT]' '--name <NAME>' '--deny <KINDS>' '--workers <N>' '--limit <T>'
+words='sweep --help'; holds 0 out 'Usage: nursery sweep [OPTIONS]' '--of <NAME>' '--at <LINE:COL>' '--values <A..B[:STEP]>' '--workers <N>' '--limit <T>'
 words='check --help'; holds 0 out 'Usage: nursery check <JOB>' 'expected a number'
 words='upgrade --help'; holds 0 out 'Usage: nursery upgrade <JOB>' 'job main{find"er";}'
 
-# The examples that help shows are true.
+# The example that the help of `run` shows is true.
 printf 'trio-job 1\njob watch {\n  scope limit after 10 { pace 2; find "ERROR"; }\n}\n' > watch.job
 printf 'start\nERROR disk\n' > in
-wants 0 'job watch 1\ntask watch 0 1 done\n  line 6+10 ERROR disk\n  scope limit 1 passed\n' '' run watch.job - --limit 100
-"$nursery" run --help > help
-for line in 'job watch 1' 'task watch 0 1 done' '  line 6+10 ERROR disk' '  scope limit 1 passed'; do
-    grep -qxF "    $line" help || fail "help of run has no line: $line"
-done
+watched='job watch 1\ntask watch 0 1 done\n  line 6+10 ERROR disk\n  scope limit 1 passed\n'
+wants 0 "$watched" '' run watch.job - --limit 100
+helps run "$watched"
 : > in
 
 # ---- 3: the limit
@@ -266,6 +319,9 @@ wants 4 '' 'cannot read the job file\n' check no.job
 wants 4 '' 'cannot read the job file\n' upgrade no.job
 wants 4 '' 'cannot read the job file\n' explain no.job
 wants 4 '' 'cannot read the input file\n' explain find.job no.txt
+wants 4 '' 'cannot read the job file\n' faults no.job
+wants 4 '' 'cannot read the job file\n' sweep no.job --of s --values 1..2
+wants 4 '' 'cannot read the input file\n' sweep fetch.job no.txt --of limit --values 1..2
 wants 4 '' 'cannot read the input file\n' run find.job no.txt
 wants 4 '' 'cannot read the job file\n' run no.job no.txt
 wants 4 '' 'cannot read the job file\n' run a_folder log.txt
@@ -324,6 +380,7 @@ if [ -c /dev/full ]; then
     full run forever.job log.txt
     full explain raise.job
     full faults raise.job
+    full sweep fetch.job --of limit --values 1..20
     full check find.job
     full upgrade find.job
     full --help

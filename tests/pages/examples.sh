@@ -1,6 +1,6 @@
 #!/bin/sh
 # Each example's report, story and faults, by the program that the gate built, and those of tests/stories/, which end at a limit, and
-# of tests/faults/.
+# of tests/faults/, and sweeps.
 set -eu
 cd "$(dirname "$0")/../.."
 nursery=$PWD/crates/nursery/out/nursery
@@ -42,7 +42,18 @@ faults() {
     echo "$feed: its faults are as stored"
 }
 
+# sweeps FEED WORD..: what becomes of a feed's job for each value of a number, with these options, is what is stored beside it.
+sweeps() {
+    feed=$1
+    shift
+    sed '/^%input$/,$d' "$feed" > "$folder/job"
+    "$nursery" sweep "$folder/job" "$@" | cmp - "${feed%.feed}.sweep"
+    echo "$feed: its sweep is as stored"
+}
+
 for workers in 1 3 64; do
+    sweeps tests/faults/again_in_budget.feed --of budget --values 10..30 --workers "$workers"
+    sweeps examples/supervisor.feed --of flush --values 1..9 --workers "$workers"
     for feed in examples/cleanup examples/request examples/supervisor tests/faults/miss tests/faults/ingest tests/faults/ingest_in_time \
         tests/faults/close tests/faults/close_in_time; do
         faults "$feed.feed" --workers "$workers"

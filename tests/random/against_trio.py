@@ -3,7 +3,7 @@
 
     python3 tests/random/against_trio.py PROGRAM [JOBS [SEED]]
 
-PROGRAM is the built executable (crates/nursery/out/nursery behind `rt run`). It wants Python 3.11 and Trio 0.22 or later,
+PROGRAM is the built executable (crates/nursery/out/nursery after `rt run`). It wants Python 3.11 and Trio 0.22 or later,
 and is no part of the gate. Each job is also run as a Trio program under MockClock: its scopes, shields, deadlines and levels
 of cancellation are Trio's, its splits of groups Python's. What the job language fixes otherwise (docs/RULES.md, "Differences
 from Trio") is put on top of them: a cancellation by `cancel` or by a member that failed sets the scope's deadline to the next

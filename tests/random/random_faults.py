@@ -94,7 +94,7 @@ class Runs:
         """Whether a handler handles an exception of this name, or the root ends with one."""
         leaf = re.compile(rf"(?<![A-Za-z0-9_]){raised}\(")
         handled = [what.split("handles ")[1] for _, what in events if what.startswith("handles ")]
-        # what a handler leaves is told behind the part that it handles
+        # what a handler leaves is told after the part that it handles
         matched = [what[: -len(" propagates")].rsplit(", ", 1)[0] if what.endswith(" propagates") else what for what in handled]
         return any(leaf.search(what) for what in matched) or bool(leaf.search(outcome))
 

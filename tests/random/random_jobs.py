@@ -6,8 +6,8 @@
 PROGRAM is the built executable. It wants Python 3.10 or later. Of each text: the bytes and the status are the same under
 every order and with 1, 3 and 64 workers, and as a feed; each line shown is the input's slice at its place; a job's canonical
 text is its own canonical text and has the same report; its story starts and ends each task as the report does, under each order; the status fits what was written. Three texts in four are jobs, the
-others jobs with a few bytes changed, or bytes. Before them come the jobs of examples/, cut behind each of their bytes: none
-of those is a job but the whole one, and none is refused at a place behind its end.
+others jobs with a few bytes changed, or bytes. Before them come the jobs of examples/, cut after each of their bytes: none
+of those is a job but the whole one, and none is refused at a place after its end.
 """
 
 import glob
@@ -224,7 +224,7 @@ class Program:
 
 
 def cut_texts():
-    """The job of each example, cut behind each of its bytes."""
+    """The job of each example, cut after each of its bytes."""
     for path in sorted(glob.glob(os.path.join(os.path.dirname(os.path.abspath(__file__)), "..", "..", "examples", "*.feed"))):
         with open(path, "rb") as file:
             text = file.read().split(b"%input\n")[0].rstrip()

@@ -67,6 +67,7 @@ from_little_to_enough run grid.job lines.txt --workers 64
 from_little_to_enough run parts.job lines.txt --workers 64
 from_little_to_enough explain grid.job lines.txt
 from_little_to_enough faults few.job lines.txt
+from_little_to_enough sweep few.job lines.txt --at 2:40 --values 1..9
 
 # ---- little stack: 256 KiB for each legal job, the deepest too ----
 
@@ -82,7 +83,7 @@ in_little_stack() {
     cases=$((cases + 1))
 }
 
-# nested FRONT BACK INNER: 31 blocks in one another, each with a name of its own.
+# nested FRONT BACK INNER: blocks nested 31 deep, each with a name of its own.
 nested() {
     printf 'trio-job 1\njob main { '
     for i in 1 2 3 4 5 6 7 8 9 10 11 12 13 14 15 16 17 18 19 20 21 22 23 24 25 26 27 28 29 30 31; do printf "$1" $i; done
@@ -104,6 +105,8 @@ for job in scopes nurseries cleanups handlers sleeps leaves grid; do
     in_little_stack faults $job.job log.txt --workers 2
     in_little_stack check $job.job
 done
+column=$(awk 'NR == 2 { print index($0, "sleep 1") + 6 }' cleanups.job)
+in_little_stack sweep cleanups.job --at "2:$column" --values 1..9 --workers 2
 { printf 'trio-job 1\njob main '; head -c 65000 /dev/zero | tr '\0' '{'; } > open.job
 in_little_stack check open.job
 

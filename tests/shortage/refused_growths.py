@@ -133,6 +133,12 @@ FAULTS = {
     b"2:12  sleep 101  cancelled   1 done\n4 faults: 2 stuck, 0 cut a cleanup, 0 lost, 1 not reached\n",
 }
 
+# What becomes of them for each value from 99 to 101 of the number at a place.
+SWEEPS = {
+    "a job past its limit": ("2:18", b"as it is  stuck at 100\n99..100   done, ends 99..100\n101       stuck at 100\n"
+    b"3 values: 1 stuck, 0 cut a cleanup\n"),
+}
+
 # What a test says that ends for want of memory.
 WANT_OF_MEMORY = [b"AllocError", b"AllocFailed", b"NoMemory"]
 
@@ -208,6 +214,11 @@ def runs_of_program(folder):
             for workers in ["1", "3"]:
                 words = ["faults", job, data, "--limit", "100", "--workers", workers]
                 yield f"{name}, faults with {workers} workers", words, 0, FAULTS[name], False
+        if name in SWEEPS:
+            place, told = SWEEPS[name]
+            for workers in ["1", "3"]:
+                words = ["sweep", job, data, "--at", place, "--values", "99..101", "--limit", "100", "--workers", workers]
+                yield f"{name}, sweep with {workers} workers", words, 0, told, False
         if name in CHECKS:
             yield f"{name}, check", ["check", job], status, CHECKS[name], status == 2
 

@@ -75,11 +75,11 @@ pub(crate) const WRONG: &[Row] = &[
     ),
     (
         "trio-job 1\njob a { sleep 1s; }",
-        "f:2:15: a letter or `_` stands directly behind this number\njob a { sleep 1s; }\n              ^\n",
+        "f:2:15: a letter or `_` directly follows this number\njob a { sleep 1s; }\n              ^\n",
     ),
     (
         "trio-job 1\njob a { sleep 1_; }",
-        "f:2:15: a letter or `_` stands directly behind this number\njob a { sleep 1_; }\n              ^\n",
+        "f:2:15: a letter or `_` directly follows this number\njob a { sleep 1_; }\n              ^\n",
     ),
     (
         "trio-job 1\njob a { find \"x; }",
@@ -103,11 +103,11 @@ pub(crate) const WRONG: &[Row] = &[
     ),
     (
         "trio-job 1\njob a { cancel b; }",
-        "f:2:16: no scope or nursery round this `cancel` has this name\njob a { cancel b; }\n               ^\n",
+        "f:2:16: no enclosing scope or nursery has this name\njob a { cancel b; }\n               ^\n",
     ),
     (
         "trio-job 1\njob a { raise sleep; }",
-        "f:2:15: this name is reserved: no keyword, not `Cancelled`, and `TooSlow` only behind `except`\njob a { raise sleep; }\n              ^\n",
+        "f:2:15: this name is reserved: no keyword, not `Cancelled`, and `TooSlow` only after `except`\njob a { raise sleep; }\n              ^\n",
     ),
     (
         "trio-job 1\njob a { nursery n { start b over 64 { nursery m { start c over 64 { nursery q { start d over 64 { } } } } } } }",

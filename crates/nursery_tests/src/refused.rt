@@ -170,7 +170,7 @@ fn a_refusal_ends_with_what_may_help(rt: HostRuntime) -> Result<(), Fail> {
 
 // A line of 300 bytes, shown around its place 200.
 const CUT: &str =
-    "f:1:201: more than 32 blocks stand in one another\nxxxxxxxxxxxxxxxxxxxxxxxxxxxxxxxxxxxxxxxxxxxxxxxxxxxxxxxxxxxxxxxxxxxxxxxxxxxxxxxxxxxxxxxxxxxxxxxxxxxx\n                                                            ^\n";
+    "f:1:201: blocks are nested more than 32 deep\nxxxxxxxxxxxxxxxxxxxxxxxxxxxxxxxxxxxxxxxxxxxxxxxxxxxxxxxxxxxxxxxxxxxxxxxxxxxxxxxxxxxxxxxxxxxxxxxxxxxx\n                                                            ^\n";
 
 #[test]
 fn a_long_line_is_cut_round_the_place(rt: HostRuntime) -> Result<(), Fail> {

@@ -1,6 +1,6 @@
 //! The command line: what words ask for, what help shows, and how words are refused.
 
-use nursery_app::{Command, CommandFault, Order, read_command};
+use nursery_cli::{Command, CommandFault, Order, read_command};
 use std::alloc::{AllocError, Global};
 use std::test::Fail;
 
@@ -51,6 +51,7 @@ fn word_of(command: &Command) -> &'static str {
         Command::Run { .. } => "run",
         Command::Explain { .. } => "explain",
         Command::Faults { .. } => "faults",
+        Command::Sweep { .. } => "sweep",
         Command::Check { .. } => "check",
         Command::Upgrade { .. } => "upgrade",
         Command::Help { .. } => "help",
@@ -64,6 +65,7 @@ fn text_of(command: &Command) -> &str {
         Command::Run { job, .. } => job.as_str(),
         Command::Explain { job, .. } => job.as_str(),
         Command::Faults { job, .. } => job.as_str(),
+        Command::Sweep { job, .. } => job.as_str(),
         Command::Check { job } => job.as_str(),
         Command::Upgrade { job } => job.as_str(),
         Command::Help { text } => text.as_str(),
@@ -83,6 +85,12 @@ const NAMED: &[(&str, &str, &str)] = &[
     (
         "faults j i --name Late --deny stuck,cut --workers 3",
         "faults",
+        "j",
+    ),
+    ("sweep j --of s --values 1..9", "sweep", "j"),
+    (
+        "sweep j i --at 2:9 --values 0..9:3 --workers 64",
+        "sweep",
         "j",
     ),
     ("--version", "help", "nursery 0.1.0\n"),
@@ -129,7 +137,35 @@ fn runs_have_their_settings(rt: HostRuntime) -> Result<(), Fail> {
         ("run j --order forward i --limit 0", (1, Order::Forward, 0)),
     ] {
         let command = command_of(rt.alloc(), line)?;
-        assert!(rt; is_run(&command, settings), "{line}: {command:?}");
+        assert!(rt; is_run(&command, settings), "{line}");
+    }
+    Ok(())
+}
+
+// Whether a command varies a number of the job `j` by these values.
+fn is_sweep(command: &Command, wanted: &[u64]) -> bool {
+    match command {
+        Command::Sweep { job, values, .. } => job.as_str() == "j" && values.as_slice() == wanted,
+        _other => false,
+    }
+}
+
+const SWEEPS: &[(&str, &[u64])] = &[
+    ("sweep j --of s --values 3..3", &[3]),
+    ("sweep j --at 2:9 --values 0..3", &[0, 1, 2, 3]),
+    ("sweep j --of s --values 4..13:4", &[4, 8, 12]),
+    (
+        "sweep j --of s --values 4294967294..4294967295",
+        &[4_294_967_294, 4_294_967_295],
+    ),
+    ("sweep j --of s --values 1..2:4294967295", &[1]),
+];
+
+#[test]
+fn sweeps_have_their_values(rt: HostRuntime) -> Result<(), Fail> {
+    for &(line, wanted) in SWEEPS {
+        let command = command_of(rt.alloc(), line)?;
+        assert!(rt; is_sweep(&command, wanted), "{line}");
     }
     Ok(())
 }
@@ -152,6 +188,17 @@ const REFUSED: &[Row] = &[
     ("explain", "<JOB>"),
     ("explain - -", "JOB and INPUT cannot both be `-`"),
     ("explain j --workers 0", "0 is not in 1..=64"),
+    ("faults j --name try", "no step can raise `try`"),
+    ("faults j --deny all", "`all` cannot be denied"),
+    ("sweep j --of s", "--values <A..B[:STEP]>"),
+    ("sweep j --values 1..2", "--of <NAME>"),
+    ("sweep j --at 2 --values 1..2", "`2` is no place"),
+    ("sweep j --of 2 --values 1..2", "`2` is no name"),
+    ("sweep j --of s --values 2..1", "`2..1` gives no values"),
+    (
+        "sweep j --of s --values 1..100001",
+        "`1..100001` has more than 100000 values",
+    ),
     ("check", "Usage: nursery check <JOB>"),
     ("check j i", "'i'"),
     ("run - -", "one standard input"),
@@ -165,6 +212,8 @@ const HELP: &[Row] = &[
     ("--help", "  upgrade  Writes the canonical text"),
     ("-h", "$ nursery run first.job log.txt\n    job main 0\n"),
     ("help", "  line 0+5 error\n"),
+    ("--help", "  sweep    Tells what becomes"),
+    ("sweep --help", "3:21 --values 7..8"),
     ("run --help", "Usage: nursery run [OPTIONS] <JOB> <INPUT>"),
     ("run --help", "--workers <N>"),
     ("run --help", "--order <ORDER>"),
