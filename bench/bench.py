@@ -10,6 +10,7 @@ a row where `rustc` is there; `grep -F`, `rg`, `wc -l` and Trio where they are i
 """
 
 import filecmp
+import glob
 import os
 import random
 import shutil
@@ -238,6 +239,32 @@ class Bench:
                 events = sum(line.startswith(b"  ") for line in out)
             table.row(name, events, milliseconds(run.seconds), f"{run.seconds * 1e9 / events:.0f}", run.memory // 1024, run.memory * 1024 // events)
 
+    def faults(self):
+        """Faults and sweeps, by several threads."""
+        table = Table("Work", "runs", "threads", "ms", "ms a run")
+        for feed in sorted(glob.glob(os.path.join(HERE, "..", "examples", "*.feed"))):
+            with open(feed, "rb") as file:
+                text, _, data = file.read().partition(b"%input\n")
+            words = ["faults", self.file("faulty.job", text), self.file("faulty.txt", data)]
+            self.faults_row(table, "all faults of " + os.path.basename(feed), words, 1)
+        steps = b"sleep 1; " + b'find "er"; ' * 15
+        large = self.file("faulty.job", job_of_format_2(steps * 125))
+        for threads in [1, 2, 4]:
+            self.faults_row(table, "all faults of a job of 2,000 steps", ["faults", large], threads)
+        for threads in [1, 2, 4]:
+            words = ["sweep", large, "--at", "2:18", "--values", "1..500"]
+            self.faults_row(table, "500 values in a job of 2,000 steps", words, threads)
+        small = self.file("swept.job", job(b"scope s after 1 fail { sleep 50000; }"))
+        for threads in [1, 4]:
+            self.faults_row(table, "100,000 values in a job of 2 steps", ["sweep", small, "--of", "s", "--values", "1..100000"], threads)
+
+    def faults_row(self, table, name, words, threads):
+        run = Run(name, self.program, *words, "--workers", threads)
+        measure([run], min(self.rounds, 3))
+        with open(Run.out, "rb") as out:
+            count = int(out.read().splitlines()[-1].split()[0])
+        table.row(name, count, threads, milliseconds(run.seconds), f"{run.seconds * 1000 / max(count, 1):.2f}")
+
     def workers(self):
         """Workers beside one another: 64 searches of the whole input, its 64 parts, and many small requests."""
         data = self.made("all.txt", lambda: log(16 * MIB, 0.03))
@@ -272,7 +299,7 @@ def main():
     with tempfile.TemporaryDirectory() as folder:
         Run.out = os.path.join(folder, "out")
         bench = Bench(program, rounds, folder)
-        for table in [bench.lines, bench.turns, bench.large, bench.stories, bench.workers, bench.trio]:
+        for table in [bench.lines, bench.turns, bench.large, bench.stories, bench.faults, bench.workers, bench.trio]:
             print(f"\n{table.__doc__.splitlines()[0]}\n")
             table()
     return 0

@@ -31,7 +31,7 @@ def children(body, count, nursery=b"nursery n"):
 
 
 def handled(parts, count):
-    """A handler round a nursery."""
+    """A handler around a nursery."""
     return job(b"try{nursery n{" + each(parts, count) + b"}}except A{}")
 
 
@@ -51,7 +51,7 @@ SHAPES = [
     ("children with a nursery each, cancelled", 500, lambda n: children(b"nursery m#{start c#{sleep 9;}}", n, AFTER)),
     ("children that catch what they raise", 600, lambda n: children(b"try{raise A;}except A{}", n)),
     ("children with a cleanup, cancelled", 600, lambda n: children(b"try{sleep 9;}finally{}", n, AFTER)),
-    ("a handler round children that raise", 900, lambda n: handled(b"start r# over 64{raise A;}", n)),
+    ("a handler around children that raise", 900, lambda n: handled(b"start r# over 64{raise A;}", n)),
     ("a handler that takes half of a group", 450, lambda n: handled(b"start a# over 64{raise A;}start b# over 64{raise B;}", n)),
     ("passes that sleep, thousands", 240, lambda n: job(b"repeat %d{repeat 1000{sleep 1;}}" % n)),
     ("passes with a scope each, thousands", 240, lambda n: job(b"repeat %d{repeat 1000{scope s{}}}" % n)),
