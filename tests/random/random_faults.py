@@ -57,6 +57,16 @@ def names(title, tasks):
     return f"; {title}: {', '.join(tasks[:3])}{more}"
 
 
+def first_part(what):
+    """What a handler handles, where what it leaves is told after that and a comma. Commas stand between the parts of a group, too."""
+    depth = 0
+    for at, byte in enumerate(what):
+        depth += (byte == "[") - (byte == "]")
+        if depth == 0 and what.startswith(", ", at):
+            return what[:at]
+    return what
+
+
 class Runs:
     """The program, with a folder for its files."""
 
@@ -93,10 +103,8 @@ class Runs:
     def is_kept(self, raised, events, outcome):
         """Whether a handler handles an exception of this name, or the root ends with one."""
         leaf = re.compile(rf"(?<![A-Za-z0-9_]){raised}\(")
-        handled = [what.split("handles ")[1] for _, what in events if what.startswith("handles ")]
-        # what a handler leaves is told after the part that it handles
-        matched = [what[: -len(" propagates")].rsplit(", ", 1)[0] if what.endswith(" propagates") else what for what in handled]
-        return any(leaf.search(what) for what in matched) or bool(leaf.search(outcome))
+        handled = [first_part(what.removeprefix("handles ")) for _, what in events if what.startswith("handles ")]
+        return any(leaf.search(what) for what in handled) or bool(leaf.search(outcome))
 
     def raises(self, text, name):
         """Whether an exception of a name is raised by the limit; where the text is refused, nothing is said of that."""
