@@ -1,20 +1,24 @@
--- The place of a line and a column.
-use Rattle.std.proofs.Common.{◌≡◌, ℕ, ◌+◌, ◌==◌, ◌&&◌, Bool, true, false, if◌then◌else◌, Option, Some, None, List, [], ◌∷◌, drop, refl, sym, ap, ◌∙◌, arith}
-use Rattle.std.proofs.lemmas.Bool.Decides.{nat_tests}
-use Rattle.nursery_app.specs.Places.{place_from, place_of}
+-- The line and the column of a place, by those of the place before it.
+use Rattle.std.proofs.Common.{◌≡◌, ℕ, ◌+◌, ◌<◌, ◌==◌, if◌then◌else◌, List, [], ◌∷◌, ◌++◌, length, take, get_or, refl, ap, ◌∙◌}
+use Rattle.std.proofs.lemmas.List.{take_more}
+use Rattle.nursery_app.specs.Places.{line_from, column_from, line_of, column_of}
 
-same_place : (l c line column : ℕ) → l ≡ line → c ≡ column → (l == line && c == column) ≡ true
-same_place l c line column is same = grind (arith, nat_tests)
+-- One more byte at the end moves the line on by one where it is a newline, and leaves the line as it is elsewhere.
+line_after_one_more : (bs : List ℕ) (n b : ℕ) → line_from n (bs ++ b ∷ []) ≡ (if b == 10 then line_from n bs + 1 else line_from n bs)
+line_after_one_more [] n b = refl
+line_after_one_more (x ∷ xs) n b = line_after_one_more xs (if x == 10 then n + 1 else n) b
 
-found_here : (at l c line column : ℕ) (bs : List ℕ) → l ≡ line → c ≡ column → place_from at l c line column bs ≡ Some at
-found_here at l c line column [] is same = ap (λ (t : Bool). if t then Some at else None) (same_place l c line column is same)
-found_here at l c line column (b ∷ bs) is same =
-    ap
-    (λ (t : Bool). if t then Some at
-    else place_from (at + 1) (if b == 10 then l + 1 else l) (if b == 10 then 1 else c + 1) line column bs)
-    (same_place l c line column is same)
+-- One more byte at the end sets the column to 1 where it is a newline, and moves the column on by one elsewhere.
+column_after_one_more : (bs : List ℕ) (n b : ℕ) → column_from n (bs ++ b ∷ []) ≡ (if b == 10 then 1 else column_from n bs + 1)
+column_after_one_more [] n b = refl
+column_after_one_more (x ∷ xs) n b = column_after_one_more xs (if x == 10 then 1 else n + 1) b
 
--- the place that a search has come to
-pub is_found : (text : List ℕ) (at l c line column : ℕ) → l ≡ line → c ≡ column →
-    place_from at l c line column (drop at text) ≡ place_from 0 1 1 line column text → Some at ≡ place_of text line column
-is_found text at l c line column is same before = sym (found_here at l c line column (drop at text) is same) ∙ before
+-- The line of the next place follows from the line of this one and the byte between the two.
+pub line_next : (text : List ℕ) (at : ℕ) → at < length text →
+    line_of text (at + 1) ≡ (if get_or text at 0 == 10 then line_of text at + 1 else line_of text at)
+line_next text at inside = ap (line_from 1) (take_more text at 0 inside) ∙ line_after_one_more (take at text) 1 (get_or text at 0)
+
+-- The column of the next place follows from the column of this one and the byte between the two.
+pub column_next : (text : List ℕ) (at : ℕ) → at < length text →
+    column_of text (at + 1) ≡ (if get_or text at 0 == 10 then 1 else column_of text at + 1)
+column_next text at inside = ap (column_from 1) (take_more text at 0 inside) ∙ column_after_one_more (take at text) 1 (get_or text at 0)

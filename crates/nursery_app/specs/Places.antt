@@ -1,5 +1,5 @@
 -- The line and the column of a place in a text.
-use Rattle.std.specs.Prelude.{ℕ, ◌+◌, ◌==◌, ◌&&◌, if◌then◌else◌, List, [], ◌∷◌, take, Option, Some, None}
+use Rattle.std.specs.Prelude.{◌≡◌, ◌≤◌, ℕ, ◌+◌, ◌==◌, if◌then◌else◌, List, [], ◌∷◌, length, take, Option, Some, None}
 
 -- the line after bytes that begin on line `n`: one more for each newline
 abbrev pub line_from : ℕ → List ℕ → ℕ
@@ -19,13 +19,13 @@ line_of text at = line_from 1 (take at text)
 abbrev pub column_of : List ℕ → ℕ → ℕ
 column_of text at = column_from 1 (take at text)
 
--- the first place from `at` on, which stands on line `l` and at column `c`, that stands on a line and at a column
-abbrev pub place_from : ℕ → ℕ → ℕ → ℕ → ℕ → List ℕ → Option ℕ
-place_from at l c line column [] = if l == line && c == column then Some at else None
-place_from at l c line column (b ∷ bs) =
-    if l == line && c == column then Some at
-    else place_from (at + 1) (if b == 10 then l + 1 else l) (if b == 10 then 1 else c + 1) line column bs
+-- a place of the text, its end among them, is on this line and at this column
+pub record IsPlace (text : List ℕ) (line column at : ℕ) : Type 0 where
+  pub inside : at ≤ length text
+  pub line_is : line_of text at ≡ line
+  pub column_is : column_of text at ≡ column
 
--- the place of a line and a column, the text's end among them
-abbrev pub place_of : List ℕ → ℕ → ℕ → Option ℕ
-place_of text line column = place_from 0 1 1 line column text
+-- the place of a line and a column: none where no place of the text is there
+abbrev pub IsPlaceOf : List ℕ → ℕ → ℕ → Option ℕ → Type 0
+IsPlaceOf text line column None = (at : ℕ) → IsPlace text line column at → ⊥
+IsPlaceOf text line column (Some at) = IsPlace text line column at

@@ -43,7 +43,7 @@ IsVerdict text input limit Limit bytes = (job : Tree) × Spells text job × (lim
 abbrev pub IsSent : List ℕ → List ℕ → ℕ → Option (List ℕ) → Option (List ℕ) → Verdict → Type 0
 IsSent text input limit before after verdict = (bytes : List ℕ) × IsVerdict text input limit verdict bytes × Appends before after bytes
 
--- The writer failed behind the first `sent` of the verdict's bytes; or memory was refused, and nothing was sent.
+-- The writer failed after the first `sent` of the verdict's bytes; or memory was refused, and nothing was sent.
 abbrev pub IsServeFault : List ℕ → List ℕ → ℕ → Option (List ℕ) → Option (List ℕ) → ServeFault → Type 0
 IsServeFault text input limit before after (Send sent) =
     (verdict : Verdict) × (bytes : List ℕ) × IsVerdict text input limit verdict bytes × (sent < length bytes)

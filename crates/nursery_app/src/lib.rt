@@ -24,7 +24,7 @@ pub use explaining::{pointed_message, refusal_message};
 pub use feed::split_feed;
 pub use job_report::{MemOut, Out, PutFault, SendFault, WriteOut, send};
 pub use job_runner::{Forward, Gate, MOST_INPUT, NoGate, Pick, Reverse, Settings, Turn};
-pub use lines::refusal;
+pub use lines::{past_limit, refusal};
 pub use places::{column_of, line_of, place_at};
 pub use read::{ReadFault, read_whole};
 pub use serving::serve;

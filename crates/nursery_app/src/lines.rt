@@ -33,8 +33,8 @@ pub fn refusal(alloc: Global, fault: JobFault) -> Result<Vec<u8>, AllocError>
     Ok(line)
 }
 
-// The line for a job that ends later than the limit.
-pub(crate) fn past_limit(alloc: Global, limit: u64) -> Result<Vec<u8>, AllocError>
+/// The line for a job that ends later than the limit, as `limit 100`, with its newline. Want of memory is the only error.
+pub fn past_limit(alloc: Global, limit: u64) -> Result<Vec<u8>, AllocError>
     ensures { IfOk result (λ line. line.items ≡ limit_line limit) }
 {
     let mut line = Vec::from_slice(alloc, b"limit ")?;

@@ -1,5 +1,5 @@
 ghost use Rattle.std.specs.Prelude.{◌≡◌, ◌≤◌, ◌+◌, length, take};
-ghost use Rattle.nursery_app.specs.Places.{line_of, column_of, place_of};
+ghost use Rattle.nursery_app.specs.Places.{line_of, column_of, IsPlaceOf};
 
 /// The line of a place in a text, counted from 1: the place is a number of bytes from the start of the text.
 pub fn line_of(text: &[u8], at: usize) -> usize
@@ -32,9 +32,9 @@ pub fn column_of(text: &[u8], at: usize) -> usize
 
 /// The place of a line and a column of a text, both counted from 1: the number of bytes before it. It may be the place of a newline, or
 /// the text's end. None where the text has fewer lines, or the line fewer columns.
-#[tactic(auto, using(crate::proofs::Placed::is_found))]
+#[tactic(auto, using(crate::proofs::Placed::line_next, crate::proofs::Placed::column_next))]
 pub fn place_at(text: &[u8], line: usize, column: usize) -> Option<usize>
-    ensures { result ≡ place_of text.now line column }
+    ensures { IsPlaceOf text.now line column result }
 {
     let mut at_line = 1;
     let mut at_column = 1;

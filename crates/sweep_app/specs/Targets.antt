@@ -1,7 +1,7 @@
 -- The number of a job text that is meant, by the text's tokens.
 use Rattle.std.specs.Prelude.{◌≡◌, ℕ, true, false, Some, None, List}
 use Rattle.job_tokens.specs.declared.token.Token.{Token}
-use Rattle.nursery_app.specs.Places.{place_of}
+use Rattle.nursery_app.specs.Places.{IsPlace, IsPlaceOf}
 use Rattle.job_edits.specs.Numbers.{number_at, deadline_of, blocks_in}
 use Rattle.job_edits.specs.declared.number.Number.{Number}
 use Rattle.job_edits.specs.declared.number.Target.{Target}
@@ -15,7 +15,7 @@ use Rattle.sweep_app.specs.declared.verdict.Missing.TheVariants.{NoBlock, NoDead
 -- the number that is meant
 abbrev pub IsNumber : List ℕ → List Token → Target → Number → Type 0
 IsNumber text tokens (DeadlineOf name) number = deadline_of name tokens ≡ Some number
-IsNumber text tokens (At line column) number = (at : ℕ) × (place_of text line column ≡ Some at) × (number_at at tokens ≡ Some number)
+IsNumber text tokens (At line column) number = (at : ℕ) × IsPlace text line column at × (number_at at tokens ≡ Some number)
 
 -- why a deadline is missing: no scope or nursery has the name, or it has no deadline
 abbrev pub IsMissingDeadline : List ℕ → List Token → Missing → Type 0
@@ -29,8 +29,8 @@ IsMissingDeadline name tokens (NoNumber at) = ⊥
 abbrev pub IsMissingAt : List ℕ → List Token → ℕ → ℕ → Missing → Type 0
 IsMissingAt text tokens line column (NoBlock nearest) = ⊥
 IsMissingAt text tokens line column NoDeadline = ⊥
-IsMissingAt text tokens line column NoPlace = place_of text line column ≡ None
-IsMissingAt text tokens line column (NoNumber at) = (place_of text line column ≡ Some at) × (number_at at tokens ≡ None)
+IsMissingAt text tokens line column NoPlace = IsPlaceOf text line column None
+IsMissingAt text tokens line column (NoNumber at) = IsPlace text line column at × (number_at at tokens ≡ None)
 
 abbrev pub IsMissing : List ℕ → List Token → Target → Missing → Type 0
 IsMissing text tokens (DeadlineOf name) missing = IsMissingDeadline name tokens missing

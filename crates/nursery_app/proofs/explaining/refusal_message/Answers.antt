@@ -1,4 +1,4 @@
-use Rattle.std.proofs.Common.{◌≡◌, ◌∙◌, ◌++◌, ℕ, List, ap}
+use Rattle.std.proofs.Common.{◌∙◌, ◌++◌, ℕ, List, ap}
 use Rattle.std.specs.Prelude.{Option}
 use Rattle.nursery_app.specs.Explaining.{pointed_message, hint_of}
 use Rattle.nursery_app.specs.Sentences.{sentence_of}

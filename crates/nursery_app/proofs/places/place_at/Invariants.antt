@@ -1,9 +1,13 @@
-use Rattle.std.proofs.Common.{◌≡◌, ◌+◌, ◌≤◌, drop}
-use Rattle.nursery_app.specs.Places.{place_from}
+-- The counters are the line and the column of the place that the search has come to,
+-- and no place before it is on the line and at the column.
+use Rattle.std.proofs.Common.{◌≡◌, ℕ, ◌+◌, ◌<◌, ◌≤◌}
+use Rattle.nursery_app.specs.Places.{line_of, column_of, IsPlace}
 use Rattle.nursery_app.proofs.places.place_at.Given as goal
 
 abbrev pub invariant-bytes : goal.invariant-bytes
 invariant-bytes l =
-    (place_from l.at l.at_line l.at_column l.line l.column (drop l.at l.text) ≡ place_from 0 1 1 l.line l.column l.text)
+    (line_of l.text l.at ≡ l.at_line)
+    × (column_of l.text l.at ≡ l.at_column)
+    × ((at : ℕ) → at < l.at → IsPlace l.text l.line l.column at → ⊥)
     × (l.at_line ≤ l.at + 1)
     × (l.at_column ≤ l.at + 1)
