@@ -1,5 +1,5 @@
 -- From a summary to what becomes of a job.
-use Rattle.std.proofs.Common.{◌≡◌, ℕ, ◌≤◌, ◌<◌, Bool, true, false, Option, Some, None, List, map, refl, sym, ap, subst, ◌∙◌, arith, nat_le}
+use Rattle.std.proofs.Common.{◌≡◌, ℕ, ◌≤◌, ◌<◌, Bool, true, false, Option, List, map, refl, sym, ap, subst, ◌∙◌, arith, nat_le}
 use Rattle.std.proofs.lemmas.Bool.Decides.{nat_tests}
 use Rattle.std.specs.Option.{option_map}
 use Rattle.job_tree.specs.Tree.{Tree}
@@ -13,7 +13,7 @@ use Rattle.job_story.specs.Limit.{by_limit}
 use Rattle.fault_notes.specs.Notes.{sleeping_in, cut_in, is_raised}
 use Rattle.fault_text.specs.Fates.{Fate, stuck, ended, cancelled_in, walked, loses, fate_by, fate_of, reaches}
 use Rattle.fault_app.specs.declared.summary.Summary.{Summary}
-use Rattle.fault_app.specs.Slots.{IsSummary}
+use Rattle.fault_app.specs.Held.{IsSummary}
 
 le_test : (m n : ℕ) → m ≤ n → nat_le m n ≡ true
 le_test m n h = grind (arith, nat_tests)

@@ -1,6 +1,5 @@
 pub mod Outcomes
 pub mod Summaries
 pub mod Fated
-pub mod Filled
 pub mod Lexed
 pub mod Tabled

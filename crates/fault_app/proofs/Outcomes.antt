@@ -1,7 +1,7 @@
 -- The exception of a root, by how it ended.
-use Rattle.std.proofs.Common.{◌≡◌, ℕ, List, Option, Some, None, refl, ap}
-use Rattle.exc_groups.specs.Exceptions.{Label, Whose, Exc, cancelled, raised, too_slow, group, Excs}
-use Rattle.job_meaning.specs.Shown.{Ending, well, by_cancellation, with_exception, ending_of}
+use Rattle.std.proofs.Common.{◌≡◌, Option, Some, None, refl}
+use Rattle.exc_groups.specs.Exceptions.{Exc, cancelled, raised, too_slow, group}
+use Rattle.job_meaning.specs.Shown.{well, by_cancellation, with_exception, ending_of}
 
 pub none_of : (o : Option Exc) → well ≡ ending_of o → None ≡ o
 none_of None h = refl

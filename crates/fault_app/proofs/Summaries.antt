@@ -1,5 +1,5 @@
 -- From a run to its summary.
-use Rattle.std.proofs.Common.{◌≡◌, ℕ, Option, List, map, refl, ap, ◌∙◌, sym}
+use Rattle.std.proofs.Common.{◌≡◌, ℕ, Option, List, map, ap, ◌∙◌}
 use Rattle.std.specs.Option.{option_map}
 use Rattle.job_tree.specs.Tree.{Tree}
 use Rattle.exc_groups.specs.Exceptions as tree
@@ -10,10 +10,10 @@ use Rattle.job_meaning.specs.Shown.{Row, ending_of, meaning_rows}
 use Rattle.job_runner.specs.Runs.{root_end}
 use Rattle.job_story.specs.Held.{event_of}
 use Rattle.job_story.specs.Tell.{story_by}
-use Rattle.job_story.specs.Events.{Event, events_of}
-use Rattle.fault_text.specs.Fates.{cancelled_in, walked}
+use Rattle.job_story.specs.Events.{events_of}
+use Rattle.fault_text.specs.Fates.{cancelled_in}
 use Rattle.fault_app.specs.declared.summary.Summary.{Summary}
-use Rattle.fault_app.specs.Slots.{IsSummary, root_ending}
+use Rattle.fault_app.specs.Held.{IsSummary, root_ending}
 
 -- what is kept of the run of a meaning is what the meaning says
 pub is_summary : (job : Tree) (input : List ℕ) (rows : List Row) (table : Table) (s : Summary) → rows ≡ meaning_rows job input →

@@ -1,11 +1,12 @@
 -- What becomes of a text that is read as a job, over an input.
-use Rattle.std.specs.Prelude.{◌≡◌, ◌⊎◌, ℕ, Bool, true, Option, Some, None, List, [], ◌∷◌}
+use Rattle.std.specs.Prelude.{◌≡◌, ◌⊎◌, ℕ, Bool, true, Option, List, [], ◌∷◌}
 use Rattle.job_tree.specs.Tree.{Tree}
 use Rattle.job_grammar.specs.declared.fault.JobFault.{JobFault}
 use Rattle.job_grammar.specs.Refusals.{Spells, IsRefused}
 use Rattle.nursery_app.specs.Places.{line_of, column_of}
 use Rattle.job_edits.specs.Changes.{changed}
 use Rattle.job_edits.specs.Faults.{changes_of, probe_of, raised_by}
+use Rattle.job_edits.specs.declared.fault.Variant.{Variant}
 use Rattle.job_edits.specs.declared.plan.Plan.{Plan}
 use Rattle.fault_text.specs.Fates.{Fate, refused, fate_of, reaches}
 use Rattle.fault_text.specs.Table.{Line}
@@ -22,10 +23,11 @@ IsReached text input limit name reached =
     ((job : Tree) × Spells text job × (reached ≡ reaches limit name job input))
     ⊎ ((fault : JobFault) × IsRefused text fault.kind fault.at × (reached ≡ true))
 
--- A line tells of the text that the fault makes of the author's text: what becomes of it, and whether the fault is reached. Its place is that of the
--- step in the author's text.
-pub record IsLine (text input : List ℕ) (limit : ℕ) (plan : Plan) (l : Line) : Type 0 where
-  pub line : l.line ≡ line_of text l.variant.step.from
-  pub column : l.column ≡ column_of text l.variant.step.from
-  pub fate : IsFate (changed text (changes_of plan l.variant)) input limit (raised_by plan l.variant.fault) l.fate
-  pub reached : IsReached (changed text (probe_of plan l.variant ∷ [])) input limit plan.reached l.reached
+-- A line tells of the text that a fault of a step makes of the author's text: what becomes of it, and whether the fault is reached. Its place is
+-- that of the step in the author's text.
+pub record IsLine (text input : List ℕ) (limit : ℕ) (plan : Plan) (variant : Variant) (l : Line) : Type 0 where
+  pub told : l.variant ≡ variant
+  pub line : l.line ≡ line_of text variant.step.from
+  pub column : l.column ≡ column_of text variant.step.from
+  pub fate : IsFate (changed text (changes_of plan variant)) input limit (raised_by plan variant.fault) l.fate
+  pub reached : IsReached (changed text (probe_of plan variant ∷ [])) input limit plan.reached l.reached

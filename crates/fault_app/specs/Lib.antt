@@ -1,4 +1,4 @@
 pub mod Fates
 pub mod Verdicts
 pub mod Statuses
-pub mod Slots
+pub mod Held

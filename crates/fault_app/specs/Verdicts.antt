@@ -1,5 +1,5 @@
 -- What `faults` answers: what becomes of a job with each fault, or the refusal of its text.
-use Rattle.std.specs.Prelude.{◌≡◌, ℕ, ◌<◌, Option, Some, None, List, [], length, take, map, All}
+use Rattle.std.specs.Prelude.{◌≡◌, ℕ, ◌<◌, Option, None, List, [], length, take}
 use Rattle.std.specs.Io.KnownBytes.{Appends}
 use Rattle.job_tree.specs.Tree.{Tree}
 use Rattle.job_tokens.specs.declared.token.Token.{Token}
@@ -11,23 +11,20 @@ use Rattle.job_edits.specs.Faults.{variants_in, plan_of}
 use Rattle.fault_text.specs.Fates.{fate_of}
 use Rattle.fault_text.specs.Table.{Line, table_text, denied_text}
 use Rattle.fault_text.specs.declared.deny.Deny.{Deny}
+use Rattle.slot_work.specs.Answers.{AreAnswers}
 use Rattle.fault_app.specs.Fates.{IsLine}
 use Rattle.fault_app.specs.declared.verdict.FaultsVerdict.{FaultsVerdict}
 use Rattle.fault_app.specs.declared.verdict.FaultsVerdict.TheVariants.{Told, JobRefused}
 
--- There is a line for each fault of each waiting step of the text, in the order of places, each kind once; and each is true.
-pub record AreLines (text input : List ℕ) (limit : ℕ) (name : List ℕ) (tokens : List Token) (lines : List Line) : Type 0 where
-  pub variants : map (λ l. l.variant) lines ≡ variants_in tokens
-  pub each : All (IsLine text input limit (plan_of name tokens)) lines
-
--- These bytes tell what becomes of the job as it is, and with each fault; and these lines of them are denied.
+-- These bytes tell what becomes of the job as it is, and in a line each, in the order of places, with each fault of each of its waiting steps, each
+-- kind once; and these lines of them are denied.
 pub record IsTable (text input : List ℕ) (limit : ℕ) (name : List ℕ) (deny : Deny) (bytes denied : List ℕ) : Type 0 where
   pub job : Tree
   pub spells : Spells text job
   pub tokens : List Token
   pub tokens_are : HasTokens text tokens None
   pub lines : List Line
-  pub lines_are : AreLines text input limit name tokens lines
+  pub lines_are : AreAnswers (IsLine text input limit (plan_of name tokens)) (variants_in tokens) lines
   pub table : bytes ≡ table_text limit (fate_of limit None job input) lines
   pub denied_are : denied ≡ denied_text limit deny (fate_of limit None job input) lines
 

@@ -5,7 +5,7 @@ ghost use Rattle.nursery_app.specs.Verdict.{CountsFailure};
 ghost use Rattle.fault_app.specs.Verdicts.{IsVerdict, IsTable, IsSent, IsFaultsFault};
 
 use crate::fate::fate_of_job;
-use crate::lines::{Author, lines_with};
+use crate::lines::Author;
 use crate::verdict::FaultsVerdict;
 use fault_text::{Deny, denied, table};
 use job_edits::{Plan, variants};
@@ -14,6 +14,7 @@ use job_report::{Out, send};
 use job_runner::Settings;
 use job_tokens::{Lexed, Token, lex};
 use nursery_app::{Gate, ServeFault, refusal};
+use slot_work::answers_for;
 use std::alloc::{AllocError, Global};
 use std::thread::Threads;
 
@@ -103,7 +104,7 @@ fn table_and_denied<R: Threads + Sync, G: Gate + Sync>(
     };
     let first = fate_of_job(rt, alloc, job, input, author.limit, None)?;
     let workers = settings.workers();
-    let lines = lines_with(rt, alloc, &author, variants.as_slice(), workers, gate)?;
+    let lines = answers_for(rt, alloc, &author, variants.as_slice(), workers, gate)?;
     let bytes = table(alloc, author.limit, &first, lines.as_slice())?;
     let denied = denied(alloc, author.limit, &first, lines.as_slice(), deny)?;
     Ok((denied, bytes))

@@ -16,4 +16,5 @@ mod verdict;
 pub use answering::{faults, tokens_of};
 pub use fate::{fate_of_job, fate_of_text};
 pub use fault_text::Deny;
+pub use summary::{Summary, summary_of};
 pub use verdict::FaultsVerdict;

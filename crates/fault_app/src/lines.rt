@@ -1,18 +1,18 @@
-ghost use Rattle.std.specs.Prelude.{◌≡◌, ◌≤◌, ◌++◌, ◌∷◌, [], length, IfOk, OnOk, map, All};
+ghost use Rattle.std.specs.Prelude.{◌≡◌, ◌≤◌, ◌∷◌, [], length, IfOk};
 ghost use Rattle.job_meaning.specs.declared.limits.TheConstants.{MOST_INPUT};
 ghost use Rattle.job_edits.specs.Changes.{changed};
 ghost use Rattle.job_edits.specs.Faults.{changes_of, probe_of, raised_by};
 ghost use Rattle.fault_text.specs.Views.{fate_held};
 ghost use Rattle.fault_app.specs.Fates.{IsFate, IsReached};
-ghost use Rattle.fault_app.specs.Slots.{IsFilled, IsLineOf, variant_of, variant_in};
+ghost use Rattle.fault_app.specs.Held.{IsLineOf};
 
 use crate::fate::{fate_of_text, reaches_in_text};
 use fault_text::{Fate, Line};
 use job_edits::{Plan, Variant, Waiting, changed_text};
 use job_grammar::Name;
-use nursery_app::{Gate, column_of, line_of};
+use nursery_app::{column_of, line_of};
+use slot_work::Work;
 use std::alloc::{AllocError, Global};
-use std::thread;
 use std::thread::Threads;
 
 /// What all lines are about.
@@ -28,35 +28,24 @@ pub(crate) struct Author<'a> {
     pub plan: Plan,
 }
 
-/// A fault, and its line once it is known. Where memory was refused for it, it has none.
-#[derive(Drop)]
-pub(crate) struct Slot {
-    /// The fault and its step.
-    pub variant: Variant,
-    /// What becomes of the job.
-    pub line: Option<Line>,
-}
+impl Work for Author<'_> {
+    type Item = Variant;
 
-impl Slot {
-    // Finds the line, and calls the gate around that with the slot's place.
-    fn fill<R: Threads + Sync, G: Gate>(
-        &mut self,
+    type Answer = Line;
+
+    ghost use Rattle.fault_app.specs.Held.{HasRoom, IsLineOf};
+
+    ghost may = { HasRoom };
+
+    ghost answers = { IsLineOf };
+
+    fn answer<R: Threads + Sync>(
+        &self,
         rt: &R,
         alloc: Global,
-        author: &Author<'_>,
-        gate: &G,
-        place: usize,
-    )
-        requires { length author.now.input.now ≤ MOST_INPUT }
-        ensures variant { self.new.variant ≡ self.old.variant }
-        ensures line { IsFilled author.now self.new }
-    {
-        gate.before(place);
-        self.line = match line_with(rt, alloc, author, &self.variant) {
-            Ok(line) => Some(line),
-            Err(_) => None,
-        };
-        gate.after(place);
+        variant: &Variant,
+    ) -> Result<Line, AllocError> {
+        line_with(rt, alloc, self, variant)
     }
 }
 
@@ -137,8 +126,7 @@ fn line_with<R: Threads + Sync>(
     variant: &Variant,
 ) -> Result<Line, AllocError>
     requires { length author.now.input.now ≤ MOST_INPUT }
-    ensures variant { IfOk result (λ line. line.variant ≡ variant.now) }
-    ensures line { IfOk result (IsLineOf author.now) }
+    ensures { IfOk result (IsLineOf author.now variant.now) }
 {
     let from = variant.step.from;
     let raised = raised_with(&author.plan, variant);
@@ -153,94 +141,4 @@ fn line_with<R: Threads + Sync>(
         fate,
         reached,
     })
-}
-
-/// What becomes of the job with each of these faults, in their order, by at most so many threads. The gate is called around each. Want of
-/// memory is the only error.
-pub(crate) fn lines_with<R: Threads + Sync, G: Gate + Sync>(
-    rt: &R,
-    alloc: Global,
-    author: &Author<'_>,
-    variants: &[Variant],
-    workers: usize,
-    gate: &G,
-) -> Result<Vec<Line>, AllocError>
-    requires input { length author.now.input.now ≤ MOST_INPUT }
-    requires some_workers { 1 ≤ workers }
-    ensures variants { IfOk result (λ lines. map variant_of lines.items ≡ variants.now) }
-    ensures each { IfOk result (λ lines. All (IsLineOf author.now) lines.items) }
-{
-    let mut slots = slots_for(alloc, variants)?;
-    fill_all(rt, alloc, author, slots.as_mut_slice(), workers, gate);
-    lines_in(alloc, author, slots)
-}
-
-// A slot for each fault.
-fn slots_for(alloc: Global, variants: &[Variant]) -> Result<Vec<Slot>, AllocError>
-    ensures { IfOk result (λ slots. map variant_in slots.items ≡ variants.now) }
-{
-    let mut slots = Vec::with_capacity(alloc, variants.len())?;
-    'variants: for variant in variants {
-        slots.push(Slot {
-            variant: *variant,
-            line: None,
-        })?;
-    }
-    Ok(slots)
-}
-
-// Fills each slot, in at most so many threads.
-#[tactic(auto, using(crate::proofs::Filled::same_variants))]
-fn fill_all<R: Threads + Sync, G: Gate + Sync>(
-    rt: &R,
-    alloc: Global,
-    author: &Author<'_>,
-    slots: &mut [Slot],
-    workers: usize,
-    gate: &G,
-)
-    requires input { length author.now.input.now ≤ MOST_INPUT }
-    requires some_workers { 1 ≤ workers }
-    ensures count { length slots.new ≡ length slots.old }
-    ensures variants { map variant_in slots.new ≡ map variant_in slots.old }
-    ensures filled { All (IsFilled author.now) slots.new }
-{
-    thread::for_each_mut(
-        rt,
-        slots,
-        workers,
-        &|place: usize, slot: &mut Slot|
-            requires { length author.now.input.now ≤ MOST_INPUT }
-            ensures { (slot.new.variant ≡ slot.old.variant) × IsFilled author.entry.now slot.new }
-        { slot.fill(rt, alloc, author, gate, place) },
-    );
-}
-
-// The lines of the slots, where each has one.
-#[tactic(auto, using(crate::proofs::Filled::next_filled))]
-fn lines_in(alloc: Global, author: &Author<'_>, slots: Vec<Slot>) -> Result<Vec<Line>, AllocError>
-    requires { All (IsFilled author.now) slots.items }
-    ensures variants { IfOk result (λ lines. map variant_of lines.items ≡ map variant_in slots.items) }
-    ensures each { IfOk result (λ lines. All (IsLineOf author.now) lines.items) }
-{
-    let mut lines = Vec::with_capacity(alloc, slots.len())?;
-    for slot in slots {
-        push_line(&mut lines, author, slot)?;
-    }
-    Ok(lines)
-}
-
-// Appends the line of a slot, where it has one.
-#[tactic(auto, using(crate::proofs::Filled::variants_more, crate::proofs::Filled::lines_more))]
-fn push_line(lines: &mut Vec<Line>, author: &Author<'_>, slot: Slot) -> Result<(), AllocError>
-    requires { IsFilled author.now slot }
-    ensures variants { OnOk result (map variant_of lines.new.items ≡ map variant_of lines.old.items ++ slot.variant ∷ []) }
-    ensures each { OnOk result (All (IsLineOf author.now) lines.old.items → All (IsLineOf author.now) lines.new.items) }
-{
-    let Slot { line, .. } = slot;
-    let Some(line) = line else {
-        return Err(AllocError);
-    };
-    lines.push(line)?;
-    Ok(())
 }

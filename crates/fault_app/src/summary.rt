@@ -5,7 +5,7 @@ ghost use Rattle.exc_groups.specs.Held.{exc_of};
 ghost use Rattle.job_meaning.specs.Shown.{ending_of};
 ghost use Rattle.job_runner.specs.Runs.{rows_of};
 ghost use Rattle.job_meaning.specs.declared.limits.TheConstants.{MOST_INPUT};
-ghost use Rattle.fault_app.specs.Slots.{IsSummary, root_ending};
+ghost use Rattle.fault_app.specs.Held.{IsSummary, root_ending};
 
 use crate::outcome::{cancelled_tasks, exc_in};
 use exc_groups::{Exc, Label};
@@ -30,9 +30,9 @@ pub struct Summary {
     pub events: Vec<Event>,
 }
 
-// Runs a job over an input to its end, in the calling thread, and tells its events.
+/// Runs a job over an input to its end, in the calling thread, and tells its events. Want of memory is the only error.
 #[tactic(auto, using(crate::proofs::Summaries::is_summary))]
-pub(crate) fn summary_of<R: Threads + Sync>(
+pub fn summary_of<R: Threads + Sync>(
     rt: &R,
     alloc: Global,
     job: &Job,

@@ -1,39 +1,31 @@
 -- What is told of a job for each value, and the text of it.
-use Rattle.std.proofs.Common.{◌≡◌, ℕ, None, List, [], ◌∷◌, map, All, refl, ap, subst, ◌∙◌}
-use Rattle.std.proofs.lemmas.List.Elements.{All-map}
+use Rattle.std.proofs.Common.{◌≡◌, ℕ, None, List, [], map, ap, subst, ◌∙◌}
 use Rattle.job_tree.specs.Tree.{Tree}
 use Rattle.job_tokens.specs.declared.token.Token.{Token}
 use Rattle.job_grammar.specs.Refusals.{HasTokens}
 use Rattle.job_edits.specs.declared.number.Number.{Number}
 use Rattle.job_edits.specs.declared.number.Target.{Target}
 use Rattle.fault_text.specs.Fates as fates
-use Rattle.sweep_text.specs.Groups as told
 use Rattle.sweep_text.specs.Sweeps.{sweep_text}
 use Rattle.sweep_text.specs.Views.{value_held}
 use Rattle.sweep_text.specs.declared.value.Value.{Value}
-use Rattle.sweep_app.specs.Slots.{IsValue, IsTold, value_of}
+use Rattle.slot_work.specs.Answers.{AreAnswers}
+use Rattle.slot_work.proofs.Answered.{seen_as}
+use Rattle.sweep_app.specs.Values.{IsValue, IsTold}
 use Rattle.sweep_app.specs.Targets.{IsNumber, IsMissing}
 use Rattle.sweep_app.specs.Verdicts.{IsSweep, HasNoTarget}
 use Rattle.sweep_app.specs.declared.verdict.Missing.{Missing}
 
-held_values : (vs : List Value) → map (λ (v : told.Value). v.value) (map value_held vs) ≡ map value_of vs
-held_values [] = refl
-held_values (v ∷ vs) = ap (λ (ns : List ℕ). v.value ∷ ns) (held_values vs)
-
 -- the text of the values as they were found
 pub is_told : (text input : List ℕ) (limit : ℕ) (number : Number) (job : Tree) (values bytes : List ℕ) (first : fates.Fate)
     (vs us : List Value) →
-    first ≡ fates.fate_of limit None job input → map value_of vs ≡ values →
-    All (λ (v : Value). IsValue text input limit number (value_held v)) vs → us ≡ vs →
+    first ≡ fates.fate_of limit None job input →
+    AreAnswers (λ (n : ℕ) (v : Value). IsValue text input limit number n (value_held v)) values vs → us ≡ vs →
     bytes ≡ sweep_text limit first (map value_held us) → IsTold text input limit number job values bytes
-is_told text input limit number job values bytes first vs us f is each same b =
+is_told text input limit number job values bytes first vs us f are same b =
     record {
       vs = map value_held vs;
-      vs_are =
-          record {
-            in_order = held_values vs ∙ is;
-            each = All-map (IsValue text input limit number) value_held vs each;
-          };
+      vs_are = seen_as (IsValue text input limit number) value_held values vs are;
       text_is =
           b ∙ ap (λ (xs : List Value). sweep_text limit first (map value_held xs)) same
           ∙ ap (λ (g : fates.Fate). sweep_text limit g (map value_held vs)) f;

@@ -1,5 +1,5 @@
 pub mod Nearest
 pub mod Targets
-pub mod Slots
+pub mod Values
 pub mod Verdicts
 pub mod Statuses

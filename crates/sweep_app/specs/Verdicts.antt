@@ -10,7 +10,7 @@ use Rattle.nursery_app.specs.declared.verdict.ServeFault.TheVariants.{Send, NoMe
 use Rattle.job_edits.specs.declared.number.Number.{Number}
 use Rattle.job_edits.specs.declared.number.Target.{Target}
 use Rattle.sweep_app.specs.Targets.{IsNumber, IsMissing}
-use Rattle.sweep_app.specs.Slots.{IsTold}
+use Rattle.sweep_app.specs.Values.{IsTold}
 use Rattle.sweep_app.specs.declared.verdict.Missing.{Missing}
 use Rattle.sweep_app.specs.declared.verdict.SweepVerdict.{SweepVerdict}
 use Rattle.sweep_app.specs.declared.verdict.SweepVerdict.TheVariants.{Told, JobRefused, NoTarget}

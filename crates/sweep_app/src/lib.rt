@@ -8,10 +8,9 @@
 
 mod nearest;
 mod number;
-mod slots;
 mod sweeping;
+mod values;
 mod verdict;
 
-pub use job_edits::Target;
 pub use sweeping::sweep;
 pub use verdict::{Missing, SweepVerdict};

@@ -1,6 +1,5 @@
 ghost use Rattle.std.specs.Prelude.{IfOk};
 ghost use Rattle.sweep_app.specs.Targets.{IsFound};
-ghost use Rattle.sweep_app.specs.declared.number.Found.TheVariants as found;
 ghost use Rattle.job_edits.specs.declared.number.Target.TheVariants as target;
 
 use crate::nearest::{is_one_of, nearest_in};

@@ -1,14 +1,12 @@
-ghost use Rattle.std.specs.Prelude.{◌≡◌, ◌<◌, ◌≤◌, length, IfOk, IfErr, OnOk, map, None};
+ghost use Rattle.std.specs.Prelude.{◌≡◌, ◌<◌, ◌≤◌, length, IfOk, IfErr, OnOk};
 ghost use Rattle.job_meaning.specs.declared.limits.TheConstants.{MOST_INPUT};
 ghost use Rattle.job_grammar.specs.Refusals.{Spells};
 ghost use Rattle.nursery_app.specs.Verdict.{CountsFailure};
-ghost use Rattle.fault_text.specs.Fates.{fate_of};
-ghost use Rattle.sweep_text.specs.Sweeps.{sweep_text};
-ghost use Rattle.sweep_app.specs.Slots.{IsToldOf};
+ghost use Rattle.sweep_app.specs.Values.{IsToldOf};
 ghost use Rattle.sweep_app.specs.Verdicts.{IsVerdict, IsJobVerdict, IsSent, IsSweepFault};
 
 use crate::number::{Found, number_for};
-use crate::slots::{Swept, fates_for};
+use crate::values::Swept;
 use crate::verdict::SweepVerdict;
 use fault_app::{fate_of_job, tokens_of};
 use job_edits::Target;
@@ -16,6 +14,7 @@ use job_grammar::{Job, read_job};
 use job_report::{Out, send};
 use job_runner::Settings;
 use nursery_app::{Gate, ServeFault, refusal};
+use slot_work::answers_for;
 use std::alloc::{AllocError, Global};
 use std::thread::Threads;
 use sweep_text::sweep_table;
@@ -115,7 +114,6 @@ fn answer_for_job<R: Threads + Sync, G: Gate + Sync>(
 }
 
 // The text that tells what becomes of the job for each value.
-#[tactic(auto, using(crate::proofs::Tabled::is_told))]
 fn table<R: Threads + Sync, G: Gate + Sync>(
     rt: &R,
     alloc: Global,
@@ -130,6 +128,6 @@ fn table<R: Threads + Sync, G: Gate + Sync>(
     ensures { IfOk result (λ bytes. IsToldOf job.now swept.now values.now bytes.items) }
 {
     let first = fate_of_job(rt, alloc, job, swept.input, swept.limit, None)?;
-    let told = fates_for(rt, alloc, swept, values, workers, gate)?;
+    let told = answers_for(rt, alloc, swept, values, workers, gate)?;
     sweep_table(alloc, swept.limit, &first, told.as_slice())
 }

@@ -9,5 +9,5 @@ returns g c =
     c.in_ok-variants.variants.items c.as_slice-3.result.now c.in_ok-of.field-0 (fate_held c.in_ok-first.first) c.in_ok-lines.lines.items
     c.as_slice-4.result.now c.as_slice-5.result.now c.requires.spells c.in_ok-tokens.ensures c.limit.ensures.value
     c.as_slice.ensures.value c.in_ok-variants.ensures c.as_slice-2.ensures.value c.in_ok-of.ensures c.in_ok-first.ensures
-    c.as_slice-3.ensures.value c.in_ok-lines.ensures.variants c.in_ok-lines.ensures.each c.as_slice-4.ensures.value
+    c.as_slice-3.ensures.value c.in_ok-lines.ensures c.as_slice-4.ensures.value
     c.in_ok-bytes.ensures c.as_slice-5.ensures.value c.in_ok-denied.ensures

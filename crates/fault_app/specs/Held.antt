@@ -1,10 +1,11 @@
--- What the threads fill.
-use Rattle.std.specs.Prelude.{◌≡◌, ℕ, List, [], ◌∷◌, IfSome, map}
+-- What is kept of a run, and what is true of a line, as the code holds them.
+use Rattle.std.specs.Prelude.{◌≡◌, ◌≤◌, ℕ, List, [], ◌∷◌, length, map}
 use Rattle.std.specs.Option.{option_map}
 use Rattle.exc_groups.specs.Held.{exc_of}
 use Rattle.job_tree.specs.Tree.{Tree}
 use Rattle.job_meaning.specs.Meaning.{meaning, meaning_end}
 use Rattle.job_meaning.specs.Shown.{Ending, well, Row, meaning_rows}
+use Rattle.job_meaning.specs.declared.limits.TheConstants.{MOST_INPUT}
 use Rattle.job_story.specs.Held.{event_of}
 use Rattle.fault_text.specs.Fates.{cancelled_in, walked}
 use Rattle.fault_text.specs.Views.{line_held}
@@ -13,7 +14,6 @@ use Rattle.fault_text.specs.declared.line.Line.{Line}
 use Rattle.job_edits.specs.declared.fault.Variant.{Variant}
 use Rattle.fault_app.specs.declared.summary.Summary.{Summary}
 use Rattle.fault_app.specs.declared.lines.Author.{Author}
-use Rattle.fault_app.specs.declared.lines.Slot.{Slot}
 
 -- what is kept of a run is what the meaning says
 pub record IsSummary (job : Tree) (input : List ℕ) (s : Summary) : Type 0 where
@@ -27,17 +27,10 @@ abbrev pub root_ending : List Row → Ending
 root_ending [] = well
 root_ending (r ∷ rs) = r.ending
 
-abbrev pub variant_of : Line → Variant
-variant_of l = l.variant
+-- the input is no longer than an input may be
+abbrev pub HasRoom : Author → Type 0
+HasRoom author = length author.input.now ≤ MOST_INPUT
 
-abbrev pub variant_in : Slot → Variant
-variant_in s = s.variant
-
--- a line is true of the author's text
-abbrev pub IsLineOf : Author → Line → Type 0
-IsLineOf author l = IsLine author.text.now author.input.now author.limit author.plan (line_held l)
-
--- where a slot has a line it is a true one, of its variant
-pub record IsFilled (author : Author) (slot : Slot) : Type 0 where
-  pub variant : IfSome slot.line (λ l. l.variant ≡ slot.variant)
-  pub line : IfSome slot.line (IsLineOf author)
+-- a line is true of the author's text, for a fault of a step
+abbrev pub IsLineOf : Author → Variant → Line → Type 0
+IsLineOf author variant l = IsLine author.text.now author.input.now author.limit author.plan variant (line_held l)
