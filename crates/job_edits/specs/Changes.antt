@@ -1,7 +1,7 @@
 -- A text with changes: pieces in the place of some of its bytes, and all other bytes as they were.
 use Rattle.std.specs.Prelude.{ℕ, ◌-◌, List, [], ◌∷◌, ◌++◌, take, drop, codes, decimal}
 use Rattle.job_edits.specs.declared.change.Piece.{Piece}
-use Rattle.job_edits.specs.declared.change.Piece.TheVariants.{Raise, ThenRaise, Forever, Cancel, OpenScope, Close, Number}
+use Rattle.job_edits.specs.declared.change.Piece.TheVariants.{Raise, ThenRaise, Forever, Cancel, OpenScope, Close, Number, Sleep, ThenSleep, OpenRepeat}
 use Rattle.job_edits.specs.declared.change.Change.{Change}
 
 -- how a piece is written; the semicolon after the step that it stands in, or the brace after it, is the author's
@@ -13,6 +13,9 @@ piece_text (Cancel name) = codes "cancel " ++ name ++ codes "; "
 piece_text (OpenScope name) = codes "{ scope " ++ name ++ codes " "
 piece_text Close = codes " }"
 piece_text (Number n) = decimal n
+piece_text (Sleep n) = codes "sleep " ++ decimal n
+piece_text (ThenSleep n) = codes " sleep " ++ decimal n ++ codes ";"
+piece_text (OpenRepeat n) = codes "repeat " ++ decimal n ++ codes " { "
 
 -- the text from a place on, with changes from there on, in the order of their places
 abbrev pub changed_from : ℕ → List ℕ → List Change → List ℕ

@@ -34,7 +34,7 @@ abbrev pub need_for : Option (List ℕ) → List Token → Option Wait
 need_for None ts = None
 need_for (Some text) ts = need_named text (first_name ts)
 
--- a string, and the name behind it
+-- a string, and the name after it
 abbrev pub need_in : List Token → Option Wait
 need_in [] = None
 need_in (t ∷ ts) = need_for (text_in t.shape) ts

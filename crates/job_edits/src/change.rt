@@ -1,4 +1,4 @@
-ghost use Rattle.std.specs.Prelude.{◌≡◌, ◌-◌, ◌++◌, take, drop, IfOk, OnOk};
+ghost use Rattle.std.specs.Prelude.{◌≡◌, ◌-◌, ◌++◌, take, drop, decimal, IfOk, OnOk};
 ghost use Rattle.job_edits.specs.Changes.{piece_text, changed};
 
 use job_tree::Name;
@@ -9,18 +9,24 @@ use std::alloc::{AllocError, Global};
 pub enum Piece {
     /// A step that raises an exception of this name, in the place of another step.
     Raise(Name),
-    /// The same after another step, in front of its semicolon.
+    /// The same after another step, before its semicolon.
     ThenRaise(Name),
     /// A step that waits forever, in the place of another step.
     Forever,
-    /// A step that cancels the scope of this name, in front of another step.
+    /// A step that cancels the scope of this name, before another step.
     Cancel(Name),
-    /// The begin of a block whose first step is the scope of this name, in front of the brace of that block.
+    /// The start of a block whose first step is the scope of this name, before the brace of that block.
     OpenScope(Name),
-    /// A closing brace, in front of another one.
+    /// A closing brace, before another one.
     Close,
     /// A number, in the place of another one.
     Number(u64),
+    /// A step that sleeps so many ticks, in the place of another step.
+    Sleep(u64),
+    /// The same with its semicolon, after another step or at the start of a block.
+    ThenSleep(u64),
+    /// The start of a `repeat` of so many passes, before a step.
+    OpenRepeat(u64),
 }
 
 /// A change of a text: a piece in the place of the bytes from one place up to another.
@@ -83,11 +89,30 @@ fn push_piece(alloc: Global, out: &mut Vec<u8>, piece: Piece) -> Result<(), Allo
             out.extend_from_slice(b" ")
         }
         Piece::Close => out.extend_from_slice(b" }"),
-        Piece::Number(n) => {
-            let digits = n.to_string(alloc)?;
-            out.extend_from_slice(digits.as_bytes())
+        Piece::Number(n) => push_number(alloc, out, n),
+        Piece::Sleep(n) => {
+            out.extend_from_slice(b"sleep ")?;
+            push_number(alloc, out, n)
+        }
+        Piece::ThenSleep(n) => {
+            out.extend_from_slice(b" sleep ")?;
+            push_number(alloc, out, n)?;
+            out.extend_from_slice(b";")
+        }
+        Piece::OpenRepeat(n) => {
+            out.extend_from_slice(b"repeat ")?;
+            push_number(alloc, out, n)?;
+            out.extend_from_slice(b" { ")
         }
     }
+}
+
+// Appends a number in decimal digits.
+fn push_number(alloc: Global, out: &mut Vec<u8>, n: u64) -> Result<(), AllocError>
+    ensures { OnOk result (out.new.items ≡ out.old.items ++ decimal n) }
+{
+    let digits = n.to_string(alloc)?;
+    out.extend_from_slice(digits.as_bytes())
 }
 
 // Appends some words, and a name.

@@ -2,20 +2,30 @@
 //!
 //! The layer promises that a changed text has new pieces at their places and all other bytes of the author's text (`specs/Changes.antt`);
 //! that `waiting_steps` finds each step of a job text that waits, with its place (`specs/Waiting.antt`); and which changes of the text each
-//! fault of such a step is (`specs/Faults.antt`). `number_at` and `deadline_of` find a number of the text by its place, or by the scope or
-//! nursery whose deadline it is, and `Number::set_to` is the change that puts another number in its place (`specs/Numbers.antt`). The layer
-//! stands on `job_tokens` for the tokens of the text and on `job_syntax` for keywords.
+//! fault of such a step is (`specs/Faults.antt`). `sites` finds each place where time passes, or may, and `finer_changes` and
+//! `shifted_changes` are the changes that make the text's ticks finer, and move one place by a hair (`specs/Sites.antt`, `specs/Finer.antt`);
+//! `copied_starts` finds each `start .. over` (`specs/Copied.antt`). `number_at` and `deadline_of` find a number of the text by its place, or
+//! by the scope or nursery whose deadline it is, and `Number::set_to` is the change that puts another number in its place
+//! (`specs/Numbers.antt`). The layer stands on `job_tokens` for the tokens of the text and on `job_syntax` for keywords.
 #![tactic(auto)]
 
 mod change;
+mod copied;
 mod fault;
+mod finer;
 mod fresh;
 mod number;
 mod plan;
+mod shift;
+mod site;
 mod waiting;
 
 pub use change::{Change, Piece, changed_text};
+pub use copied::{CopiedStart, copied_starts};
 pub use fault::{Fault, Variant, variants};
+pub use finer::Finer;
 pub use number::{Number, Target, block_names, deadline_of, number_at};
 pub use plan::Plan;
+pub use shift::{Hair, Shift, finer_changes, shifted_changes, shifts};
+pub use site::{Moment, Site, push_moment, sites};
 pub use waiting::{Wait, Waiting, push_wait, waiting_steps};

@@ -112,7 +112,7 @@ fn number_of(alloc: Global, token: Token) -> Result<Option<Number>, AllocError>
 }
 
 // The number that the first token is, where it is one.
-fn number_first(alloc: Global, tokens: &[Token]) -> Result<Option<Number>, AllocError>
+pub(crate) fn number_first(alloc: Global, tokens: &[Token]) -> Result<Option<Number>, AllocError>
     ensures { IfOk result (λ number. number ≡ number_first tokens.now) }
 {
     let Some((token, _)) = tokens.split_first() else {

@@ -56,7 +56,7 @@ impl Plan {
         }
     }
 
-    // The changes with which the whole job is cancelled in front of a step.
+    // The changes with which the whole job is cancelled before a step.
     fn cancelled(&self, alloc: Global, step: Waiting) -> Result<Vec<Change>, AllocError>
         ensures { IfOk result (λ changes. changes.items ≡ changes_by self.now step Cancelled) }
     {
@@ -125,7 +125,7 @@ fn instead(step: Waiting, piece: Piece) -> Change
     }
 }
 
-// The change that puts a piece in front of a place, and leaves nothing out.
+// The change that puts a piece before a place, and leaves nothing out.
 fn inserted(at: usize, piece: Piece) -> Change
     ensures { result ≡ inserted at piece }
 {

@@ -90,7 +90,7 @@ fn wait_of(keyword: Keyword, others: &[Token]) -> Option<Wait>
     }
 }
 
-// A `need` by its string and the name behind it.
+// A `need` by its string and the name after it.
 fn need_in(tokens: &[Token]) -> Option<Wait>
     ensures { result ≡ need_in tokens.now }
 {
@@ -101,7 +101,7 @@ fn need_in(tokens: &[Token]) -> Option<Wait>
 }
 
 // The number that the first token is.
-fn first_number(tokens: &[Token]) -> Option<u64>
+pub(crate) fn first_number(tokens: &[Token]) -> Option<u64>
     ensures { result ≡ first_number tokens.now }
 {
     let (token, _) = tokens.split_first()?;
@@ -147,7 +147,12 @@ pub fn push_wait(alloc: Global, out: &mut Vec<u8>, wait: Wait) -> Result<(), All
 }
 
 // Appends some words, and a number.
-fn push_counted(alloc: Global, out: &mut Vec<u8>, words: &[u8], n: u64) -> Result<(), AllocError>
+pub(crate) fn push_counted(
+    alloc: Global,
+    out: &mut Vec<u8>,
+    words: &[u8],
+    n: u64,
+) -> Result<(), AllocError>
     ensures { OnOk result (out.new.items ≡ out.old.items ++ (words.now ++ decimal n)) }
 {
     out.extend_from_slice(words)?;

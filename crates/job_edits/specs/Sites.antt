@@ -1,0 +1,77 @@
+-- The places of a job text where time passes, or may, found among its tokens: a keyword begins each.
+use Rattle.std.specs.Prelude.{ℕ, List, [], ◌∷◌, ◌++◌, Option, Some, None, codes, decimal}
+use Rattle.std.specs.Option.{option_map}
+use Rattle.job_tokens.specs.declared.token.Token.{Token}
+use Rattle.job_tokens.specs.declared.token.Mark.TheVariants.{Open, Semicolon}
+use Rattle.job_tokens.specs.Shapes.{word_in}
+use Rattle.job_syntax.specs.declared.keyword.Keyword.{Keyword}
+use Rattle.job_syntax.specs.declared.keyword.Keyword.TheVariants as keyword
+use Rattle.job_edits.specs.Waiting.{first_number, first_name, first_mark, keyword_in}
+use Rattle.job_edits.specs.Numbers.{number_first}
+use Rattle.job_edits.specs.declared.site.Moment.{Moment}
+use Rattle.job_edits.specs.declared.site.Moment.TheVariants.{Sleep, After, At, Checkpoint, Pace, Start}
+use Rattle.job_edits.specs.declared.site.Site.{Site}
+
+-- ---- what stands there
+
+-- a deadline of the scope or nursery of a name, by its keyword and the tokens after that
+abbrev pub deadline_by : List ℕ → Option Keyword → List Token → Option Moment
+deadline_by name (Some keyword.After) ts = option_map (λ n. After name n) (number_first ts)
+deadline_by name (Some keyword.At) ts = option_map (λ n. At name n) (number_first ts)
+deadline_by name _ ts = None
+
+-- the same by the tokens after the name
+abbrev pub deadline_named : Option (List ℕ) → List Token → Option Moment
+deadline_named None ts = None
+deadline_named (Some name) [] = None
+deadline_named (Some name) (t ∷ ts) = deadline_by name (keyword_in (word_in t.shape)) ts
+
+-- the same by the tokens from the name on
+abbrev pub deadline_from : List Token → Option Moment
+deadline_from [] = None
+deadline_from (t ∷ ts) = deadline_named (word_in t.shape) ts
+
+abbrev pub paced : Option ℕ → Option ℕ → Option Moment
+paced (Some lines) (Some to) = Some (Pace lines to)
+paced (Some lines) None = None
+paced None to = None
+
+abbrev pub started : Option (List ℕ) → Option ℕ → Option Moment
+started (Some name) (Some opening) = Some (Start name opening)
+started (Some name) None = None
+started None opening = None
+
+-- what a keyword begins, by the tokens after it
+abbrev pub moment_by : Keyword → List Token → Option Moment
+moment_by keyword.Sleep ts = option_map (λ n. Sleep n) (number_first ts)
+moment_by keyword.Scope ts = deadline_from ts
+moment_by keyword.Nursery ts = deadline_from ts
+moment_by keyword.Checkpoint ts = option_map (λ to. Checkpoint to) (first_mark Semicolon ts)
+moment_by keyword.Pace ts = paced (first_number ts) (first_mark Semicolon ts)
+moment_by keyword.Start ts = started (first_name ts) (first_mark Open ts)
+moment_by _ ts = None
+
+abbrev pub moment_if : Option Keyword → List Token → Option Moment
+moment_if None ts = None
+moment_if (Some k) ts = moment_by k ts
+
+-- ---- where
+
+abbrev pub with_site : ℕ → Option Moment → List Site → List Site
+with_site from None others = others
+with_site from (Some m) others = record { from = from; moment = m } ∷ others
+
+-- the places of a text where time passes, in their order, by its tokens
+abbrev pub sites_in : List Token → List Site
+sites_in [] = []
+sites_in (t ∷ ts) = with_site t.at (moment_if (keyword_in (word_in t.shape)) ts) (sites_in ts)
+
+-- ---- how it is shown
+
+abbrev pub moment_text : Moment → List ℕ
+moment_text (Sleep n) = codes "sleep " ++ decimal n.value
+moment_text (After name n) = name ++ codes " after " ++ decimal n.value
+moment_text (At name n) = name ++ codes " at " ++ decimal n.value
+moment_text (Checkpoint to) = codes "checkpoint"
+moment_text (Pace lines to) = codes "pace " ++ decimal lines
+moment_text (Start name opening) = codes "start " ++ name

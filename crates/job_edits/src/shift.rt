@@ -1,0 +1,197 @@
+ghost use Rattle.std.specs.Prelude.{◌≡◌, ◌+◌, ◌++◌, ◌∷◌, [], IfOk, OnOk};
+ghost use Rattle.job_edits.specs.declared.change.Piece.TheVariants as piece;
+ghost use Rattle.job_edits.specs.Faults.{inserted};
+ghost use Rattle.job_edits.specs.Numbers.{set_to};
+ghost use Rattle.job_edits.specs.Finer.{capped, finer_at, finer_changes, hairs_of, shifts_with, shifts_of, moved, shifted_at, shifted_or_finer, shifted_changes};
+
+use crate::change::{Change, Piece};
+use crate::finer::{Finer, ticks_of};
+use crate::number::Number;
+use crate::site::{Moment, Site};
+use std::alloc::{AllocError, Global};
+
+/// In which direction a place is moved by a hair.
+#[derive(Clone, Copy, Debug, PartialEq, Eq)]
+pub enum Hair {
+    /// It takes a hair less.
+    Earlier,
+    /// It takes a hair more.
+    Later,
+}
+
+/// A place of a job text that is moved by a hair.
+#[derive(Clone, Copy)]
+pub struct Shift {
+    /// The place.
+    pub site: Site,
+    /// In which direction.
+    pub hair: Hair,
+}
+
+/// Each hair of each place of a job text, in the order of places: a number of ticks is moved in both directions, but a 0 only to later; all
+/// else only to later. Want of memory is the only error.
+pub fn shifts(alloc: Global, sites: &[Site]) -> Result<Vec<Shift>, AllocError>
+    ensures { IfOk result (λ shifts. shifts.items ≡ shifts_of sites.now) }
+{
+    let mut shifts = Vec::new(alloc);
+    'sites: for site in sites {
+        push_shifts(&mut shifts, site)?;
+    }
+    Ok(shifts)
+}
+
+// Appends each hair of a place.
+fn push_shifts(shifts: &mut Vec<Shift>, site: &Site) -> Result<(), AllocError>
+    ensures { OnOk result (shifts.new.items ≡ shifts.old.items ++ shifts_with site.now (hairs_of site.now.moment)) }
+{
+    if ticks_of(site.moment) != 0 {
+        push_shift(shifts, site, Hair::Earlier)?;
+    }
+    push_shift(shifts, site, Hair::Later)
+}
+
+// Appends a hair of a place.
+fn push_shift(shifts: &mut Vec<Shift>, site: &Site, hair: Hair) -> Result<(), AllocError>
+    ensures { OnOk result (shifts.new.items ≡ shifts.old.items ++ record { site = site.now; hair = hair } ∷ []) }
+{
+    let from = site.from;
+    let moment = site.moment;
+    shifts.push(Shift {
+        site: Site { from, moment },
+        hair,
+    })?;
+    Ok(())
+}
+
+/// The changes that give a job text finer ticks, in format 2. Want of memory is the only error.
+pub fn finer_changes(alloc: Global, finer: Finer, sites: &[Site]) -> Result<Vec<Change>, AllocError>
+    ensures { IfOk result (λ changes. changes.items ≡ finer_changes finer sites.now) }
+{
+    let mut changes = Vec::new(alloc);
+    push(&mut changes, 9, 10, Piece::Number(2))?;
+    'sites: for site in sites {
+        push_finer(&mut changes, finer, site)?;
+    }
+    Ok(changes)
+}
+
+/// The changes that give a job text finer ticks, in format 2, and move one of its places by a hair. Want of memory is the only error.
+pub fn shifted_changes(
+    alloc: Global,
+    finer: Finer,
+    shift: &Shift,
+    sites: &[Site],
+) -> Result<Vec<Change>, AllocError>
+    ensures { IfOk result (λ changes. changes.items ≡ shifted_changes finer shift.now sites.now) }
+{
+    let mut changes = Vec::new(alloc);
+    push(&mut changes, 9, 10, Piece::Number(2))?;
+    'sites: for site in sites {
+        push_shifted_or_finer(&mut changes, finer, shift, site)?;
+    }
+    Ok(changes)
+}
+
+// Appends the changes of a place, which may be the one that is moved by a hair.
+fn push_shifted_or_finer(
+    changes: &mut Vec<Change>,
+    finer: Finer,
+    shift: &Shift,
+    site: &Site,
+) -> Result<(), AllocError>
+    ensures { OnOk result (changes.new.items ≡ changes.old.items ++ shifted_or_finer finer shift.now site.now) }
+{
+    if site.from == shift.site.from {
+        push_shifted(changes, finer, shift.hair, site)
+    } else {
+        push_finer(changes, finer, site)
+    }
+}
+
+// Appends the changes that make the ticks of a place finer.
+fn push_finer(changes: &mut Vec<Change>, finer: Finer, site: &Site) -> Result<(), AllocError>
+    ensures { OnOk result (changes.new.items ≡ changes.old.items ++ finer_at finer site.now.from site.now.moment) }
+{
+    let moment = site.moment;
+    match moment {
+        Moment::Sleep(number) | Moment::After(_, number) | Moment::At(_, number) => {
+            push_number(changes, number, finer.ticks(number))
+        }
+        Moment::Pace { to, .. } => push_repeat(changes, finer, site.from, to),
+        Moment::Checkpoint { .. } | Moment::Start { .. } => Ok(()),
+    }
+}
+
+// Appends the changes that make the ticks of a place finer, and move it by a hair.
+fn push_shifted(
+    changes: &mut Vec<Change>,
+    finer: Finer,
+    hair: Hair,
+    site: &Site,
+) -> Result<(), AllocError>
+    ensures { OnOk result (changes.new.items ≡ changes.old.items ++ shifted_at finer hair site.now.from site.now.moment) }
+{
+    let from = site.from;
+    let moment = site.moment;
+    match moment {
+        Moment::Sleep(number) | Moment::After(_, number) | Moment::At(_, number) => {
+            push_number(changes, number, moved(finer, number, hair))
+        }
+        Moment::Checkpoint { to } => { push(changes, from, to, Piece::Sleep(finer.hair)) }
+        Moment::Pace { to, .. } => {
+            push_repeat(changes, finer, from, to)?;
+            push_after(changes, to, Piece::ThenSleep(finer.hair))
+        }
+        Moment::Start { opening, .. } => {
+            push_after(changes, opening, Piece::ThenSleep(finer.hair))
+        }
+    }
+}
+
+// Appends the changes that make a step so many times.
+fn push_repeat(
+    changes: &mut Vec<Change>,
+    finer: Finer,
+    from: usize,
+    to: usize,
+) -> Result<(), AllocError>
+    ensures { OnOk result (changes.new.items
+        ≡ changes.old.items ++ (inserted from (piece.OpenRepeat finer.factor) ∷ inserted (capped (to + 1)) piece.Close ∷ [])) }
+{
+    push(changes, from, from, Piece::OpenRepeat(finer.factor))?;
+    push_after(changes, to, Piece::Close)
+}
+
+// Appends the change that puts another number in the place of one.
+fn push_number(changes: &mut Vec<Change>, number: Number, value: u64) -> Result<(), AllocError>
+    ensures { OnOk result (changes.new.items ≡ changes.old.items ++ set_to number value ∷ []) }
+{
+    push(changes, number.from, number.to, Piece::Number(value))
+}
+
+// Appends the change that puts a piece after the byte at a place.
+fn push_after(changes: &mut Vec<Change>, at: usize, piece: Piece) -> Result<(), AllocError>
+    ensures { OnOk result (changes.new.items ≡ changes.old.items ++ inserted (capped (at + 1)) piece ∷ []) }
+{
+    let after = at.saturating_add(1);
+    push(changes, after, after, piece)
+}
+
+// A number of ticks in finer ones, moved by a hair.
+fn moved(finer: Finer, number: Number, hair: Hair) -> u64
+    ensures { result ≡ moved finer number hair }
+{
+    let ticks = finer.ticks(number);
+    match hair {
+        Hair::Earlier => ticks.saturating_sub(finer.hair),
+        Hair::Later => ticks.saturating_add(finer.hair),
+    }
+}
+
+// Appends a change: this piece in the place of the bytes from one place up to another.
+fn push(changes: &mut Vec<Change>, from: usize, to: usize, piece: Piece) -> Result<(), AllocError>
+    ensures { OnOk result (changes.new.items ≡ changes.old.items ++ record { from = from; to = to; piece = piece } ∷ []) }
+{
+    changes.push(Change { from, to, piece })?;
+    Ok(())
+}
