@@ -1,0 +1,93 @@
+-- The table of a text, by the tokens, places and lines as they were given on.
+use Rattle.std.proofs.Common.{◌≡◌, ℕ, ◌*◌, ◌<◌, ◌≤◌, Bool, true, false, Option, None, Some, List, [], sym, ap, subst, ◌∙◌, arith}
+use Rattle.std.specs.Prelude.{nat_le, length, if◌then◌else◌}
+use Rattle.std.proofs.lemmas.Bool.Decides.{nat_tests}
+use Rattle.job_tree.specs.Tree.{Tree}
+use Rattle.job_tokens.specs.declared.token.Token.{Token}
+use Rattle.job_grammar.specs.Refusals.{HasTokens}
+use Rattle.job_meaning.specs.Meaning.{meaning_end}
+use Rattle.job_meaning.specs.Shown.{Row, meaning_rows}
+use Rattle.job_edits.specs.Sites.{sites_in}
+use Rattle.job_edits.specs.Copied.{copied_in}
+use Rattle.job_edits.specs.Finer.{capped, finer_for, most_ticks, shifts_of}
+use Rattle.job_edits.specs.declared.site.Site.{Site}
+use Rattle.job_edits.specs.declared.copied.CopiedStart.{CopiedStart}
+use Rattle.job_edits.specs.declared.finer.Finer.{Finer}
+use Rattle.race_text.specs.Lines as told
+use Rattle.race_text.specs.Table.{table_text, denied_text}
+use Rattle.race_app.specs.Ran.{Ran, ran, ran_of}
+use Rattle.race_app.specs.Lines.{AreLines}
+use Rattle.race_app.specs.Verdicts.{IsTable, HasNoFiner}
+
+le_test : (m n : ℕ) → m ≤ n → nat_le m n ≡ true
+le_test m n h = grind (arith, nat_tests)
+
+-- by the tick of the end and the limit as they were read
+pub in_time : (end last l limit : ℕ) → end ≡ last → l ≡ limit → end ≤ l → last ≤ limit
+in_time end last l limit e at soon = omega (arith, e, at, soon)
+
+-- the run of a job that ends by the limit
+pub ran_in_time : (job : Tree) (input : List ℕ) (limit : ℕ) (rows : List Row) → rows ≡ meaning_rows job input →
+    meaning_end job input ≤ limit → ran true rows ≡ ran_of limit job input
+ran_in_time job input limit rows same soon =
+    ap (λ (rs : List Row). ran true rs) same
+    ∙ ap (λ (b : Bool). ran b (meaning_rows job input)) (sym (le_test (meaning_end job input) limit soon))
+
+-- the table, where places, starts of copies and lines are those of the text's tokens
+pub is_table : (text input : List ℕ) (limit l : ℕ) (deny : Bool) (job : Tree) (denied bytes : List ℕ) (tokens : List Token) (f : Finer)
+    (sites : List Site) (starts : List CopiedStart) (first : Ran) (lines : List told.Line) (hairs : ℕ) →
+    meaning_end job input ≤ limit → HasTokens text tokens None → sites ≡ sites_in tokens → starts ≡ copied_in tokens →
+    Some f ≡ finer_for sites → l ≡ capped (limit * f.factor) → first ≡ ran_of limit job input →
+    AreLines text input l f sites starts first lines → hairs ≡ length (shifts_of sites) → bytes ≡ table_text hairs lines →
+    denied ≡ (if deny then denied_text lines else []) → IsTable text input limit deny job denied bytes
+is_table text input limit l deny job denied bytes tokens f sites starts first lines hairs soon has s c finer at same are h b d =
+    let by_limit = subst (λ (n : ℕ). AreLines text input n f sites starts first lines) at are in
+    let by_sites = subst (λ (ss : List Site). AreLines text input (capped (limit * f.factor)) f ss starts first lines) s by_limit in
+    let by_starts =
+    subst (λ (cs : List CopiedStart). AreLines text input (capped (limit * f.factor)) f (sites_in tokens) cs first lines) c by_sites in
+    record {
+      in_time = soon;
+      tokens = tokens;
+      tokens_are = has;
+      f = f;
+      finer_is = ap finer_for (sym s) ∙ sym finer;
+      lines = lines;
+      lines_are =
+          subst (λ (r : Ran). AreLines text input (capped (limit * f.factor)) f (sites_in tokens) (copied_in tokens) r lines) same by_starts;
+      table = b ∙ ap (λ (n : ℕ). table_text n lines) (h ∙ ap (λ (ss : List Site). length (shifts_of ss)) s);
+      denied_are = d;
+    }
+
+-- a text whose numbers of ticks cannot be made finer
+pub has_no_finer : (text input : List ℕ) (limit : ℕ) (job : Tree) (bytes : List ℕ) (tokens : List Token) (sites : List Site) →
+    meaning_end job input ≤ limit → HasTokens text tokens None → sites ≡ sites_in tokens → None ≡ finer_for sites → bytes ≡ [] →
+    HasNoFiner text input limit job bytes
+has_no_finer text input limit job bytes tokens sites soon has s none nothing =
+    record {
+      in_time = soon;
+      tokens = tokens;
+      tokens_are = has;
+      none = ap finer_for (sym s) ∙ sym none;
+      nothing = nothing;
+    }
+
+abbrev factor_or : Option Finer → ℕ
+factor_or None = 1
+factor_or (Some f) = f.factor
+
+some_factor : (a b c : Bool) (f : Finer) →
+    Some f
+    ≡ (if a then Some (record { factor = 1000; hair = 100 })
+    else if b then Some (record { factor = 100; hair = 10 })
+    else if c then Some (record { factor = 10; hair = 1 })
+    else None) → 0 < f.factor
+some_factor true b c f is = let ticks : f.factor ≡ 1000 = ap factor_or is in omega arith
+some_factor false true c f is = let ticks : f.factor ≡ 100 = ap factor_or is in omega arith
+some_factor false false true f is = let ticks : f.factor ≡ 10 = ap factor_or is in omega arith
+some_factor false false false f is = let ticks : f.factor ≡ 1 = ap factor_or is in omega arith
+
+-- one of the author's ticks is at least one of the finer ones
+pub some_ticks : (sites : List Site) (f : Finer) → Some f ≡ finer_for sites → 0 < f.factor
+some_ticks sites f is =
+    let most = most_ticks sites in
+    some_factor (nat_le (most * 1000) 1000000000) (nat_le (most * 100) 1000000000) (nat_le (most * 10) 1000000000) f is

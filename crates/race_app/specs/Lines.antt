@@ -1,0 +1,50 @@
+-- The lines that `races` tells of a job text.
+use Rattle.std.specs.Prelude.{◌≡◌, ℕ, ◌/◌, nat_le, if◌then◌else◌, Option, Some, None, List, [], ◌∷◌, ◌++◌}
+use Rattle.job_story.specs.Events.{Event}
+use Rattle.job_edits.specs.Changes.{changed}
+use Rattle.job_edits.specs.Finer.{finer_changes, shifted_changes, shifts_of}
+use Rattle.job_edits.specs.declared.site.Site.{Site}
+use Rattle.job_edits.specs.declared.copied.CopiedStart.{CopiedStart}
+use Rattle.job_edits.specs.declared.finer.Finer.{Finer}
+use Rattle.job_edits.specs.declared.shift.Shift.{Shift}
+use Rattle.nursery_app.specs.Places.{line_of, column_of}
+use Rattle.slot_work.specs.Answers.{AreAnswers}
+use Rattle.race_copies.specs.Copies.{Meeting, meeting_in}
+use Rattle.race_text.specs.Lines.{Found, Line, finer, moved, copies}
+use Rattle.race_app.specs.Ran.{Ran, IsRan, IsBeside, compared}
+
+-- ---- one place moved by a hair
+
+-- A line tells of the text in finer ticks with one place moved by a hair, beside the text in finer ticks alone. The limit is in finer ticks.
+abbrev pub IsMoved : List ℕ → List ℕ → ℕ → Finer → List Site → Ran → Shift → Line → Type 0
+IsMoved text input limit f sites before shift line =
+    (found : Found) × IsBeside (changed text (shifted_changes f shift sites)) input limit before found
+    × (line ≡ moved (line_of text shift.site.from) (column_of text shift.site.from) shift.site.moment shift.hair found)
+
+-- ---- copies that meet
+
+-- A meeting by the limit; its tick is told in the author's ticks.
+abbrev pub met_line : List ℕ → ℕ → Finer → CopiedStart → Option Meeting → List Line
+met_line text limit f start None = []
+met_line text limit f start (Some m) =
+    if nat_le m.tick limit
+    then copies (line_of text start.from) (column_of text start.from) start.name start.count m.one m.other (m.tick / f.factor) ∷ []
+    else []
+
+-- a line for each start whose copies meet in a story of these events
+abbrev pub copies_lines : List ℕ → ℕ → Finer → List Event → List CopiedStart → List Line
+copies_lines text limit f events [] = []
+copies_lines text limit f events (c ∷ cs) =
+    met_line text limit f c (meeting_in f.hair c.name events) ++ copies_lines text limit f events cs
+
+-- ---- all
+
+-- The lines of a text with these places and starts of copies, whose run is the first one: its text in finer ticks, beside the text as it is; then
+-- each hair of each place, once and in the order of places; then the copies that meet. The limit is in finer ticks.
+pub record AreLines (text input : List ℕ) (limit : ℕ) (f : Finer) (sites : List Site) (starts : List CopiedStart) (first : Ran) (lines : List Line) : Type 0 where
+  pub before : Ran
+  pub events : List Event
+  pub before_is : IsRan (changed text (finer_changes f sites)) input limit before events
+  pub moves : List Line
+  pub moves_are : AreAnswers (IsMoved text input limit f sites before) (shifts_of sites) moves
+  pub all : lines ≡ finer (compared first before) ∷ (moves ++ copies_lines text limit f events starts)

@@ -1,0 +1,39 @@
+-- What becomes of the tasks of a text that is read as a job, over an input and by a limit.
+use Rattle.std.specs.Prelude.{◌≡◌, ◌⊎◌, ℕ, Bool, nat_le, List, []}
+use Rattle.job_tree.specs.Tree.{Tree}
+use Rattle.job_grammar.specs.declared.fault.JobFault.{JobFault}
+use Rattle.job_grammar.specs.Refusals.{Spells, IsRefused}
+use Rattle.job_meaning.specs.Meaning.{meaning_end}
+use Rattle.job_meaning.specs.Shown.{Row, meaning_rows}
+use Rattle.job_story.specs.Events.{Event}
+use Rattle.fault_text.specs.Fates.{walked}
+use Rattle.race_rows.specs.Runs.{of_runs}
+use Rattle.race_text.specs.Lines as told
+use Rattle.race_text.specs.Lines.{Found}
+
+-- the text is refused; or its job ended by the limit or did not, with these records
+pub data Ran : Type 0 where
+  refused : Ran
+  ran : (in_time : Bool) → (rows : List Row) → Ran
+
+abbrev pub ran_of : ℕ → Tree → List ℕ → Ran
+ran_of limit job input = ran (nat_le (meaning_end job input) limit) (meaning_rows job input)
+
+-- what becomes of a text, by the meaning of the job that it spells, and the events of the job's story in the order of the walk: none where the
+-- text is refused
+abbrev pub IsRan : List ℕ → List ℕ → ℕ → Ran → List Event → Type 0
+IsRan text input limit r events =
+    ((job : Tree) × Spells text job × (r ≡ ran_of limit job input) × (events ≡ walked job input))
+    ⊎ ((fault : JobFault) × IsRefused text fault.kind fault.at × (r ≡ refused) × (events ≡ []))
+
+-- what a run shows that another one does not, apart from ticks
+abbrev pub compared : Ran → Ran → Found
+compared refused r = told.refused
+compared (ran a before) refused = told.refused
+compared (ran a before) (ran b after) = told.differs (of_runs a before b after)
+
+-- what the job that a text spells shows that a run does not; or the text is refused
+abbrev pub IsBeside : List ℕ → List ℕ → ℕ → Ran → Found → Type 0
+IsBeside text input limit before found =
+    ((job : Tree) × Spells text job × (found ≡ compared before (ran_of limit job input)))
+    ⊎ ((fault : JobFault) × IsRefused text fault.kind fault.at × (found ≡ told.refused))

@@ -1,0 +1,69 @@
+-- Runs as the code holds them, and what is promised of what the code builds on its way.
+use Rattle.std.specs.Prelude.{◌≡◌, ◌≤◌, ℕ, nat_le, Option, Some, None, List, ◌∷◌, ◌++◌, length, map}
+use Rattle.std.specs.Borrow.{Bor}
+use Rattle.job_tree.specs.Tree.{Tree}
+use Rattle.job_meaning.specs.declared.limits.TheConstants.{MOST_INPUT}
+use Rattle.task_roster.specs.Records.{row_in}
+use Rattle.fault_text.specs.Fates.{walked}
+use Rattle.job_edits.specs.Finer.{shifts_of}
+use Rattle.job_edits.specs.declared.shift.Shift.{Shift}
+use Rattle.slot_work.specs.Answers.{AreAnswers}
+use Rattle.job_runner.specs.Runs.{rows_of, root_end}
+use Rattle.job_runner.specs.declared.finished.Run.{Run}
+use Rattle.race_rows.specs.declared.runs.Ran as held
+use Rattle.race_text.specs.Lines as told
+use Rattle.race_text.specs.Views.{line_held}
+use Rattle.race_text.specs.declared.line.Line.{Line}
+use Rattle.race_app.specs.Ran.{Ran, refused, ran, ran_of, compared}
+use Rattle.race_app.specs.Lines.{IsMoved, copies_lines, AreLines}
+use Rattle.race_app.specs.declared.author.Author.{Author}
+use Rattle.race_app.specs.declared.moves.Moves.{Moves}
+
+abbrev pub ran_seen : held.Ran → Ran
+ran_seen r = ran r.in_time (map row_in r.records.now)
+
+-- a run that is lent, or none where the text is refused
+abbrev pub ran_held : Option (Bor held.Ran) → Ran
+ran_held None = refused
+ran_held (Some r) = ran_seen r.now
+
+-- a run by a limit
+abbrev pub ran_by : ℕ → Run → Ran
+ran_by limit run = ran (nat_le (root_end (rows_of run)) limit) (rows_of run)
+
+-- the input is no longer than an input may be
+abbrev pub HasRoom : Moves → Type 0
+HasRoom moves = length moves.input.now ≤ MOST_INPUT
+
+-- the line of a place that is moved by a hair is a true one
+abbrev pub IsMovedBy : Author → List ℕ → Ran → Shift → told.Line → Type 0
+IsMovedBy author input before shift line =
+    IsMoved author.text.now input author.limit author.finer author.sites.now before shift line
+
+abbrev pub IsMovedOf : Moves → Shift → Line → Type 0
+IsMovedOf moves shift line = IsMovedBy moves.author moves.input.now (ran_held moves.before) shift (line_held line)
+
+-- all lines of a text
+abbrev pub AreLinesOf : Author → List ℕ → Ran → List told.Line → Type 0
+AreLinesOf author input first lines =
+    AreLines author.text.now input author.limit author.finer author.sites.now author.starts.now first lines
+
+-- the lines of a text in finer ticks and of all hairs, by its own run and the one in finer ticks
+pub record AreLinesBeside (author : Author) (input : List ℕ) (first before : Ran) (lines : List told.Line) : Type 0 where
+  pub moves : List told.Line
+  pub moves_are : AreAnswers (IsMovedBy author input before) (shifts_of author.sites.now) moves
+  pub all : lines ≡ told.finer (compared first before) ∷ moves
+
+-- all lines of a text whose text in finer ticks spells this job
+pub record AreLinesFor (author : Author) (input : List ℕ) (first : Ran) (job : Tree) (lines : List told.Line) : Type 0 where
+  pub moves : List told.Line
+  pub moves_are : AreAnswers (IsMovedBy author input (ran_of author.limit job input)) (shifts_of author.sites.now) moves
+  pub all :
+      lines ≡ told.finer (compared first (ran_of author.limit job input))
+      ∷ (moves ++ copies_lines author.text.now author.limit author.finer (walked job input) author.starts.now)
+
+-- all lines of a text whose text in finer ticks is refused
+pub record AreLinesOfRefused (author : Author) (input : List ℕ) (lines : List told.Line) : Type 0 where
+  pub moves : List told.Line
+  pub moves_are : AreAnswers (IsMovedBy author input refused) (shifts_of author.sites.now) moves
+  pub all : lines ≡ told.finer told.refused ∷ moves

@@ -1,0 +1,16 @@
+use job_edits::{CopiedStart, Finer, Site};
+
+/// What all lines are about.
+#[derive(Clone, Copy)]
+pub(crate) struct Author<'a> {
+    /// The author's job text.
+    pub text: &'a [u8],
+    /// The last tick at which a job may end, in finer ticks.
+    pub limit: u64,
+    /// How much finer the ticks of the changed texts are.
+    pub finer: Finer,
+    /// The places of the text where time passes, or may.
+    pub sites: &'a [Site],
+    /// Each start of several copies of a task.
+    pub starts: &'a [CopiedStart],
+}

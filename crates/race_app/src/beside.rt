@@ -1,0 +1,74 @@
+ghost use Rattle.std.specs.Prelude.{◌≡◌, ◌≤◌, length, IfOk};
+ghost use Rattle.job_meaning.specs.declared.limits.TheConstants.{MOST_INPUT};
+ghost use Rattle.race_text.specs.Views.{found_held};
+ghost use Rattle.race_app.specs.Ran.{ran_of, compared, IsBeside};
+ghost use Rattle.race_app.specs.Views.{ran_by, ran_held, ran_seen};
+
+use job_grammar::{Job, JobKind, read_job};
+use job_runner::{Forward, NoGate, Run, run_to_end};
+use race_rows::{Ran, run_differences};
+use race_text::Found;
+use std::alloc::{AllocError, Global};
+use std::thread::Threads;
+
+// What the job that a text spells shows, by a limit, that another run does not: where that one's text was refused, or this one is, that is
+// said. It runs in the calling thread.
+pub(crate) fn found_in_text<R: Threads + Sync>(
+    rt: &R,
+    alloc: Global,
+    before: Option<&Ran<'_>>,
+    text: &[u8],
+    input: &[u8],
+    limit: u64,
+) -> Result<Found, AllocError>
+    requires { length input.now ≤ MOST_INPUT }
+    ensures { IfOk result (λ found. IsBeside text.now input.now limit (ran_held before.entry) (found_held found)) }
+{
+    match read_job(alloc, text) {
+        Ok(job) => {
+            let found = found_in_job(rt, alloc, before, &job, input, limit)?;
+            Ok(found)
+        }
+        Err(fault) => match fault.kind {
+            JobKind::NoMemory => Err(AllocError),
+            _ => Ok(Found::Refused),
+        },
+    }
+}
+
+// What a job shows, by a limit, that another run does not.
+#[tactic(auto, using(crate::proofs::Compared::in_job))]
+fn found_in_job<R: Threads + Sync>(
+    rt: &R,
+    alloc: Global,
+    before: Option<&Ran<'_>>,
+    job: &Job,
+    input: &[u8],
+    limit: u64,
+) -> Result<Found, AllocError>
+    requires { length input.now ≤ MOST_INPUT }
+    ensures { IfOk result (λ found. found_held found ≡ compared (ran_held before.entry) (ran_of limit job.now input.now)) }
+{
+    let Some(before) = before else {
+        return Ok(Found::Refused);
+    };
+    let run = run_to_end(rt, alloc, job, input, 1, &mut Forward, &NoGate)?;
+    found_in_run(alloc, before, &run, limit)
+}
+
+// What a run shows, by a limit, that another one does not.
+pub(crate) fn found_in_run(
+    alloc: Global,
+    before: &Ran<'_>,
+    run: &Run<'_>,
+    limit: u64,
+) -> Result<Found, AllocError>
+    ensures { IfOk result (λ found. found_held found ≡ compared (ran_seen before.now) (ran_by limit run.now)) }
+{
+    let after = Ran {
+        records: run.records(),
+        in_time: run.end() <= limit,
+    };
+    let tasks = run_differences(alloc, before, &after)?;
+    Ok(Found::Differs(tasks))
+}

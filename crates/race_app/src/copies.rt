@@ -1,0 +1,62 @@
+ghost use Rattle.std.specs.Prelude.{◌≡◌, ◌<◌, ◌++◌, OnOk, map};
+ghost use Rattle.std.specs.Option.{option_map};
+ghost use Rattle.story_causes.specs.Seen.{seen};
+ghost use Rattle.race_copies.specs.Views.{meeting_held};
+ghost use Rattle.race_text.specs.Views.{line_held};
+ghost use Rattle.race_app.specs.Lines.{met_line, copies_lines};
+
+use crate::author::Author;
+use job_edits::CopiedStart;
+use job_story::Event;
+use nursery_app::{column_of, line_of};
+use race_copies::{Meeting, meeting_of};
+use race_text::Line;
+use std::alloc::{AllocError, Global};
+
+// Appends a line for each of these starts whose copies meet, by the events of a story in the order of the walk.
+pub(crate) fn push_copies(
+    alloc: Global,
+    lines: &mut Vec<Line>,
+    author: &Author<'_>,
+    walked: &[&Event],
+) -> Result<(), AllocError>
+    requires { 0 < author.now.finer.factor }
+    ensures { OnOk result (map line_held lines.new.items ≡ map line_held lines.old.items
+        ++ copies_lines author.now.text.now author.now.limit author.now.finer (map seen walked.now) author.now.starts.now) }
+{
+    'starts: for start in author.starts {
+        let met = meeting_of(alloc, author.finer.hair, start.name, walked)?;
+        push_met(lines, author, start, met)?;
+    }
+    Ok(())
+}
+
+// Appends the line of a meeting, if there is one by the limit.
+fn push_met(
+    lines: &mut Vec<Line>,
+    author: &Author<'_>,
+    start: &CopiedStart,
+    met: Option<Meeting>,
+) -> Result<(), AllocError>
+    requires { 0 < author.now.finer.factor }
+    ensures { OnOk result (map line_held lines.new.items ≡ map line_held lines.old.items
+        ++ met_line author.now.text.now author.now.limit author.now.finer start.now (option_map meeting_held met)) }
+{
+    let Some(Meeting { one, other, tick }) = met else {
+        return Ok(());
+    };
+    if tick > author.limit {
+        return Ok(());
+    }
+    let name = start.name;
+    lines.push(Line::Copies {
+        line: line_of(author.text, start.from),
+        column: column_of(author.text, start.from),
+        name,
+        count: start.count,
+        one,
+        other,
+        tick: tick / author.finer.factor,
+    })?;
+    Ok(())
+}

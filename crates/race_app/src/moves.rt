@@ -1,0 +1,97 @@
+ghost use Rattle.std.specs.Prelude.{◌≡◌, ◌≤◌, length, IfOk};
+ghost use Rattle.job_meaning.specs.declared.limits.TheConstants.{MOST_INPUT};
+ghost use Rattle.job_edits.specs.Changes.{changed};
+ghost use Rattle.job_edits.specs.Finer.{shifted_changes};
+ghost use Rattle.race_text.specs.Views.{found_held};
+ghost use Rattle.race_app.specs.Ran.{IsBeside};
+ghost use Rattle.race_app.specs.Views.{IsMovedOf, ran_held};
+
+use crate::author::Author;
+use crate::beside::found_in_text;
+use job_edits::{Shift, changed_text, shifted_changes};
+use nursery_app::{column_of, line_of};
+use race_rows::Ran;
+use race_text::{Found, Line};
+use slot_work::Work;
+use std::alloc::{AllocError, Global};
+use std::thread::Threads;
+
+/// The places of a text that are moved by a hair, beside the run of the text in finer ticks: none where that is refused.
+#[derive(Clone, Copy)]
+pub(crate) struct Moves<'a> {
+    /// The text.
+    pub author: Author<'a>,
+    /// The input.
+    pub input: &'a [u8],
+    /// The run of the text in finer ticks.
+    pub before: Option<&'a Ran<'a>>,
+}
+
+impl Work for Moves<'_> {
+    type Item = Shift;
+
+    type Answer = Line;
+
+    ghost use Rattle.race_app.specs.Views.{HasRoom, IsMovedOf};
+
+    ghost may = { HasRoom };
+
+    ghost answers = { IsMovedOf };
+
+    fn answer<R: Threads + Sync>(
+        &self,
+        rt: &R,
+        alloc: Global,
+        shift: &Shift,
+    ) -> Result<Line, AllocError> {
+        line_with(rt, alloc, self, shift)
+    }
+}
+
+// The line of a place that is moved by a hair.
+fn line_with<R: Threads + Sync>(
+    rt: &R,
+    alloc: Global,
+    moves: &Moves<'_>,
+    shift: &Shift,
+) -> Result<Line, AllocError>
+    requires { length moves.now.input.now ≤ MOST_INPUT }
+    ensures { IfOk result (IsMovedOf moves.now shift.now) }
+{
+    let found = found_with(rt, alloc, moves, shift)?;
+    let from = shift.site.from;
+    let moment = shift.site.moment;
+    let line = line_of(moves.author.text, from);
+    let column = column_of(moves.author.text, from);
+    Ok(Line::Moved {
+        line,
+        column,
+        moment,
+        hair: shift.hair,
+        found,
+    })
+}
+
+// What is shown where a place is moved by a hair.
+fn found_with<R: Threads + Sync>(
+    rt: &R,
+    alloc: Global,
+    moves: &Moves<'_>,
+    shift: &Shift,
+) -> Result<Found, AllocError>
+    requires { length moves.now.input.now ≤ MOST_INPUT }
+    ensures { IfOk result (λ found. IsBeside (changed moves.now.author.text.now (shifted_changes moves.now.author.finer shift.now
+        moves.now.author.sites.now)) moves.now.input.now moves.now.author.limit (ran_held moves.now.before) (found_held found)) }
+{
+    let author = moves.author;
+    let changes = shifted_changes(alloc, author.finer, shift, author.sites)?;
+    let text = changed_text(alloc, author.text, changes.as_slice())?;
+    found_in_text(
+        rt,
+        alloc,
+        moves.before,
+        text.as_slice(),
+        moves.input,
+        author.limit,
+    )
+}

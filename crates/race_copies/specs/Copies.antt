@@ -1,0 +1,119 @@
+-- Copies of one `start .. over` that meet: one cancels something, and something happens to another within a hair of that.
+use Rattle.std.specs.Prelude.{ℕ, ◌-◌, ◌==◌, ◌&&◌, ◌||◌, not, nat_le, Bool, true, false, if◌then◌else◌, Option, Some, None, List, [], ◌∷◌}
+use Rattle.std.specs.Str.{bytes_eq}
+use Rattle.exc_groups.specs.Exceptions.{Label, Exc, cancelled, raised, too_slow, group, Excs, no_parts, part}
+use Rattle.job_meaning.specs.Log.{same_label}
+use Rattle.job_story.specs.Story.{is_cancelled, cancels}
+use Rattle.job_story.specs.Events.{What, starts, happens, ends, Event}
+use Rattle.job_story.specs.Limit.{is_start, is_end}
+
+-- ---- what happens to copies
+
+-- an event of a copy, or of a task below it
+pub record Sight : Type 0 where
+  pub copy : Label
+  pub tick : ℕ
+  pub what : What
+
+abbrev pub sight : Label → Event → Sight
+sight copy e = record { copy = copy; tick = e.tick; what = e.what }
+
+-- a task of this name starts
+abbrev pub starts_copy : List ℕ → Event → Bool
+starts_copy name e = is_start e.what && bytes_eq e.task.name name
+
+-- this task ends
+abbrev pub ends_copy : Label → Event → Bool
+ends_copy copy e = is_end e.what && same_label e.task copy
+
+-- the copy that an event is of: one that has started, or the one that starts with it
+abbrev pub copy_at : List ℕ → Option Label → Event → Option Label
+copy_at name None e = if starts_copy name e then Some e.task else None
+copy_at name (Some copy) e = Some copy
+
+-- the copy that has not ended after an event of it
+abbrev pub still_open : Option Label → Event → Option Label
+still_open None e = None
+still_open (Some copy) e = if ends_copy copy e then None else Some copy
+
+abbrev pub with_sight : Option Label → Event → List Sight → List Sight
+with_sight None e others = others
+with_sight (Some copy) e others = sight copy e ∷ others
+
+-- The events of the tasks of a name and of all tasks below them, by the events of a story in the order of the walk: there they stand from the
+-- task's start to its end. One of these tasks may have started, and not have ended.
+abbrev pub sights_from : List ℕ → Option Label → List Event → List Sight
+sights_from name current [] = []
+sights_from name current (e ∷ es) =
+    with_sight (copy_at name current e) e (sights_from name (still_open (copy_at name current e) e) es)
+
+abbrev pub sights_of : List ℕ → List Event → List Sight
+sights_of name es = sights_from name None es
+
+-- ---- which of them meet
+
+-- an exception has a leaf other than `Cancelled`
+abbrev mutual
+  pub is_failure : Exc → Bool
+  is_failure cancelled = false
+  is_failure (raised name task tick) = true
+  is_failure (too_slow scope tick) = true
+  is_failure (group whose parts) = some_failure parts
+
+  pub some_failure : Excs → Bool
+  some_failure no_parts = false
+  some_failure (part e es) = is_failure e || some_failure es
+
+-- it cancels something: a scope or nursery by `cancel`, or its nursery by ending with an exception
+abbrev pub cancels_some : What → Bool
+cancels_some (happens (cancels label)) = true
+cancels_some (ends home (Some e)) = is_failure e
+cancels_some _ = false
+
+-- it is neither a start nor a cancellation
+abbrev pub acts : What → Bool
+acts (starts home lent) = false
+acts (happens (is_cancelled by since in_cleanup)) = false
+acts _ = true
+
+-- indices that differ in the last one alone
+abbrev pub differ_last : List ℕ → List ℕ → Bool
+differ_last (i ∷ []) (j ∷ []) = not (i == j)
+differ_last (i ∷ is) (j ∷ js) = i == j && differ_last is js
+differ_last _ _ = false
+
+-- two ticks are at most a hair apart
+abbrev pub within : ℕ → ℕ → ℕ → Bool
+within hair t u = nat_le (t - hair) u && nat_le (u - hair) t
+
+-- two copies that were started together: one cancels something, and the other acts within a hair of that
+abbrev pub meets : ℕ → Sight → Sight → Bool
+meets hair a b = cancels_some a.what && (acts b.what && (differ_last a.copy.indices b.copy.indices && within hair a.tick b.tick))
+
+-- ---- the first that do
+
+-- the copy that cancels something and when, and the one that acts
+pub record Meeting : Type 0 where
+  pub one : Label
+  pub other : Label
+  pub tick : ℕ
+
+-- with the first of these that an event meets
+abbrev pub first_met : ℕ → Sight → List Sight → Option Meeting
+first_met hair a [] = None
+first_met hair a (b ∷ bs) =
+    if meets hair a b then Some (record { one = a.copy; other = b.copy; tick = a.tick }) else first_met hair a bs
+
+-- the earlier of two, the first where both are in the same tick
+abbrev pub earlier : Option Meeting → Option Meeting → Option Meeting
+earlier None m = m
+earlier (Some m) None = Some m
+earlier (Some m) (Some n) = if nat_le m.tick n.tick then Some m else Some n
+
+abbrev pub first_among : ℕ → List Sight → List Sight → Option Meeting
+first_among hair all [] = None
+first_among hair all (a ∷ others) = earlier (first_met hair a all) (first_among hair all others)
+
+-- the first meeting of copies of a name, by the events of a story in the order of the walk
+abbrev pub meeting_in : ℕ → List ℕ → List Event → Option Meeting
+meeting_in hair name es = first_among hair (sights_of name es) (sights_of name es)

@@ -1,0 +1,23 @@
+-- Sights and meetings as the code holds them.
+use Rattle.std.specs.Prelude.{Option}
+use Rattle.std.specs.Borrow.{Bor}
+use Rattle.std.specs.Option.{option_map}
+use Rattle.exc_groups.specs.Exceptions.{Label}
+use Rattle.job_story.specs.Held.{what_of}
+use Rattle.race_copies.specs.Copies as told
+use Rattle.race_copies.specs.declared.sights.Sight.{Sight}
+use Rattle.race_copies.specs.declared.meeting.Met.{Met}
+use Rattle.race_copies.specs.declared.meeting.Meeting.{Meeting}
+
+abbrev pub label_seen : Option (Bor Label) → Option Label
+label_seen label = option_map (λ (l : Bor Label). l.now) label
+
+abbrev pub sight_held : Sight → told.Sight
+sight_held s = record { copy = s.copy.now; tick = s.event.now.tick; what = what_of s.event.now.what }
+
+-- a meeting with labels that are borrowed
+abbrev pub met_held : Met → told.Meeting
+met_held m = record { one = m.one.now; other = m.other.now; tick = m.tick }
+
+abbrev pub meeting_held : Meeting → told.Meeting
+meeting_held m = record { one = m.one; other = m.other; tick = m.tick }

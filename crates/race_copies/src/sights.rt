@@ -1,0 +1,95 @@
+ghost use Rattle.std.specs.Prelude.{◌≡◌, ◌++◌, List, IfOk, OnOk, map};
+ghost use Rattle.std.specs.Str.{bytes_eq};
+ghost use Rattle.job_meaning.specs.Log.{same_label};
+ghost use Rattle.job_story.specs.Held.{event_of};
+ghost use Rattle.story_causes.specs.Seen.{seen};
+ghost use Rattle.race_copies.specs.Copies as told;
+ghost use Rattle.race_copies.specs.Copies.{starts_copy, ends_copy, copy_at, still_open, with_sight, sights_of};
+ghost use Rattle.race_copies.specs.Views.{label_seen, sight_held};
+
+use exc_groups::Label;
+use job_story::{Event, What};
+use job_tree::Name;
+use std::alloc::{AllocError, Global};
+
+// An event of a copy of a task, or of a task below it.
+#[derive(Clone, Copy)]
+pub(crate) struct Sight<'e> {
+    pub copy: &'e Label,
+    pub event: &'e Event,
+}
+
+// The events of the tasks of a name and of all tasks below them, by the events of a story in the order of the walk.
+pub(crate) fn sights_of<'e>(
+    alloc: Global,
+    name: Name,
+    walked: &[&'e Event],
+) -> Result<Vec<Sight<'e>>, AllocError>
+    ensures { IfOk result (λ sights. map sight_held sights.items ≡ sights_of name (map seen walked.now)) }
+{
+    let mut sights = Vec::new(alloc);
+    let mut current = None;
+    'events: for event in walked {
+        let copy = copy_at(name, current, event);
+        push_sight(&mut sights, copy, event)?;
+        current = still_open(copy, event);
+    }
+    Ok(sights)
+}
+
+// Appends an event, where it is of a copy. The clause has what a loop appends later, `later`, on both sides.
+fn push_sight<'e>(
+    sights: &mut Vec<Sight<'e>>,
+    copy: Option<&'e Label>,
+    event: &'e Event,
+) -> Result<(), AllocError>
+    ensures { OnOk result ((later : List told.Sight) → map sight_held sights.new.items ++ later
+        ≡ map sight_held sights.old.items ++ with_sight (label_seen copy.entry) (event_of event.entry.now) later) }
+{
+    let Some(copy) = copy else {
+        return Ok(());
+    };
+    sights.push(Sight { copy, event })?;
+    Ok(())
+}
+
+// The copy that an event is of: one that has started, or the one that starts with it.
+fn copy_at<'e>(name: Name, current: Option<&'e Label>, event: &'e Event) -> Option<&'e Label>
+    ensures { label_seen result ≡ copy_at name (label_seen current.entry) (event_of event.entry.now) }
+{
+    match current {
+        Some(copy) => Some(copy),
+        None => {
+            if starts_copy(name, event) {
+                Some(&event.task)
+            } else {
+                None
+            }
+        }
+    }
+}
+
+// The copy that has not ended after an event of it.
+fn still_open<'e>(copy: Option<&'e Label>, event: &Event) -> Option<&'e Label>
+    ensures { label_seen result ≡ still_open (label_seen copy.entry) (event_of event.now) }
+{
+    let copy = copy?;
+    if ends_copy(copy, event) {
+        return None;
+    }
+    Some(copy)
+}
+
+// Whether a task of this name starts.
+fn starts_copy(name: Name, event: &Event) -> bool
+    ensures { result ≡ starts_copy name (event_of event.now) }
+{
+    matches!(event.what, What::Starts { .. }) && event.task.name() == name
+}
+
+// Whether this task ends.
+fn ends_copy(copy: &Label, event: &Event) -> bool
+    ensures { result ≡ ends_copy copy.now (event_of event.now) }
+{
+    matches!(event.what, What::Ends { .. }) && event.task == *copy
+}

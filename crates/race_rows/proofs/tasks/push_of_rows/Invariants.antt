@@ -1,0 +1,11 @@
+use Rattle.std.proofs.Common.{◌≡◌, ◌++◌, drop}
+use Rattle.std.specs.Prelude.{map}
+use Rattle.task_roster.specs.Records.{row_in}
+use Rattle.race_rows.specs.Differences.{of_rows}
+use Rattle.race_rows.specs.Views.{difference_held}
+use Rattle.race_rows.proofs.tasks.push_of_rows.Given as goal
+
+abbrev pub invariant-rows : goal.invariant-rows
+invariant-rows l =
+    map difference_held l.found.items ++ of_rows (map row_in (drop l.row-index l.before)) (map row_in l.after)
+    ≡ map difference_held l.fn.found.items ++ of_rows (map row_in l.before) (map row_in l.after)

@@ -1,0 +1,48 @@
+-- The tasks of which two runs do not show the same.
+use Rattle.std.specs.Prelude.{ℕ, Bool, if◌then◌else◌, List, [], ◌∷◌, ◌++◌, Option, Some, None, codes}
+use Rattle.std.specs.Str.{bytes_eq}
+use Rattle.exc_groups.specs.Exceptions.{Label}
+use Rattle.exc_groups.specs.Labels.{same_label}
+use Rattle.job_meaning.specs.Shown.{Row}
+use Rattle.race_rows.specs.Same.{outcome_text, same_entries}
+
+-- A task ends otherwise: how before and after. Or it ends alike, and has other lines, scopes or nurseries.
+pub data Difference : Type 0 where
+  otherwise : (task : Label) → (before : List ℕ) → (after : List ℕ) → Difference
+  inside : (task : Label) → Difference
+
+-- the first row of a task
+abbrev pub row_of : Label → List Row → Option Row
+row_of task [] = None
+row_of task (r ∷ rs) = if same_label r.label task then Some r else row_of task rs
+
+abbrev pub if_inside : Bool → Label → List Difference
+if_inside same task = if same then [] else inside task ∷ []
+
+-- what differs of a task that both runs have
+abbrev pub between : Row → Row → List Difference
+between a b =
+    if bytes_eq (outcome_text a.ending) (outcome_text b.ending) then if_inside (same_entries a.entries b.entries) a.label
+    else otherwise a.label (outcome_text a.ending) (outcome_text b.ending) ∷ []
+
+-- what differs of a task of the first run
+abbrev pub of_row : Row → Option Row → List Difference
+of_row a None = otherwise a.label (outcome_text a.ending) (codes "not started") ∷ []
+of_row a (Some b) = between a b
+
+-- what differs of a task of the second run that the first may not have
+abbrev pub of_new : Option Row → Row → List Difference
+of_new None b = otherwise b.label (codes "not started") (outcome_text b.ending) ∷ []
+of_new (Some a) b = []
+
+abbrev pub of_rows : List Row → List Row → List Difference
+of_rows [] after = []
+of_rows (r ∷ rs) after = of_row r (row_of r.label after) ++ of_rows rs after
+
+abbrev pub of_new_rows : List Row → List Row → List Difference
+of_new_rows before [] = []
+of_new_rows before (r ∷ rs) = of_new (row_of r.label before) r ++ of_new_rows before rs
+
+-- each task of the first run that differs, in the order of its records; and then those that only the second has
+abbrev pub differences : List Row → List Row → List Difference
+differences before after = of_rows before after ++ of_new_rows before after

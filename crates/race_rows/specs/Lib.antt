@@ -1,0 +1,4 @@
+pub mod Same
+pub mod Differences
+pub mod Runs
+pub mod Views

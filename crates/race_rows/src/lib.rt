@@ -1,0 +1,16 @@
+//! What one run of a job shows of its tasks that another run does not, apart from ticks.
+//!
+//! The layer promises that `differences` gives each task of which the runs do not show the same (`specs/Differences.antt`): how it ends,
+//! apart from the ticks in exceptions; and the lines that it borrowed and the scopes and nurseries that it left, in their order. And that
+//! `run_differences` does so of runs that may not have ended by a limit (`specs/Runs.antt`). It stands on `task_roster` for records and on
+//! `sweep_text` for exceptions without ticks.
+#![tactic(auto)]
+
+mod outcome;
+mod runs;
+mod same;
+mod tasks;
+
+pub use outcome::push_outcome;
+pub use runs::{Ran, run_differences};
+pub use tasks::{Difference, differences};

@@ -1,0 +1,149 @@
+ghost use Rattle.std.specs.Prelude.{◌≡◌, ◌++◌, ◌∷◌, [], None, IfOk, OnOk, map};
+ghost use Rattle.std.specs.Option.{option_map};
+ghost use Rattle.task_roster.specs.Records.{row_in};
+ghost use Rattle.race_rows.specs.Differences.{row_of, of_row, of_new, of_rows, of_new_rows, otherwise, differences};
+ghost use Rattle.race_rows.specs.Views.{difference_held};
+
+use crate::outcome::outcome_of;
+use crate::same::are_same_entries;
+use exc_groups::Label;
+use std::alloc::{AllocError, Global};
+use task_roster::Record;
+
+/// A task of which two runs do not show the same.
+#[derive(Drop)]
+pub enum Difference {
+    /// It ends otherwise.
+    Otherwise {
+        /// The task.
+        task: Label,
+        /// How it ends in the first run, without ticks: `not started` where it does not exist there.
+        before: Vec<u8>,
+        /// How it ends in the second run.
+        after: Vec<u8>,
+    },
+    /// It ends alike, and has other lines, scopes or nurseries.
+    Inside {
+        /// The task.
+        task: Label,
+    },
+}
+
+/// Each task of which the records of two runs do not show the same, apart from ticks: those of the first run, in the order of its records,
+/// and then those that only the second has. Want of memory is the only error.
+pub fn differences(
+    alloc: Global,
+    before: &[Record<'_>],
+    after: &[Record<'_>],
+) -> Result<Vec<Difference>, AllocError>
+    ensures { IfOk result (λ found. map difference_held found.items ≡ differences (map row_in before.now) (map row_in after.now)) }
+{
+    let mut found = Vec::new(alloc);
+    push_of_rows(alloc, &mut found, before, after)?;
+    push_of_new_rows(alloc, &mut found, before, after)?;
+    Ok(found)
+}
+
+// Appends what differs of each task of the first run.
+fn push_of_rows(
+    alloc: Global,
+    found: &mut Vec<Difference>,
+    before: &[Record<'_>],
+    after: &[Record<'_>],
+) -> Result<(), AllocError>
+    ensures { OnOk result (map difference_held found.new.items
+        ≡ map difference_held found.old.items ++ of_rows (map row_in before.now) (map row_in after.now)) }
+{
+    'rows: for row in before {
+        push_of_row(alloc, found, row, row_of(&row.label, after))?;
+    }
+    Ok(())
+}
+
+// Appends what differs of each task that only the second run has.
+fn push_of_new_rows(
+    alloc: Global,
+    found: &mut Vec<Difference>,
+    before: &[Record<'_>],
+    after: &[Record<'_>],
+) -> Result<(), AllocError>
+    ensures { OnOk result (map difference_held found.new.items
+        ≡ map difference_held found.old.items ++ of_new_rows (map row_in before.now) (map row_in after.now)) }
+{
+    'rows: for row in after {
+        if row_of(&row.label, before).is_none() {
+            push_new(alloc, found, row)?;
+        }
+    }
+    Ok(())
+}
+
+// The first record of a task.
+fn row_of<'r, 'a>(task: &Label, rows: &'r [Record<'a>]) -> Option<&'r Record<'a>>
+    ensures { option_map (λ r. row_in r.now) result ≡ row_of task.now (map row_in rows.now) }
+{
+    'rows: for row in rows {
+        if row.label == *task {
+            return Some(row);
+        }
+    }
+    None
+}
+
+// Appends what differs of a task of the first run, by its record in the second.
+fn push_of_row(
+    alloc: Global,
+    found: &mut Vec<Difference>,
+    row: &Record<'_>,
+    other: Option<&Record<'_>>,
+) -> Result<(), AllocError>
+    ensures { OnOk result (map difference_held found.new.items
+        ≡ map difference_held found.old.items ++ of_row (row_in row.now) (option_map (λ r. row_in r.now) other.entry)) }
+{
+    let before = outcome_of(alloc, &row.outcome)?;
+    let Some(other) = other else {
+        let mut after = Vec::new(alloc);
+        after.extend_from_slice(b"not started")?;
+        return push_otherwise(alloc, found, &row.label, before, after);
+    };
+    let after = outcome_of(alloc, &other.outcome)?;
+    if before.as_slice() != after.as_slice() {
+        return push_otherwise(alloc, found, &row.label, before, after);
+    }
+    if !are_same_entries(row.entries.as_slice(), other.entries.as_slice()) {
+        let task = row.label.copy(alloc)?;
+        found.push(Difference::Inside { task })?;
+    }
+    Ok(())
+}
+
+// Appends a task that only the second run has.
+fn push_new(alloc: Global, found: &mut Vec<Difference>, row: &Record<'_>) -> Result<(), AllocError>
+    ensures { OnOk result (map difference_held found.new.items
+        ≡ map difference_held found.old.items ++ of_new None (row_in row.now)) }
+{
+    let mut before = Vec::new(alloc);
+    before.extend_from_slice(b"not started")?;
+    let after = outcome_of(alloc, &row.outcome)?;
+    push_otherwise(alloc, found, &row.label, before, after)
+}
+
+// Appends that a task ends otherwise.
+pub(crate) fn push_otherwise(
+    alloc: Global,
+    found: &mut Vec<Difference>,
+    task: &Label,
+    before: Vec<u8>,
+    after: Vec<u8>,
+) -> Result<(), AllocError>
+    ensures { OnOk result (map difference_held found.new.items
+        ≡ map difference_held found.old.items ++ otherwise task.now before.items after.items ∷ []) }
+{
+    let task = task.copy(alloc)?;
+    found.push(Difference::Otherwise {
+        task,
+        before,
+        after,
+    })?;
+    Ok(())
+}

@@ -1,0 +1,17 @@
+-- A count of lines as definitions speak of them, by the lines that the code holds.
+use Rattle.std.proofs.Common.{◌≡◌, List, ◌+◌, arith, refl, cond, length}
+use Rattle.std.proofs.lemmas.List.Recursion.{is_count_by}
+use Rattle.std.specs.Prelude.{Bool, true, false, ◌∷◌, count_by, map, if◌then◌else◌}
+use Rattle.race_text.specs.Lines as told
+use Rattle.race_text.specs.Table.{only}
+use Rattle.race_text.specs.Views.{line_held}
+use Rattle.race_text.specs.declared.line.Line.{Line}
+
+one_more : (b : Bool) (l : told.Line) (ls : List told.Line) → length (if b then l ∷ ls else ls) ≡ cond b (1 + length ls) (length ls)
+one_more true l ls = omega arith
+one_more false l ls = refl
+
+pub counted : (test : told.Line → Bool) (ls : List Line) → length (only test (map line_held ls)) ≡ count_by (λ l. test (line_held l)) ls
+counted test ls =
+    is_count_by (λ xs. length (only test (map line_held xs))) (λ l. test (line_held l)) refl
+    (λ x xs. one_more (test (line_held x)) (line_held x) (only test (map line_held xs))) ls

@@ -1,0 +1,63 @@
+-- Worked tables, by computing.
+use Rattle.std.specs.Prelude.{◌≡◌, ℕ, List, [], ◌∷◌, ◌++◌, codes, refl}
+use Rattle.std.specs.Fmt.{digits}
+use Rattle.exc_groups.specs.Exceptions.{Label}
+use Rattle.job_edits.specs.declared.site.Moment.{Moment}
+use Rattle.job_edits.specs.declared.site.Moment.TheVariants.{Sleep, After, Start}
+use Rattle.job_edits.specs.declared.shift.Hair.TheVariants.{Earlier, Later}
+use Rattle.race_rows.specs.Differences.{otherwise, inside}
+use Rattle.race_text.specs.Lines.{finer, moved, copies, refused, differs}
+use Rattle.race_text.specs.Table.{table_text}
+
+abbrev pub task : List ℕ → Label
+task name = record { name = name; indices = [] }
+
+abbrev pub copy : List ℕ → ℕ → Label
+copy name i = record { name = name; indices = i ∷ [] }
+
+abbrev pub sleep : ℕ → ℕ → Moment
+sleep at n = Sleep (record { from = at; to = at; value = n })
+
+-- lines where nothing differs are not shown, and columns are as wide as what is shown
+pub race_is_told :
+    table_text 13
+    (finer (differs [])
+    ∷ moved 4 18 (sleep 0 5) Earlier (differs (otherwise (task (codes "answer")) (codes "done") (codes "cancelled") ∷ []))
+    ∷ moved 4 18 (sleep 0 5) Later (differs [])
+    ∷ moved 5 5 (Start (codes "answer") 0) Later (differs (otherwise (task (codes "answer")) (codes "done") (codes "cancelled") ∷ []))
+    ∷ moved 8 3 (After (codes "limit") (record { from = 0; to = 0; value = 5 })) Later (differs (inside (task (codes "race")) ∷ []))
+    ∷ [])
+    ≡ codes "4:18  sleep 5        earlier  answer: done -> cancelled\n"
+    ++ codes " 5:5  start answer   later    answer: done -> cancelled\n"
+    ++ codes " 8:3  limit after 5  later    race: other lines or scopes\n"
+    ++ codes "13 hairs: 3 races\n"
+unfolding digits
+race_is_told = refl
+
+pub copies_are_told :
+    table_text 3 (copies 2 26 (codes "worker") 3 (copy (codes "worker") 0) (copy (codes "worker") 1) 2 ∷ [])
+    ≡ codes "2:26  start worker over 3  copies  worker.0 and worker.1 meet at 2\n3 hairs: 1 races\n"
+unfolding digits
+copies_are_told = refl
+
+pub finer_is_told :
+    table_text 10 (finer (differs (otherwise (task (codes "fallback")) (codes "raised TooSlow(budget)") (codes "done") ∷ [])) ∷ [])
+    ≡ codes "    finer  fallback: raised TooSlow(budget) -> done\n10 hairs: 1 races\n"
+unfolding digits
+finer_is_told = refl
+
+-- no race
+pub none_is_told : table_text 8 (finer (differs []) ∷ []) ≡ codes "8 hairs: no race\n"
+unfolding digits
+none_is_told = refl
+
+-- at most three tasks, and a text that is refused is no race
+pub many_are_told :
+    table_text 1
+    (finer (differs (inside (task (codes "a")) ∷ inside (task (codes "b")) ∷ inside (task (codes "c")) ∷ inside (task (codes "d")) ∷ inside (task (codes "e")) ∷ []))
+    ∷ moved 2 3 (sleep 0 1) Later refused ∷ [])
+    ≡ codes "              finer  a: other lines or scopes; b: other lines or scopes; c: other lines or scopes; and 2 more\n"
+    ++ codes "2:3  sleep 1  later  refused\n"
+    ++ codes "1 hairs: 1 races, 1 refused\n"
+unfolding digits
+many_are_told = refl

@@ -1,0 +1,4 @@
+pub mod Lines
+pub mod Table
+pub mod Views
+pub mod Examples

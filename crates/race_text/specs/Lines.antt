@@ -1,0 +1,73 @@
+-- What is told of a job with one of its places moved by a hair.
+use Rattle.std.specs.Prelude.{ℕ, zero, suc, Bool, true, false, List, [], ◌∷◌, ◌++◌, length, codes, decimal}
+use Rattle.exc_groups.specs.Exceptions.{Label}
+use Rattle.job_story.specs.Sentences.{label_text}
+use Rattle.job_edits.specs.declared.site.Moment.{Moment}
+use Rattle.job_edits.specs.declared.shift.Hair.{Hair}
+use Rattle.race_rows.specs.Differences.{Difference, otherwise, inside}
+
+-- what two runs do not show alike; or the changed text is refused
+pub data Found : Type 0 where
+  refused : Found
+  differs : (tasks : List Difference) → Found
+
+-- A line: the job in finer ticks beside the job as it is; one place moved by a hair, beside the job in finer ticks; or two copies of one
+-- `start .. over` that meet in a tick, which cannot be moved apart in the text. Places are those of the author's text.
+pub data Line : Type 0 where
+  finer : (found : Found) → Line
+  moved : (line : ℕ) → (column : ℕ) → (moment : Moment) → (hair : Hair) → (found : Found) → Line
+  copies : (line : ℕ) → (column : ℕ) → (name : List ℕ) → (count : ℕ) → (one : Label) → (other : Label) → (tick : ℕ) → Line
+
+-- ---- which lines are shown
+
+abbrev pub is_some_found : Found → Bool
+is_some_found refused = true
+is_some_found (differs []) = false
+is_some_found (differs (d ∷ ds)) = true
+
+-- a line is shown where something differs, a text is refused, or copies meet
+abbrev pub is_shown : Line → Bool
+is_shown (finer found) = is_some_found found
+is_shown (moved line column moment hair found) = is_some_found found
+is_shown (copies line column name count one other tick) = true
+
+abbrev pub is_race_found : Found → Bool
+is_race_found refused = false
+is_race_found (differs []) = false
+is_race_found (differs (d ∷ ds)) = true
+
+-- a race: something differs, or copies meet
+abbrev pub is_race : Line → Bool
+is_race (finer found) = is_race_found found
+is_race (moved line column moment hair found) = is_race_found found
+is_race (copies line column name count one other tick) = true
+
+abbrev pub is_refused_found : Found → Bool
+is_refused_found refused = true
+is_refused_found (differs tasks) = false
+
+abbrev pub is_refused : Line → Bool
+is_refused (finer found) = is_refused_found found
+is_refused (moved line column moment hair found) = is_refused_found found
+is_refused (copies line column name count one other tick) = false
+
+-- ---- what is told
+
+abbrev pub difference_text : Difference → List ℕ
+difference_text (otherwise task before after) = label_text task ++ codes ": " ++ before ++ codes " -> " ++ after
+difference_text (inside task) = label_text task ++ codes ": other lines or scopes"
+
+-- so many more, and how many are left out
+abbrev pub more_differences : ℕ → List Difference → List ℕ
+more_differences n [] = []
+more_differences zero (d ∷ ds) = codes "; and " ++ decimal (length (d ∷ ds)) ++ codes " more"
+more_differences (suc n) (d ∷ ds) = codes "; " ++ difference_text d ++ more_differences n ds
+
+-- at most three
+abbrev pub differences_text : List Difference → List ℕ
+differences_text [] = []
+differences_text (d ∷ ds) = difference_text d ++ more_differences 2 ds
+
+abbrev pub found_text : Found → List ℕ
+found_text refused = codes "refused"
+found_text (differs tasks) = differences_text tasks

@@ -1,0 +1,78 @@
+-- The table of the places of a job whose outcome hangs on a hair.
+use Rattle.std.specs.Prelude.{ℕ, ◌==◌, Bool, max, if◌then◌else◌, List, [], ◌∷◌, ◌++◌, length, codes, decimal}
+use Rattle.job_story.specs.Sentences.{label_text}
+use Rattle.job_edits.specs.declared.shift.Hair.{Hair}
+use Rattle.job_edits.specs.declared.shift.Hair.TheVariants.{Earlier, Later}
+use Rattle.job_edits.specs.Sites.{moment_text}
+use Rattle.fault_text.specs.Table.{left_text, right_text, refused_text}
+use Rattle.race_text.specs.declared.columns.Widths.{Widths}
+use Rattle.race_text.specs.Lines.{Line, finer, moved, copies, is_shown, is_race, is_refused, found_text}
+
+-- ---- columns
+
+abbrev pub at_text : ℕ → ℕ → List ℕ
+at_text line column = decimal line ++ codes ":" ++ decimal column
+
+abbrev pub place_text : Line → List ℕ
+place_text (finer found) = []
+place_text (moved line column moment hair found) = at_text line column
+place_text (copies line column name count one other tick) = at_text line column
+
+abbrev pub step_text : Line → List ℕ
+step_text (finer found) = []
+step_text (moved line column moment hair found) = moment_text moment
+step_text (copies line column name count one other tick) = codes "start " ++ name ++ codes " over " ++ decimal count
+
+abbrev pub hair_name : Hair → List ℕ
+hair_name Earlier = codes "earlier"
+hair_name Later = codes "later"
+
+abbrev pub hair_text : Line → List ℕ
+hair_text (finer found) = codes "finer"
+hair_text (moved line column moment hair found) = hair_name hair
+hair_text (copies line column name count one other tick) = codes "copies"
+
+abbrev pub told_text : Line → List ℕ
+told_text (finer found) = found_text found
+told_text (moved line column moment hair found) = found_text found
+told_text (copies line column name count one other tick) = label_text one ++ codes " and " ++ label_text other ++ codes " meet at " ++ decimal tick
+
+-- the longest text of a column
+abbrev pub width_of : (Line → List ℕ) → List Line → ℕ
+width_of text [] = 0
+width_of text (l ∷ ls) = max (length (text l)) (width_of text ls)
+
+-- the widths of the columns: places, steps and hairs
+abbrev pub widths_of : List Line → Widths
+widths_of ls = record { place = width_of place_text ls; step = width_of step_text ls; hair = width_of hair_text ls }
+
+-- ---- the table
+
+abbrev pub line_text : Widths → Line → List ℕ
+line_text w l =
+    right_text w.place (place_text l) ++ codes "  " ++ left_text w.step (step_text l) ++ codes "  " ++ left_text w.hair (hair_text l) ++ codes "  "
+    ++ told_text l ++ codes "\n"
+
+abbrev pub lines_text : Widths → List Line → List ℕ
+lines_text w [] = []
+lines_text w (l ∷ ls) = line_text w l ++ lines_text w ls
+
+abbrev pub only : (Line → Bool) → List Line → List Line
+only test [] = []
+only test (l ∷ ls) = if test l then l ∷ only test ls else only test ls
+
+abbrev pub races_text : ℕ → List ℕ
+races_text n = if n == 0 then codes "no race" else decimal n ++ codes " races"
+
+-- so many hairs were tried, and so many lines are races
+abbrev pub counts_text : ℕ → List Line → List ℕ
+counts_text hairs ls =
+    decimal hairs ++ codes " hairs: " ++ races_text (length (only is_race ls)) ++ refused_text (length (only is_refused ls)) ++ codes "\n"
+
+-- the lines that are shown, in columns as wide as their longest text, and the counts
+abbrev pub table_text : ℕ → List Line → List ℕ
+table_text hairs ls = lines_text (widths_of (only is_shown ls)) (only is_shown ls) ++ counts_text hairs ls
+
+-- the lines of it that are races, as they stand there
+abbrev pub denied_text : List Line → List ℕ
+denied_text ls = lines_text (widths_of (only is_shown ls)) (only is_race (only is_shown ls))

@@ -1,0 +1,115 @@
+ghost use Rattle.std.specs.Prelude.{◌≡◌};
+ghost use Rattle.race_text.specs.Lines.{is_some_found, is_shown, is_race_found, is_race, is_refused_found, is_refused};
+ghost use Rattle.race_text.specs.Views.{found_held, line_held};
+
+use exc_groups::Label;
+use job_edits::{Hair, Moment};
+use job_tree::Name;
+use race_rows::Difference;
+
+/// What comes of running a changed job text beside another one.
+#[derive(Drop)]
+pub enum Found {
+    /// The changed text is refused.
+    Refused,
+    /// The tasks that differ: none where the outcome is the same apart from ticks.
+    Differs(Vec<Difference>),
+}
+
+impl Found {
+    // Whether something is to be told.
+    fn is_some(&self) -> bool
+        ensures { result ≡ is_some_found (found_held self.now) }
+    {
+        match self {
+            Found::Refused => true,
+            Found::Differs(tasks) => !tasks.is_empty(),
+        }
+    }
+
+    // Whether something differs.
+    fn is_race(&self) -> bool
+        ensures { result ≡ is_race_found (found_held self.now) }
+    {
+        match self {
+            Found::Refused => false,
+            Found::Differs(tasks) => !tasks.is_empty(),
+        }
+    }
+
+    // Whether the text is refused.
+    fn is_refused(&self) -> bool
+        ensures { result ≡ is_refused_found (found_held self.now) }
+    {
+        matches!(self, Found::Refused)
+    }
+}
+
+/// What is told of a job with one of its places moved by a hair. Places are those of the author's text, as line and column, counted from 1.
+#[derive(Drop)]
+pub enum Line {
+    /// The job in finer ticks, beside the job as it is.
+    Finer(Found),
+    /// One place moved by a hair, beside the job in finer ticks.
+    Moved {
+        /// The line of the place.
+        line: usize,
+        /// The column of the place, in bytes.
+        column: usize,
+        /// What stands there.
+        moment: Moment,
+        /// In which direction it is moved.
+        hair: Hair,
+        /// What comes of that.
+        found: Found,
+    },
+    /// Two copies of one `start .. over` that meet, and cannot be moved apart in the text.
+    Copies {
+        /// The line of the `start`.
+        line: usize,
+        /// The column of the `start`, in bytes.
+        column: usize,
+        /// The name of the tasks that it starts.
+        name: Name,
+        /// How many it starts.
+        count: u64,
+        /// The copy that cancels something.
+        one: Label,
+        /// The copy to which something happens within a hair.
+        other: Label,
+        /// The tick at which they meet, in the author's ticks.
+        tick: u64,
+    },
+}
+
+impl Line {
+    // Whether the line is shown.
+    pub(crate) fn is_shown(&self) -> bool
+        ensures { result ≡ is_shown (line_held self.now) }
+    {
+        match self {
+            Line::Finer(found) | Line::Moved { found, .. } => found.is_some(),
+            Line::Copies { .. } => true,
+        }
+    }
+
+    // Whether the line is a race.
+    pub(crate) fn is_race(&self) -> bool
+        ensures { result ≡ is_race (line_held self.now) }
+    {
+        match self {
+            Line::Finer(found) | Line::Moved { found, .. } => found.is_race(),
+            Line::Copies { .. } => true,
+        }
+    }
+
+    // Whether the line's text is refused.
+    pub(crate) fn is_refused(&self) -> bool
+        ensures { result ≡ is_refused (line_held self.now) }
+    {
+        match self {
+            Line::Finer(found) | Line::Moved { found, .. } => found.is_refused(),
+            Line::Copies { .. } => false,
+        }
+    }
+}

@@ -1,0 +1,115 @@
+ghost use Rattle.std.specs.Prelude.{◌≡◌, ◌++◌, IfOk, OnOk, length, map};
+ghost use Rattle.race_text.specs.Lines.{is_shown, is_race, is_refused};
+ghost use Rattle.race_text.specs.Table.{only, widths_of, line_text, lines_text, races_text, counts_text, table_text, denied_text};
+ghost use Rattle.race_text.specs.Views.{line_held};
+
+use crate::columns::{Widths, hair_of, place_of, step_of};
+use crate::line::Line;
+use crate::told::push_told;
+use fault_text::{push_count, push_left, push_refused, push_right};
+use std::alloc::{AllocError, Global};
+
+/// The text that tells of these lines: each of which something is to be told, in their order, and how many hairs were tried and how many lines
+/// are races. Want of memory is the only error.
+pub fn race_table(alloc: Global, hairs: usize, lines: &[Line]) -> Result<Vec<u8>, AllocError>
+    ensures { IfOk result (λ text. text.items ≡ table_text hairs (map line_held lines.now)) }
+{
+    let widths = widths_of(alloc, lines)?;
+    let mut out = Vec::new(alloc);
+    'lines: for line in lines {
+        if line.is_shown() {
+            push_line(alloc, &mut out, widths, line)?;
+        }
+    }
+    push_counts(&mut out, hairs, lines)?;
+    Ok(out)
+}
+
+/// Those of these lines that are races, as they stand in the text that tells of all. Want of memory is the only error.
+pub fn race_denied(alloc: Global, lines: &[Line]) -> Result<Vec<u8>, AllocError>
+    ensures { IfOk result (λ text. text.items ≡ denied_text (map line_held lines.now)) }
+{
+    let widths = widths_of(alloc, lines)?;
+    let mut out = Vec::new(alloc);
+    'lines: for line in lines {
+        if line.is_race() {
+            push_line(alloc, &mut out, widths, line)?;
+        }
+    }
+    Ok(out)
+}
+
+// The widths of the columns: of the lines that are shown.
+fn widths_of(alloc: Global, lines: &[Line]) -> Result<Widths, AllocError>
+    ensures { IfOk result (λ widths. widths ≡ widths_of (only is_shown (map line_held lines.now))) }
+{
+    let mut widths = Widths {
+        place: 0,
+        step: 0,
+        hair: 0,
+    };
+    'lines: for line in lines {
+        if line.is_shown() {
+            widths = Widths {
+                place: widths.place.max(place_of(alloc, line)?.len()),
+                step: widths.step.max(step_of(alloc, line)?.len()),
+                hair: widths.hair.max(hair_of(line).len()),
+            };
+        }
+    }
+    Ok(widths)
+}
+
+// Appends a line in columns.
+fn push_line(
+    alloc: Global,
+    out: &mut Vec<u8>,
+    widths: Widths,
+    line: &Line,
+) -> Result<(), AllocError>
+    ensures { OnOk result (out.new.items ≡ out.old.items ++ line_text widths (line_held line.now)) }
+{
+    push_right(out, widths.place, place_of(alloc, line)?.as_slice())?;
+    out.extend_from_slice(b"  ")?;
+    push_left(out, widths.step, step_of(alloc, line)?.as_slice())?;
+    out.extend_from_slice(b"  ")?;
+    push_left(out, widths.hair, hair_of(line))?;
+    out.extend_from_slice(b"  ")?;
+    push_told(out, line)?;
+    out.extend_from_slice(b"\n")
+}
+
+// Appends how many hairs were tried, how many lines are races, and how many texts were refused, if any were.
+fn push_counts(out: &mut Vec<u8>, hairs: usize, lines: &[Line]) -> Result<(), AllocError>
+    ensures { OnOk result (out.new.items ≡ out.old.items ++ counts_text hairs (map line_held lines.now)) }
+{
+    push_count(out, hairs, b" hairs: ")?;
+    push_races(out, races_in(lines))?;
+    push_refused(out, refused_in(lines))?;
+    out.extend_from_slice(b"\n")
+}
+
+// How many lines are races.
+fn races_in(lines: &[Line]) -> usize
+    ensures { result ≡ length (only is_race (map line_held lines.now)) }
+{
+    lines.iter().filter(|line| line.is_race()).count()
+}
+
+// How many texts are refused.
+fn refused_in(lines: &[Line]) -> usize
+    ensures { result ≡ length (only is_refused (map line_held lines.now)) }
+{
+    lines.iter().filter(|line| line.is_refused()).count()
+}
+
+// Appends how many lines are races.
+fn push_races(out: &mut Vec<u8>, n: usize) -> Result<(), AllocError>
+    ensures { OnOk result (out.new.items ≡ out.old.items ++ races_text n) }
+{
+    if n == 0 {
+        out.extend_from_slice(b"no race")
+    } else {
+        push_count(out, n, b" races")
+    }
+}
