@@ -3,6 +3,7 @@ ghost use Rattle.nursery_cli.specs.declared.command.CommandFault.TheVariants.{No
 
 use fault_text::Deny;
 use job_edits::Target;
+use job_runner::Settings;
 use job_tree::Name;
 use std::alloc::AllocError;
 use thiserror::Error;
@@ -29,12 +30,10 @@ pub enum Command {
         job: String,
         /// The input file.
         input: String,
-        /// The number of workers, 1 to 64.
-        workers: usize,
+        /// The number of workers, and the last tick at which the job may end.
+        settings: Settings,
         /// The order of turns.
         order: Order,
-        /// The last tick at which the job may end, at most 4,294,967,295.
-        limit: u64,
     },
     /// The story of a job over an input: why each task ended as it did.
     Explain {
@@ -44,12 +43,10 @@ pub enum Command {
         input: Option<String>,
         /// The label of the one task that the story is to be about; none is all of them.
         task: Option<String>,
-        /// The number of workers, 1 to 64.
-        workers: usize,
+        /// The number of workers, and the last tick of the story.
+        settings: Settings,
         /// The order of turns.
         order: Order,
-        /// The last tick of the story, at most 4,294,967,295.
-        limit: u64,
     },
     /// What becomes of a job over an input with each fault of its waiting steps.
     Faults {
@@ -61,10 +58,19 @@ pub enum Command {
         name: Name,
         /// The lines that are denied.
         deny: Deny,
-        /// The number of threads, 1 to 64.
-        workers: usize,
-        /// The last tick at which a job may end, at most 4,294,967,295.
-        limit: u64,
+        /// The number of threads, and the last tick at which a job may end.
+        settings: Settings,
+    },
+    /// Which places of a job its outcome over an input hangs on by a hair.
+    Races {
+        /// The job file, or `-` for standard input.
+        job: String,
+        /// The input file, or `-` for standard input; none is an empty input.
+        input: Option<String>,
+        /// Whether races are denied.
+        deny: bool,
+        /// The number of threads, and the last tick at which a job may end.
+        settings: Settings,
     },
     /// What becomes of a job over an input for each value of one of its numbers.
     Sweep {
@@ -76,10 +82,8 @@ pub enum Command {
         target: Target,
         /// The values, 1 to 100,000 of them, from the smallest to the greatest.
         values: Vec<u64>,
-        /// The number of threads, 1 to 64.
-        workers: usize,
-        /// The last tick at which a job may end, at most 4,294,967,295.
-        limit: u64,
+        /// The number of threads, and the last tick at which a job may end.
+        settings: Settings,
     },
     /// The canonical text of a job.
     Check {

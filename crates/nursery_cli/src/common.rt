@@ -1,10 +1,7 @@
-ghost use Rattle.std.specs.Prelude.{IfOk, IfSome};
-ghost use Rattle.nursery_cli.specs.Words.{AreInRange};
-
 use crate::command::CommandFault;
 use crate::parser::DEFAULT_LIMIT;
 use clap::ArgMatches;
-use job_runner::{GREATEST_LIMIT, MOST_WORKERS};
+use job_runner::Settings;
 use std::alloc::{AllocError, Global};
 
 // What is wrong where both files are standard input.
@@ -14,41 +11,22 @@ const BOTH_STANDARD: &str =
 // What is wrong with a setting that the parser let through.
 const OUT_OF_RANGE: &str = "error: a setting is out of its range\n";
 
-// How a job is to be run.
-#[derive(Clone, Copy)]
-pub(crate) struct Choices {
-    pub workers: usize,
-    pub limit: u64,
-}
-
 // The number of workers and the limit. Refused are a job and an input that are both standard input, and settings out of their ranges.
-pub(crate) fn choices_of(
+pub(crate) fn settings_of(
     alloc: Global,
     job: &str,
     input: Option<&str>,
     matches: &ArgMatches<'_>,
-) -> Result<Choices, CommandFault>
-    ensures { IfOk result AreInRange }
-{
+) -> Result<Settings, CommandFault> {
     if job == "-" && input == Some("-") {
         return Err(refusal(alloc, BOTH_STANDARD));
     }
-    match choices_in(matches) {
-        Some(choices) => Ok(choices),
-        None => Err(refusal(alloc, OUT_OF_RANGE)),
-    }
-}
-
-// The number of workers and the limit, where they are in their ranges.
-fn choices_in(matches: &ArgMatches<'_>) -> Option<Choices>
-    ensures { IfSome result AreInRange }
-{
     let workers = matches.get_one::<usize>("workers").unwrap_or(1);
     let limit = matches.get_one::<u64>("limit").unwrap_or(DEFAULT_LIMIT);
-    if workers < 1 || workers > MOST_WORKERS || limit > GREATEST_LIMIT {
-        return None;
+    match Settings::new(workers, limit) {
+        Some(settings) => Ok(settings),
+        None => Err(refusal(alloc, OUT_OF_RANGE)),
     }
-    Some(Choices { workers, limit })
 }
 
 // A word as a string of its own, where there is one.

@@ -1,4 +1,4 @@
-// The examples that help shows. `tests/command` compares those of `explain`, `faults` and `sweep` with what the program writes.
+// The examples that help shows. `tests/command` compares those of `explain`, `faults`, `races` and `sweep` with what the program writes.
 
 pub(crate) const EXAMPLE: &str =
     "With no words at all, nursery reads standard input: a job text, a line that is exactly `%input`,
@@ -17,9 +17,9 @@ Example: `first.job` shows each line of its input that holds \"er\".
     task main 0 0 done
       line 0+5 error
 
-Exit status: 0 the job ended well, or `check` or `upgrade` found a job; 1 it ended with an exception;
-2 the job or the command line was refused; 3 it ends later than the limit; 4 a file could not
-be read or written, or the input is too long; 5 no memory.";
+Exit status: 0 the job ended well, or another command told of a job; 1 it ended with an exception, or a
+line is denied; 2 the job or the command line was refused; 3 it ends later than the limit; 4 a file
+could not be read or written, or the input is too long; 5 no memory.";
 
 pub(crate) const RUN_EXAMPLE: &str =
     "Example: the job `watch.job` waits at most 10 ticks, and shows the lines that hold \"ERROR\".
@@ -86,6 +86,29 @@ Example: what if one of two calls fails or hangs?
     8 faults: 1 stuck, 0 cut a cleanup, 0 lost, 0 not reached
 
 Exit status: 0, or 1 where a line is denied; the others are those of `run`.";
+
+pub(crate) const RACES_EXAMPLE: &str =
+    "A hair is a tenth of a tick. Each `sleep`, `after` and `at` takes a hair less (`earlier`) and a hair more
+(`later`), each `checkpoint`, `pace` and `start` a hair more. A race is a hair that changes the outcome of
+a task, its lines or its scopes.
+
+Example: two tasks act in the same tick, and one of them cancels the other.
+
+    $ cat both.job
+    trio-job 1
+    job both {
+      nursery pair {
+        start a { sleep 5; cancel pair; }
+        start b { sleep 5; }
+      }
+    }
+    $ nursery races both.job
+    4:15  sleep 5  earlier  both: other lines or scopes; b: done -> cancelled
+     5:5  start b  later    both: other lines or scopes; b: done -> cancelled
+    5:15  sleep 5  later    both: other lines or scopes; b: done -> cancelled
+    6 hairs: 3 races
+
+Exit status: 0, or 1 where races are denied and there is one; the others are those of `run`.";
 
 pub(crate) const SWEEP_EXAMPLE: &str =
     "Neighbouring values share a line where the same becomes of the job, apart from ticks. A value that the

@@ -1,6 +1,7 @@
 //! The command line of the program `nursery`: what the words after its name ask for, and the help that they may ask for.
 //!
-//! The layer promises that a command has settings in their ranges, and that no words, and only these, ask for a feed on standard input. It
+//! The layer promises that no words, and only these, ask for a feed on standard input; that a faulty step can raise the exception which
+//! `faults` was asked for; and that a sweep has values, from a first one on by a step. Settings are in their ranges by their type. It
 //! stands on `clap` for the reading of words and for the text of help. What words are refused, and with which message, is tested.
 #![tactic(auto)]
 
@@ -12,8 +13,5 @@ mod reading;
 mod sweeping;
 
 pub use command::{Command, CommandFault, Order};
-pub use fault_text::Deny;
-pub use job_edits::Target;
-pub use job_tree::Name;
 pub use parser::DEFAULT_LIMIT;
 pub use reading::read_command;

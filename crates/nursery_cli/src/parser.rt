@@ -1,19 +1,19 @@
 use crate::examples::{
-    CHECK_EXAMPLE, EXAMPLE, EXPLAIN_EXAMPLE, FAULTS_EXAMPLE, RUN_EXAMPLE, SWEEP_EXAMPLE,
-    UPGRADE_EXAMPLE,
+    CHECK_EXAMPLE, EXAMPLE, EXPLAIN_EXAMPLE, FAULTS_EXAMPLE, RACES_EXAMPLE, RUN_EXAMPLE,
+    SWEEP_EXAMPLE, UPGRADE_EXAMPLE,
 };
-use clap::{Arg, ArgGroup, Command, value_parser};
+use clap::{Arg, ArgAction, ArgGroup, Command, value_parser};
 use job_runner::{GREATEST_LIMIT, MOST_WORKERS};
 use std::alloc::{AllocError, Global};
 
 /// The limit where none is asked for, in ticks.
 pub const DEFAULT_LIMIT: u64 = 1_000_000;
 
-/// The name of the exception that a faulty step raises where none is asked for.
-pub(crate) const DEFAULT_FAULT: &str = "Fault";
-
 // The same, as the help shows it.
 const SHOWN_LIMIT: &str = "1000000";
+
+/// The name of the exception that a faulty step raises where none is asked for.
+pub(crate) const DEFAULT_FAULT: &str = "Fault";
 
 const ABOUT: &str =
     "Runs a job of nurseries and cancel scopes over an input, and reports what each task did";
@@ -33,6 +33,7 @@ pub(crate) fn parser<'a>(alloc: Global) -> Result<Command<'a>, AllocError> {
         .subcommand(run_parser(alloc)?)?
         .subcommand(explain_parser(alloc)?)?
         .subcommand(faults_parser(alloc)?)?
+        .subcommand(races_parser(alloc)?)?
         .subcommand(sweep_parser(alloc)?)?
         .subcommand(check_parser(alloc)?)?
         .subcommand(upgrade_parser(alloc)?)
@@ -94,6 +95,24 @@ fn faults_parser<'a>(alloc: Global) -> Result<Command<'a>, AllocError> {
         .arg(job_argument(alloc))?
         .arg(optional_input(alloc))?
         .arg(name)?
+        .arg(deny)?
+        .arg(workers_option(alloc))?
+        .arg(limit_option(alloc))
+}
+
+// What reads the words after `races`.
+fn races_parser<'a>(alloc: Global) -> Result<Command<'a>, AllocError> {
+    let deny = Arg::new(alloc, "deny")
+        .long("deny")
+        .help("Where there is a race the status is 1, and standard error has the lines again")
+        .action(ArgAction::SetTrue);
+    Command::new(alloc, "races")
+        .about(
+            "Tells where the outcome of a job changes if one step takes a hair more or less time",
+        )
+        .after_help(RACES_EXAMPLE)
+        .arg(job_argument(alloc))?
+        .arg(optional_input(alloc))?
         .arg(deny)?
         .arg(workers_option(alloc))?
         .arg(limit_option(alloc))

@@ -3,7 +3,7 @@ ghost use Rattle.nursery_cli.specs.declared.command.Command.TheVariants.{Feed};
 ghost use Rattle.nursery_cli.specs.Words.{IsFit, IsAsked, may_be_raised};
 
 use crate::command::{Command, CommandFault, Order};
-use crate::common::{choices_of, owned, refusal};
+use crate::common::{owned, refusal, settings_of};
 use crate::parser::{DEFAULT_FAULT, parser};
 use crate::sweeping::{target_of, values_of};
 use clap::ArgMatches;
@@ -64,6 +64,7 @@ fn chosen(alloc: Global, matches: &ArgMatches<'_>) -> Result<Command, CommandFau
         "run" => run_command(alloc, job, inner),
         "explain" => explain_command(alloc, job, inner),
         "faults" => faults_command(alloc, job, inner),
+        "races" => races_command(alloc, job, inner),
         "sweep" => sweep_command(alloc, job, inner),
         "upgrade" => Ok(Command::Upgrade {
             job: String::from_str(alloc, job)?,
@@ -81,13 +82,12 @@ fn run_command(alloc: Global, job: &str, matches: &ArgMatches<'_>) -> Result<Com
     let Some(input) = matches.get_str("input") else {
         return Err(refusal(alloc, "error: name the input file\n"));
     };
-    let choices = choices_of(alloc, job, Some(input), matches)?;
+    let settings = settings_of(alloc, job, Some(input), matches)?;
     Ok(Command::Run {
         job: String::from_str(alloc, job)?,
         input: String::from_str(alloc, input)?,
-        workers: choices.workers,
+        settings,
         order: order_named(matches.get_str("order")),
-        limit: choices.limit,
     })
 }
 
@@ -100,14 +100,13 @@ fn explain_command(
     ensures { IfOk result IsAsked }
 {
     let input = matches.get_str("input");
-    let choices = choices_of(alloc, job, input, matches)?;
+    let settings = settings_of(alloc, job, input, matches)?;
     Ok(Command::Explain {
         job: String::from_str(alloc, job)?,
         input: owned(alloc, input)?,
         task: owned(alloc, matches.get_str("task"))?,
-        workers: choices.workers,
+        settings,
         order: order_named(matches.get_str("order")),
-        limit: choices.limit,
     })
 }
 
@@ -120,7 +119,7 @@ fn faults_command(
     ensures { IfOk result IsAsked }
 {
     let input = matches.get_str("input");
-    let choices = choices_of(alloc, job, input, matches)?;
+    let settings = settings_of(alloc, job, input, matches)?;
     let name = raised_name(alloc, matches.get_str("name").unwrap_or(DEFAULT_FAULT))?;
     let deny = denied_kinds(alloc, matches.get_str("deny").unwrap_or(""))?;
     Ok(Command::Faults {
@@ -128,8 +127,25 @@ fn faults_command(
         input: owned(alloc, input)?,
         name,
         deny,
-        workers: choices.workers,
-        limit: choices.limit,
+        settings,
+    })
+}
+
+// The command `races` with its settings.
+fn races_command(
+    alloc: Global,
+    job: &str,
+    matches: &ArgMatches<'_>,
+) -> Result<Command, CommandFault>
+    ensures { IfOk result IsAsked }
+{
+    let input = matches.get_str("input");
+    let settings = settings_of(alloc, job, input, matches)?;
+    Ok(Command::Races {
+        job: String::from_str(alloc, job)?,
+        input: owned(alloc, input)?,
+        deny: matches.get_flag("deny"),
+        settings,
     })
 }
 
@@ -142,7 +158,7 @@ fn sweep_command(
     ensures { IfOk result IsAsked }
 {
     let input = matches.get_str("input");
-    let choices = choices_of(alloc, job, input, matches)?;
+    let settings = settings_of(alloc, job, input, matches)?;
     let target = target_of(alloc, matches.get_str("of"), matches.get_str("at"))?;
     let values = values_of(alloc, matches.get_str("values").unwrap_or(""))?;
     Ok(Command::Sweep {
@@ -150,8 +166,7 @@ fn sweep_command(
         input: owned(alloc, input)?,
         target,
         values,
-        workers: choices.workers,
-        limit: choices.limit,
+        settings,
     })
 }
 

@@ -1,5 +1,5 @@
-ghost use Rattle.std.specs.Prelude.{◌≡◌, ◌≤◌, length, vec_len, IfOk};
-ghost use Rattle.nursery_cli.specs.Values.{values_from};
+ghost use Rattle.std.specs.Prelude.{◌≡◌, ◌<◌, ◌≤◌, ◌-◌, ◌/◌, IfOk};
+ghost use Rattle.nursery_cli.specs.Values.{values_from, values_in};
 ghost use Rattle.nursery_cli.specs.Words.{AreValues};
 
 use crate::command::CommandFault;
@@ -57,27 +57,37 @@ struct Span {
     step: u32,
 }
 
-/// The values of a span, as `1..60` or `1..60:5`.
-pub(crate) fn values_of(alloc: Global, span: &str) -> Result<Vec<u64>, CommandFault>
+/// The values that a text gives, as `1..60` or `1..60:5`.
+pub(crate) fn values_of(alloc: Global, text: &str) -> Result<Vec<u64>, CommandFault>
     ensures { IfOk result (λ values. AreValues values.items) }
 {
-    let Some(Span { first, last, step }) = span_of(span) else {
-        return Err(refused_span(alloc, span));
+    let Some(span) = span_of(text) else {
+        return Err(refused_span(alloc, text));
     };
-    if step == 0 || last < first {
-        return Err(refused_span(alloc, span));
+    if span.step == 0 || span.last < span.first {
+        return Err(refused_span(alloc, text));
     }
-    let more = (last - first) / step;
-    if more >= MOST_VALUES {
-        let text = format!(in alloc; "error: `{span}` has more than {MOST_VALUES} values\n")?;
+    if (span.last - span.first) / span.step >= MOST_VALUES {
+        let text = format!(in alloc; "error: `{text}` has more than {MOST_VALUES} values\n")?;
         return Err(CommandFault::Refused { text });
     }
-    Ok(values_from(alloc, first, step, more + 1)?)
+    Ok(values_in(alloc, span)?)
+}
+
+// The values of a span.
+fn values_in(alloc: Global, span: Span) -> Result<Vec<u64>, AllocError>
+    requires some_step { 1 ≤ span.step }
+    requires ordered { span.first ≤ span.last }
+    requires few { (span.last - span.first) / span.step < 100000 }
+    ensures { IfOk result (λ values. values.items ≡ values_in span) }
+{
+    let Span { first, last, step } = span;
+    values_from(alloc, first, step, (last - first) / step + 1)
 }
 
 // The numbers of a span, as `1..60` or `1..60:5`: a step of 1 where none is given.
-fn span_of(span: &str) -> Option<Span> {
-    let (first, rest) = span.split_once("..")?;
+fn span_of(text: &str) -> Option<Span> {
+    let (first, rest) = text.split_once("..")?;
     let (last, step) = match rest.split_once(':') {
         Some((last, step)) => (last, step.parse::<u32>().ok()?),
         None => (rest, 1),
@@ -90,11 +100,11 @@ fn span_of(span: &str) -> Option<Span> {
 }
 
 // The refusal of words that are no span.
-fn refused_span(alloc: Global, span: &str) -> CommandFault {
-    let text = format!(in alloc;
-        "error: `{span}` gives no values: --values takes A..B or A..B:STEP, as 1..60 or 10..100:5, with A at most B and STEP at least 1\n"
+fn refused_span(alloc: Global, text: &str) -> CommandFault {
+    let message = format!(in alloc;
+        "error: `{text}` gives no values: --values takes A..B or A..B:STEP, as 1..60 or 10..100:5, with A at most B and STEP at least 1\n"
     );
-    match text {
+    match message {
         Ok(text) => CommandFault::Refused { text },
         Err(_) => CommandFault::NoMemory,
     }

@@ -1,4 +1,3 @@
-use Rattle.std.proofs.Common.{arith}
 use Rattle.nursery_cli.specs.Values.{values_from}
 use Rattle.nursery_cli.proofs.Spans.{next_value, next_fits}
 use Rattle.nursery_cli.proofs.sweeping.values_from.Goals as goal
