@@ -1,5 +1,5 @@
 -- The exit status of the program.
-use Rattle.std.specs.Prelude.{◌≡◌, ℕ, Option, List}
+use Rattle.std.specs.Prelude.{◌≡◌, ℕ, Bool, Option, List}
 use Rattle.nursery_app.specs.declared.verdict.Verdict.{Verdict}
 use Rattle.nursery_app.specs.declared.verdict.CheckVerdict.{CheckVerdict}
 use Rattle.nursery_app.specs.declared.verdict.ServeFault.{ServeFault}
@@ -15,6 +15,9 @@ use Rattle.fault_text.specs.declared.deny.Deny.{Deny}
 use Rattle.fault_app.specs.declared.verdict.FaultsVerdict.{FaultsVerdict}
 use Rattle.fault_app.specs.Verdicts as fates
 use Rattle.fault_app.specs.Statuses.{faults_status_of}
+use Rattle.race_app.specs.declared.verdict.RacesVerdict.{RacesVerdict}
+use Rattle.race_app.specs.Verdicts as races
+use Rattle.race_app.specs.Statuses.{races_status_of}
 use Rattle.job_edits.specs.declared.number.Target.{Target}
 use Rattle.sweep_app.specs.declared.verdict.SweepVerdict.{SweepVerdict}
 use Rattle.sweep_app.specs.Verdicts as sweeps
@@ -52,6 +55,11 @@ abbrev pub TellsFaults : List ℕ → List ℕ → ℕ → List ℕ → Deny →
 TellsFaults text input limit name deny status =
     (verdict : FaultsVerdict) × (bytes : List ℕ) × fates.IsVerdict text input limit name deny verdict bytes
     × (status ≡ faults_status_of verdict)
+
+-- the status is that of the verdict on the job with each of its places moved by a hair
+abbrev pub TellsRaces : List ℕ → List ℕ → ℕ → Bool → ℕ → Type 0
+TellsRaces text input limit deny status =
+    (verdict : RacesVerdict) × (bytes : List ℕ) × races.IsVerdict text input limit deny verdict bytes × (status ≡ races_status_of verdict)
 
 -- the status is that of the verdict on the job for each value of a number
 abbrev pub TellsSweep : List ℕ → List ℕ → ℕ → Target → List ℕ → ℕ → Type 0

@@ -80,17 +80,9 @@ pub(crate) fn run_job<R: Files + Input + Print + Eprint + Threads + Sync + Alloc
     rt: &R,
     job: &str,
     input: &str,
-    workers: usize,
-    limit: u64,
+    settings: Settings,
     order: Order,
-) -> Result<u8, Stop>
-    requires some { 1 ≤ workers }
-    requires few { workers ≤ 64 }
-    requires limit { limit ≤ 4294967295 }
-{
-    let Some(settings) = Settings::new(workers, limit) else {
-        unreachable!()
-    };
+) -> Result<u8, Stop> {
     let given = read_both(rt, job, Some(input))?;
     let (text, input) = (given.text.as_slice(), given.input.as_slice());
     match order {
@@ -106,17 +98,9 @@ pub(crate) fn explain_job<R: Files + Input + Print + Eprint + Threads + Sync + A
     job: &str,
     input: Option<&str>,
     task: Option<&str>,
-    workers: usize,
-    limit: u64,
+    settings: Settings,
     order: Order,
-) -> Result<u8, Stop>
-    requires some { 1 ≤ workers }
-    requires few { workers ≤ 64 }
-    requires limit { limit ≤ 4294967295 }
-{
-    let Some(settings) = Settings::new(workers, limit) else {
-        unreachable!()
-    };
+) -> Result<u8, Stop> {
     let given = read_both(rt, job, input)?;
     let (text, input) = (given.text.as_slice(), given.input.as_slice());
     match order {
@@ -261,7 +245,7 @@ fn upgrade_text<R: Print + Eprint + AllocGlobal>(rt: &R, job: &str, text: &[u8])
 
 // Tells on standard error which tasks have not ended at the limit, and what each is doing. The limit's line is on standard output
 // already, so where memory or a write fails here nothing more is told.
-fn tell_running<R: Eprint + Threads + Sync + AllocGlobal, P: Pick>(
+pub(crate) fn tell_running<R: Eprint + Threads + Sync + AllocGlobal, P: Pick>(
     rt: &R,
     text: &[u8],
     input: &[u8],

@@ -21,17 +21,9 @@ pub(crate) fn faults_job<R: Files + Input + Print + Eprint + Clock + Threads + S
     input: Option<&str>,
     name: Name,
     deny: Deny,
-    workers: usize,
-    limit: u64,
+    settings: Settings,
     at_terminal: bool,
-) -> Result<u8, Stop>
-    requires some { 1 ≤ workers }
-    requires few { workers ≤ 64 }
-    requires limit { limit ≤ 4294967295 }
-{
-    let Some(settings) = Settings::new(workers, limit) else {
-        unreachable!()
-    };
+) -> Result<u8, Stop> {
     let given = read_both(rt, job, input)?;
     let progress = Progress::new(rt, at_terminal);
     let (text, input) = (given.text.as_slice(), given.input.as_slice());
@@ -76,7 +68,7 @@ fn faults_text<R: Print + Eprint + Clock + Threads + Sync + AllocGlobal>(
 
 // Tells on standard error the lines that are denied, if there are any. They are on standard output already, so where a write fails here
 // nothing more is told.
-fn tell_denied<R: Eprint>(rt: &R, denied: Vec<u8>) {
+pub(crate) fn tell_denied<R: Eprint>(rt: &R, denied: Vec<u8>) {
     if let Ok(lines) = String::from_utf8(denied) {
         let _ = rt.eprint(lines.as_str());
     }

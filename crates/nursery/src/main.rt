@@ -1,19 +1,21 @@
 //! The program `nursery`: `run` runs a job file over an input file, `explain` tells the story of such a run, `faults` what
-//! becomes of the job where any one of its waiting steps fails or hangs, `sweep` the same for each value of one of its numbers, `check`
-//! writes a job's canonical text, `upgrade` that of the same job in format 2, and with no words it serves standard input: a job text, a
-//! line that is exactly `%input`, and the input. Its answer goes to standard output, and what went wrong to standard error. The work is
-//! in `nursery_app`, `story_app`, `fault_app` and `sweep_app`.
+//! becomes of the job where any one of its waiting steps fails or hangs, `races` where its outcome hangs on a hair, `sweep` what becomes of
+//! it for each value of one of its numbers, `check` writes a job's canonical text, `upgrade` that of the same job in format 2, and with no
+//! words it serves standard input: a job text, a line that is exactly `%input`, and the input. Its answer goes to standard output, and
+//! what went wrong to standard error. The work is in `nursery_app`, `story_app`, `fault_app`, `race_app` and `sweep_app`.
 #![tactic(auto)]
 
 mod answers;
 mod faults;
 mod progress;
+mod races;
 mod sources;
 mod stop;
 mod sweep;
 
 use crate::answers::{check_job, explain_job, run_feed, run_job, show_help, upgrade_job};
 use crate::faults::faults_job;
+use crate::races::races_job;
 use crate::stop::Stop;
 use crate::sweep::sweep_job;
 use nursery_cli::{Command, CommandFault, read_command};
@@ -53,24 +55,22 @@ where
             Command::Run {
                 job,
                 input,
-                workers,
+                settings,
                 order,
-                limit,
             },
-        ) => run_job(rt, job.as_str(), input.as_str(), workers, limit, order),
+        ) => run_job(rt, job.as_str(), input.as_str(), settings, order),
         Ok(
             Command::Explain {
                 job,
                 input,
                 task,
-                workers,
+                settings,
                 order,
-                limit,
             },
         ) => {
             let input = input.as_ref().map(|name| name.as_str());
             let task = task.as_ref().map(|label| label.as_str());
-            explain_job(rt, job.as_str(), input, task, workers, limit, order)
+            explain_job(rt, job.as_str(), input, task, settings, order)
         }
         Ok(
             Command::Faults {
@@ -78,21 +78,22 @@ where
                 input,
                 name,
                 deny,
-                workers,
-                limit,
+                settings,
             },
         ) => {
             let input = input.as_ref().map(|name| name.as_str());
-            faults_job(
-                rt,
-                job.as_str(),
+            faults_job(rt, job.as_str(), input, name, deny, settings, at_terminal)
+        }
+        Ok(
+            Command::Races {
+                job,
                 input,
-                name,
                 deny,
-                workers,
-                limit,
-                at_terminal,
-            )
+                settings,
+            },
+        ) => {
+            let input = input.as_ref().map(|name| name.as_str());
+            races_job(rt, job.as_str(), input, deny, settings, at_terminal)
         }
         Ok(
             Command::Sweep {
@@ -100,8 +101,7 @@ where
                 input,
                 target,
                 values,
-                workers,
-                limit,
+                settings,
             },
         ) => {
             let input = input.as_ref().map(|name| name.as_str());
@@ -111,8 +111,7 @@ where
                 input,
                 target,
                 values.as_slice(),
-                workers,
-                limit,
+                settings,
                 at_terminal,
             )
         }

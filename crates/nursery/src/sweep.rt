@@ -23,17 +23,9 @@ pub(crate) fn sweep_job<R: Files + Input + Print + Eprint + Clock + Threads + Sy
     input: Option<&str>,
     target: Target,
     values: &[u64],
-    workers: usize,
-    limit: u64,
+    settings: Settings,
     at_terminal: bool,
-) -> Result<u8, Stop>
-    requires some { 1 ≤ workers }
-    requires few { workers ≤ 64 }
-    requires limit { limit ≤ 4294967295 }
-{
-    let Some(settings) = Settings::new(workers, limit) else {
-        unreachable!()
-    };
+) -> Result<u8, Stop> {
     let given = read_both(rt, job, input)?;
     let progress = Progress::new(rt, at_terminal);
     let (text, input) = (given.text.as_slice(), given.input.as_slice());

@@ -1,0 +1,72 @@
+ghost use Rattle.std.specs.Prelude.{◌≤◌, length, IfOk};
+ghost use Rattle.job_meaning.specs.declared.limits.TheConstants.{MOST_INPUT};
+ghost use Rattle.nursery.specs.Statuses.{TellsRaces};
+
+use crate::answers::{read_both, tell_refusal, tell_running};
+use crate::faults::tell_denied;
+use crate::progress::Progress;
+use crate::stop::Stop;
+use nursery_app::{Forward, Settings, WriteOut};
+use race_app::{RacesVerdict, races};
+use std::io;
+use std::rt::Files;
+use std::thread::Threads;
+use std::time::Clock;
+
+/// What is told where a number of ticks is too large to be made finer.
+const NO_FINER_TICKS: &str =
+    "error: a `sleep`, `after` or `at` of more than 100000000 ticks has no finer ticks: use a coarser unit of time\n";
+
+/// Tells where the outcome of a job file over an input file, or over no input, hangs on a hair, and gives the status. Progress is shown
+/// where standard error is a terminal.
+pub(crate) fn races_job<R: Files + Input + Print + Eprint + Clock + Threads + Sync + AllocGlobal>(
+    rt: &R,
+    job: &str,
+    input: Option<&str>,
+    deny: bool,
+    settings: Settings,
+    at_terminal: bool,
+) -> Result<u8, Stop> {
+    let given = read_both(rt, job, input)?;
+    let progress = Progress::new(rt, at_terminal);
+    let (text, input) = (given.text.as_slice(), given.input.as_slice());
+    races_text(rt, job, text, input, deny, settings, &progress)
+}
+
+// Tells where the outcome of a job text over an input hangs on a hair, and gives the status.
+fn races_text<R: Print + Eprint + Clock + Threads + Sync + AllocGlobal>(
+    rt: &R,
+    job: &str,
+    text: &[u8],
+    input: &[u8],
+    deny: bool,
+    settings: Settings,
+    progress: &Progress<'_, R>,
+) -> Result<u8, Stop>
+    requires { length input.now ≤ MOST_INPUT }
+    ensures { IfOk result (TellsRaces text.now input.now settings.limit deny) }
+{
+    let mut out = WriteOut::new(io::writer(rt));
+    let told = races(
+        rt,
+        rt.alloc(),
+        text,
+        input,
+        settings,
+        deny,
+        progress,
+        &mut out,
+    );
+    progress.clear();
+    let verdict = told?;
+    let status = verdict.status();
+    match verdict {
+        RacesVerdict::JobRefused(fault) => tell_refusal(rt, job, text, fault),
+        RacesVerdict::Told { denied } => tell_denied(rt, denied),
+        RacesVerdict::Limit => tell_running(rt, text, input, settings, &mut Forward),
+        RacesVerdict::NoFinerTicks => {
+            let _ = rt.eprint(NO_FINER_TICKS);
+        }
+    }
+    Ok(status)
+}
