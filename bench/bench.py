@@ -240,7 +240,7 @@ class Bench:
             table.row(name, events, milliseconds(run.seconds), f"{run.seconds * 1e9 / events:.0f}", run.memory // 1024, run.memory * 1024 // events)
 
     def faults(self):
-        """Faults and sweeps, by several threads."""
+        """Faults, races and sweeps, by several threads."""
         table = Table("Work", "runs", "threads", "ms", "ms a run")
         for feed in sorted(glob.glob(os.path.join(HERE, "..", "examples", "*.feed"))):
             with open(feed, "rb") as file:
@@ -254,6 +254,9 @@ class Bench:
         for threads in [1, 2, 4]:
             words = ["sweep", large, "--at", "2:18", "--values", "1..500"]
             self.faults_row(table, "500 values in a job of 2,000 steps", words, threads)
+        mixed = self.file("hairy.job", job_of_format_2((b"sleep 1; " + b'find "er"; ' * 4) * 100))
+        for threads in [1, 2, 4]:
+            self.faults_row(table, "200 hairs of a job of 500 steps", ["races", mixed], threads)
         small = self.file("swept.job", job(b"scope s after 1 fail { sleep 50000; }"))
         for threads in [1, 4]:
             self.faults_row(table, "100,000 values in a job of 2 steps", ["sweep", small, "--of", "s", "--values", "1..100000"], threads)

@@ -148,6 +148,25 @@ calls='               as it is    3 done\n4:18  sleep 2  fails       1 raised al
 wants 0 "$calls" '' faults calls.job
 helps faults "$calls"
 
+# ---- races
+
+printf 'trio-job 1\njob both {\n  nursery pair {\n    start a { sleep 5; cancel pair; }\n    start b { sleep 5; }\n  }\n}\n' > both.job
+hairs='4:15  sleep 5  earlier  both: other lines or scopes; b: done -> cancelled\n 5:5  start b  later    both: other lines or scopes; b: done -> cancelled\n5:15  sleep 5  later    both: other lines or scopes; b: done -> cancelled\n'
+both="${hairs}6 hairs: 3 races\n"
+wants 0 "$both" '' races both.job
+wants 0 "$both" '' races both.job log.txt --workers 64
+wants 1 "$both" "$hairs" races both.job --deny
+wants 0 "$both" '' races both.job --limit 6
+helps races "$both"
+wants 0 '0 hairs: no race\n' '' races find.job log.txt --deny
+wants 0 '2 hairs: no race\n' '' races raise.job --deny --workers 3
+wants 3 'limit 1\n' 'these tasks have not ended:\n  main  sleeping until 2 since 0\n' races raise.job --limit 1
+printf 'trio-job 1\njob late { scope s after 100000001 { sleep 1; } }\n' > late.job
+wants 2 '' 'error: a `sleep`, `after` or `at` of more than 100000000 ticks has no finer ticks: use a coarser unit of time\n' races late.job
+cp both.job in
+wants 1 "$both" "$hairs" races - --deny
+: > in
+
 # ---- sweeps
 
 printf 'trio-job 1\njob fetch {\n  scope limit after 5 fail { sleep 3; sleep 4; }\n}\n' > fetch.job
@@ -270,6 +289,8 @@ words='explain find.job log.txt --workers 0'; holds 2 err "'--workers <N>'" '1..
 words='explain find.job --limit 4294967296'; holds 2 err "'--limit <T>'" '4294967295'
 words='faults'; holds 2 err '<JOB>' 'Usage: nursery faults '
 words='faults find.job --workers 65'; holds 2 err "'--workers <N>'" '1..=64'
+words='races'; holds 2 err '<JOB>' 'Usage: nursery races '
+words='races find.job --deny cut'; holds 4 err 'cannot read the input file'
 words='sweep find.job'; holds 2 err '--of <NAME>' '--at <LINE:COL>' '--values <A..B[:STEP]>'
 words='sweep find.job --of s'; holds 2 err '--values <A..B[:STEP]>'
 words='sweep find.job --values 1..2'; holds 2 err '--of <NAME>' '--at <LINE:COL>'
@@ -282,6 +303,7 @@ words='--fast'; holds 2 err "'--fast'"
 wants 2 '' 'error: JOB and INPUT cannot both be `-`: there is one standard input\n' run - -
 wants 2 '' 'error: JOB and INPUT cannot both be `-`: there is one standard input\n' explain - -
 wants 2 '' 'error: JOB and INPUT cannot both be `-`: there is one standard input\n' faults - -
+wants 2 '' 'error: JOB and INPUT cannot both be `-`: there is one standard input\n' races - -
 wants 2 '' 'error: JOB and INPUT cannot both be `-`: there is one standard input\n' sweep - - --of s --values 1..2
 wants 2 '' 'error: an argument is not UTF-8 text\n' check "$(printf 'a\377b')"
 
@@ -289,10 +311,11 @@ wants 2 '' 'error: an argument is not UTF-8 text\n' check "$(printf 'a\377b')"
 
 wants 0 'nursery 0.1.0\n' '' --version
 words='explain --help'; holds 0 out 'Usage: nursery explain [OPTIONS] <JOB> [INPUT]' '--task <LABEL>' '--workers <N>' '--order <ORDER>' '--limit <T>'
-words='--help'; holds 0 out 'Usage: nursery <COMMAND>' '  run ' '  explain ' '  faults ' '  sweep ' '  check ' '  upgrade ' '$ nursery run first.job log.txt' '  line 0+5 error' 'Exit status'
+words='--help'; holds 0 out 'Usage: nursery <COMMAND>' '  run ' '  explain ' '  faults ' '  races ' '  sweep ' '  check ' '  upgrade ' '$ nursery run first.job log.txt' '  line 0+5 error' 'Exit status'
 words='help'; holds 0 out 'Usage: nursery <COMMAND>'
 words='run --help'; holds 0 out 'Usage: nursery run [OPTIONS] <JOB> <INPUT>' '--workers <N>' '--order <ORDER>' '--limit <T>' '  line 6+10 ERROR disk'
 words='faults --help'; holds 0 out 'Usage: nursery faults [OPTIONS] <JOB> [INPUT]' '--name <NAME>' '--deny <KINDS>' '--workers <N>' '--limit <T>'
+words='races --help'; holds 0 out 'Usage: nursery races [OPTIONS] <JOB> [INPUT]' '--deny' '--workers <N>' '--limit <T>'
 words='sweep --help'; holds 0 out 'Usage: nursery sweep [OPTIONS]' '--of <NAME>' '--at <LINE:COL>' '--values <A..B[:STEP]>' '--workers <N>' '--limit <T>'
 words='check --help'; holds 0 out 'Usage: nursery check <JOB>' 'expected a number'
 words='upgrade --help'; holds 0 out 'Usage: nursery upgrade <JOB>' 'job main{find"er";}'
@@ -380,6 +403,7 @@ if [ -c /dev/full ]; then
     full run forever.job log.txt
     full explain raise.job
     full faults raise.job
+    full races both.job
     full sweep fetch.job --of limit --values 1..20
     full check find.job
     full upgrade find.job

@@ -1,7 +1,7 @@
 """`nursery` at a real terminal.
 
-With no words it says in one line on standard error what it waits for, and serves what is typed. `faults` and `sweep` show their progress on
-standard error from the first second on, and clear it at the end; where standard error is no terminal they show none.
+With no words it says in one line on standard error what it waits for, and serves what is typed. `faults`, `races` and `sweep` show their progress
+on standard error from the first second on, and clear it at the end; where standard error is no terminal they show none.
 
     python3 tests/command/terminal.py PROGRAM
 

@@ -1,6 +1,6 @@
 #!/bin/sh
-# Each example's report, story and faults, by the program that the gate built, and those of tests/stories/, which end at a limit, and
-# of tests/faults/, and sweeps.
+# Each example's report, story, faults and races, by the program that the gate built, and those of tests/stories/, which end at a limit,
+# of tests/faults/ and of tests/races/, and sweeps.
 set -eu
 cd "$(dirname "$0")/../.."
 nursery=$PWD/crates/nursery/out/nursery
@@ -51,7 +51,20 @@ sweeps() {
     echo "$feed: its sweep is as stored"
 }
 
+# races FEED WORD..: where the outcome of a feed's job hangs on a hair, with these options, is what is stored beside it.
+races() {
+    feed=$1
+    shift
+    sed '/^%input$/,$d' "$feed" > "$folder/job"
+    sed '1,/^%input$/d' "$feed" > "$folder/input"
+    "$nursery" races "$folder/job" "$folder/input" "$@" | cmp - "${feed%.feed}.races"
+    echo "$feed: its races are as stored"
+}
+
 for workers in 1 3 64; do
+    for feed in examples/hedge examples/race tests/races/copies tests/races/fallback tests/races/lost; do
+        races "$feed.feed" --workers "$workers"
+    done
     sweeps tests/faults/again_in_budget.feed --of budget --values 10..30 --workers "$workers"
     sweeps examples/supervisor.feed --of flush --values 1..9 --workers "$workers"
     for feed in examples/cleanup examples/request examples/supervisor tests/faults/miss tests/faults/ingest tests/faults/ingest_in_time \

@@ -55,6 +55,7 @@ from_little_to_enough() {
 printf 'trio-job 1\njob main { find "er"; }\n' > find.job
 printf 'trio-job 1\njob main { nursery n { start a over 64 { nursery m { start b over 64 { sleep 1; find "er"; } } } } }\n' > grid.job
 printf 'trio-job 1\njob main { nursery n { start a { sleep 2; find "er"; } start b { forever; } } }\n' > few.job
+printf 'trio-job 1\njob main { nursery n { start a over 2 { sleep 2; find "er"; cancel n; } start b { sleep 2; } } }\n' > pair.job
 printf 'trio-job 1\njob main { head 1000000000; }\n' > head.job
 printf 'trio-job 1\njob main { nursery n { start p over 64 { find "er"; } } }\n' > parts.job
 printf 'error\nok\n' > log.txt
@@ -67,6 +68,7 @@ from_little_to_enough run grid.job lines.txt --workers 64
 from_little_to_enough run parts.job lines.txt --workers 64
 from_little_to_enough explain grid.job lines.txt
 from_little_to_enough faults few.job lines.txt
+from_little_to_enough races pair.job lines.txt
 from_little_to_enough sweep few.job lines.txt --at 2:40 --values 1..9
 
 # ---- little stack: 256 KiB for each legal job, the deepest too ----
@@ -103,6 +105,7 @@ for job in scopes nurseries cleanups handlers sleeps leaves grid; do
     in_little_stack run $job.job log.txt --workers 64
     in_little_stack explain $job.job log.txt
     in_little_stack faults $job.job log.txt --workers 2
+    in_little_stack races $job.job log.txt --workers 2
     in_little_stack check $job.job
 done
 column=$(awk 'NR == 2 { print index($0, "sleep 1") + 6 }' cleanups.job)

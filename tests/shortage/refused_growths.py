@@ -145,6 +145,13 @@ FAULTS = {
     b"2:12  sleep 101  cancelled   1 done\n4 faults: 2 stuck, 0 cut a cleanup, 0 lost, 1 not reached\n",
 }
 
+# Where the outcome of some of them hangs on a hair. The start of copies has the story told, too.
+RACES = {
+    "kernels on parts": b"1 hairs: no race\n",
+    "a handler's group": b"2:30  start a  later  main: raised *[C(main), n[B(b)]] -> raised n[B(b)]; a: raised A(a) -> cancelled\n"
+    b"2:51  start b  later  main: raised *[C(main), n[B(b)]] -> raised C(main); b: raised B(b) -> cancelled\n2 hairs: 2 races\n",
+}
+
 # What becomes of them for each value from 99 to 101 of the number at a place.
 SWEEPS = {
     "a job past its limit": ("2:18", b"as it is  stuck at 100\n99..100   done, ends 99..100\n101       stuck at 100\n"
@@ -226,6 +233,10 @@ def runs_of_program(folder):
             for workers in ["1", "3"]:
                 words = ["faults", job, data, "--limit", "100", "--workers", workers]
                 yield f"{name}, faults with {workers} workers", words, 0, FAULTS[name], False
+        if name in RACES:
+            for workers in ["1", "3"]:
+                words = ["races", job, data, "--limit", "100", "--workers", workers]
+                yield f"{name}, races with {workers} workers", words, 0, RACES[name], False
         if name in SWEEPS:
             place, told = SWEEPS[name]
             for workers in ["1", "3"]:

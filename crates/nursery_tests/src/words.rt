@@ -51,6 +51,7 @@ fn word_of(command: &Command) -> &'static str {
         Command::Run { .. } => "run",
         Command::Explain { .. } => "explain",
         Command::Faults { .. } => "faults",
+        Command::Races { .. } => "races",
         Command::Sweep { .. } => "sweep",
         Command::Check { .. } => "check",
         Command::Upgrade { .. } => "upgrade",
@@ -65,6 +66,7 @@ fn text_of(command: &Command) -> &str {
         Command::Run { job, .. } => job.as_str(),
         Command::Explain { job, .. } => job.as_str(),
         Command::Faults { job, .. } => job.as_str(),
+        Command::Races { job, .. } => job.as_str(),
         Command::Sweep { job, .. } => job.as_str(),
         Command::Check { job } => job.as_str(),
         Command::Upgrade { job } => job.as_str(),
@@ -87,6 +89,8 @@ const NAMED: &[(&str, &str, &str)] = &[
         "faults",
         "j",
     ),
+    ("races j", "races", "j"),
+    ("races j i --deny --limit 7 --workers 3", "races", "j"),
     ("sweep j --of s --values 1..9", "sweep", "j"),
     (
         "sweep j i --at 2:9 --values 0..9:3 --workers 64",
@@ -107,16 +111,16 @@ fn words_name_a_command_and_its_job(rt: HostRuntime) -> Result<(), Fail> {
 }
 
 // Whether a command runs the job `j` over the input `i` with these settings.
-fn is_run(command: &Command, settings: (usize, Order, u64)) -> bool {
+fn is_run(command: &Command, wanted: (usize, Order, u64)) -> bool {
     match command {
         Command::Run {
             job,
             input,
-            workers,
+            settings,
             order,
-            limit,
         } => {
-            job.as_str() == "j" && input.as_str() == "i" && (*workers, *order, *limit) == settings
+            let found = (settings.workers(), *order, settings.limit());
+            job.as_str() == "j" && input.as_str() == "i" && found == wanted
         }
         _other => false,
     }
