@@ -9,8 +9,8 @@ refused until a run meets none: each time the program gives the job's own bytes 
 standard output. Where the growth that is refused is one of the system's for a thread, the others do its work, and the answer is the
 job's own; where it is one for the sentence that explains a refused text on standard error, the refusal stands without it.
 
-With CRATES the same is done with each crate's tests, each growth of each: each time a test passes, or ends with want of memory. The
-growths of a test are refused by several processes beside one another.
+With CRATES the same is done with each crate's tests, each growth of each but one test's: each time a test passes, or ends with want of
+memory. The growths of a test are refused by several processes beside one another.
 """
 
 import glob
@@ -164,6 +164,9 @@ WANT_OF_MEMORY = [b"AllocError", b"AllocFailed", b"NoMemory"]
 # What a test says that wants two threads at once, where the second could not be started.
 ALONE = b"assertion failed: gate."
 
+# The test whose growths are too many for a run each: a `pace` in finer ticks is a thousand passes. The program's own rows have races.
+TOO_MANY = "nursery_tests raced::races_are_told_in_the_order_of_their_places"
+
 # Into how many lanes the growths of a test are dealt, so that several processes share them.
 LANES = 8
 
@@ -200,8 +203,8 @@ def refuse_in_test(shim, test, lane):
 
 
 def refuse_in_tests(shim, crates, pool):
-    """Refuses each growth of all tests, several at a time."""
-    tests = list(tests_of(crates))
+    """Refuses each growth of all tests but one, several at a time."""
+    tests = [test for test in tests_of(crates) if f"{os.path.basename(test[0])} {test[2]}" != TOO_MANY]
     lanes = [[pool.submit(refuse_in_test, shim, test, lane) for lane in range(LANES)] for test in tests]
     total = 0
     for (folder, _, name), runs in zip(tests, lanes):
