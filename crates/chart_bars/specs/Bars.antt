@@ -1,0 +1,84 @@
+-- The rows of a chart: a bar for each task, and below it one for each scope and nursery that the task entered.
+use Rattle.std.specs.Prelude.{ℕ, Bool, true, false, ◌&&◌, Option, Some, None, List, [], ◌∷◌, ◌++◌, nat_le, if◌then◌else◌}
+use Rattle.exc_groups.specs.Exceptions.{Label}
+use Rattle.cancel_scopes.specs.Sight.{Tick}
+use Rattle.job_meaning.specs.Log.{Table, same_label}
+use Rattle.job_story.specs.Story.{enters, leaves}
+use Rattle.job_story.specs.Events.{What, happens, Event}
+use Rattle.job_story.specs.Limit.{is_start, is_end}
+
+-- The bar of a task begins with its start and ends with its end, and the events of the task are its own. The bar of a scope or nursery
+-- begins where it is entered and ends where it is left, and has no events of its own. A bar whose end is not told has none. The
+-- bar of a scope or nursery has the tick from which that is cancelled, if that comes while it is entered.
+pub record Bar : Type 0 where
+  pub first : Event
+  pub last : Option Event
+  pub own : List Event
+  pub cancelled : Tick
+
+-- ---- tasks
+
+-- the events of a task
+abbrev pub of_task : Label → List Event → List Event
+of_task l [] = []
+of_task l (e ∷ es) = if same_label l e.task then e ∷ of_task l es else of_task l es
+
+-- the first event that is the end of a task
+abbrev pub end_in : List Event → Option Event
+end_in [] = None
+end_in (e ∷ es) = if is_end e.what then Some e else end_in es
+
+-- the bar of a task that starts with this event
+abbrev pub task_bar : List Event → Event → Bar
+task_bar all e = record { first = e; last = end_in (of_task e.task all); own = of_task e.task all; cancelled = None }
+
+-- ---- scopes and nurseries
+
+-- whether a scope or nursery of this label is left
+abbrev pub is_left : Label → What → Bool
+is_left l (happens (leaves kind label inside caught outside)) = same_label l label
+is_left l _ = false
+
+-- the first event with which it is left
+abbrev pub left_in : Label → List Event → Option Event
+left_in l [] = None
+left_in l (e ∷ es) = if is_left l e.what then Some e else left_in l es
+
+-- whether a tick is no later than an event, or than the last tick that is told, if there is one
+abbrev pub is_by : Tick → Option Event → ℕ → Bool
+is_by until (Some e) t = nat_le t e.tick
+is_by (Some limit) None t = nat_le t limit
+is_by None None t = true
+
+-- a tick, if it comes no earlier than one event and no later than the other
+abbrev pub tick_between : Tick → Event → Option Event → Tick → Tick
+tick_between until e last None = None
+tick_between until e last (Some t) = if nat_le e.tick t && is_by until last t then Some t else None
+
+abbrev pub block_bar : Table → Tick → List Event → Label → Event → Bar
+block_bar table until all l e =
+    record { first = e; last = left_in l all; own = []; cancelled = tick_between until e (left_in l all) (table l) }
+
+-- the bar of the scope or nursery that is entered with this event, if one is
+abbrev pub with_block : Table → Tick → List Event → Event → What → List Bar → List Bar
+with_block table until all e (happens (enters kind label deadline shield)) others = block_bar table until all label e ∷ others
+with_block table until all e _ others = others
+
+abbrev pub block_bars : Table → Tick → List Event → List Event → List Bar
+block_bars table until all [] = []
+block_bars table until all (e ∷ es) = with_block table until all e e.what (block_bars table until all es)
+
+-- ---- all of them
+
+-- the bars of a task that starts with this event: its own, and below it those of what it entered
+abbrev pub bars_at : Table → Tick → List Event → Event → List Bar
+bars_at table until all e =
+    if is_start e.what then task_bar all e ∷ block_bars table until all (of_task e.task all) else []
+
+abbrev pub bars_from : Table → Tick → List Event → List Event → List Bar
+bars_from table until all [] = []
+bars_from table until all (e ∷ es) = bars_at table until all e ++ bars_from table until all es
+
+-- the bars of a story, whole or up to a limit, by its events in the order of the walk: tasks in the order in which the walk starts them
+abbrev pub bars_of : Table → Tick → List Event → List Bar
+bars_of table until es = bars_from table until es es

@@ -1,0 +1,4 @@
+pub mod Bars
+pub mod Held
+pub mod Indexed
+pub mod Ticks

@@ -1,0 +1,70 @@
+ghost use Rattle.std.specs.Prelude.{◌≡◌, ◌++◌, [], IfOk, OnOk, map};
+ghost use Rattle.job_story.specs.Froms.{table_in};
+ghost use Rattle.job_story.specs.Held.{event_of};
+ghost use Rattle.story_causes.specs.Seen.{seen};
+ghost use Rattle.chart_bars.specs.Bars.{end_in, bars_at, bars_of};
+ghost use Rattle.chart_bars.specs.Held.{bar_of, event_seen};
+ghost use Rattle.chart_bars.specs.Indexed.{walked_in};
+
+use crate::bar::Bar;
+use crate::blocks::push_blocks;
+use crate::index::StoryIndex;
+use crate::kinds::{is_end, is_start};
+use job_story::{Event, Froms};
+use std::alloc::{AllocError, Global};
+
+impl<'s, 'e> StoryIndex<'s, 'e> {
+    /// The bars of a story, tasks in the order in which the walk starts them, and below each its scopes and nurseries in the order in which it
+    /// entered them. The table tells from when these are cancelled, and `until` is the last tick that is told, where the story is cut off at a
+    /// limit. Want of memory is the only error.
+    pub fn bars<'i>(
+        &'i self,
+        alloc: Global,
+        froms: &Froms,
+        until: Option<u64>,
+    ) -> Result<Vec<Bar<'i, 'e>>, AllocError>
+        ensures { IfOk result (λ bars. map bar_of bars.items ≡ bars_of (table_in froms.now) until (walked_in self.entry.now)) }
+    {
+        let mut bars = Vec::new(alloc);
+        'events: for event in self.walked {
+            push_bars(&mut bars, self, froms, until, event)?;
+        }
+        Ok(bars)
+    }
+}
+
+// Appends the bars of the task that starts with this event, if one does.
+fn push_bars<'i, 'e>(
+    bars: &mut Vec<Bar<'i, 'e>>,
+    index: &'i StoryIndex<'_, 'e>,
+    froms: &Froms,
+    until: Option<u64>,
+    event: &'e Event,
+) -> Result<(), AllocError>
+    ensures { OnOk result (map bar_of bars.new.items ≡ map bar_of bars.old.items
+        ++ bars_at (table_in froms.now) until (walked_in index.entry.now) (event_of event.entry.now)) }
+{
+    if !is_start(&event.what) {
+        return Ok(());
+    }
+    let own = index.own(&event.task);
+    bars.push(Bar {
+        first: event,
+        last: end_in(own),
+        own,
+        cancelled: None,
+    })?;
+    push_blocks(bars, index, froms, until, own)
+}
+
+// The first event that is the end of a task.
+fn end_in<'e>(events: &[&'e Event]) -> Option<&'e Event>
+    ensures { event_seen result ≡ end_in (map seen events.now) }
+{
+    'events: for event in events {
+        if is_end(&event.what) {
+            return Some(*event);
+        }
+    }
+    None
+}

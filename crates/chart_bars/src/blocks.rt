@@ -1,0 +1,87 @@
+ghost use Rattle.std.specs.Prelude.{◌≡◌, ◌++◌, ◌∷◌, List, OnOk, map};
+ghost use Rattle.job_story.specs.Froms.{table_in};
+ghost use Rattle.job_story.specs.Held.{event_of, what_of};
+ghost use Rattle.story_causes.specs.Seen.{seen};
+ghost use Rattle.chart_bars.specs.Bars as chart;
+ghost use Rattle.chart_bars.specs.Bars.{is_by, tick_between, with_block, block_bars};
+ghost use Rattle.chart_bars.specs.Held.{bar_of, event_seen};
+ghost use Rattle.chart_bars.specs.Indexed.{walked_in};
+
+use crate::bar::Bar;
+use crate::index::StoryIndex;
+use crate::indexing::no_events;
+use job_story::{Event, Froms, Happening, What};
+use std::alloc::AllocError;
+
+// Appends a bar for each scope and nursery that is entered with one of these events, in their order.
+pub(crate) fn push_blocks<'i, 'e>(
+    bars: &mut Vec<Bar<'i, 'e>>,
+    index: &'i StoryIndex<'_, 'e>,
+    froms: &Froms,
+    until: Option<u64>,
+    events: &[&'e Event],
+) -> Result<(), AllocError>
+    ensures { OnOk result (map bar_of bars.new.items ≡ map bar_of bars.old.items
+        ++ block_bars (table_in froms.now) until (walked_in index.entry.now) (map seen events.now)) }
+{
+    'events: for event in events {
+        push_block(bars, index, froms, until, event)?;
+    }
+    Ok(())
+}
+
+// Appends the bar of the scope or nursery that is entered with this event, if one is.
+fn push_block<'i, 'e>(
+    bars: &mut Vec<Bar<'i, 'e>>,
+    index: &'i StoryIndex<'_, 'e>,
+    froms: &Froms,
+    until: Option<u64>,
+    event: &'e Event,
+) -> Result<(), AllocError>
+    ensures { OnOk result ((others : List chart.Bar) → map bar_of bars.new.items ++ others ≡ map bar_of bars.old.items
+        ++ with_block (table_in froms.now) until (walked_in index.entry.now) (event_of event.entry.now) (what_of event.entry.now.what) others) }
+{
+    let What::Happens(Happening::Enters { label, .. }) = &event.what else {
+        return Ok(());
+    };
+    let last = index.left(label);
+    bars.push(Bar {
+        first: event,
+        last,
+        own: no_events(),
+        cancelled: tick_between(until, event, last, froms.of(label)),
+    })?;
+    Ok(())
+}
+
+// A tick, if it comes no earlier than one event and no later than the other.
+fn tick_between(
+    until: Option<u64>,
+    first: &Event,
+    last: Option<&Event>,
+    tick: Option<u64>,
+) -> Option<u64>
+    ensures { result ≡ tick_between until (event_of first.now) (event_seen last.entry) tick }
+{
+    let Some(tick) = tick else {
+        return None;
+    };
+    if first.tick <= tick && is_by(until, last, tick) {
+        Some(tick)
+    } else {
+        None
+    }
+}
+
+// Whether a tick is no later than an event, or than the last tick that is told.
+fn is_by(until: Option<u64>, last: Option<&Event>, tick: u64) -> bool
+    ensures { result ≡ is_by until (event_seen last.entry) tick }
+{
+    if let Some(last) = last {
+        return tick <= last.tick;
+    }
+    match until {
+        Some(limit) => tick <= limit,
+        None => true,
+    }
+}

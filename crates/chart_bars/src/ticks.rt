@@ -1,0 +1,41 @@
+ghost use Rattle.std.specs.Prelude.{◌≡◌, ◌++◌, [], IfOk, OnOk, map};
+ghost use Rattle.story_causes.specs.Seen.{seen};
+ghost use Rattle.chart_bars.specs.Ticks.{if_tick, ticks_of_events, all_ticks};
+
+use job_story::Event;
+use std::alloc::{AllocError, Global};
+
+/// The ticks at which something happens, each as often as something does: those of events, and the limit at which a story is cut off
+/// (`until`). Want of memory is the only error.
+pub fn all_ticks(
+    alloc: Global,
+    events: &[&Event],
+    until: Option<u64>,
+) -> Result<Vec<u64>, AllocError>
+    ensures { IfOk result (λ ticks. ticks.items ≡ all_ticks (map seen events.now) until) }
+{
+    let mut ticks = Vec::new(alloc);
+    push_events(&mut ticks, events)?;
+    push_tick(&mut ticks, until)?;
+    Ok(ticks)
+}
+
+// Appends the tick of each event.
+fn push_events(ticks: &mut Vec<u64>, events: &[&Event]) -> Result<(), AllocError>
+    ensures { OnOk result (ticks.new.items ≡ ticks.old.items ++ ticks_of_events (map seen events.now) []) }
+{
+    'events: for event in events {
+        ticks.push(event.tick)?;
+    }
+    Ok(())
+}
+
+// Appends a tick, if there is one.
+fn push_tick(ticks: &mut Vec<u64>, tick: Option<u64>) -> Result<(), AllocError>
+    ensures { OnOk result (ticks.new.items ≡ ticks.old.items ++ if_tick tick []) }
+{
+    if let Some(tick) = tick {
+        ticks.push(tick)?;
+    }
+    Ok(())
+}

@@ -1,0 +1,5 @@
+pub mod Ranks
+pub mod Halvings
+pub mod Lists
+pub mod Counts
+pub mod Fits

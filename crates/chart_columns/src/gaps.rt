@@ -1,0 +1,43 @@
+ghost use Rattle.std.specs.Prelude.{◌≡◌, ◌≤◌, length, decimal, map};
+ghost use Rattle.chart_columns.specs.Columns.{log2, gap, gap_to};
+ghost use Rattle.chart_columns.specs.Held.{column_of};
+
+use crate::column::Column;
+use itoa::Buffer;
+
+/// The room from a tick to the next one that is shown, in places of text: for its digits and a space, and more the longer it takes.
+pub fn gap(tick: u64, next: u64) -> usize
+    ensures { result ≡ gap tick next }
+{
+    digits(tick) + 1 + log2(next.saturating_sub(tick))
+}
+
+/// The room from a column to the first of those after it, and 1 where it is the last.
+pub fn gap_to(column: &Column, after: &[Column]) -> usize
+    ensures { result ≡ gap_to (column_of column.now) (map column_of after.now) }
+{
+    match after.first() {
+        Some(next) => gap(column.tick, next.tick),
+        None => 1,
+    }
+}
+
+// How many decimal digits a number has.
+pub(crate) fn digits(n: u64) -> usize
+    ensures value { result ≡ length (decimal n) }
+    ensures small { result ≤ 20 }
+{
+    let mut buffer = Buffer::new();
+    buffer.format(n).len()
+}
+
+// The logarithm of a number to base 2, rounded down, and 0 for 0.
+fn log2(n: u64) -> usize
+    ensures value { result ≡ log2 n }
+    ensures small { result ≤ 63 }
+{
+    if n == 0 {
+        return 0;
+    }
+    n.ilog2() as usize
+}

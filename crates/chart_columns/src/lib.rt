@@ -1,0 +1,19 @@
+//! The columns of a chart: one for each tick at which something happens, or those of them for which there is room.
+//!
+//! The layer promises that `columns_of` gives each of the ticks at which something happens once and in order, and that `shown` drops
+//! those at which the fewest things happen, and no more than it must (`specs/Columns.antt`). The gap from a column to the next grows with the
+//! logarithm of the time between them. What happens at a tick that is not shown stands at the last column before it (`column_at`).
+#![tactic(auto)]
+
+mod column;
+mod fitting;
+mod gaps;
+mod places;
+mod sorting;
+mod ticks;
+
+pub use column::Column;
+pub use fitting::shown;
+pub use gaps::{gap, gap_to};
+pub use places::{column_at, column_by, last_tick};
+pub use ticks::columns_of;
