@@ -1,0 +1,11 @@
+use Rattle.std.proofs.Common.{◌≡◌, ◌++◌, drop}
+use Rattle.std.specs.Prelude.{map}
+use Rattle.chart_bars.specs.Held.{bar_of}
+use Rattle.chart_columns.specs.Held.{column_of}
+use Rattle.chart_text.specs.Text.{rows_text}
+use Rattle.chart_text.proofs.lines.push_rows.Given as goal
+
+abbrev pub invariant-bars : goal.invariant-bars
+invariant-bars l =
+    l.out.items ++ rows_text l.width (map column_of l.columns) l.names (map bar_of (drop l.bar-index l.bars))
+    ≡ l.fn.out.items ++ rows_text l.width (map column_of l.columns) l.names (map bar_of l.bars)

@@ -1,0 +1,18 @@
+-- Rows as the code holds them.
+use Rattle.chart_text.specs.Marks as marks
+use Rattle.chart_text.specs.declared.row.Row.{Row}
+use Rattle.chart_text.specs.declared.row.Strokes.{Strokes}
+
+abbrev pub strokes_held : Strokes → marks.Strokes
+strokes_held s = record { start = s.start; line = s.line; end = s.end }
+
+abbrev pub row_held : Row → marks.Row
+row_held row =
+    record {
+      strokes = strokes_held row.strokes;
+      start = row.start;
+      end = row.end;
+      closed = row.closed;
+      crosses = row.crosses.items;
+      dots = row.dots.items;
+    }

@@ -1,0 +1,91 @@
+-- What stands at each column of a row: a mark for what happens there, and a line to the next.
+use Rattle.std.specs.Prelude.{ℕ, ◌-◌, ◌==◌, Bool, true, false, ◌&&◌, ◌||◌, Option, Some, None, List, [], ◌∷◌, ◌++◌, nat_le, nat_lt, is_some, replicate, if◌then◌else◌}
+use Rattle.job_story.specs.Story.{is_cancelled, misses, raises}
+use Rattle.job_story.specs.Events.{What, starts, happens, Event}
+use Rattle.chart_bars.specs.Bars.{Bar}
+use Rattle.chart_columns.specs.Columns.{Column, column_at, last_tick, gap_to}
+
+-- ---- strokes
+
+-- what a bar is drawn with: its start, the line to its end, and its end
+pub record Strokes : Type 0 where
+  pub start : ℕ
+  pub line : ℕ
+  pub end : ℕ
+
+-- `|---|` for a task, and `(===)` for a scope or nursery
+abbrev pub strokes_of : What → Strokes
+strokes_of (starts home lent) = record { start = 124; line = 45; end = 124 }
+strokes_of _ = record { start = 40; line = 61; end = 41 }
+
+-- ---- a bar on the columns
+
+-- whether a task is cancelled
+abbrev pub is_cross : What → Bool
+is_cross (happens (is_cancelled by since in_cleanup)) = true
+is_cross _ = false
+
+-- whether it raises an exception: by `raise`, or by a `need` that finds no line
+abbrev pub is_dot : What → Bool
+is_dot (happens (misses name)) = true
+is_dot (happens (raises name)) = true
+is_dot _ = false
+
+-- the columns of the events of a kind
+abbrev pub columns_where : (What → Bool) → List Column → List Event → List ℕ
+columns_where wanted cols [] = []
+columns_where wanted cols (e ∷ es) =
+    if wanted e.what then column_at cols e.tick ∷ columns_where wanted cols es else columns_where wanted cols es
+
+-- the tick from which a scope or nursery is cancelled: its cross is shown where that is a column
+abbrev pub with_cancelled : Option ℕ → List ℕ → List ℕ
+with_cancelled None ts = ts
+with_cancelled (Some t) ts = t ∷ ts
+
+-- the column at which a bar ends: the last one where its end is not told
+abbrev pub end_column : List Column → Option Event → ℕ
+end_column cols None = last_tick cols
+end_column cols (Some e) = column_at cols e.tick
+
+-- A bar on the columns, each told by its tick: where it starts and ends, whether its end is told, and its crosses and dots.
+pub record Row : Type 0 where
+  pub strokes : Strokes
+  pub start : ℕ
+  pub end : ℕ
+  pub closed : Bool
+  pub crosses : List ℕ
+  pub dots : List ℕ
+
+abbrev pub row_of : List Column → Bar → Row
+row_of cols bar =
+    record {
+      strokes = strokes_of bar.first.what;
+      start = column_at cols bar.first.tick;
+      end = end_column cols bar.last;
+      closed = is_some bar.last;
+      crosses = with_cancelled bar.cancelled (columns_where is_cross cols bar.own);
+      dots = columns_where is_dot cols bar.own;
+    }
+
+-- ---- marks
+
+abbrev pub has : ℕ → List ℕ → Bool
+has t [] = false
+has t (u ∷ us) = (t == u) || has t us
+
+-- What stands in a row at a column: `x` for a cancellation, `!` for an exception that is raised, the start, the end, and the line between.
+abbrev pub mark_at : Row → ℕ → ℕ
+mark_at row t =
+    if has t row.crosses then 120
+    else (if has t row.dots then 33
+    else (if t == row.start then row.strokes.start
+    else (if row.closed && t == row.end then row.strokes.end
+    else row.strokes.line)))
+
+-- Blanks up to the column where a row starts; then at each column a mark, with the line to the next; and nothing after the column where it ends.
+abbrev pub cells : Row → List Column → List ℕ
+cells row [] = []
+cells row (c ∷ cs) =
+    if nat_lt c.tick row.start then replicate (gap_to c cs) 32 ++ cells row cs
+    else (if nat_le row.end c.tick then mark_at row c.tick ∷ []
+    else mark_at row c.tick ∷ (replicate (gap_to c cs - 1) row.strokes.line ++ cells row cs))

@@ -1,0 +1,102 @@
+-- The text of a chart.
+use Rattle.std.specs.Prelude.{ℕ, ◌+◌, ◌-◌, ◌==◌, Option, Some, None, List, [], ◌∷◌, ◌++◌, length, codes, decimal, max, min, nat_le, replicate, take, if◌then◌else◌}
+use Rattle.exc_groups.specs.Exceptions.{Label}
+use Rattle.cancel_scopes.specs.Sight.{Tick}
+use Rattle.job_story.specs.Story.{enters, leaves}
+use Rattle.job_story.specs.Events.{What, starts, happens, ends, Event}
+use Rattle.job_story.specs.Sentences.{label_text, kind_text, end_text, padded}
+use Rattle.chart_bars.specs.Bars.{Bar}
+use Rattle.chart_bars.specs.Ticks.{all_ticks}
+use Rattle.chart_columns.specs.Columns.{Column, columns_of, shown, gap_to}
+use Rattle.chart_text.specs.Marks.{row_of, cells}
+use Rattle.chart_text.specs.declared.widths.TheConstants.{MOST_OUTCOME}
+
+-- ---- what stands before and after the marks of a row
+
+-- the label of a task; and below it, the label of a scope or nursery with the word for what it is
+abbrev pub name_by : Label → What → List ℕ
+name_by task (starts home lent) = label_text task
+name_by task (happens (enters kind label deadline shield)) = codes "  " ++ kind_text kind ++ label_text label
+name_by task _ = []
+
+abbrev pub name_of : Bar → List ℕ
+name_of bar = name_by bar.first.task bar.first.what
+
+-- how a task ended; whether a scope or nursery caught a cancellation
+abbrev pub ended_text : What → List ℕ
+ended_text (ends home exc) = end_text exc
+ended_text (happens (leaves kind label inside caught outside)) = if caught then codes "caught" else codes "passed"
+ended_text _ = []
+
+-- where no end is told
+abbrev pub open_text : What → List ℕ
+open_text (starts home lent) = codes "running"
+open_text _ = codes "open"
+
+abbrev pub outcome_by : What → Option Event → List ℕ
+outcome_by first None = open_text first
+outcome_by first (Some e) = ended_text e.what
+
+abbrev pub outcome_of : Bar → List ℕ
+outcome_of bar = outcome_by bar.first.what bar.last
+
+-- ---- how wide it is
+
+abbrev pub longest_name : List Bar → ℕ
+longest_name [] = 0
+longest_name (b ∷ bs) = max (length (name_of b)) (longest_name bs)
+
+abbrev pub longest_outcome : List Bar → ℕ
+longest_outcome [] = 0
+longest_outcome (b ∷ bs) = max (length (outcome_of b)) (longest_outcome bs)
+
+-- the room that is left for the columns, where names are so long; a long outcome is cut, and does not take their room
+abbrev pub room_for : ℕ → ℕ → List Bar → ℕ
+room_for width names bars = width - (names + 2) - (min MOST_OUTCOME (longest_outcome bars) + 1)
+
+-- a line that is no longer than a width, of 2 at least
+abbrev pub cut : ℕ → List ℕ → List ℕ
+cut width line = (if nat_le (length line) width then line else take (width - 2) line ++ codes "..") ++ codes "\n"
+
+-- ---- lines
+
+abbrev pub header : List Column → List ℕ
+header [] = []
+header (c ∷ cs) = padded (gap_to c cs) (decimal c.tick) ++ header cs
+
+abbrev pub row_text : List Column → ℕ → Bar → List ℕ
+row_text cols names bar =
+    padded names (name_of bar) ++ codes "  " ++ cells (row_of cols bar) cols ++ codes " " ++ outcome_of bar
+
+abbrev pub rows_text : ℕ → List Column → ℕ → List Bar → List ℕ
+rows_text width cols names [] = []
+rows_text width cols names (b ∷ bs) = cut width (row_text cols names b) ++ rows_text width cols names bs
+
+-- that a story is cut off at a limit
+abbrev pub limit_text : ℕ → Tick → List ℕ
+limit_text width None = []
+limit_text width (Some limit) = cut width (codes "limit " ++ decimal limit)
+
+-- how many columns of all are not shown
+abbrev pub left_out : ℕ → ℕ → List ℕ
+left_out shown all =
+    decimal (all - shown) ++ codes " of " ++ decimal all ++ codes " ticks are left out, and their events shown at the tick before"
+
+abbrev pub left_text : ℕ → ℕ → ℕ → List ℕ
+left_text width shown all = if shown == all then [] else cut width (left_out shown all)
+
+-- the text with these columns, of so many
+abbrev pub text_with : ℕ → Tick → ℕ → List Column → ℕ → List Bar → List ℕ
+text_with width until all cols names bars =
+    cut width (replicate (names + 2) 32 ++ header cols)
+    ++ rows_text width cols names bars ++ limit_text width until ++ left_text width (length cols) all
+
+-- the columns for which there is room
+abbrev pub columns_for : ℕ → List Column → List Bar → List Column
+columns_for width all bars = shown (room_for width (longest_name bars) bars) all
+
+-- the text of a chart with these events and bars, no wider than a width, of a story that is whole or cut off at a limit
+abbrev pub chart_text : ℕ → Tick → List Event → List Bar → List ℕ
+chart_text width until es bars =
+    let all = columns_of (all_ticks es until) in
+    text_with width until (length all) (columns_for width all bars) (longest_name bars) bars

@@ -1,0 +1,15 @@
+ghost use Rattle.std.specs.Prelude.{◌≡◌, ◌++◌, OnOk};
+ghost use Rattle.chart_text.specs.Text.{left_out};
+
+use std::alloc::AllocError;
+use story_text::push_number;
+
+/// Appends how many columns of all are not shown. Want of memory is the only error.
+pub fn push_left_out(out: &mut Vec<u8>, shown: usize, all: usize) -> Result<(), AllocError>
+    ensures { OnOk result (out.new.items ≡ out.old.items ++ left_out shown all) }
+{
+    push_number(out, all.saturating_sub(shown) as u64)?;
+    out.extend_from_slice(b" of ")?;
+    push_number(out, all as u64)?;
+    out.extend_from_slice(b" ticks are left out, and their events shown at the tick before")
+}

@@ -1,0 +1,101 @@
+ghost use Rattle.std.specs.Prelude.{◌≡◌, ◌++◌, Some, OnOk, codes, if◌then◌else◌};
+ghost use Rattle.exc_groups.specs.Held.{exc_of};
+ghost use Rattle.job_story.specs.Held.{boxed, kind_of, what_of};
+ghost use Rattle.job_story.specs.Sentences.{label_text, kind_text, end_text};
+ghost use Rattle.chart_bars.specs.Held.{bar_of};
+ghost use Rattle.chart_text.specs.Text.{name_by, name_of, ended_text, open_text, outcome_of};
+
+use chart_bars::Bar;
+use exc_groups::{Exc, Label};
+use job_story::{Happening, Kind, What};
+use std::alloc::AllocError;
+use story_text::{push_exc, push_label};
+
+/// Appends the name of a row: the label of a task, or, a little to the right, the label of a scope or nursery with the word for what it is. Want
+/// of memory is the only error.
+pub fn push_name(out: &mut Vec<u8>, bar: &Bar<'_, '_>) -> Result<(), AllocError>
+    ensures { OnOk result (out.new.items ≡ out.old.items ++ name_of (bar_of bar.now)) }
+{
+    match &bar.first.what {
+        What::Starts { .. } => push_label(out, &bar.first.task),
+        What::Happens(Happening::Enters { kind, label, .. }) => push_block_name(out, *kind, label),
+        _ => Ok(()),
+    }
+}
+
+// Appends the name of the row of a scope or nursery.
+fn push_block_name(out: &mut Vec<u8>, kind: Kind, label: &Label) -> Result<(), AllocError>
+    ensures { OnOk result (out.new.items ≡ out.old.items ++ (codes "  " ++ kind_text (kind_of kind) ++ label_text label.now)) }
+{
+    match kind {
+        Kind::Scope { .. } => out.extend_from_slice(b"  scope ")?,
+        Kind::Nursery => out.extend_from_slice(b"  nursery ")?,
+    }
+    push_label(out, label)
+}
+
+/// Appends what became of a bar: how a task ended, whether a scope or nursery caught a cancellation, or that its end is not told. Want of memory is
+/// the only error.
+pub fn push_outcome(out: &mut Vec<u8>, bar: &Bar<'_, '_>) -> Result<(), AllocError>
+    ensures { OnOk result (out.new.items ≡ out.old.items ++ outcome_of (bar_of bar.now)) }
+{
+    match bar.last {
+        Some(event) => push_ended(out, &event.what),
+        None => push_open(out, &bar.first.what),
+    }
+}
+
+// Appends what became of a bar that ends with this event.
+fn push_ended(out: &mut Vec<u8>, what: &What) -> Result<(), AllocError>
+    ensures { OnOk result (out.new.items ≡ out.old.items ++ ended_text (what_of what.now)) }
+{
+    match what {
+        What::Ends { exc, .. } => push_end(out, exc),
+        What::Happens(Happening::Leaves { caught, .. }) => push_caught(out, *caught),
+        _ => Ok(()),
+    }
+}
+
+// Appends whether a scope or nursery caught a cancellation.
+fn push_caught(out: &mut Vec<u8>, caught: bool) -> Result<(), AllocError>
+    ensures { OnOk result (out.new.items ≡ out.old.items ++ (if caught then codes "caught" else codes "passed")) }
+{
+    if caught {
+        out.extend_from_slice(b"caught")
+    } else {
+        out.extend_from_slice(b"passed")
+    }
+}
+
+// Appends that no end of a bar is told that begins with this event.
+fn push_open(out: &mut Vec<u8>, what: &What) -> Result<(), AllocError>
+    ensures { OnOk result (out.new.items ≡ out.old.items ++ open_text (what_of what.now)) }
+{
+    match what {
+        What::Starts { .. } => out.extend_from_slice(b"running"),
+        What::Happens(_) | What::Ends { .. } => out.extend_from_slice(b"open"),
+    }
+}
+
+// Appends how a task ended.
+fn push_end(out: &mut Vec<u8>, exc: &Option<Box<Exc>>) -> Result<(), AllocError>
+    ensures { OnOk result (out.new.items ≡ out.old.items ++ end_text (boxed exc.now)) }
+{
+    let Some(exc) = exc else {
+        return out.extend_from_slice(b"done");
+    };
+    push_raised(out, exc)
+}
+
+// Appends how a task ended that ended with an exception.
+fn push_raised(out: &mut Vec<u8>, exc: &Exc) -> Result<(), AllocError>
+    ensures { OnOk result (out.new.items ≡ out.old.items ++ end_text (Some (exc_of exc.now))) }
+{
+    match exc {
+        Exc::Cancelled => out.extend_from_slice(b"cancelled"),
+        Exc::Raised { .. } | Exc::TooSlow { .. } | Exc::Group { .. } => {
+            out.extend_from_slice(b"raised ")?;
+            push_exc(out, exc)
+        }
+    }
+}

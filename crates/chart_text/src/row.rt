@@ -1,0 +1,136 @@
+ghost use Rattle.std.specs.Prelude.{◌≡◌, ◌++◌, ℕ, List, ◌∷◌, IfOk, OnOk, map, if◌then◌else◌};
+ghost use Rattle.job_story.specs.Held.{what_of};
+ghost use Rattle.story_causes.specs.Seen.{seen};
+ghost use Rattle.chart_bars.specs.Held.{bar_of, event_seen};
+ghost use Rattle.chart_columns.specs.Held.{column_of};
+ghost use Rattle.chart_text.specs.Marks.{strokes_of, is_cross, is_dot, columns_where, with_cancelled, end_column, row_of};
+ghost use Rattle.chart_text.specs.Held.{strokes_held, row_held};
+
+use crate::kinds::{is_cross, is_dot};
+use chart_bars::Bar;
+use chart_columns::{Column, column_at, last_tick};
+use job_story::{Event, What};
+use std::alloc::{AllocError, Global};
+
+// What a bar is drawn with: bytes for its start, the line to its end, and its end.
+#[derive(Clone, Copy)]
+pub(crate) struct Strokes {
+    pub start: u8,
+    pub line: u8,
+    pub end: u8,
+}
+
+const TASK: Strokes = Strokes {
+    start: b'|',
+    line: b'-',
+    end: b'|',
+};
+
+const BLOCK: Strokes = Strokes {
+    start: b'(',
+    line: b'=',
+    end: b')',
+};
+
+// A bar on the columns, each of which is told by its tick.
+#[derive(Drop)]
+pub(crate) struct Row {
+    pub strokes: Strokes,
+    pub start: u64,
+    pub end: u64,
+    // Whether its end is told.
+    pub closed: bool,
+    // Where it is cancelled.
+    pub crosses: Vec<u64>,
+    // Where it raises an exception.
+    pub dots: Vec<u64>,
+}
+
+// A bar on these columns.
+pub(crate) fn row_of(
+    alloc: Global,
+    columns: &[Column],
+    bar: &Bar<'_, '_>,
+) -> Result<Row, AllocError>
+    ensures { IfOk result (λ row. row_held row ≡ row_of (map column_of columns.now) (bar_of bar.now)) }
+{
+    let mut crosses = Vec::new(alloc);
+    push_cancelled(&mut crosses, bar.cancelled)?;
+    push_crosses(&mut crosses, columns, bar.own)?;
+    let mut dots = Vec::new(alloc);
+    push_dots(&mut dots, columns, bar.own)?;
+    Ok(Row {
+        strokes: strokes_of(&bar.first.what),
+        start: column_at(columns, bar.first.tick),
+        end: end_column(columns, bar.last),
+        closed: bar.last.is_some(),
+        crosses,
+        dots,
+    })
+}
+
+// What the bar is drawn with that begins with this event.
+fn strokes_of(what: &What) -> Strokes
+    ensures { strokes_held result ≡ strokes_of (what_of what.now) }
+{
+    match what {
+        What::Starts { .. } => TASK,
+        What::Happens(_) | What::Ends { .. } => BLOCK,
+    }
+}
+
+// The column at which a bar ends: the last one where its end is not told.
+fn end_column(columns: &[Column], last: Option<&Event>) -> u64
+    ensures { result ≡ end_column (map column_of columns.now) (event_seen last.entry) }
+{
+    match last {
+        Some(event) => column_at(columns, event.tick),
+        None => last_tick(columns),
+    }
+}
+
+// Appends the tick from which a scope or nursery is cancelled, if it is: a cross stands there where that is a column.
+fn push_cancelled(ticks: &mut Vec<u64>, cancelled: Option<u64>) -> Result<(), AllocError>
+    ensures { OnOk result ((others : List ℕ) → ticks.new.items ++ others ≡ ticks.old.items ++ with_cancelled cancelled others) }
+{
+    if let Some(tick) = cancelled {
+        ticks.push(tick)?;
+    }
+    Ok(())
+}
+
+// Appends the column of each event with which a task is cancelled.
+fn push_crosses(
+    ticks: &mut Vec<u64>,
+    columns: &[Column],
+    events: &[&Event],
+) -> Result<(), AllocError>
+    ensures { OnOk result (ticks.new.items
+        ≡ ticks.old.items ++ columns_where is_cross (map column_of columns.now) (map seen events.now)) }
+{
+    'events: for event in events {
+        push_if(ticks, is_cross(&event.what), column_at(columns, event.tick))?;
+    }
+    Ok(())
+}
+
+// Appends the column of each event with which a task raises an exception.
+fn push_dots(ticks: &mut Vec<u64>, columns: &[Column], events: &[&Event]) -> Result<(), AllocError>
+    ensures { OnOk result (ticks.new.items
+        ≡ ticks.old.items ++ columns_where is_dot (map column_of columns.now) (map seen events.now)) }
+{
+    'events: for event in events {
+        push_if(ticks, is_dot(&event.what), column_at(columns, event.tick))?;
+    }
+    Ok(())
+}
+
+// Appends a tick, if it is wanted.
+fn push_if(ticks: &mut Vec<u64>, wanted: bool, tick: u64) -> Result<(), AllocError>
+    ensures { OnOk result ((others : List ℕ) → ticks.new.items ++ others ≡ ticks.old.items ++ (if wanted then tick ∷ others else others)) }
+{
+    if wanted {
+        ticks.push(tick)?;
+    }
+    Ok(())
+}

@@ -1,0 +1,60 @@
+ghost use Rattle.std.specs.Prelude.{◌≡◌, IfOk, map};
+ghost use Rattle.story_causes.specs.Seen.{seen};
+ghost use Rattle.chart_bars.specs.Held.{bar_of};
+ghost use Rattle.chart_columns.specs.Held.{column_of};
+ghost use Rattle.chart_text.specs.Text.{text_with, chart_text};
+
+use crate::lines::{push_header, push_left, push_limit, push_rows};
+use crate::widths::{columns_for, longest_name};
+use chart_bars::{Bar, all_ticks};
+use chart_columns::{Column, columns_of};
+use job_story::Event;
+use std::alloc::{AllocError, Global};
+
+/// The text of a chart with these events, in the order of the walk, and their bars: a line with the ticks of the columns, and one for each bar.
+/// No line is longer than `width` bytes, of which there are 2 at least, its newline not counted: where the ticks do not all fit, those at which the fewest things happen are
+/// dropped, and the last line says how many. Where the story is cut off at a limit (`until`), a line says so. Want of memory is the only error.
+pub fn chart_text(
+    alloc: Global,
+    width: usize,
+    until: Option<u64>,
+    walked: &[&Event],
+    bars: &[Bar<'_, '_>],
+) -> Result<Vec<u8>, AllocError>
+    ensures { IfOk result (λ text. text.items ≡ chart_text width until (map seen walked.now) (map bar_of bars.now)) }
+{
+    let ticks = all_ticks(alloc, walked, until)?;
+    let all = columns_of(alloc, ticks.as_slice())?;
+    let names = longest_name(alloc, bars)?;
+    let columns = columns_for(alloc, width, all.as_slice(), bars)?;
+    text_with(
+        alloc,
+        width,
+        until,
+        all.len(),
+        columns.as_slice(),
+        names,
+        bars,
+    )
+}
+
+// The text with these columns, of so many.
+fn text_with(
+    alloc: Global,
+    width: usize,
+    until: Option<u64>,
+    all: usize,
+    columns: &[Column],
+    names: usize,
+    bars: &[Bar<'_, '_>],
+) -> Result<Vec<u8>, AllocError>
+    ensures { IfOk result (λ text. text.items
+        ≡ text_with width until all (map column_of columns.now) names (map bar_of bars.now)) }
+{
+    let mut out = Vec::new(alloc);
+    push_header(alloc, &mut out, width, names, columns)?;
+    push_rows(alloc, &mut out, width, columns, names, bars)?;
+    push_limit(alloc, &mut out, width, until)?;
+    push_left(alloc, &mut out, width, columns.len(), all)?;
+    Ok(out)
+}

@@ -1,0 +1,76 @@
+ghost use Rattle.std.specs.Prelude.{◌≡◌, length, IfOk, map};
+ghost use Rattle.chart_bars.specs.Held.{bar_of};
+ghost use Rattle.chart_columns.specs.Held.{column_of};
+ghost use Rattle.chart_text.specs.Text.{name_of, outcome_of, longest_name, longest_outcome, columns_for};
+
+use crate::names::{push_name, push_outcome};
+use chart_bars::Bar;
+use chart_columns::{Column, shown};
+use std::alloc::{AllocError, Global};
+
+/// How long an outcome may be, in bytes, before it is cut where there is no room for all ticks.
+pub const MOST_OUTCOME: usize = 24;
+
+/// The columns for which there is room in a width, beside the names and outcomes of these bars: a long outcome is cut before any column is dropped for
+/// it. Want of memory is the only error.
+pub fn columns_for(
+    alloc: Global,
+    width: usize,
+    all: &[Column],
+    bars: &[Bar<'_, '_>],
+) -> Result<Vec<Column>, AllocError>
+    ensures { IfOk result (λ columns. map column_of columns.items ≡ columns_for width (map column_of all.now) (map bar_of bars.now)) }
+{
+    let names = longest_name(alloc, bars)?;
+    let outcomes = longest_outcome(alloc, bars)?.min(MOST_OUTCOME);
+    let room = width
+        .saturating_sub(names)
+        .saturating_sub(2)
+        .saturating_sub(outcomes)
+        .saturating_sub(1);
+    shown(alloc, room, all)
+}
+
+/// The length of the longest name of a row, in bytes, and 0 where there is none. Want of memory is the only error.
+pub fn longest_name(alloc: Global, bars: &[Bar<'_, '_>]) -> Result<usize, AllocError>
+    ensures { IfOk result (λ longest. longest ≡ longest_name (map bar_of bars.now)) }
+{
+    let mut longest = 0;
+    let mut left = bars.len();
+    'bars: while left > 0 {
+        left -= 1;
+        longest = name_len(alloc, &bars[left])?.max(longest);
+    }
+    Ok(longest)
+}
+
+// The length of the name of a row.
+fn name_len(alloc: Global, bar: &Bar<'_, '_>) -> Result<usize, AllocError>
+    ensures { IfOk result (λ len. len ≡ length (name_of (bar_of bar.now))) }
+{
+    let mut name = Vec::new(alloc);
+    push_name(&mut name, bar)?;
+    Ok(name.len())
+}
+
+/// The length of the longest outcome, in bytes, and 0 where there is none. Want of memory is the only error.
+pub fn longest_outcome(alloc: Global, bars: &[Bar<'_, '_>]) -> Result<usize, AllocError>
+    ensures { IfOk result (λ longest. longest ≡ longest_outcome (map bar_of bars.now)) }
+{
+    let mut longest = 0;
+    let mut left = bars.len();
+    'bars: while left > 0 {
+        left -= 1;
+        longest = outcome_len(alloc, &bars[left])?.max(longest);
+    }
+    Ok(longest)
+}
+
+// The length of an outcome.
+fn outcome_len(alloc: Global, bar: &Bar<'_, '_>) -> Result<usize, AllocError>
+    ensures { IfOk result (λ len. len ≡ length (outcome_of (bar_of bar.now))) }
+{
+    let mut outcome = Vec::new(alloc);
+    push_outcome(&mut outcome, bar)?;
+    Ok(outcome.len())
+}
