@@ -1,0 +1,4 @@
+pub mod Pieces
+pub mod Taken
+pub mod WellFormed
+pub mod Drawn

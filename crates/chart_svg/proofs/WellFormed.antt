@@ -1,0 +1,129 @@
+-- A drawing is well formed.
+use Rattle.std.proofs.Common.{◌≡◌, ℕ, ◌+◌, ◌*◌, length, take, List, [], ◌∷◌, true, refl, ◌∙◌, inl, inr}
+use Rattle.std.proofs.lemmas.Bool.{cases_Bool, and_from}
+use Rattle.std.specs.Prelude.{Option, Some, None, ◌&&◌}
+use Rattle.cancel_scopes.specs.Sight.{Tick}
+use Rattle.job_meaning.specs.Log.{same_label}
+use Rattle.job_story.specs.Story.{enters, sleeps, is_cancelled, finds, misses, raises, cancels, handles, cleans, replaces, waits, leaves}
+use Rattle.job_story.specs.Events.{What, starts, happens, ends, Event}
+use Rattle.job_story.specs.Limit.{is_start}
+use Rattle.job_story.specs.Causes.{cause_of}
+use Rattle.chart_bars.specs.Bars.{Bar}
+use Rattle.chart_columns.specs.Columns.{Column}
+use Rattle.chart_text.specs.Marks.{is_cross, is_dot}
+use Rattle.svg_text.specs.Content.{Content, nothing, written, is_well_formed, IsDocument}
+use Rattle.svg_text.specs.declared.names.Tag.TheVariants as tags
+use Rattle.chart_svg.specs.Sheets.{Sheet}
+use Rattle.chart_svg.specs.Rows.{cancelled_part, mark, marks, row, rows}
+use Rattle.chart_svg.specs.Arrows.{Source, source_of, arrow_from, arrow_by, arrow_at, arrows}
+use Rattle.chart_svg.specs.declared.layout.TheConstants.{ROW, MOST_ROWS}
+use Rattle.chart_svg.specs.Drawing.{tick_lines, note, limit_note, columns_note, rows_note, notes, bottom_of, svg_attributes, inside_of, document, width_of, height_of}
+
+-- ---- rows
+
+cancelled_well : (sheet : Sheet) (i : ℕ) (bar : Bar) (from : Option ℕ) (rest : Content) →
+    is_well_formed (cancelled_part sheet i bar from rest) ≡ is_well_formed rest
+cancelled_well sheet i bar None rest = refl
+cancelled_well sheet i bar (Some t) rest = refl
+
+mark_well : (sheet : Sheet) (i : ℕ) (e : Event) (rest : Content) → is_well_formed (mark sheet i e rest) ≡ is_well_formed rest
+mark_well sheet i e rest =
+    elim (cases_Bool (is_cross e.what)) [
+      | inl cross ↦ rw cross refl
+      | inr cross ↦
+          elim (cases_Bool (is_dot e.what)) [
+            | inl dot ↦ rw (cross, dot) refl
+            | inr dot ↦ rw (cross, dot) refl
+          ]
+    ]
+
+marks_well : (sheet : Sheet) (i : ℕ) (es : List Event) (rest : Content) → is_well_formed (marks sheet i es rest) ≡ is_well_formed rest
+marks_well sheet i [] rest = refl
+marks_well sheet i (e ∷ es) rest = mark_well sheet i e (marks sheet i es rest) ∙ marks_well sheet i es rest
+
+row_well : (sheet : Sheet) (i : ℕ) (bar : Bar) (rest : Content) → is_well_formed (row sheet i bar rest) ≡ is_well_formed rest
+row_well sheet i bar rest = cancelled_well sheet i bar bar.cancelled _ ∙ marks_well sheet i bar.own _
+
+rows_well : (sheet : Sheet) (i : ℕ) (bars : List Bar) (rest : Content) → is_well_formed (rows sheet i bars rest) ≡ is_well_formed rest
+rows_well sheet i [] rest = refl
+rows_well sheet i (b ∷ bs) rest = row_well sheet i b (rows sheet (i + 1) bs rest) ∙ rows_well sheet (i + 1) bs rest
+
+-- ---- arrows
+
+arrow_from_well : (sheet : Sheet) (i t : ℕ) (source : Source) (j : ℕ) (bars : List Bar) (rest : Content) →
+    is_well_formed (arrow_from sheet i t source j bars rest) ≡ is_well_formed rest
+arrow_from_well sheet i t source j [] rest = refl
+arrow_from_well sheet i t source j (b ∷ bs) rest =
+    elim (cases_Bool (is_start b.first.what && same_label source.task b.first.task)) [
+      | inl here ↦ rw here refl
+      | inr here ↦ rw here (arrow_from_well sheet i t source (j + 1) bs rest)
+    ]
+
+arrow_by_well : (sheet : Sheet) (all : List Bar) (i t : ℕ) (source : Option Source) (rest : Content) →
+    is_well_formed (arrow_by sheet all i t source rest) ≡ is_well_formed rest
+arrow_by_well sheet all i t None rest = refl
+arrow_by_well sheet all i t (Some source) rest = arrow_from_well sheet i t source 0 all rest
+
+arrow_at_well : (sheet : Sheet) (all : List Bar) (i : ℕ) (what : What) (from : Option ℕ) (rest : Content) →
+    is_well_formed (arrow_at sheet all i what from rest) ≡ is_well_formed rest
+arrow_at_well sheet all i (happens (enters kind label deadline shield)) (Some t) rest =
+    arrow_by_well sheet all i t (source_of (cause_of sheet.table sheet.events label)) rest
+arrow_at_well sheet all i (happens (enters kind label deadline shield)) None rest = refl
+arrow_at_well sheet all i (happens (sleeps until)) from rest = refl
+arrow_at_well sheet all i (happens (is_cancelled by since in_cleanup)) from rest = refl
+arrow_at_well sheet all i (happens (finds lines)) from rest = refl
+arrow_at_well sheet all i (happens (misses name)) from rest = refl
+arrow_at_well sheet all i (happens (raises name)) from rest = refl
+arrow_at_well sheet all i (happens (cancels label)) from rest = refl
+arrow_at_well sheet all i (happens (handles matched left)) from rest = refl
+arrow_at_well sheet all i (happens (cleans exc)) from rest = refl
+arrow_at_well sheet all i (happens (replaces lost fresh)) from rest = refl
+arrow_at_well sheet all i (happens (waits nursery exc)) from rest = refl
+arrow_at_well sheet all i (happens (leaves kind label inside caught outside)) from rest = refl
+arrow_at_well sheet all i (starts home lent) from rest = refl
+arrow_at_well sheet all i (ends home exc) from rest = refl
+
+arrows_well : (sheet : Sheet) (all : List Bar) (i : ℕ) (bars : List Bar) (rest : Content) →
+    is_well_formed (arrows sheet all i bars rest) ≡ is_well_formed rest
+arrows_well sheet all i [] rest = refl
+arrows_well sheet all i (b ∷ bs) rest =
+    arrow_at_well sheet all i b.first.what b.cancelled (arrows sheet all (i + 1) bs rest) ∙ arrows_well sheet all (i + 1) bs rest
+
+-- ---- the document
+
+tick_lines_well : (sheet : Sheet) (bottom : ℕ) (columns : List Column) (rest : Content) →
+    is_well_formed (tick_lines sheet bottom columns rest) ≡ is_well_formed rest
+tick_lines_well sheet bottom [] rest = refl
+tick_lines_well sheet bottom (c ∷ cs) rest = tick_lines_well sheet bottom cs rest
+
+note_well : (y : ℕ) (bytes : List ℕ) (rest : Content) → is_well_formed (note y bytes rest) ≡ is_well_formed rest
+note_well y [] rest = refl
+note_well y (b ∷ bs) rest = refl
+
+notes_well : (until : Tick) (bottom shown all n : ℕ) → is_well_formed (notes until bottom shown all n) ≡ true
+notes_well until bottom shown all n =
+    note_well (bottom + ROW) (limit_note until)
+    (note (bottom + ROW * 2) (columns_note shown all) (note (bottom + ROW * 3) (rows_note n) nothing))
+    ∙ note_well (bottom + ROW * 2) (columns_note shown all) (note (bottom + ROW * 3) (rows_note n) nothing)
+    ∙ note_well (bottom + ROW * 3) (rows_note n) nothing
+
+inside_well : (sheet : Sheet) (until : Tick) (all : ℕ) (bars : List Bar) → is_well_formed (inside_of sheet until all bars) ≡ true
+inside_well sheet until all bars =
+    let shown = take MOST_ROWS bars in
+    let last = notes until (bottom_of bars) (length sheet.columns) all (length bars) in
+    tick_lines_well sheet (bottom_of bars) sheet.columns (rows sheet 0 shown (arrows sheet shown 0 shown last))
+    ∙ rows_well sheet 0 shown (arrows sheet shown 0 shown last)
+    ∙ arrows_well sheet shown 0 shown last
+    ∙ notes_well until (bottom_of bars) (length sheet.columns) all (length bars)
+
+-- What is written of a drawing is a well-formed document.
+pub is_document : (sheet : Sheet) (until : Tick) (all : ℕ) (bars : List Bar) (svg : List ℕ) → svg ≡ written (document sheet until all bars) →
+    IsDocument svg
+is_document sheet until all bars svg written_so =
+    record {
+      tag = tags.Svg;
+      attributes = svg_attributes (width_of sheet bars) (height_of bars);
+      inside = inside_of sheet until all bars;
+      is_written = written_so;
+      well = and_from _ _ (inside_well sheet until all bars) refl;
+    }

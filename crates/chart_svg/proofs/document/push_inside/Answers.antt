@@ -1,0 +1,10 @@
+use Rattle.std.proofs.Common.{map}
+use Rattle.chart_bars.specs.Held.{bar_of}
+use Rattle.chart_svg.specs.Held.{sheet_held}
+use Rattle.chart_svg.proofs.Drawn.{inside_drawn}
+use Rattle.chart_svg.proofs.document.push_inside.Goals as goal
+
+pub returns : goal.returns
+returns c =
+    inside_drawn c.push_missing.result (sheet_held c.args.sheet.now) c.args.until c.args.all (map bar_of c.args.bars.now) _ _ _ _ _ _
+    c.shown_of.ensures c.in_ok-push_head.ensures c.in_ok-push_lines.ensures c.in_ok-push_shown.ensures c.push_missing.ensures

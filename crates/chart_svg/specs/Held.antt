@@ -1,0 +1,25 @@
+-- Sheets as the code holds them.
+use Rattle.std.specs.Prelude.{map}
+use Rattle.story_text.specs.Told.{events_in, froms_in}
+use Rattle.chart_columns.specs.Held.{column_of}
+use Rattle.chart_svg.specs.Sheets as sheets
+use Rattle.chart_svg.specs.Rows as rows
+use Rattle.chart_svg.specs.Arrows as arrows
+use Rattle.chart_svg.specs.declared.arrows.Source.{Source}
+use Rattle.chart_svg.specs.declared.shapes.Size.{Size}
+use Rattle.chart_svg.specs.declared.sheet.Sheet.{Sheet}
+
+abbrev pub sheet_held : Sheet → sheets.Sheet
+sheet_held sheet =
+    record {
+      names = sheet.names;
+      columns = map column_of sheet.columns.now;
+      table = froms_in sheet.known.now;
+      events = events_in sheet.known.now;
+    }
+
+abbrev pub size_held : Size → rows.Size
+size_held s = record { indent = s.indent; down = s.down; height = s.height }
+
+abbrev pub source_held : Source → arrows.Source
+source_held s = record { task = s.task.now; tick = s.tick }

@@ -1,0 +1,5 @@
+pub mod Sheets
+pub mod Rows
+pub mod Arrows
+pub mod Drawing
+pub mod Held

@@ -1,0 +1,159 @@
+ghost use Rattle.std.specs.Prelude.{◌≡◌, ◌&&◌, ◌++◌, IfOk, OnOk, map};
+ghost use Rattle.std.specs.Option.{option_map};
+ghost use Rattle.job_meaning.specs.Log.{Table, same_label};
+ghost use Rattle.job_story.specs.Froms.{table_in};
+ghost use Rattle.job_story.specs.Held.{what_of};
+ghost use Rattle.job_story.specs.Limit.{is_start};
+ghost use Rattle.job_story.specs.Causes.{cause_of};
+ghost use Rattle.story_causes.specs.Found.{cause_in_code};
+ghost use Rattle.story_causes.specs.Knows.{Knows};
+ghost use Rattle.story_causes.specs.Seen.{seen};
+ghost use Rattle.story_text.specs.Told.{events_in, froms_in};
+ghost use Rattle.chart_bars.specs.Held.{bar_of};
+ghost use Rattle.svg_text.specs.Content.{Content, written};
+ghost use Rattle.chart_svg.specs.Arrows.{source_of, at_tick, arrow, arrow_from, arrow_by, arrow_at, arrows};
+ghost use Rattle.chart_svg.specs.Held.{sheet_held, source_held};
+
+use crate::shapes::begin_line;
+use crate::sheet::{Sheet, middle_of, push_told};
+use chart_bars::Bar;
+use exc_groups::Label;
+use job_story::{Event, Happening, What};
+use std::alloc::{AllocError, Global};
+use story_causes::{Cause, Causes};
+use svg_text::{Tag, end};
+
+// Who cancelled something, and when.
+#[derive(Clone, Copy)]
+pub(crate) struct Source<'e> {
+    pub task: &'e Label,
+    pub tick: u64,
+}
+
+// Appends an arrow to each of these bars that a task cancelled, from the first of them that is this task's.
+pub(crate) fn push_arrows(
+    alloc: Global,
+    out: &mut Vec<u8>,
+    sheet: &Sheet<'_, '_, '_>,
+    causes: &Causes<'_>,
+    bars: &[Bar<'_, '_>],
+) -> Result<(), AllocError>
+    requires { Knows causes.now (froms_in sheet.now.known.now) (events_in sheet.now.known.now) }
+    ensures { OnOk result ((rest : Content) → out.new.items ++ written rest
+        ≡ out.old.items ++ written (arrows (sheet_held sheet.now) (map bar_of bars.now) 0 (map bar_of bars.now) rest)) }
+{
+    let mut row = 0;
+    'bars: for bar in bars {
+        push_arrow_to(alloc, out, sheet, causes, bars, row, bar)?;
+        row += 1;
+    }
+    Ok(())
+}
+
+// Appends an arrow to a bar, if a task cancelled it.
+fn push_arrow_to(
+    alloc: Global,
+    out: &mut Vec<u8>,
+    sheet: &Sheet<'_, '_, '_>,
+    causes: &Causes<'_>,
+    bars: &[Bar<'_, '_>],
+    row: usize,
+    bar: &Bar<'_, '_>,
+) -> Result<(), AllocError>
+    requires { Knows causes.now (froms_in sheet.now.known.now) (events_in sheet.now.known.now) }
+    ensures { OnOk result ((rest : Content) → out.new.items ++ written rest ≡ out.old.items
+        ++ written (arrow_at (sheet_held sheet.now) (map bar_of bars.now) row (what_of bar.now.first.now.what) bar.now.cancelled rest)) }
+{
+    let What::Happens(Happening::Enters { label, .. }) = &bar.first.what else {
+        return Ok(());
+    };
+    let Some(tick) = bar.cancelled else {
+        return Ok(());
+    };
+    let Some(source) = source_of(causes.cause(label)) else {
+        return Ok(());
+    };
+    push_arrow_from(alloc, out, sheet, bars, row, tick, source)
+}
+
+// Who cancelled something, by why it is cancelled: no task where its deadline did.
+fn source_of<'e>(cause: Option<Cause<'e>>) -> Option<Source<'e>>
+    ensures { option_map source_held result ≡ source_of (option_map cause_in_code cause.entry) }
+{
+    let Some(cause) = cause else {
+        return None;
+    };
+    match cause {
+        Cause::Deadline => None,
+        Cause::Task { task, tick } => Some(Source { task, tick }),
+        Cause::Failure { task, tick } => Some(Source { task, tick }),
+        Cause::Cancellation { task, tick } => Some(Source { task, tick }),
+    }
+}
+
+// Appends an arrow to a row from the first of these that is the task's, if there is one.
+fn push_arrow_from(
+    alloc: Global,
+    out: &mut Vec<u8>,
+    sheet: &Sheet<'_, '_, '_>,
+    bars: &[Bar<'_, '_>],
+    row: usize,
+    tick: u64,
+    source: Source<'_>,
+) -> Result<(), AllocError>
+    ensures { OnOk result ((rest : Content) → out.new.items ++ written rest ≡ out.old.items
+        ++ written (arrow_from (sheet_held sheet.now) row tick (source_held source.entry) 0 (map bar_of bars.now) rest)) }
+{
+    let mut from = 0;
+    'bars: for bar in bars {
+        if is_of_task(bar, source.task) {
+            return push_arrow(alloc, out, sheet, row, tick, source, from, bar.own);
+        }
+        from += 1;
+    }
+    Ok(())
+}
+
+// Whether a bar is that of a task.
+fn is_of_task(bar: &Bar<'_, '_>, task: &Label) -> bool
+    ensures { result ≡ (is_start (what_of bar.now.first.now.what) && same_label task.now bar.now.first.now.task) }
+{
+    match bar.first.what {
+        What::Starts { .. } => *task == bar.first.task,
+        What::Happens(_) | What::Ends { .. } => false,
+    }
+}
+
+// Appends an arrow to a row from that of a task with these events.
+fn push_arrow(
+    alloc: Global,
+    out: &mut Vec<u8>,
+    sheet: &Sheet<'_, '_, '_>,
+    row: usize,
+    tick: u64,
+    source: Source<'_>,
+    from: usize,
+    own: &[&Event],
+) -> Result<(), AllocError>
+    ensures { OnOk result ((rest : Content) → out.new.items ++ written rest ≡ out.old.items
+        ++ written (arrow (sheet_held sheet.now) row tick (source_held source.entry) from (map seen own.now) rest)) }
+{
+    let events = at_tick(alloc, source.tick, own)?;
+    let (x1, x2) = (sheet.x_of(source.tick), sheet.x_by(tick));
+    begin_line(out, b"arrow", x1, middle_of(from), x2, middle_of(row))?;
+    push_told(alloc, out, sheet, events.as_slice())?;
+    end(out, Tag::Line)
+}
+
+// The events in a tick.
+fn at_tick<'e>(alloc: Global, tick: u64, events: &[&'e Event]) -> Result<Vec<&'e Event>, AllocError>
+    ensures { IfOk result (λ found. map seen found.items ≡ at_tick tick (map seen events.now)) }
+{
+    let mut found = Vec::new(alloc);
+    'events: for event in events {
+        if event.tick == tick {
+            found.push(*event)?;
+        }
+    }
+    Ok(found)
+}

@@ -1,0 +1,179 @@
+ghost use Rattle.std.specs.Prelude.{◌≡◌, ◌≤◌, ◌++◌, Option, Some, IfOk, OnOk, length, map, take, codes, decimal};
+ghost use Rattle.exc_groups.specs.Exceptions as tree;
+ghost use Rattle.exc_groups.specs.Held.{exc_of};
+ghost use Rattle.cancel_scopes.specs.Sight.{Tick};
+ghost use Rattle.job_story.specs.Story.{enters};
+ghost use Rattle.job_story.specs.Events as told;
+ghost use Rattle.job_story.specs.Sentences.{kept_text};
+ghost use Rattle.job_story.specs.Held.{boxed, kind_of};
+ghost use Rattle.story_causes.specs.Seen.{seen};
+ghost use Rattle.story_text.specs.Told.{events_in, froms_in};
+ghost use Rattle.chart_bars.specs.Held.{bar_of, event_seen};
+ghost use Rattle.svg_text.specs.Content.{written};
+ghost use Rattle.chart_svg.specs.Rows.{exc_word, end_word, class_by, class_of, size_of, told_of, more_told, bar_title};
+ghost use Rattle.chart_svg.specs.Held.{sheet_held, size_held};
+ghost use Rattle.chart_svg.specs.declared.layout.TheConstants.{MOST_TOLD};
+
+use crate::layout::MOST_TOLD;
+use crate::shapes::Size;
+use crate::sheet::Sheet;
+use chart_bars::Bar;
+use exc_groups::Exc;
+use job_story::{Event, Happening, Kind, What};
+use std::alloc::{AllocError, Global};
+use story_text::{kept_text, push_number};
+use svg_text::{Tag, begin, end, inside, text};
+
+const TASK: Size = Size {
+    indent: 0,
+    down: 5,
+    height: 14,
+};
+
+const BLOCK: Size = Size {
+    indent: 2,
+    down: 8,
+    height: 8,
+};
+
+// How high a bar is, and where it stands on its row.
+pub(crate) fn size_of(bar: &Bar<'_, '_>) -> Size
+    ensures value { size_held result ≡ size_of (bar_of bar.now) }
+    ensures down { result.down ≤ 24 }
+    ensures indent { result.indent ≤ 24 }
+{
+    match bar.first.what {
+        What::Starts { .. } => TASK,
+        What::Happens(_) | What::Ends { .. } => BLOCK,
+    }
+}
+
+// What a bar is called in the style sheet.
+pub(crate) fn class_of(bar: &Bar<'_, '_>) -> &'static [u8]
+    ensures { result.now ≡ class_of (bar_of bar.now) }
+{
+    match &bar.first.what {
+        What::Happens(Happening::Enters { kind, shield, .. }) => block_class(*kind, *shield),
+        _ => task_class(bar.last),
+    }
+}
+
+// What the bar of a scope or nursery is called.
+fn block_class(kind: Kind, shield: bool) -> &'static [u8]
+    ensures { (label : tree.Label) (deadline : Tick) (last : Option told.Event) → result.now
+        ≡ class_by (told.happens (enters (kind_of kind) label deadline shield)) last }
+{
+    match kind {
+        Kind::Scope { .. } if shield => b"scope shield",
+        Kind::Scope { .. } => b"scope",
+        Kind::Nursery if shield => b"nursery shield",
+        Kind::Nursery => b"nursery",
+    }
+}
+
+// What the bar of a task is called, by how it ended, if that is told.
+fn task_class(last: Option<&Event>) -> &'static [u8]
+    ensures { result.now ≡ codes "task " ++ end_word (event_seen last.entry) }
+{
+    let Some(event) = last else {
+        return b"task running";
+    };
+    match &event.what {
+        What::Ends { exc, .. } => ended_class(exc),
+        _ => b"task done",
+    }
+}
+
+// What the bar of a task is called that ended.
+fn ended_class(exc: &Option<Box<Exc>>) -> &'static [u8]
+    ensures { result.now ≡ codes "task " ++ exc_word (boxed exc.now) }
+{
+    let Some(exc) = exc else {
+        return b"task done";
+    };
+    raised_class(exc)
+}
+
+// What the bar of a task is called that ended with an exception.
+fn raised_class(exc: &Exc) -> &'static [u8]
+    ensures { result.now ≡ codes "task " ++ exc_word (Some (exc_of exc.now)) }
+{
+    match exc {
+        Exc::Cancelled => b"task cancelled",
+        Exc::Raised { .. } | Exc::TooSlow { .. } | Exc::Group { .. } => b"task raised",
+    }
+}
+
+// Appends what the story tells of a bar, as a title: of a task its first events, of a scope or nursery how it is entered and left.
+pub(crate) fn push_bar_title(
+    alloc: Global,
+    out: &mut Vec<u8>,
+    sheet: &Sheet<'_, '_, '_>,
+    bar: &Bar<'_, '_>,
+) -> Result<(), AllocError>
+    ensures { OnOk result (out.new.items ≡ out.old.items ++ written (bar_title (sheet_held sheet.now) (bar_of bar.now))) }
+{
+    let events = told_of(alloc, bar)?;
+    let told = told_text(alloc, sheet, events.as_slice())?;
+    begin(out, Tag::Title)?;
+    inside(out)?;
+    text(out, told.as_slice())?;
+    end(out, Tag::Title)
+}
+
+// What the story tells of these events: of the first of them, and how many more there are.
+fn told_text(
+    alloc: Global,
+    sheet: &Sheet<'_, '_, '_>,
+    events: &[&Event],
+) -> Result<Vec<u8>, AllocError>
+    ensures { IfOk result (λ told. told.items ≡ kept_text (froms_in sheet.now.known.now) (events_in sheet.now.known.now)
+        (take MOST_TOLD (map seen events.now)) ++ more_told (length (map seen events.now))) }
+{
+    let mut told = kept_text(alloc, first_of(events), sheet.known)?;
+    push_more(&mut told, events.len())?;
+    Ok(told)
+}
+
+// Those of a bar's events that are told.
+fn first_of<'s, 'e>(events: &'s [&'e Event]) -> &'s [&'e Event]
+    ensures { map seen result.now ≡ take MOST_TOLD (map seen events.now) }
+{
+    let (first, _) = events.split_at(MOST_TOLD.min(events.len()));
+    first
+}
+
+// The events that are told of a bar.
+fn told_of<'e>(alloc: Global, bar: &Bar<'_, 'e>) -> Result<Vec<&'e Event>, AllocError>
+    ensures { IfOk result (λ events. map seen events.items ≡ told_of (bar_of bar.now)) }
+{
+    if let What::Starts { .. } = bar.first.what {
+        return Vec::from_slice(alloc, bar.own);
+    }
+    let mut events = Vec::new(alloc);
+    events.push(bar.first)?;
+    if let Some(last) = bar.last {
+        events.push(last)?;
+    }
+    Ok(events)
+}
+
+// Appends that there are more events than are told, if there are.
+fn push_more(out: &mut Vec<u8>, count: usize) -> Result<(), AllocError>
+    ensures { OnOk result (out.new.items ≡ out.old.items ++ more_told count) }
+{
+    if count <= MOST_TOLD {
+        return Ok(());
+    }
+    push_left(out, (count - MOST_TOLD) as u64)
+}
+
+// Appends that there are so many more events.
+fn push_left(out: &mut Vec<u8>, left: u64) -> Result<(), AllocError>
+    ensures { OnOk result (out.new.items ≡ out.old.items ++ (codes "and " ++ decimal left ++ codes " more events\n")) }
+{
+    out.extend_from_slice(b"and ")?;
+    push_number(out, left)?;
+    out.extend_from_slice(b" more events\n")?;
+    Ok(())
+}

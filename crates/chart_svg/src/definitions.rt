@@ -1,0 +1,113 @@
+ghost use Rattle.std.specs.Prelude.{◌≡◌, [], ◌∷◌, ◌++◌, OnOk, codes};
+ghost use Rattle.svg_text.specs.Content.{Content, attribute, written, start_tag};
+ghost use Rattle.svg_text.specs.declared.names.Tag.TheVariants as tags;
+ghost use Rattle.svg_text.specs.declared.names.Attr.TheVariants as attrs;
+ghost use Rattle.chart_svg.specs.Drawing.{style, path, arrow_head, fill, cross_path, definitions};
+
+use crate::style::STYLE;
+use std::alloc::AllocError;
+use svg_text::{Attr, Tag, attribute, begin, end, inside, text};
+
+// Appends the style sheet.
+pub(crate) fn push_style(out: &mut Vec<u8>) -> Result<(), AllocError>
+    ensures { OnOk result ((rest : Content) → out.new.items ++ written rest ≡ out.old.items ++ written (style rest)) }
+{
+    begin(out, Tag::Style)?;
+    inside(out)?;
+    text(out, STYLE)?;
+    end(out, Tag::Style)
+}
+
+// Appends what is used elsewhere: the head of an arrow, what fills bars, and the cross.
+pub(crate) fn push_definitions(out: &mut Vec<u8>) -> Result<(), AllocError>
+    ensures { OnOk result ((rest : Content) → out.new.items ++ written rest ≡ out.old.items ++ written (definitions rest)) }
+{
+    begin(out, Tag::Defs)?;
+    inside(out)?;
+    push_each(out)?;
+    end(out, Tag::Defs)
+}
+
+// Appends one after the other what is used elsewhere.
+fn push_each(out: &mut Vec<u8>) -> Result<(), AllocError>
+    ensures { OnOk result ((rest : Content) → out.new.items ++ written rest ≡ out.old.items ++ written (arrow_head
+        (fill (codes "slanted") (codes "M0 6 6 0") (fill (codes "crossed") (codes "M0 6 6 0M0 0 6 6") (cross_path rest))))) }
+{
+    push_arrow_head(out)?;
+    push_fill(out, b"slanted", b"M0 6 6 0")?;
+    push_fill(out, b"crossed", b"M0 6 6 0M0 0 6 6")?;
+    push_cross_path(out)
+}
+
+// Appends the head of an arrow.
+fn push_arrow_head(out: &mut Vec<u8>) -> Result<(), AllocError>
+    ensures { OnOk result ((rest : Content) → out.new.items ++ written rest ≡ out.old.items ++ written (arrow_head rest)) }
+{
+    begin_arrow_head(out)?;
+    push_path(out, b"head", b"M0 0 8 4 0 8z")?;
+    end(out, Tag::Marker)
+}
+
+// Begins the head of an arrow.
+fn begin_arrow_head(out: &mut Vec<u8>) -> Result<(), AllocError>
+    ensures { OnOk result (out.new.items ≡ out.old.items ++ start_tag tags.Marker
+        (attribute attrs.Id (codes "arrow") ∷ attribute attrs.ViewBox (codes "0 0 8 8") ∷ attribute attrs.RefX (codes "7")
+        ∷ attribute attrs.RefY (codes "4") ∷ attribute attrs.MarkerWidth (codes "7") ∷ attribute attrs.MarkerHeight (codes "7")
+        ∷ attribute attrs.Orient (codes "auto") ∷ [])) }
+{
+    begin(out, Tag::Marker)?;
+    attribute(out, Attr::Id, b"arrow")?;
+    attribute(out, Attr::ViewBox, b"0 0 8 8")?;
+    attribute(out, Attr::RefX, b"7")?;
+    attribute(out, Attr::RefY, b"4")?;
+    attribute(out, Attr::MarkerWidth, b"7")?;
+    attribute(out, Attr::MarkerHeight, b"7")?;
+    attribute(out, Attr::Orient, b"auto")?;
+    inside(out)
+}
+
+// Appends what fills a bar.
+fn push_fill(out: &mut Vec<u8>, id: &[u8], steps: &[u8]) -> Result<(), AllocError>
+    ensures { OnOk result ((rest : Content) → out.new.items ++ written rest ≡ out.old.items ++ written (fill id.now steps.now rest)) }
+{
+    begin_fill(out, id)?;
+    push_path(out, id, steps)?;
+    end(out, Tag::Pattern)
+}
+
+// Begins what fills a bar.
+fn begin_fill(out: &mut Vec<u8>, id: &[u8]) -> Result<(), AllocError>
+    ensures { OnOk result (out.new.items ≡ out.old.items ++ start_tag tags.Pattern
+        (attribute attrs.Id id.now ∷ attribute attrs.PatternUnits (codes "userSpaceOnUse") ∷ attribute attrs.Width (codes "6")
+        ∷ attribute attrs.Height (codes "6") ∷ [])) }
+{
+    begin(out, Tag::Pattern)?;
+    attribute(out, Attr::Id, id)?;
+    attribute(out, Attr::PatternUnits, b"userSpaceOnUse")?;
+    attribute(out, Attr::Width, b"6")?;
+    attribute(out, Attr::Height, b"6")?;
+    inside(out)
+}
+
+// Appends a path.
+fn push_path(out: &mut Vec<u8>, class: &[u8], steps: &[u8]) -> Result<(), AllocError>
+    ensures { OnOk result ((rest : Content) → out.new.items ++ written rest ≡ out.old.items ++ written (path class.now steps.now rest)) }
+{
+    begin(out, Tag::Path)?;
+    attribute(out, Attr::Class, class)?;
+    attribute(out, Attr::D, steps)?;
+    inside(out)?;
+    end(out, Tag::Path)
+}
+
+// Appends the cross, around the place where it is used.
+fn push_cross_path(out: &mut Vec<u8>) -> Result<(), AllocError>
+    ensures { OnOk result ((rest : Content) → out.new.items ++ written rest ≡ out.old.items ++ written (cross_path rest)) }
+{
+    begin(out, Tag::Path)?;
+    attribute(out, Attr::Id, b"cross")?;
+    attribute(out, Attr::Class, b"cross")?;
+    attribute(out, Attr::D, b"M-4-4 4 4M-4 4 4-4")?;
+    inside(out)?;
+    end(out, Tag::Path)
+}

@@ -1,0 +1,230 @@
+ghost use Rattle.std.specs.Prelude.{◌≡◌, ◌≤◌, ◌++◌, [], IfOk, OnOk, length, map, take};
+ghost use Rattle.job_story.specs.Events.{in_order};
+ghost use Rattle.job_story.specs.Froms.{table_in};
+ghost use Rattle.story_causes.specs.Knows.{Knows};
+ghost use Rattle.story_causes.specs.Seen.{seen};
+ghost use Rattle.story_text.specs.Told.{events_in, froms_in};
+ghost use Rattle.chart_bars.specs.Held.{bar_of};
+ghost use Rattle.svg_text.specs.Content.{Content, nothing, text, element, written, start_tag, IsDocument};
+ghost use Rattle.svg_text.specs.declared.names.Tag.TheVariants as tags;
+ghost use Rattle.chart_svg.specs.Drawing.{title_bytes, style, definitions, tick_lines, notes, bottom_of, width_of, height_of, svg_attributes, inside_of, document, chart_svg};
+ghost use Rattle.chart_svg.specs.Rows.{rows};
+ghost use Rattle.chart_svg.specs.Arrows.{arrows};
+ghost use Rattle.chart_svg.specs.Held.{sheet_held};
+ghost use Rattle.chart_svg.specs.declared.layout.TheConstants.{MOST_ROWS};
+
+use crate::arrows::push_arrows;
+use crate::definitions::{push_definitions, push_style};
+use crate::layout::{LETTER, MOST_ROWS, MOST_SHOWN, ROW};
+use crate::notes::{Missing, push_notes};
+use crate::rows::push_rows;
+use crate::sheet::{Sheet, y_of};
+use crate::ticks::push_tick_lines;
+use chart_bars::{Bar, all_ticks};
+use chart_columns::{columns_of, last_tick};
+use chart_text::{columns_for, longest_name, longest_outcome, push_name};
+use job_story::{Event, Froms};
+use std::alloc::{AllocError, Global};
+use story_causes::Causes;
+use story_text::{Known, push_number};
+use svg_text::{Attr, Tag, attribute, begin, end, inside, number, text};
+
+/// A chart as an SVG document, of a story with these events in the order of the walk (`walked`), the same in order (`sorted`), and their bars: it
+/// is well formed, whatever they are. `causes` is the index of the events in order and of the table that tells from when scopes and
+/// nurseries are cancelled. There is room for as many columns as in a text chart of that width; `until` is the limit at which the story is cut off, if
+/// it is. At most 2,000 rows are drawn, and a note says how many are left out. Want of memory is the only error.
+pub fn chart_svg<'e>(
+    alloc: Global,
+    width: usize,
+    until: Option<u64>,
+    walked: &[&'e Event],
+    sorted: &[&'e Event],
+    froms: &Froms,
+    causes: &Causes<'e>,
+    bars: &[Bar<'_, 'e>],
+) -> Result<Vec<u8>, AllocError>
+    requires knows { Knows causes.now (table_in froms.now) (map seen sorted.now) }
+    requires sorted { map seen sorted.now ≡ in_order (map seen walked.now) }
+    ensures drawing { IfOk result (λ svg. svg.items
+        ≡ chart_svg width (table_in froms.now) until (map seen walked.now) (map bar_of bars.now)) }
+    ensures well_formed { IfOk result (λ svg. IsDocument svg.items) }
+{
+    let ticks = all_ticks(alloc, walked, until)?;
+    let all = columns_of(alloc, ticks.as_slice())?;
+    let columns = columns_for(alloc, width, all.as_slice(), bars)?;
+    let known = Known::new(sorted, froms, causes);
+    let sheet = Sheet {
+        names: longest_name(alloc, bars)?,
+        columns: columns.as_slice(),
+        known: &known,
+    };
+    document(alloc, &sheet, causes, until, all.len(), bars)
+}
+
+// The document, where there are so many columns in all.
+fn document(
+    alloc: Global,
+    sheet: &Sheet<'_, '_, '_>,
+    causes: &Causes<'_>,
+    until: Option<u64>,
+    all: usize,
+    bars: &[Bar<'_, '_>],
+) -> Result<Vec<u8>, AllocError>
+    requires { Knows causes.now (froms_in sheet.now.known.now) (events_in sheet.now.known.now) }
+    ensures drawing { IfOk result (λ svg. svg.items ≡ written (document (sheet_held sheet.now) until all (map bar_of bars.now))) }
+    ensures well_formed { IfOk result (λ svg. IsDocument svg.items) }
+{
+    let mut out = Vec::new(alloc);
+    let width = width_of(alloc, sheet, bars)?;
+    begin_svg(alloc, &mut out, width, height_of(bars))?;
+    push_inside(alloc, &mut out, sheet, causes, until, all, bars)?;
+    end(&mut out, Tag::Svg)?;
+    Ok(out)
+}
+
+// Begins the document.
+fn begin_svg(alloc: Global, out: &mut Vec<u8>, width: u64, height: u64) -> Result<(), AllocError>
+    ensures { OnOk result (out.new.items ≡ out.old.items ++ start_tag tags.Svg (svg_attributes width height)) }
+{
+    let mut view = Vec::new(alloc);
+    view.extend_from_slice(b"0 0 ")?;
+    push_number(&mut view, width)?;
+    view.extend_from_slice(b" ")?;
+    push_number(&mut view, height)?;
+    begin(out, Tag::Svg)?;
+    attribute(out, Attr::Xmlns, b"http://www.w3.org/2000/svg")?;
+    attribute(out, Attr::ViewBox, view.as_slice())?;
+    number(out, Attr::Width, width)?;
+    number(out, Attr::Height, height)?;
+    inside(out)
+}
+
+// Appends what stands in the document.
+fn push_inside(
+    alloc: Global,
+    out: &mut Vec<u8>,
+    sheet: &Sheet<'_, '_, '_>,
+    causes: &Causes<'_>,
+    until: Option<u64>,
+    all: usize,
+    bars: &[Bar<'_, '_>],
+) -> Result<(), AllocError>
+    requires { Knows causes.now (froms_in sheet.now.known.now) (events_in sheet.now.known.now) }
+    ensures { OnOk result (out.new.items ≡ out.old.items ++ written (inside_of (sheet_held sheet.now) until all (map bar_of bars.now))) }
+{
+    push_head(alloc, out, bars)?;
+    push_lines(alloc, out, sheet, bars)?;
+    push_shown(alloc, out, sheet, causes, shown_of(bars))?;
+    push_missing(alloc, out, sheet, until, all, bars)
+}
+
+// Appends the title, the style sheet and what is used elsewhere.
+fn push_head(alloc: Global, out: &mut Vec<u8>, bars: &[Bar<'_, '_>]) -> Result<(), AllocError>
+    ensures { OnOk result ((rest : Content) → out.new.items ++ written rest ≡ out.old.items
+        ++ written (element tags.Title [] (text (title_bytes (map bar_of bars.now)) nothing) (style (definitions rest)))) }
+{
+    push_title(alloc, out, bars)?;
+    push_style(out)?;
+    push_definitions(out)
+}
+
+// Appends the ticks, with a line down from each to where the rows end.
+fn push_lines(
+    alloc: Global,
+    out: &mut Vec<u8>,
+    sheet: &Sheet<'_, '_, '_>,
+    bars: &[Bar<'_, '_>],
+) -> Result<(), AllocError>
+    ensures { OnOk result ((rest : Content) → out.new.items ++ written rest ≡ out.old.items
+        ++ written (tick_lines (sheet_held sheet.now) (bottom_of (map bar_of bars.now)) (sheet_held sheet.now).columns rest)) }
+{
+    push_tick_lines(alloc, out, sheet, bottom_of(bars), sheet.columns)
+}
+
+// Appends these rows, and then their arrows.
+fn push_shown(
+    alloc: Global,
+    out: &mut Vec<u8>,
+    sheet: &Sheet<'_, '_, '_>,
+    causes: &Causes<'_>,
+    shown: &[Bar<'_, '_>],
+) -> Result<(), AllocError>
+    requires { Knows causes.now (froms_in sheet.now.known.now) (events_in sheet.now.known.now) }
+    ensures { OnOk result ((rest : Content) → out.new.items ++ written rest ≡ out.old.items
+        ++ written (rows (sheet_held sheet.now) 0 (map bar_of shown.now)
+        (arrows (sheet_held sheet.now) (map bar_of shown.now) 0 (map bar_of shown.now) rest))) }
+{
+    push_rows(alloc, out, sheet, shown)?;
+    push_arrows(alloc, out, sheet, causes, shown)
+}
+
+// Appends what is not shown.
+fn push_missing(
+    alloc: Global,
+    out: &mut Vec<u8>,
+    sheet: &Sheet<'_, '_, '_>,
+    until: Option<u64>,
+    all: usize,
+    bars: &[Bar<'_, '_>],
+) -> Result<(), AllocError>
+    ensures { OnOk result (out.new.items ≡ out.old.items ++ written (notes until (bottom_of (map bar_of bars.now))
+        (length (sheet_held sheet.now).columns) all (length (map bar_of bars.now)))) }
+{
+    let missing = Missing {
+        until,
+        columns: all,
+        shown: sheet.columns.len(),
+        rows: bars.len(),
+    };
+    push_notes(alloc, out, bottom_of(bars), missing)
+}
+
+// Appends the title of the document: the name of the job.
+fn push_title(alloc: Global, out: &mut Vec<u8>, bars: &[Bar<'_, '_>]) -> Result<(), AllocError>
+    ensures { OnOk result ((rest : Content) → out.new.items ++ written rest
+        ≡ out.old.items ++ written (element tags.Title [] (text (title_bytes (map bar_of bars.now)) nothing) rest)) }
+{
+    let mut name = Vec::new(alloc);
+    if let Some(bar) = bars.first() {
+        push_name(&mut name, bar)?;
+    }
+    begin(out, Tag::Title)?;
+    inside(out)?;
+    text(out, name.as_slice())?;
+    end(out, Tag::Title)
+}
+
+// How wide the document is, in pixels.
+fn width_of(
+    alloc: Global,
+    sheet: &Sheet<'_, '_, '_>,
+    bars: &[Bar<'_, '_>],
+) -> Result<u64, AllocError>
+    ensures { IfOk result (λ width. width ≡ width_of (sheet_held sheet.now) (map bar_of bars.now)) }
+{
+    let outcomes = longest_outcome(alloc, bars)?.min(MOST_SHOWN) as u64;
+    Ok(sheet.x_at(last_tick(sheet.columns)) + LETTER * (outcomes + 4))
+}
+
+// How high the document is, in pixels.
+fn height_of(bars: &[Bar<'_, '_>]) -> u64
+    ensures { result ≡ height_of (map bar_of bars.now) }
+{
+    bottom_of(bars) + ROW * 4
+}
+
+// Where the rows end, in pixels from the top.
+fn bottom_of(bars: &[Bar<'_, '_>]) -> u64
+    ensures value { result ≡ bottom_of (map bar_of bars.now) }
+    ensures bound { result ≤ 48044 }
+{
+    y_of(shown_of(bars).len())
+}
+
+// The bars that are shown.
+fn shown_of<'b, 'i, 'e>(bars: &'b [Bar<'i, 'e>]) -> &'b [Bar<'i, 'e>]
+    ensures { map bar_of result.now ≡ take MOST_ROWS (map bar_of bars.now) }
+{
+    let (shown, _) = bars.split_at(MOST_ROWS.min(bars.len()));
+    shown
+}

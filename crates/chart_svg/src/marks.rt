@@ -1,0 +1,86 @@
+ghost use Rattle.std.specs.Prelude.{◌≡◌, [], ◌∷◌, ◌++◌, OnOk, map};
+ghost use Rattle.job_story.specs.Held.{event_of};
+ghost use Rattle.story_causes.specs.Seen.{seen};
+ghost use Rattle.svg_text.specs.Content.{Content, element, written};
+ghost use Rattle.svg_text.specs.declared.names.Tag.TheVariants as tags;
+ghost use Rattle.chart_svg.specs.Sheets.{x_of, middle_of, told};
+ghost use Rattle.chart_svg.specs.Rows.{cross, dot, mark, marks};
+ghost use Rattle.chart_svg.specs.Held.{sheet_held};
+
+use crate::shapes::{begin_cross, begin_dot};
+use crate::sheet::{Sheet, middle_of, push_told};
+use chart_text::{is_cross, is_dot};
+use job_story::Event;
+use std::alloc::{AllocError, Global};
+use svg_text::{Tag, end};
+
+// Appends a mark for each of these events that has one.
+pub(crate) fn push_marks(
+    alloc: Global,
+    out: &mut Vec<u8>,
+    sheet: &Sheet<'_, '_, '_>,
+    row: usize,
+    events: &[&Event],
+) -> Result<(), AllocError>
+    ensures { OnOk result ((rest : Content) → out.new.items ++ written rest
+        ≡ out.old.items ++ written (marks (sheet_held sheet.now) row (map seen events.now) rest)) }
+{
+    'events: for event in events {
+        push_mark(alloc, out, sheet, row, event)?;
+    }
+    Ok(())
+}
+
+// Appends the mark of an event, if it has one: a cross where a task is cancelled, a dot where it raises an exception.
+fn push_mark(
+    alloc: Global,
+    out: &mut Vec<u8>,
+    sheet: &Sheet<'_, '_, '_>,
+    row: usize,
+    event: &Event,
+) -> Result<(), AllocError>
+    ensures { OnOk result ((rest : Content) → out.new.items ++ written rest
+        ≡ out.old.items ++ written (mark (sheet_held sheet.now) row (event_of event.now) rest)) }
+{
+    if is_cross(&event.what) {
+        return push_cross(alloc, out, sheet, row, event);
+    }
+    if is_dot(&event.what) {
+        return push_dot(alloc, out, sheet, row, event);
+    }
+    Ok(())
+}
+
+// Appends a cross for an event.
+fn push_cross(
+    alloc: Global,
+    out: &mut Vec<u8>,
+    sheet: &Sheet<'_, '_, '_>,
+    row: usize,
+    event: &Event,
+) -> Result<(), AllocError>
+    ensures { OnOk result ((rest : Content) → out.new.items ++ written rest ≡ out.old.items
+        ++ written (element tags.Use (cross (x_of (sheet_held sheet.now) event.now.tick) (middle_of row))
+        (told (sheet_held sheet.now) (event_of event.now ∷ [])) rest)) }
+{
+    begin_cross(out, sheet.x_of(event.tick), middle_of(row))?;
+    push_told(alloc, out, sheet, &[event])?;
+    end(out, Tag::Use)
+}
+
+// Appends a dot for an event.
+fn push_dot(
+    alloc: Global,
+    out: &mut Vec<u8>,
+    sheet: &Sheet<'_, '_, '_>,
+    row: usize,
+    event: &Event,
+) -> Result<(), AllocError>
+    ensures { OnOk result ((rest : Content) → out.new.items ++ written rest ≡ out.old.items
+        ++ written (element tags.Circle (dot (x_of (sheet_held sheet.now) event.now.tick) (middle_of row))
+        (told (sheet_held sheet.now) (event_of event.now ∷ [])) rest)) }
+{
+    begin_dot(out, sheet.x_of(event.tick), middle_of(row))?;
+    push_told(alloc, out, sheet, &[event])?;
+    end(out, Tag::Circle)
+}

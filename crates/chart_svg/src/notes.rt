@@ -1,0 +1,137 @@
+ghost use Rattle.std.specs.Prelude.{◌≡◌, ◌+◌, ◌*◌, ◌≤◌, ◌++◌, IfOk, OnOk, codes, decimal};
+ghost use Rattle.svg_text.specs.Content.{Content, nothing, written};
+ghost use Rattle.chart_svg.specs.Drawing.{note, limit_note, columns_note, rows_note, notes};
+ghost use Rattle.chart_svg.specs.declared.layout.TheConstants.{ROW};
+
+use crate::layout::{LEFT, MOST_ROWS, ROW};
+use crate::shapes::push_words;
+use chart_text::push_left_out;
+use std::alloc::{AllocError, Global};
+use story_text::push_number;
+
+// What a drawing does not show.
+#[derive(Clone, Copy)]
+pub(crate) struct Missing {
+    // The limit at which the story is cut off.
+    pub until: Option<u64>,
+    // How many columns there are, and how many of them are shown.
+    pub columns: usize,
+    pub shown: usize,
+    // How many rows there are.
+    pub rows: usize,
+}
+
+// Appends what a drawing does not show, below its bottom.
+pub(crate) fn push_notes(
+    alloc: Global,
+    out: &mut Vec<u8>,
+    bottom: u64,
+    missing: Missing,
+) -> Result<(), AllocError>
+    requires { bottom ≤ 1000000 }
+    ensures { OnOk result (out.new.items ≡ out.old.items
+        ++ written (notes missing.until bottom missing.shown missing.columns missing.rows)) }
+{
+    push_limit_note(alloc, out, bottom, missing.until)?;
+    push_columns_note(alloc, out, bottom, missing.shown, missing.columns)?;
+    push_rows_note(alloc, out, bottom, missing.rows)
+}
+
+// Appends that the story is cut off at a limit, if it is.
+fn push_limit_note(
+    alloc: Global,
+    out: &mut Vec<u8>,
+    bottom: u64,
+    until: Option<u64>,
+) -> Result<(), AllocError>
+    requires { bottom ≤ 1000000 }
+    ensures { OnOk result ((rest : Content) → out.new.items ++ written rest
+        ≡ out.old.items ++ written (note (bottom + ROW) (limit_note until) rest)) }
+{
+    let bytes = limit_note(alloc, until)?;
+    push_note(out, bottom + ROW, bytes.as_slice())
+}
+
+// Appends how many columns are not shown, if some are not.
+fn push_columns_note(
+    alloc: Global,
+    out: &mut Vec<u8>,
+    bottom: u64,
+    shown: usize,
+    all: usize,
+) -> Result<(), AllocError>
+    requires { bottom ≤ 1000000 }
+    ensures { OnOk result ((rest : Content) → out.new.items ++ written rest
+        ≡ out.old.items ++ written (note (bottom + ROW * 2) (columns_note shown all) rest)) }
+{
+    let bytes = columns_note(alloc, shown, all)?;
+    push_note(out, bottom + ROW * 2, bytes.as_slice())
+}
+
+// Appends how many rows are not shown, if some are not.
+fn push_rows_note(
+    alloc: Global,
+    out: &mut Vec<u8>,
+    bottom: u64,
+    rows: usize,
+) -> Result<(), AllocError>
+    requires { bottom ≤ 1000000 }
+    ensures { OnOk result ((rest : Content) → out.new.items ++ written rest
+        ≡ out.old.items ++ written (note (bottom + ROW * 3) (rows_note rows) rest)) }
+{
+    let bytes = rows_note(alloc, rows)?;
+    push_note(out, bottom + ROW * 3, bytes.as_slice())
+}
+
+// Appends a note, if it is not empty.
+fn push_note(out: &mut Vec<u8>, y: u64, bytes: &[u8]) -> Result<(), AllocError>
+    ensures { OnOk result ((rest : Content) → out.new.items ++ written rest ≡ out.old.items ++ written (note y bytes.now rest)) }
+{
+    if bytes.is_empty() {
+        return Ok(());
+    }
+    push_words(out, b"note", LEFT, y, bytes)
+}
+
+// That the story is cut off at a limit.
+fn limit_note(alloc: Global, until: Option<u64>) -> Result<Vec<u8>, AllocError>
+    ensures { IfOk result (λ text. text.items ≡ limit_note until) }
+{
+    let mut text = Vec::new(alloc);
+    if let Some(limit) = until {
+        text.extend_from_slice(b"limit ")?;
+        push_number(&mut text, limit)?;
+    }
+    Ok(text)
+}
+
+// How many columns are not shown.
+fn columns_note(alloc: Global, shown: usize, all: usize) -> Result<Vec<u8>, AllocError>
+    ensures { IfOk result (λ text. text.items ≡ columns_note shown all) }
+{
+    let mut text = Vec::new(alloc);
+    if shown != all {
+        push_left_out(&mut text, shown, all)?;
+    }
+    Ok(text)
+}
+
+// How many rows are not shown.
+fn rows_note(alloc: Global, rows: usize) -> Result<Vec<u8>, AllocError>
+    ensures { IfOk result (λ text. text.items ≡ rows_note rows) }
+{
+    if rows <= MOST_ROWS {
+        return Ok(Vec::new(alloc));
+    }
+    rows_left_out(alloc, (rows - MOST_ROWS) as u64)
+}
+
+// That so many rows are not shown.
+fn rows_left_out(alloc: Global, left: u64) -> Result<Vec<u8>, AllocError>
+    ensures { IfOk result (λ text. text.items ≡ decimal left ++ codes " rows are left out") }
+{
+    let mut text = Vec::new(alloc);
+    push_number(&mut text, left)?;
+    text.extend_from_slice(b" rows are left out")?;
+    Ok(text)
+}

@@ -1,0 +1,136 @@
+ghost use Rattle.std.specs.Prelude.{◌≡◌, ◌≤◌, [], ◌∷◌, ◌++◌, OnOk, codes, decimal};
+ghost use Rattle.svg_text.specs.Content.{Content, attribute, written, start_tag};
+ghost use Rattle.svg_text.specs.declared.names.Tag.TheVariants as tags;
+ghost use Rattle.svg_text.specs.declared.names.Attr.TheVariants as attrs;
+ghost use Rattle.chart_svg.specs.Rows.{width_to, rectangle, words, cross, dot};
+ghost use Rattle.chart_svg.specs.Arrows.{segment};
+ghost use Rattle.chart_svg.specs.Held.{size_held};
+
+use crate::sheet::y_of;
+use std::alloc::AllocError;
+use svg_text::{Attr, Tag, attribute, begin, end, inside, number, text};
+
+// How high a bar is and where it stands on its row, in pixels, and how far its name is to the right, in letters.
+#[derive(Clone, Copy)]
+pub(crate) struct Size {
+    pub indent: u64,
+    pub down: u64,
+    pub height: u64,
+}
+
+// Begins a rectangle on a row, from one place to another. What stands inside comes next, and its end.
+pub(crate) fn begin_rectangle(
+    out: &mut Vec<u8>,
+    row: usize,
+    size: Size,
+    class: &[u8],
+    x: u64,
+    end: u64,
+) -> Result<(), AllocError>
+    requires { size.down ≤ 24 }
+    ensures { OnOk result (out.new.items ≡ out.old.items ++ start_tag tags.Rect (rectangle row (size_held size) class.now x end)) }
+{
+    let y = y_of(row) + size.down;
+    begin_box(out, class, x, y, width_to(x, end), size.height)
+}
+
+// Begins a rectangle at a place, of this size.
+fn begin_box(
+    out: &mut Vec<u8>,
+    class: &[u8],
+    x: u64,
+    y: u64,
+    width: u64,
+    height: u64,
+) -> Result<(), AllocError>
+    ensures { OnOk result (out.new.items ≡ out.old.items ++ start_tag tags.Rect
+        (attribute attrs.Class class.now ∷ attribute attrs.X (decimal x) ∷ attribute attrs.Y (decimal y)
+        ∷ attribute attrs.Width (decimal width) ∷ attribute attrs.Height (decimal height) ∷ attribute attrs.Rx (codes "3") ∷ [])) }
+{
+    begin(out, Tag::Rect)?;
+    attribute(out, Attr::Class, class)?;
+    number(out, Attr::X, x)?;
+    number(out, Attr::Y, y)?;
+    number(out, Attr::Width, width)?;
+    number(out, Attr::Height, height)?;
+    attribute(out, Attr::Rx, b"3")?;
+    inside(out)
+}
+
+// How wide a rectangle is from one place to another: never nothing.
+fn width_to(x: u64, end: u64) -> u64
+    ensures { result ≡ width_to x end }
+{
+    end.saturating_sub(x).max(2)
+}
+
+// Appends a text at a place.
+pub(crate) fn push_words(
+    out: &mut Vec<u8>,
+    class: &[u8],
+    x: u64,
+    y: u64,
+    bytes: &[u8],
+) -> Result<(), AllocError>
+    ensures { OnOk result ((rest : Content) → out.new.items ++ written rest
+        ≡ out.old.items ++ written (words class.now x y bytes.now rest)) }
+{
+    begin_words(out, class, x, y)?;
+    text(out, bytes)?;
+    end(out, Tag::Text)
+}
+
+// Begins a text at a place.
+fn begin_words(out: &mut Vec<u8>, class: &[u8], x: u64, y: u64) -> Result<(), AllocError>
+    ensures { OnOk result (out.new.items ≡ out.old.items ++ start_tag tags.Text
+        (attribute attrs.Class class.now ∷ attribute attrs.X (decimal x) ∷ attribute attrs.Y (decimal y) ∷ [])) }
+{
+    begin(out, Tag::Text)?;
+    attribute(out, Attr::Class, class)?;
+    number(out, Attr::X, x)?;
+    number(out, Attr::Y, y)?;
+    inside(out)
+}
+
+// Begins a line from one place to another. What stands inside comes next, and its end.
+pub(crate) fn begin_line(
+    out: &mut Vec<u8>,
+    class: &[u8],
+    x1: u64,
+    y1: u64,
+    x2: u64,
+    y2: u64,
+) -> Result<(), AllocError>
+    ensures { OnOk result (out.new.items ≡ out.old.items ++ start_tag tags.Line (segment class.now x1 y1 x2 y2)) }
+{
+    begin(out, Tag::Line)?;
+    attribute(out, Attr::Class, class)?;
+    number(out, Attr::X1, x1)?;
+    number(out, Attr::Y1, y1)?;
+    number(out, Attr::X2, x2)?;
+    number(out, Attr::Y2, y2)?;
+    inside(out)
+}
+
+// Begins a cross at a place. What stands inside comes next, and its end.
+pub(crate) fn begin_cross(out: &mut Vec<u8>, x: u64, y: u64) -> Result<(), AllocError>
+    ensures { OnOk result (out.new.items ≡ out.old.items ++ start_tag tags.Use (cross x y)) }
+{
+    begin(out, Tag::Use)?;
+    attribute(out, Attr::Href, b"#cross")?;
+    number(out, Attr::X, x)?;
+    number(out, Attr::Y, y)?;
+    inside(out)
+}
+
+// Begins a dot at a place. What stands inside comes next, and its end.
+pub(crate) fn begin_dot(out: &mut Vec<u8>, x: u64, y: u64) -> Result<(), AllocError>
+    ensures { OnOk result (out.new.items ≡ out.old.items ++ start_tag tags.Circle (dot x y)) }
+{
+    begin(out, Tag::Circle)?;
+    attribute(out, Attr::Class, b"dot")?;
+    number(out, Attr::Cx, x)?;
+    number(out, Attr::Cy, y)?;
+    attribute(out, Attr::R, b"4")?;
+    inside(out)
+}

@@ -1,0 +1,94 @@
+ghost use Rattle.std.specs.Prelude.{◌≡◌, ◌≤◌, ◌++◌, OnOk, map};
+ghost use Rattle.story_causes.specs.Seen.{seen};
+ghost use Rattle.chart_columns.specs.Columns.{column_by};
+ghost use Rattle.chart_columns.specs.Held.{column_of};
+ghost use Rattle.svg_text.specs.Content.{written};
+ghost use Rattle.chart_svg.specs.Sheets.{place, x_at, x_of, y_of, middle_of, told};
+ghost use Rattle.chart_svg.specs.Held.{sheet_held};
+
+use crate::layout::{FARTHEST, LEFT, LETTER, MOST_NAME, MOST_ROWS, PLACE, ROW, TOP};
+use chart_columns::{Column, column_at, column_by, gap_to};
+use job_story::Event;
+use std::alloc::{AllocError, Global};
+use story_text::{Known, kept_text};
+use svg_text::{Tag, begin, end, inside, text};
+
+// What all of a drawing hangs on.
+#[derive(Clone, Copy)]
+pub(crate) struct Sheet<'s, 'k, 'e> {
+    // The length of the longest name of a row.
+    pub names: usize,
+    pub columns: &'s [Column],
+    pub known: &'s Known<'k, 'e>,
+}
+
+impl<'s, 'k, 'e> Sheet<'s, 'k, 'e> {
+    // Where a column stands, from the left.
+    pub(crate) fn x_at(&self, tick: u64) -> u64
+        ensures value { result ≡ x_at (sheet_held self.now) tick }
+        ensures bound { result ≤ 100000000 }
+    {
+        let names = self.names.min(MOST_NAME) as u64;
+        LEFT + LETTER * (names + 2) + PLACE * place(self.columns, tick)
+    }
+
+    // Where something at a tick is shown, from the left.
+    pub(crate) fn x_of(&self, tick: u64) -> u64
+        ensures { result ≡ x_of (sheet_held self.now) tick }
+    {
+        self.x_at(column_at(self.columns, tick))
+    }
+
+    // Where what holds from a tick on begins to be shown, from the left.
+    pub(crate) fn x_by(&self, tick: u64) -> u64
+        ensures { result ≡ x_at (sheet_held self.now) (column_by (sheet_held self.now).columns tick) }
+    {
+        self.x_at(column_by(self.columns, tick))
+    }
+}
+
+// How far a column is from the first of these, in places of text.
+fn place(columns: &[Column], tick: u64) -> u64
+    ensures value { result ≡ place (map column_of columns.now) tick }
+    ensures bound { result ≤ 1000000 }
+{
+    let Some((first, others)) = columns.split_first() else {
+        return 0;
+    };
+    if tick <= first.tick {
+        return 0;
+    }
+    let gap = gap_to(first, others) as u64;
+    gap.saturating_add(place(others, tick)).min(FARTHEST)
+}
+
+// Where a row stands, from the top.
+pub(crate) fn y_of(row: usize) -> u64
+    ensures value { result ≡ y_of row }
+    ensures bound { result ≤ 48044 }
+{
+    TOP + ROW * (row.min(MOST_ROWS) as u64)
+}
+
+// The middle of a row, from the top.
+pub(crate) fn middle_of(row: usize) -> u64
+    ensures { result ≡ middle_of row }
+{
+    y_of(row) + 12
+}
+
+// Appends what the story tells of these events, as a title.
+pub(crate) fn push_told(
+    alloc: Global,
+    out: &mut Vec<u8>,
+    sheet: &Sheet<'_, '_, '_>,
+    events: &[&Event],
+) -> Result<(), AllocError>
+    ensures { OnOk result (out.new.items ≡ out.old.items ++ written (told (sheet_held sheet.now) (map seen events.now))) }
+{
+    let told = kept_text(alloc, events, sheet.known)?;
+    begin(out, Tag::Title)?;
+    inside(out)?;
+    text(out, told.as_slice())?;
+    end(out, Tag::Title)
+}

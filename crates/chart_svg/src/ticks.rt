@@ -1,0 +1,70 @@
+ghost use Rattle.std.specs.Prelude.{◌≡◌, ◌-◌, ◌++◌, OnOk, map, codes, decimal};
+ghost use Rattle.chart_columns.specs.Held.{column_of};
+ghost use Rattle.svg_text.specs.Content.{Content, nothing, element, written};
+ghost use Rattle.svg_text.specs.declared.names.Tag.TheVariants as tags;
+ghost use Rattle.chart_svg.specs.Arrows.{segment};
+ghost use Rattle.chart_svg.specs.Rows.{words};
+ghost use Rattle.chart_svg.specs.Drawing.{tick_line, tick_lines};
+ghost use Rattle.chart_svg.specs.Held.{sheet_held};
+ghost use Rattle.chart_svg.specs.declared.layout.TheConstants.{TOP};
+
+use crate::layout::TOP;
+use crate::shapes::{begin_line, push_words};
+use crate::sheet::Sheet;
+use chart_columns::Column;
+use std::alloc::{AllocError, Global};
+use story_text::push_number;
+use svg_text::{Tag, end, text};
+
+// Appends each of these columns' tick, with a line down to the bottom.
+pub(crate) fn push_tick_lines(
+    alloc: Global,
+    out: &mut Vec<u8>,
+    sheet: &Sheet<'_, '_, '_>,
+    bottom: u64,
+    columns: &[Column],
+) -> Result<(), AllocError>
+    ensures { OnOk result ((rest : Content) → out.new.items ++ written rest
+        ≡ out.old.items ++ written (tick_lines (sheet_held sheet.now) bottom (map column_of columns.now) rest)) }
+{
+    'columns: for column in columns {
+        push_tick_line(alloc, out, sheet, bottom, column)?;
+    }
+    Ok(())
+}
+
+// Appends a column's tick, with a line down to the bottom.
+fn push_tick_line(
+    alloc: Global,
+    out: &mut Vec<u8>,
+    sheet: &Sheet<'_, '_, '_>,
+    bottom: u64,
+    column: &Column,
+) -> Result<(), AllocError>
+    ensures { OnOk result ((rest : Content) → out.new.items ++ written rest
+        ≡ out.old.items ++ written (tick_line (sheet_held sheet.now) bottom (column_of column.now) rest)) }
+{
+    let x = sheet.x_at(column.tick);
+    push_line(out, x, bottom)?;
+    push_tick(alloc, out, x, column.tick)?;
+    text(out, b"\n")
+}
+
+// Appends a line down to the bottom.
+fn push_line(out: &mut Vec<u8>, x: u64, bottom: u64) -> Result<(), AllocError>
+    ensures { OnOk result ((rest : Content) → out.new.items ++ written rest
+        ≡ out.old.items ++ written (element tags.Line (segment (codes "tick") x TOP x bottom) nothing rest)) }
+{
+    begin_line(out, b"tick", x, TOP, x, bottom)?;
+    end(out, Tag::Line)
+}
+
+// Appends a tick above its line.
+fn push_tick(alloc: Global, out: &mut Vec<u8>, x: u64, tick: u64) -> Result<(), AllocError>
+    ensures { OnOk result ((rest : Content) → out.new.items ++ written rest
+        ≡ out.old.items ++ written (words (codes "tick") x (TOP - 6) (decimal tick) rest)) }
+{
+    let mut bytes = Vec::new(alloc);
+    push_number(&mut bytes, tick)?;
+    push_words(out, b"tick", x, TOP - 6, bytes.as_slice())
+}
