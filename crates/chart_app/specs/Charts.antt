@@ -1,0 +1,87 @@
+-- What `chart` answers: the chart of a job's meaning over an input, or the refusal which that meaning names.
+use Rattle.std.specs.Prelude.{◌≡◌, ℕ, ◌≤◌, ◌<◌, Bool, true, false, nat_le, nat_lt, if◌then◌else◌, Option, Some, None, List, length, take, IsSome, IsNone}
+use Rattle.std.specs.Io.KnownBytes.{Appends}
+use Rattle.job_tree.specs.Tree.{Tree}
+use Rattle.cancel_scopes.specs.Sight.{Tick}
+use Rattle.job_grammar.specs.Refusals.{Spells, IsRefused}
+use Rattle.job_meaning.specs.Log.{Table}
+use Rattle.job_meaning.specs.Meaning.{meaning, meaning_end, meaning_table}
+use Rattle.job_meaning.specs.Shown.{Row}
+use Rattle.job_runner.specs.Runs.{root_is_well, root_end}
+use Rattle.job_story.specs.Events.{Event}
+use Rattle.nursery_app.specs.Verdict.{refusal_line}
+use Rattle.nursery_app.specs.declared.verdict.Verdict.{Verdict}
+use Rattle.nursery_app.specs.declared.verdict.Verdict.TheVariants.{Done, Raised, JobRefused, Limit}
+use Rattle.nursery_app.specs.declared.verdict.ServeFault.{ServeFault}
+use Rattle.nursery_app.specs.declared.verdict.ServeFault.TheVariants.{Send, NoMemory}
+use Rattle.story_app.specs.Stories.{told}
+use Rattle.chart_bars.specs.Bars.{bars_of}
+use Rattle.chart_text.specs.Text.{chart_text}
+use Rattle.svg_text.specs.Content.{IsDocument}
+use Rattle.chart_svg.specs.Drawing.{chart_svg}
+use Rattle.chart_app.specs.declared.form.Form.{Form}
+use Rattle.chart_app.specs.declared.form.Form.TheVariants.{Text, Svg}
+
+-- a chart of these events by a table, of a story that is whole or cut off at a limit
+abbrev pub drawn_as : Form → Table → Tick → List Event → List ℕ
+drawn_as (Text width) table until walked = chart_text width until walked (bars_of table until walked)
+drawn_as (Svg width) table until walked = chart_svg width table until walked (bars_of table until walked)
+
+-- the limit, where the story is cut off at it
+abbrev pub until_if : Bool → ℕ → Tick
+until_if true limit = None
+until_if false limit = Some limit
+
+-- the chart of a meaning: whole where it ends by the limit, and else up to the limit
+abbrev pub meaning_chart : Form → ℕ → Tree → List ℕ → List ℕ
+meaning_chart form limit job input =
+    drawn_as form (meaning_table job input) (until_if (nat_le (meaning_end job input) limit) limit) (told limit job input)
+
+-- a drawing is a well-formed document
+abbrev pub IsInForm : Form → List ℕ → Type 0
+IsInForm (Text width) bytes = Unit {0}
+IsInForm (Svg width) bytes = IsDocument bytes
+
+abbrev pub IsChart : Form → ℕ → Tree → List ℕ → List ℕ → Type 0
+IsChart form limit job input bytes = (bytes ≡ meaning_chart form limit job input) × IsInForm form bytes
+
+-- ---- how a job ends, by a limit
+
+-- how its meaning does
+abbrev pub IsVerdictOn : Tree → List ℕ → ℕ → Verdict → Type 0
+IsVerdictOn job input limit Done = (meaning_end job input ≤ limit) × IsNone (meaning job input).exc
+IsVerdictOn job input limit Raised = (meaning_end job input ≤ limit) × IsSome (meaning job input).exc
+IsVerdictOn job input limit (JobRefused fault) = ⊥
+IsVerdictOn job input limit Limit = limit < meaning_end job input
+
+-- how a run with these rows does
+abbrev pub verdict_by : List Row → ℕ → Verdict
+verdict_by rows limit = if nat_lt limit (root_end rows) then Limit else (if root_is_well rows then Done else Raised)
+
+-- the limit, where it ends later
+abbrev pub until_by : Verdict → ℕ → Tick
+until_by Limit limit = Some limit
+until_by _ limit = None
+
+-- ---- verdicts
+
+-- The verdict on a job that was read, and its bytes.
+abbrev pub IsJobVerdict : Form → Tree → List ℕ → ℕ → Verdict → List ℕ → Type 0
+IsJobVerdict form job input limit verdict bytes = IsVerdictOn job input limit verdict × IsChart form limit job input bytes
+
+-- A verdict and its bytes: that on the job which the text spells, or the refusal which the meaning names.
+abbrev pub IsVerdict : Form → List ℕ → List ℕ → ℕ → Verdict → List ℕ → Type 0
+IsVerdict form text input limit (JobRefused fault) bytes = IsRefused text fault.kind fault.at × (bytes ≡ refusal_line fault)
+IsVerdict form text input limit verdict bytes = (job : Tree) × Spells text job × IsJobVerdict form job input limit verdict bytes
+
+-- The verdict's bytes were sent, all of them.
+abbrev pub IsSent : Form → List ℕ → List ℕ → ℕ → Option (List ℕ) → Option (List ℕ) → Verdict → Type 0
+IsSent form text input limit before after verdict =
+    (bytes : List ℕ) × IsVerdict form text input limit verdict bytes × Appends before after bytes
+
+-- The writer failed after the first `sent` of the verdict's bytes; or memory was refused, and nothing was sent.
+abbrev pub IsChartFault : Form → List ℕ → List ℕ → ℕ → Option (List ℕ) → Option (List ℕ) → ServeFault → Type 0
+IsChartFault form text input limit before after (Send sent) =
+    (verdict : Verdict) × (bytes : List ℕ) × IsVerdict form text input limit verdict bytes × (sent < length bytes)
+    × Appends before after (take sent bytes)
+IsChartFault form text input limit before after NoMemory = after ≡ before

@@ -1,0 +1,100 @@
+ghost use Rattle.std.specs.Prelude.{◌≡◌, ◌<◌, ◌≤◌, length, IfOk, IfErr, OnOk};
+ghost use Rattle.job_meaning.specs.declared.limits.TheConstants.{MOST_INPUT};
+ghost use Rattle.nursery_app.specs.Verdict.{CountsFailure};
+ghost use Rattle.chart_app.specs.Charts.{IsJobVerdict, IsVerdict, IsSent, IsChartFault};
+
+use crate::drawing::drawn_as;
+use crate::form::Form;
+use crate::meaning::meaning_of;
+use job_grammar::{Job, read_job};
+use job_report::{Out, send};
+use job_runner::{Gate, Pick, Settings};
+use job_teller::tell;
+use nursery_app::{ServeFault, Verdict, refusal};
+use std::alloc::{AllocError, Global};
+use std::thread::Threads;
+use story_app::told_until;
+
+/// Runs a job text over an input, and writes the chart of the job's one-thread meaning: a row for each task, and below it one for each scope and
+/// nursery that it entered, with a column for each tick at which something happens. A job that ends later than the limit is drawn up to the
+/// limit, and its verdict is `Limit`. A job text that is refused has its refusal written. The verdict and its status are those of `serve`.
+///
+/// The number of workers, the picker and the gate change no byte. All bytes are built before the first is sent, so after `NoMemory`
+/// nothing was sent.
+pub fn chart<R: Threads + Sync, P: Pick, G: Gate + Sync, W: Out>(
+    rt: &R,
+    alloc: Global,
+    job_text: &[u8],
+    input: &[u8],
+    settings: Settings,
+    form: Form,
+    picker: &mut P,
+    gate: &G,
+    out: &mut W,
+) -> Result<Verdict, ServeFault>
+    requires input { length input.now ≤ MOST_INPUT }
+    requires countable { W.failed out.old < 18446744073709551615 }
+
+    // The bytes written are the chart of the meaning, or the refusal which it names.
+    ensures sent { IfOk result (IsSent form job_text.now input.now settings.limit (W.contents out.old) (W.contents out.new)) }
+    ensures well { OnOk result (W.failed out.new ≡ W.failed out.old) }
+
+    // A writer that failed took the front of those bytes; after want of memory nothing was sent.
+    ensures fault { IfErr result (IsChartFault form job_text.now input.now settings.limit (W.contents out.old) (W.contents out.new)) }
+    ensures counted { IfErr result (CountsFailure (W.failed out.old) (W.failed out.new)) }
+{
+    let (verdict, bytes) = answer(rt, alloc, job_text, input, settings, form, picker, gate)?;
+    send(bytes.as_slice(), out)?;
+    Ok(verdict)
+}
+
+// The verdict and all its bytes.
+#[tactic(auto, using(crate::proofs::Charted::of_spelt))]
+fn answer<R: Threads + Sync, P: Pick, G: Gate + Sync>(
+    rt: &R,
+    alloc: Global,
+    job_text: &[u8],
+    input: &[u8],
+    settings: Settings,
+    form: Form,
+    picker: &mut P,
+    gate: &G,
+) -> Result<(Verdict, Vec<u8>), AllocError>
+    requires { length input.now ≤ MOST_INPUT }
+    ensures { IfOk result (λ r. IsVerdict form job_text.now input.now settings.limit r.0 r.1.items) }
+{
+    match read_job(alloc, job_text) {
+        Ok(job) => {
+            let (verdict, bytes) = job_chart(rt, alloc, &job, input, settings, form, picker, gate)?;
+            Ok((verdict, bytes))
+        }
+        Err(fault) => Ok((Verdict::JobRefused(fault), refusal(alloc, fault)?)),
+    }
+}
+
+// The verdict on a job that was read, with its chart.
+fn job_chart<R: Threads + Sync, P: Pick, G: Gate + Sync>(
+    rt: &R,
+    alloc: Global,
+    job: &Job,
+    input: &[u8],
+    settings: Settings,
+    form: Form,
+    picker: &mut P,
+    gate: &G,
+) -> Result<(Verdict, Vec<u8>), AllocError>
+    requires { length input.now ≤ MOST_INPUT }
+    ensures { IfOk result (λ r. IsJobVerdict form job.now input.now settings.limit r.0 r.1.items) }
+{
+    let meaning = meaning_of(rt, alloc, job, input, settings, picker, gate)?;
+    let events = tell(alloc, job, input, &meaning.table)?;
+    let walked = told_until(alloc, events.as_slice(), meaning.until)?;
+    let bytes = drawn_as(
+        alloc,
+        form,
+        walked.as_slice(),
+        &meaning.table,
+        meaning.until,
+    )?;
+    Ok((meaning.verdict, bytes))
+}

@@ -1,0 +1,62 @@
+ghost use Rattle.std.specs.Prelude.{◌≡◌, IfOk, map};
+ghost use Rattle.job_story.specs.Froms.{table_in};
+ghost use Rattle.story_causes.specs.Seen.{seen};
+ghost use Rattle.chart_bars.specs.Held.{bar_of};
+ghost use Rattle.svg_text.specs.Content.{IsDocument};
+ghost use Rattle.chart_svg.specs.Drawing as svg;
+ghost use Rattle.chart_app.specs.Charts.{drawn_as, IsInForm};
+
+use crate::form::Form;
+use chart_bars::{Bar, StoryIndex};
+use chart_svg::chart_svg;
+use chart_text::chart_text;
+use job_story::{Event, Froms};
+use std::alloc::{AllocError, Global};
+use story_causes::Causes;
+use story_text::in_order;
+
+// The chart of a story with these events in the order of the walk, and this table.
+pub(crate) fn drawn_as(
+    alloc: Global,
+    form: Form,
+    walked: &[&Event],
+    froms: &Froms,
+    until: Option<u64>,
+) -> Result<Vec<u8>, AllocError>
+    ensures chart { IfOk result (λ bytes. bytes.items ≡ drawn_as form (table_in froms.now) until (map seen walked.now)) }
+    ensures well { IfOk result (λ bytes. IsInForm form bytes.items) }
+{
+    let index = StoryIndex::of(alloc, walked)?;
+    let bars = index.bars(alloc, froms, until)?;
+    match form {
+        Form::Text { width } => chart_text(alloc, width, until, walked, bars.as_slice()),
+        Form::Svg { width } => svg(alloc, width, until, walked, froms, bars.as_slice()),
+    }
+}
+
+// The same as an SVG document, with these bars.
+fn svg<'e>(
+    alloc: Global,
+    width: usize,
+    until: Option<u64>,
+    walked: &[&'e Event],
+    froms: &'e Froms,
+    bars: &[Bar<'_, 'e>],
+) -> Result<Vec<u8>, AllocError>
+    ensures chart { IfOk result (λ bytes. bytes.items
+        ≡ svg.chart_svg width (table_in froms.entry.now) until (map seen walked.now) (map bar_of bars.now)) }
+    ensures well { IfOk result (λ bytes. IsDocument bytes.items) }
+{
+    let sorted = in_order(alloc, walked)?;
+    let causes = Causes::of(alloc, sorted.as_slice(), froms)?;
+    chart_svg(
+        alloc,
+        width,
+        until,
+        walked,
+        sorted.as_slice(),
+        froms,
+        &causes,
+        bars,
+    )
+}
