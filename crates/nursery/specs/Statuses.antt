@@ -11,6 +11,8 @@ use Rattle.nursery_app.specs.Statuses as verdicts
 use Rattle.story_app.specs.declared.verdict.StoryVerdict.{StoryVerdict}
 use Rattle.story_app.specs.Stories as stories
 use Rattle.story_app.specs.Statuses.{story_status_of}
+use Rattle.chart_app.specs.declared.form.Form.{Form}
+use Rattle.chart_app.specs.Charts as charts
 use Rattle.fault_text.specs.declared.deny.Deny.{Deny}
 use Rattle.fault_app.specs.declared.verdict.FaultsVerdict.{FaultsVerdict}
 use Rattle.fault_app.specs.Verdicts as fates
@@ -49,6 +51,11 @@ TellsVerdict text input limit status =
 abbrev pub TellsStory : List ℕ → List ℕ → ℕ → Option (List ℕ) → ℕ → Type 0
 TellsStory text input limit asked status =
     (verdict : StoryVerdict) × (bytes : List ℕ) × stories.IsVerdict text input limit asked verdict bytes × (status ≡ story_status_of verdict)
+
+-- the status is that of the verdict on the chart of the job's meaning
+abbrev pub TellsChart : Form → List ℕ → List ℕ → ℕ → ℕ → Type 0
+TellsChart form text input limit status =
+    (verdict : Verdict) × (bytes : List ℕ) × charts.IsVerdict form text input limit verdict bytes × (status ≡ verdicts.status_of verdict)
 
 -- the status is that of the verdict on the job with each fault
 abbrev pub TellsFaults : List ℕ → List ℕ → ℕ → List ℕ → Deny → ℕ → Type 0

@@ -1,11 +1,12 @@
-//! The program `nursery`: `run` runs a job file over an input file, `explain` tells the story of such a run, `faults` what
+//! The program `nursery`: `run` runs a job file over an input file, `explain` tells the story of such a run, `chart` draws it, `faults` tells what
 //! becomes of the job where any one of its waiting steps fails or hangs, `races` where its outcome hangs on a hair, `sweep` what becomes of
 //! it for each value of one of its numbers, `check` writes a job's canonical text, `upgrade` that of the same job in format 2, and with no
 //! words it serves standard input: a job text, a line that is exactly `%input`, and the input. Its answer goes to standard output, and
-//! what went wrong to standard error. The work is in `nursery_app`, `story_app`, `fault_app`, `race_app` and `sweep_app`.
+//! what went wrong to standard error. The work is in `nursery_app`, `story_app`, `chart_app`, `fault_app`, `race_app` and `sweep_app`.
 #![tactic(auto)]
 
 mod answers;
+mod charts;
 mod faults;
 mod progress;
 mod races;
@@ -14,6 +15,7 @@ mod stop;
 mod sweep;
 
 use crate::answers::{check_job, explain_job, run_feed, run_job, show_help, upgrade_job};
+use crate::charts::chart_job;
 use crate::faults::faults_job;
 use crate::races::races_job;
 use crate::stop::Stop;
@@ -71,6 +73,18 @@ where
             let input = input.as_ref().map(|name| name.as_str());
             let task = task.as_ref().map(|label| label.as_str());
             explain_job(rt, job.as_str(), input, task, settings, order)
+        }
+        Ok(
+            Command::Chart {
+                job,
+                input,
+                width,
+                svg,
+                settings,
+            },
+        ) => {
+            let input = input.as_ref().map(|name| name.as_str());
+            chart_job(rt, job.as_str(), input, width, svg, settings)
         }
         Ok(
             Command::Faults {

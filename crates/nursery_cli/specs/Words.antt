@@ -1,10 +1,11 @@
 -- What the words of a command line may ask for.
-use Rattle.std.specs.Prelude.{◌≡◌, ℕ, ◌≤◌, Bool, not, ◌||◌, List, IsTrue, is_some, codes}
+use Rattle.std.specs.Prelude.{◌≡◌, ℕ, ◌≤◌, Bool, not, ◌||◌, Option, Some, None, List, IsTrue, is_some, codes}
 use Rattle.std.specs.Str.{bytes_eq}
 use Rattle.job_syntax.specs.Keywords.{keyword_of}
 use Rattle.nursery_cli.specs.declared.command.Command.{Command}
-use Rattle.nursery_cli.specs.declared.command.Command.TheVariants.{Feed, Run, Explain, Faults, Races, Sweep, Check, Upgrade, Help}
+use Rattle.nursery_cli.specs.declared.command.Command.TheVariants.{Feed, Run, Explain, Chart, Faults, Races, Sweep, Check, Upgrade, Help}
 use Rattle.nursery_cli.specs.Values.{values_from}
+use Rattle.nursery_cli.specs.declared.parser.TheConstants.{LEAST_WIDTH, MOST_WIDTH}
 
 -- a name that a step may raise: no keyword, and neither of the names that stand for cancellations and deadlines
 abbrev pub may_be_raised : List ℕ → Bool
@@ -15,11 +16,17 @@ abbrev pub AreValues : List ℕ → Type 0
 AreValues values =
     (first : ℕ) × (step : ℕ) × (count : ℕ) × (values ≡ values_from first step count) × (1 ≤ step) × (1 ≤ count) × (count ≤ 100000)
 
--- a faulty step can raise the exception, and a sweep has values
+-- a width that a chart may have, or none
+abbrev pub IsWidth : Option ℕ → Type 0
+IsWidth None = Unit {0}
+IsWidth (Some width) = (LEAST_WIDTH ≤ width) × (width ≤ MOST_WIDTH)
+
+-- a chart is not too wide, a faulty step can raise the exception, and a sweep has values
 abbrev pub IsFit : Command → Type 0
 IsFit Feed = Unit {0}
 IsFit (Run job input settings order) = Unit {0}
 IsFit (Explain job input task settings order) = Unit {0}
+IsFit (Chart job input width svg settings) = IsWidth width
 IsFit (Faults job input name deny settings) = IsTrue (may_be_raised name)
 IsFit (Races job input deny settings) = Unit {0}
 IsFit (Sweep job input target values settings) = AreValues values.items

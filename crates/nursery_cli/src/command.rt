@@ -48,6 +48,19 @@ pub enum Command {
         /// The order of turns.
         order: Order,
     },
+    /// A picture of the run of a job over an input.
+    Chart {
+        /// The job file, or `-` for standard input.
+        job: String,
+        /// The input file, or `-` for standard input; none is an empty input.
+        input: Option<String>,
+        /// How wide the chart is at most, in columns of text, from `LEAST_WIDTH` to `MOST_WIDTH`; none is what is usual.
+        width: Option<usize>,
+        /// Whether an SVG document is asked for, and not a text.
+        svg: bool,
+        /// The number of workers, and the last tick of the chart.
+        settings: Settings,
+    },
     /// What becomes of a job over an input with each fault of its waiting steps.
     Faults {
         /// The job file, or `-` for standard input.

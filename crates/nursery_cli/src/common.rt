@@ -9,7 +9,7 @@ const BOTH_STANDARD: &str =
     "error: JOB and INPUT cannot both be `-`: there is one standard input\n";
 
 // What is wrong with a setting that the parser let through.
-const OUT_OF_RANGE: &str = "error: a setting is out of its range\n";
+pub(crate) const OUT_OF_RANGE: &str = "error: a setting is out of its range\n";
 
 // The number of workers and the limit. Refused are a job and an input that are both standard input, and settings out of their ranges.
 pub(crate) fn settings_of(

@@ -58,6 +58,30 @@ pub(crate) const EXPLAIN_EXAMPLE: &str = "Example: who cancelled `slow`, and whe
       slow  is cancelled while sleeping since 0 by nursery calls (cancelled by fast at 2)
       slow  ends: cancelled";
 
+pub(crate) const CHART_EXAMPLE: &str =
+    "A task is drawn as `|---|`, a scope or nursery as `(===)`; `x` is where a task is cancelled, or from where a
+scope or nursery is, and `!` where an exception is raised. Where the ticks do not all fit, those at which
+the fewest things happen are left out.
+
+Example: one of two calls fails.
+
+    $ cat both.job
+    trio-job 1
+    job both {
+      nursery calls {
+        start user { sleep 3; raise Refused; }
+        start mail { sleep 9; }
+      }
+    }
+    $ nursery chart both.job
+                     0  3 4
+    both             |----| raised calls[Refused(user@3)]
+      nursery calls  (====x caught
+    user             |--! raised Refused(user@3)
+    mail             |----x cancelled
+
+Exit status: as that of `run`; 3 where the job ends later than the limit, and is drawn up to it.";
+
 pub(crate) const FAULTS_EXAMPLE: &str =
     "A fault is a change of one waiting step: an exception is raised in its place (`fails`) or after it
 (`fails late`), it never ends (`hangs`), or the whole job is cancelled from outside (`cancelled`); a

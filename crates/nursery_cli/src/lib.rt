@@ -13,5 +13,5 @@ mod reading;
 mod sweeping;
 
 pub use command::{Command, CommandFault, Order};
-pub use parser::DEFAULT_LIMIT;
+pub use parser::{DEFAULT_LIMIT, LEAST_WIDTH, MOST_WIDTH};
 pub use reading::read_command;

@@ -1,6 +1,6 @@
 use crate::examples::{
-    CHECK_EXAMPLE, EXAMPLE, EXPLAIN_EXAMPLE, FAULTS_EXAMPLE, RACES_EXAMPLE, RUN_EXAMPLE,
-    SWEEP_EXAMPLE, UPGRADE_EXAMPLE,
+    CHART_EXAMPLE, CHECK_EXAMPLE, EXAMPLE, EXPLAIN_EXAMPLE, FAULTS_EXAMPLE, RACES_EXAMPLE,
+    RUN_EXAMPLE, SWEEP_EXAMPLE, UPGRADE_EXAMPLE,
 };
 use clap::{Arg, ArgAction, ArgGroup, Command, value_parser};
 use job_runner::{GREATEST_LIMIT, MOST_WORKERS};
@@ -11,6 +11,12 @@ pub const DEFAULT_LIMIT: u64 = 1_000_000;
 
 // The same, as the help shows it.
 const SHOWN_LIMIT: &str = "1000000";
+
+/// The least width of a chart, in columns of text.
+pub const LEAST_WIDTH: usize = 20;
+
+/// The greatest width of a chart, in columns of text.
+pub const MOST_WIDTH: usize = 1_000;
 
 /// The name of the exception that a faulty step raises where none is asked for.
 pub(crate) const DEFAULT_FAULT: &str = "Fault";
@@ -32,6 +38,7 @@ pub(crate) fn parser<'a>(alloc: Global) -> Result<Command<'a>, AllocError> {
         .subcommand_required(true)
         .subcommand(run_parser(alloc)?)?
         .subcommand(explain_parser(alloc)?)?
+        .subcommand(chart_parser(alloc)?)?
         .subcommand(faults_parser(alloc)?)?
         .subcommand(races_parser(alloc)?)?
         .subcommand(sweep_parser(alloc)?)?
@@ -71,6 +78,30 @@ fn explain_parser<'a>(alloc: Global) -> Result<Command<'a>, AllocError> {
         .arg(task)?
         .arg(workers_option(alloc))?
         .arg(order_option(alloc))?
+        .arg(limit_option(alloc))
+}
+
+// What reads the words after `chart`.
+fn chart_parser<'a>(alloc: Global) -> Result<Command<'a>, AllocError> {
+    let width = Arg::new(alloc, "width")
+        .long("width")
+        .value_name("N")
+        .help(
+            "How wide the chart is at most, 20 to 1000 columns: what COLUMNS says, or else 80, and 400 for an SVG document",
+        )
+        .value_parser(value_parser!(usize).range(LEAST_WIDTH as i64..=MOST_WIDTH as i64));
+    let svg = Arg::new(alloc, "svg")
+        .long("svg")
+        .help("Writes an SVG document, which a browser shows")
+        .action(ArgAction::SetTrue);
+    Command::new(alloc, "chart")
+        .about("Runs a job over an input and draws who ran when, and what was cancelled")
+        .after_help(CHART_EXAMPLE)
+        .arg(job_argument(alloc))?
+        .arg(optional_input(alloc))?
+        .arg(width)?
+        .arg(svg)?
+        .arg(workers_option(alloc))?
         .arg(limit_option(alloc))
 }
 

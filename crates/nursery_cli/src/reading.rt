@@ -1,10 +1,10 @@
 ghost use Rattle.std.specs.Prelude.{◌≡◌, [], Ok, IfOk, IfSome, IsTrue};
 ghost use Rattle.nursery_cli.specs.declared.command.Command.TheVariants.{Feed};
-ghost use Rattle.nursery_cli.specs.Words.{IsFit, IsAsked, may_be_raised};
+ghost use Rattle.nursery_cli.specs.Words.{IsFit, IsAsked, IsWidth, may_be_raised};
 
 use crate::command::{Command, CommandFault, Order};
-use crate::common::{owned, refusal, settings_of};
-use crate::parser::{DEFAULT_FAULT, parser};
+use crate::common::{OUT_OF_RANGE, owned, refusal, settings_of};
+use crate::parser::{DEFAULT_FAULT, LEAST_WIDTH, MOST_WIDTH, parser};
 use crate::sweeping::{target_of, values_of};
 use clap::ArgMatches;
 use clap::error::ErrorKind;
@@ -63,6 +63,7 @@ fn chosen(alloc: Global, matches: &ArgMatches<'_>) -> Result<Command, CommandFau
     match name {
         "run" => run_command(alloc, job, inner),
         "explain" => explain_command(alloc, job, inner),
+        "chart" => chart_command(alloc, job, inner),
         "faults" => faults_command(alloc, job, inner),
         "races" => races_command(alloc, job, inner),
         "sweep" => sweep_command(alloc, job, inner),
@@ -108,6 +109,39 @@ fn explain_command(
         settings,
         order: order_named(matches.get_str("order")),
     })
+}
+
+// The command `chart` with its settings.
+fn chart_command(
+    alloc: Global,
+    job: &str,
+    matches: &ArgMatches<'_>,
+) -> Result<Command, CommandFault>
+    ensures { IfOk result IsAsked }
+{
+    let input = matches.get_str("input");
+    let settings = settings_of(alloc, job, input, matches)?;
+    let width = matches.get_one::<usize>("width");
+    if !is_width(width) {
+        return Err(refusal(alloc, OUT_OF_RANGE));
+    }
+    Ok(Command::Chart {
+        job: String::from_str(alloc, job)?,
+        input: owned(alloc, input)?,
+        width,
+        svg: matches.get_flag("svg"),
+        settings,
+    })
+}
+
+// Whether a chart may have this width, where one is asked for.
+fn is_width(width: Option<usize>) -> bool
+    ensures { IsTrue result → IsWidth width }
+{
+    match width {
+        Some(width) => LEAST_WIDTH <= width && width <= MOST_WIDTH,
+        None => true,
+    }
 }
 
 // The command `faults` with its settings.

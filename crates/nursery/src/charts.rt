@@ -1,0 +1,91 @@
+ghost use Rattle.std.specs.Prelude.{◌≤◌, length, IfOk};
+ghost use Rattle.job_meaning.specs.declared.limits.TheConstants.{MOST_INPUT};
+ghost use Rattle.nursery.specs.Statuses.{TellsChart};
+
+use crate::answers::{read_both, tell_refusal, tell_running};
+use crate::stop::Stop;
+use chart_app::{Form, chart};
+use nursery_app::{Forward, NoGate, Settings, Verdict, WriteOut};
+use nursery_cli::{LEAST_WIDTH, MOST_WIDTH};
+use std::rt::{Env, Files};
+use std::thread::Threads;
+use std::{env, io};
+
+/// The width of a text chart where none is asked for and the terminal does not tell its own.
+const USUAL_WIDTH: usize = 80;
+
+/// The width of an SVG document where none is asked for, in columns of text.
+const USUAL_SVG_WIDTH: usize = 400;
+
+/// Draws the run of a job file over an input file, or over no input, and gives the status.
+pub(crate) fn chart_job<R: Files + Env + Input + Print + Eprint + Threads + Sync + AllocGlobal>(
+    rt: &R,
+    job: &str,
+    input: Option<&str>,
+    width: Option<usize>,
+    svg: bool,
+    settings: Settings,
+) -> Result<u8, Stop> {
+    let given = read_both(rt, job, input)?;
+    let (text, input) = (given.text.as_slice(), given.input.as_slice());
+    let form = form_of(rt, width, svg);
+    chart_text(rt, job, text, input, form, settings)
+}
+
+// The form of a chart, as wide as was asked for, or else as is usual.
+fn form_of<R: Env + AllocGlobal>(rt: &R, width: Option<usize>, svg: bool) -> Form {
+    if svg {
+        return Form::Svg {
+            width: width.unwrap_or(USUAL_SVG_WIDTH),
+        };
+    }
+    match width {
+        Some(width) => Form::Text { width },
+        None => Form::Text {
+            width: terminal_width(rt),
+        },
+    }
+}
+
+// The terminal's width in columns, as the environment tells it in `COLUMNS`.
+fn terminal_width<R: Env + AllocGlobal>(rt: &R) -> usize {
+    let Ok(columns) = env::var(rt, "COLUMNS") else {
+        return USUAL_WIDTH;
+    };
+    match columns.as_str().parse::<usize>() {
+        Ok(width) => width.clamp(LEAST_WIDTH, MOST_WIDTH),
+        Err(_) => USUAL_WIDTH,
+    }
+}
+
+// Draws the run of a job text over an input, and gives the status.
+fn chart_text<R: Print + Eprint + Threads + Sync + AllocGlobal>(
+    rt: &R,
+    job: &str,
+    text: &[u8],
+    input: &[u8],
+    form: Form,
+    settings: Settings,
+) -> Result<u8, Stop>
+    requires { length input.now ≤ MOST_INPUT }
+    ensures { IfOk result (TellsChart form text.now input.now settings.limit) }
+{
+    let mut out = WriteOut::new(io::writer(rt));
+    let verdict = chart(
+        rt,
+        rt.alloc(),
+        text,
+        input,
+        settings,
+        form,
+        &mut Forward,
+        &NoGate,
+        &mut out,
+    )?;
+    match verdict {
+        Verdict::JobRefused(fault) => tell_refusal(rt, job, text, fault),
+        Verdict::Limit => tell_running(rt, text, input, settings, &mut Forward),
+        Verdict::Done | Verdict::Raised => {}
+    }
+    Ok(verdict.status())
+}
