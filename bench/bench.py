@@ -239,6 +239,17 @@ class Bench:
                 events = sum(line.startswith(b"  ") for line in out)
             table.row(name, events, milliseconds(run.seconds), f"{run.seconds * 1e9 / events:.0f}", run.memory // 1024, run.memory * 1024 // events)
 
+    def charts(self):
+        """Charts of jobs with many tasks, as text and as SVG."""
+        table = Table("Work", "form", "ms", "MB", "bytes")
+        for name, starts in [("500 tasks that sleep and are cancelled", 10), ("20,000 tasks that sleep and are cancelled", 400)]:
+            steps = b"repeat %d { nursery n after 3 { start a over 50 { sleep 9; } } }" % starts
+            path = self.file("chart.job", job_of_format_2(steps))
+            for form, words in [("text", ["--width", "80"]), ("text of 1,000 columns", ["--width", "1000"]), ("SVG", ["--svg"])]:
+                run = Run(form, self.program, "chart", path, *words)
+                measure([run], min(self.rounds, 3))
+                table.row(name, form, milliseconds(run.seconds), run.memory // 1024, os.path.getsize(Run.out))
+
     def faults(self):
         """Faults, races and sweeps, by several threads."""
         table = Table("Work", "runs", "threads", "ms", "ms a run")
@@ -302,7 +313,7 @@ def main():
     with tempfile.TemporaryDirectory() as folder:
         Run.out = os.path.join(folder, "out")
         bench = Bench(program, rounds, folder)
-        for table in [bench.lines, bench.turns, bench.large, bench.stories, bench.faults, bench.workers, bench.trio]:
+        for table in [bench.lines, bench.turns, bench.large, bench.stories, bench.charts, bench.faults, bench.workers, bench.trio]:
             print(f"\n{table.__doc__.splitlines()[0]}\n")
             table()
     return 0

@@ -120,6 +120,33 @@ cp raise.job in
 wants 1 "$story" '' explain -
 : > in
 
+# ---- chart
+
+wants 0 '      0\nmain  | done\n' '' chart find.job
+wants 0 '      0\nmain  | done\n' '' chart find.job log.txt --width 20
+drawn='      0  2\nmain  |--! raised Boom(main@2)\n'
+wants 1 "$drawn" '' chart raise.job log.txt
+wants 1 "$drawn" '' chart raise.job --workers 64
+wants 1 '      0  2\nmain  |--! raised ..\n' '' chart raise.job --width 20
+wants 3 '      0 1\nmain  |-- running\nlimit 1\n' 'these tasks have not ended:\n  main  sleeping until 2 since 0\n' chart raise.job --limit 1
+wants 3 '      0                    1000000\nmain  |--------------------- running\nlimit 1000000\n' 'these tasks have not ended:\n  main  sleeping forever since 0\n' chart forever.job
+COLUMNS=20
+export COLUMNS
+wants 1 '      0  2\nmain  |--! raised ..\n' '' chart raise.job
+wants 1 "$drawn" '' chart raise.job --width 80
+COLUMNS=wide
+wants 1 "$drawn" '' chart raise.job
+unset COLUMNS
+cp raise.job in
+wants 1 "$drawn" '' chart -
+: > in
+printf 'trio-job 1\njob both {\n  nursery calls {\n    start user { sleep 3; raise Refused; }\n    start mail { sleep 9; }\n  }\n}\n' > both.job
+both='                 0  3 4\nboth             |----| raised calls[Refused(user@3)]\n  nursery calls  (====x caught\nuser             |--! raised Refused(user@3)\nmail             |----x cancelled\n'
+wants 1 "$both" '' chart both.job
+helps chart "$both"
+words='chart both.job --svg'
+holds 1 out '<svg xmlns="http://www.w3.org/2000/svg"' '<title>both</title>' 'nursery calls is cancelled from 4' '</svg>'
+
 # ---- faults
 
 none='    as it is  0 done\n0 faults: 0 stuck, 0 cut a cleanup, 0 lost, 0 not reached\n'

@@ -1,12 +1,12 @@
 #!/usr/bin/env python3
-"""Compares the jobs, reports, faults, races and sweeps that docs/COOKBOOK.md and README.md show with examples/ and tests/faults/.
+"""Compares the jobs, reports, charts, faults, races and sweeps that docs/COOKBOOK.md and README.md show with examples/ and tests/faults/.
 
     python3 tests/pages/cookbook.py
 
 It wants Python 3.10 or later, and no program: tests/pages/examples.sh compares the stored reports with it. Where a paragraph names an
 example, as (`examples/NAME.feed`), the next two indented blocks are its job, without the first line and the input, and its report; where
-it names a feed as (`tests/faults/NAME.feed`), they are its job and what becomes of it with each fault; and where it names races or a sweep as
-(`examples/NAME.races`), the next indented block is that.
+it names a feed as (`tests/faults/NAME.feed`), they are its job and what becomes of it with each fault; and where it names a chart, races or a sweep as
+(`examples/NAME.chart`), the next indented block is that.
 In the cookbook a block of lines of its story may follow, and stands for each example; there is no other block, and a job has the feed's own
 layout. In README other blocks stand too, and a job may have its line ends elsewhere.
 """
@@ -17,7 +17,7 @@ import sys
 
 ROOT = os.path.join(os.path.dirname(os.path.abspath(__file__)), "..", "..")
 FIRST_LINES = ("trio-job 1\n", "trio-job 2\n")
-NAMED = re.compile(r"\(`(examples|tests/faults)/(\w+)\.(feed|races|sweep)`")
+NAMED = re.compile(r"\(`(examples|tests/faults)/(\w+)\.(feed|chart|races|sweep)`")
 
 
 class Wrong(Exception):

@@ -1,5 +1,5 @@
 #!/bin/sh
-# Each example's report, story, faults and races, by the program that the gate built, and those of tests/stories/, which end at a limit,
+# Each example's report, story, chart, faults and races, by the program that the gate built, and those of tests/stories/, which end at a limit,
 # of tests/faults/ and of tests/races/, and sweeps.
 set -eu
 cd "$(dirname "$0")/../.."
@@ -32,6 +32,24 @@ for name in retry shutdown supervisor; do
 done
 tells tests/stories/endless.feed 3 --limit 100
 
+# draws FEED WORD..: the chart of a feed, with these options, is the one that is stored beside it.
+draws() {
+    feed=$1
+    shift
+    sed '/^%input$/,$d' "$feed" > "$folder/job"
+    sed '1,/^%input$/d' "$feed" > "$folder/input"
+    "$nursery" chart "$folder/job" "$folder/input" "$@" | cmp - "${feed%.feed}.chart"
+    echo "$feed: its chart is as stored"
+}
+
+# pictures NAME: the picture of an example that the pages show is what the program draws.
+pictures() {
+    sed '/^%input$/,$d' "examples/$1.feed" > "$folder/job"
+    sed '1,/^%input$/d' "examples/$1.feed" > "$folder/input"
+    "$nursery" chart --svg "$folder/job" "$folder/input" | cmp - "docs/pictures/$1.svg"
+    echo "docs/pictures/$1.svg is what is drawn"
+}
+
 # faults FEED WORD..: what becomes of a feed's job with each fault, with these options, is what is stored beside it.
 faults() {
     feed=$1
@@ -60,6 +78,12 @@ races() {
     "$nursery" races "$folder/job" "$folder/input" "$@" | cmp - "${feed%.feed}.races"
     echo "$feed: its races are as stored"
 }
+
+for name in cleanup hedge race retry shutdown supervisor; do
+    draws "examples/$name.feed" --width 80
+    draws "examples/$name.feed" --width 200 --workers 64
+done
+for name in retry shutdown supervisor; do pictures "$name"; done
 
 for workers in 1 3 64; do
     for feed in examples/hedge examples/race tests/races/copies tests/races/fallback tests/races/lost; do

@@ -67,6 +67,8 @@ from_little_to_enough run grid.job lines.txt --workers 64
 # A thread that cannot be started is none: the others compute.
 from_little_to_enough run parts.job lines.txt --workers 64
 from_little_to_enough explain grid.job lines.txt
+from_little_to_enough chart grid.job lines.txt
+from_little_to_enough chart grid.job lines.txt --svg
 from_little_to_enough faults few.job lines.txt
 from_little_to_enough races pair.job lines.txt
 from_little_to_enough sweep few.job lines.txt --at 2:40 --values 1..9
@@ -104,6 +106,8 @@ for job in scopes nurseries cleanups handlers sleeps leaves grid; do
     in_little_stack run $job.job log.txt
     in_little_stack run $job.job log.txt --workers 64
     in_little_stack explain $job.job log.txt
+    in_little_stack chart $job.job log.txt
+    in_little_stack chart $job.job log.txt --svg
     in_little_stack faults $job.job log.txt --workers 2
     in_little_stack races $job.job log.txt --workers 2
     in_little_stack check $job.job

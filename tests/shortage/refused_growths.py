@@ -126,6 +126,15 @@ STORIES = {
     "a job past its limit": b"tick 0\n  main  starts\n  main  sleeps until 101\nlimit 100\n  main  sleeping until 101 since 0\n",
 }
 
+# The charts of some of them.
+CHARTS = {
+    "a search": b"      0\nmain  | done\n",
+    "a member that fails": b"             0  2 3\nmain         |----| raised n[Boom(a@2)]\n  nursery n  (====x caught\na            |--! raised Boom(a@2)\n"
+    b"b            |----x cancelled\nc            |--| done\n",
+    "a cleanup with a shield": b"           0   4  7\nmain       |---x--x done\n  scope s  (===x==) caught\n  scope g      (==) passed\n",
+    "a job past its limit": b"      0       100\nmain  |-------- running\nlimit 100\n",
+}
+
 # What becomes of some of them with each fault.
 FAULTS = {
     "a cleanup with a shield": b"               as it is    7 done; cleanup cut: main\n"
@@ -164,9 +173,6 @@ WANT_OF_MEMORY = [b"AllocError", b"AllocFailed", b"NoMemory"]
 # What a test says that wants two threads at once, where the second could not be started.
 ALONE = b"assertion failed: gate."
 
-# The test whose growths are too many for a run each: a `pace` in finer ticks is a thousand passes. The program's own rows have races.
-TOO_MANY = "nursery_tests raced::races_are_told_in_the_order_of_their_places"
-
 # Into how many lanes the growths of a test are dealt, so that several processes share them.
 LANES = 8
 
@@ -203,8 +209,8 @@ def refuse_in_test(shim, test, lane):
 
 
 def refuse_in_tests(shim, crates, pool):
-    """Refuses each growth of all tests but one, several at a time."""
-    tests = [test for test in tests_of(crates) if f"{os.path.basename(test[0])} {test[2]}" != TOO_MANY]
+    """Refuses each growth of all tests, several at a time."""
+    tests = list(tests_of(crates))
     lanes = [[pool.submit(refuse_in_test, shim, test, lane) for lane in range(LANES)] for test in tests]
     total = 0
     for (folder, _, name), runs in zip(tests, lanes):
@@ -232,6 +238,8 @@ def runs_of_program(folder):
             yield f"{name}, run with {workers} workers", words, status, right, status in (2, 3)
         if name in STORIES:
             yield f"{name}, explain", ["explain", job, data, "--limit", "100"], status, STORIES[name], status == 2
+        if name in CHARTS:
+            yield f"{name}, chart", ["chart", job, data, "--limit", "100", "--width", "80"], status, CHARTS[name], status in (2, 3)
         if name in FAULTS:
             for workers in ["1", "3"]:
                 words = ["faults", job, data, "--limit", "100", "--workers", workers]

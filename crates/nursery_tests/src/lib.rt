@@ -1,5 +1,5 @@
-//! The tests of the crates `job_runner`, `job_report`, `nursery_app`, `story_app`, `fault_app`, `race_app`, `sweep_app` and `nursery_cli`,
-//! through what these make public.
+//! The tests of the crates `job_runner`, `job_report`, `nursery_app`, `story_app`, `chart_app`, `fault_app`, `race_app`,
+//! `sweep_app` and `nursery_cli`, through what these make public.
 //!
 //! They show what no clause says: that the reports of worked jobs, worked out by hand, are what the definitions give; how words and
 //! refused texts are answered; what becomes of readers and writers that fail; and, of the layers below too, that a call which was
@@ -10,6 +10,8 @@
 mod again;
 #[cfg(test)]
 mod batchwise;
+#[cfg(test)]
+mod charted;
 #[cfg(test)]
 mod explained;
 #[cfg(test)]

@@ -98,9 +98,9 @@ const TABLES: &[(&str, u8, &[u8])] = &[
     (LOST, 1, OF_LOST),
     (BOTH, 1, OF_BOTH),
     (
-        "trio-job 1\njob m { sleep 3; checkpoint; pace 2; }",
+        "trio-job 1\njob m { sleep 3; checkpoint; }",
         0,
-        b"4 hairs: no race\n",
+        b"3 hairs: no race\n",
     ),
     ("trio-job 1\njob m { sleep 101; }", 3, b"limit 100\n"),
     (

@@ -1,0 +1,166 @@
+//! The charts that `chart` writes of worked jobs: the same under each order of picks, by 1 and by 64 workers.
+
+use crate::fixtures::LIMIT;
+use chart_app::{Form, chart};
+use job_report::{MemOut, Out};
+use job_runner::{Forward, NoGate, Pick, Reverse, Settings};
+use nursery_app::{ServeFault, Verdict};
+use std::process::Abort;
+use std::test::Fail;
+use std::thread::Threads;
+
+// Calls `chart` with a writer that has not failed.
+fn charted_into<R: Abort + Threads + Sync + AllocGlobal, P: Pick>(
+    rt: &R,
+    text: &[u8],
+    form: Form,
+    settings: Settings,
+    picker: &mut P,
+    out: &mut MemOut,
+) -> Result<Verdict, ServeFault> {
+    assert!(rt; out.failures() == 0);
+    chart(
+        rt,
+        rt.alloc(),
+        text,
+        b"",
+        settings,
+        form,
+        picker,
+        &NoGate,
+        out,
+    )
+}
+
+// Calls `chart`. Where memory is refused nothing was sent, and it is called again.
+fn charted<R: Abort + Threads + Sync + AllocGlobal, P: Pick>(
+    rt: &R,
+    text: &[u8],
+    form: Form,
+    settings: Settings,
+    picker: &mut P,
+    out: &mut MemOut,
+) -> Result<Verdict, ServeFault> {
+    let verdict = charted_into(rt, text, form, settings, picker, out);
+    if !matches!(verdict, Err(ServeFault::NoMemory)) {
+        return verdict;
+    }
+    assert!(rt; out.taken().is_empty());
+    charted_into(rt, text, form, settings, picker, out)
+}
+
+// The status and the chart of a job text.
+fn drawn<R: Abort + Threads + Sync + AllocGlobal, P: Pick>(
+    rt: &R,
+    text: &[u8],
+    form: Form,
+    workers: usize,
+    picker: &mut P,
+) -> Result<(u8, MemOut), Fail> {
+    let settings = Settings::new(workers, LIMIT).ok_or("settings")?;
+    let mut out = MemOut::new(rt.alloc(), 1_000_000, 7, None)?;
+    let verdict = charted(rt, text, form, settings, picker, &mut out)?;
+    Ok((verdict.status(), out))
+}
+
+const FAILS: &str =
+    "trio-job 1\njob m { nursery n { start a { sleep 2; raise A; } start b { forever; } } }";
+
+const WHOLE: &[u8] = b"             0  2 3
+m            |----| raised n[A(a@2)]
+  nursery n  (====x caught
+a            |--! raised A(a@2)
+b            |----x cancelled
+";
+
+const CLEANS: &str =
+    "trio-job 1\njob m { scope s after 1 { try { forever; } finally { scope c shield { sleep 8; } } } }";
+
+const CLEANED: &[u8] = b"           0 1    9
+m          |-x----| done
+  scope s  (=x====) caught
+  scope c    (====) passed
+";
+
+const LATE: &[u8] = b"   0       100
+m  |-------- running
+limit 100
+";
+
+// There is room for two ticks.
+const NARROW: &str = "trio-job 1\njob m { sleep 1; sleep 1; raise A; }";
+
+const NARROWED: &[u8] = b"   0  2
+m  |--! raised A(m..
+1 of 3 ticks are l..
+";
+
+// A job text, how wide its chart is, the status, and the chart.
+const CHARTS: &[(&str, usize, u8, &[u8])] = &[
+    ("trio-job 1\njob m { }", 80, 0, b"   0\nm  | done\n"),
+    (FAILS, 80, 1, WHOLE),
+    (CLEANS, 80, 0, CLEANED),
+    (NARROW, 20, 1, NARROWED),
+    (
+        "trio-job 1\njob m { cancel x; }",
+        80,
+        2,
+        b"refused J9 NotEnclosing at 26\n",
+    ),
+    ("trio-job 1\njob m { sleep 101; }", 80, 3, LATE),
+];
+
+#[test]
+fn a_chart_has_a_row_for_each_bar(rt: HostRuntime) -> Result<(), Fail> {
+    for &(text, width, status, expected) in CHARTS {
+        let form = Form::Text { width };
+        let (drawn_with, out) = drawn(&rt, text.as_bytes(), form, 1, &mut Forward)?;
+        assert_eq!(rt; drawn_with, status);
+        assert_eq!(rt; out.taken(), expected);
+        let (drawn_with, out) = drawn(&rt, text.as_bytes(), form, 64, &mut Reverse)?;
+        assert_eq!(rt; drawn_with, status);
+        assert_eq!(rt; out.taken(), expected);
+    }
+    Ok(())
+}
+
+// Whether some bytes begin and end so.
+fn is_between(bytes: &[u8], first: &[u8], last: &[u8]) -> bool {
+    bytes.starts_with(first) && bytes.ends_with(last)
+}
+
+#[test]
+fn a_drawing_is_an_svg_document(rt: HostRuntime) -> Result<(), Fail> {
+    let form = Form::Svg { width: 80 };
+    let (status, out) = drawn(&rt, FAILS.as_bytes(), form, 1, &mut Forward)?;
+    assert_eq!(rt; status, 1);
+    assert!(rt;
+        is_between(
+            out.taken(),
+            b"<svg xmlns=\"http://www.w3.org/2000/svg\"",
+            b"</svg>"
+        )
+    );
+    Ok(())
+}
+
+// The first ten bytes of the chart.
+const FRONT: &[u8] = b"          ";
+
+#[test]
+fn a_writer_that_fails_has_the_front_of_a_chart(rt: HostRuntime) -> Result<(), Fail> {
+    let settings = Settings::new(1, LIMIT).ok_or("settings")?;
+    let mut out = MemOut::new(rt.alloc(), 10, 7, None)?;
+    let form = Form::Text { width: 80 };
+    let stopped = charted(
+        &rt,
+        FAILS.as_bytes(),
+        form,
+        settings,
+        &mut Forward,
+        &mut out,
+    );
+    assert!(rt; matches!(stopped, Err(ServeFault::Send { sent: 10 })));
+    assert_eq!(rt; out.taken(), FRONT);
+    Ok(())
+}
