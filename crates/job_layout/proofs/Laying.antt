@@ -1,0 +1,238 @@
+-- Laid out tokens are the tokens of the job, each apart from the one before it.
+use Rattle.std.proofs.Common.{◌≡◌, ℕ, ◌+◌, Bool, true, false, cond, List, [], ◌∷◌, ◌++◌, Option, Some, None, refl, sym, ap, ◌∙◌, append_assoc, append-nil}
+use Rattle.job_tree.specs.declared.deadline.Deadline.TheVariants.{Never, After, At}
+use Rattle.job_tree.specs.Tree.{Step, scope, nursery, start, repeat, attempt, Steps, stop, step, Handled, unhandled, except, Cleaned, uncleaned, finally, Tree}
+use Rattle.job_tokens.specs.declared.token.Mark.TheVariants as mark
+use Rattle.job_tokens.specs.declared.token.Shape.{Shape}
+use Rattle.job_tokens.specs.declared.token.Shape.TheVariants as shape
+use Rattle.job_syntax.specs.declared.keyword.Keyword.TheVariants as word
+use Rattle.job_syntax.specs.declared.role.Role.TheVariants as role
+use Rattle.job_syntax.specs.Pieces.{Piece, shapes_in as pieces_shapes, keyword, named, opens, closes, ends, steps_pieces, handler_pieces, cleanup_pieces, job_pieces}
+use Rattle.job_layout.specs.Heads.{head_onto, tail_onto, head_of, is_plain}
+use Rattle.job_layout.proofs.Tails.{head_and_tail}
+use Rattle.job_layout.specs.declared.spaced.Gap.TheVariants as gaps
+use Rattle.job_layout.specs.declared.spaced.SpacedToken.{SpacedToken}
+use Rattle.job_layout.specs.Spaced.{spaced, after_gap, mark_after}
+use Rattle.job_layout.specs.Layout.{opened, ended, plain_block, one_line, fits, fitting, line_or, with_block, step_line, with_steps, with_rest, with_handler, with_cleanup, job_tokens}
+use Rattle.job_layout.proofs.Lexes.{shapes_in, AreApart, AreApartBehind}
+
+abbrev Print : Type 0
+Print = List Piece → List Piece
+
+-- From some tokens and what is left to print, to more tokens and less that is left; and the tokens stay apart behind the first.
+record Lays (old : List SpacedToken) (all : Print) (new : List SpacedToken) (left : Print) : Type 0 where
+  pub same : (rest : List Piece) → shapes_in old ++ pieces_shapes (all rest) ≡ shapes_in new ++ pieces_shapes (left rest)
+  pub apart : AreApartBehind old → AreApartBehind new
+
+lays_none : (old : List SpacedToken) (print : Print) → Lays old print old print
+lays_none old print = record { same = λ rest. refl; apart = λ apart. apart }
+
+lays_both : (a b c : List SpacedToken) (p q r : Print) → Lays a p b q → Lays b q c r → Lays a p c r
+lays_both a b c p q r one two = record { same = λ rest. one.same rest ∙ two.same rest; apart = λ apart. two.apart (one.apart apart) }
+
+-- ---- tokens behind others
+
+shapes_append : (xs ys : List SpacedToken) → shapes_in (xs ++ ys) ≡ shapes_in xs ++ shapes_in ys
+shapes_append [] ys = refl
+shapes_append (x ∷ xs) ys = ap (λ (ss : List Shape). x.shape ∷ ss) (shapes_append xs ys)
+
+apart_append : (xs ys : List SpacedToken) → AreApart xs → AreApart ys → AreApart (xs ++ ys)
+apart_append [] ys p q = q
+apart_append (x ∷ xs) ys p q = (p.0, apart_append xs ys p.1 q)
+
+behind_append : (xs ys : List SpacedToken) → AreApartBehind xs → AreApart ys → AreApartBehind (xs ++ ys)
+behind_append [] [] p q = tt
+behind_append [] (y ∷ ys) p q = q.1
+behind_append (x ∷ xs) ys p q = apart_append xs ys p q
+
+-- tokens that print the first of what is left
+lays_more : (old more : List SpacedToken) (all left : Print) →
+    ((rest : List Piece) → pieces_shapes (all rest) ≡ shapes_in more ++ pieces_shapes (left rest)) → AreApart more →
+    Lays old all (old ++ more) left
+lays_more old more all left prints apart = record {
+  same = λ rest. ap (λ (ss : List Shape). shapes_in old ++ ss) (prints rest)
+      ∙ sym (append_assoc (shapes_in old) (shapes_in more) (pieces_shapes (left rest)))
+      ∙ ap (λ (ss : List Shape). ss ++ pieces_shapes (left rest)) (sym (shapes_append old more));
+  apart = λ are. behind_append old more are apart;
+}
+
+-- ---- heads
+
+spaced_shapes : (ss : List Shape) → shapes_in (spaced ss) ≡ ss
+spaced_shapes [] = refl
+spaced_shapes (s ∷ ss) = ap (λ (x : List Shape). s ∷ x) (spaced_shapes ss)
+
+spaced_apart : (ss : List Shape) → AreApart (spaced ss)
+spaced_apart [] = tt
+spaced_apart (s ∷ ss) = (tt, spaced_apart ss)
+
+line_shapes : (level : ℕ) (ss : List Shape) → shapes_in (after_gap (gaps.Line level) ss) ≡ ss
+line_shapes level [] = refl
+line_shapes level (s ∷ ss) = ap (λ (x : List Shape). s ∷ x) (spaced_shapes ss)
+
+line_apart : (level : ℕ) (ss : List Shape) → AreApart (after_gap (gaps.Line level) ss)
+line_apart level [] = tt
+line_apart level (s ∷ ss) = (tt, spaced_apart ss)
+
+-- the head of a step in front of other tokens is the head alone and those tokens
+head_front : (s : Step) (rest : List Piece) → pieces_shapes (head_onto s rest) ≡ head_of s ++ pieces_shapes rest
+head_front (scope name Never false false body) rest = refl
+head_front (scope name Never false true body) rest = refl
+head_front (scope name Never true false body) rest = refl
+head_front (scope name Never true true body) rest = refl
+head_front (scope name (After n) false false body) rest = refl
+head_front (scope name (After n) false true body) rest = refl
+head_front (scope name (After n) true false body) rest = refl
+head_front (scope name (After n) true true body) rest = refl
+head_front (scope name (At n) false false body) rest = refl
+head_front (scope name (At n) false true body) rest = refl
+head_front (scope name (At n) true false body) rest = refl
+head_front (scope name (At n) true true body) rest = refl
+head_front (nursery name Never false body) rest = refl
+head_front (nursery name Never true body) rest = refl
+head_front (nursery name (After n) false body) rest = refl
+head_front (nursery name (After n) true body) rest = refl
+head_front (nursery name (At n) false body) rest = refl
+head_front (nursery name (At n) true body) rest = refl
+head_front (start name None body) rest = refl
+head_front (start name (Some n) body) rest = refl
+head_front _ rest = refl
+
+plain_tail : (s : Step) (rest : List Piece) → is_plain s ≡ true → tail_onto s rest ≡ ends ∷ rest
+plain_tail (scope name deadline shield fail body) rest is = absurd cc
+plain_tail (nursery name deadline shield body) rest is = absurd cc
+plain_tail (start name over body) rest is = absurd cc
+plain_tail (repeat count body) rest is = absurd cc
+plain_tail (attempt body handler cleanup) rest is = absurd cc
+plain_tail _ rest is = refl
+
+-- ---- blocks
+
+abbrev block_onto : Steps → Print
+block_onto body rest = opens ∷ steps_pieces body rest
+
+-- a line that prints a block
+abbrev PrintsBlock : Steps → List SpacedToken → Type 0
+PrintsBlock body line = ((rest : List Piece) → pieces_shapes (block_onto body rest) ≡ shapes_in line ++ pieces_shapes rest) × AreApart line
+
+abbrev PrintsIfSome : Steps → Option (List SpacedToken) → Type 0
+PrintsIfSome body None = Unit {0}
+PrintsIfSome body (Some line) = PrintsBlock body line
+
+plain_prints : (s : Step) (plain : Bool) → is_plain s ≡ plain → PrintsIfSome (step s stop) (plain_block plain (head_of s))
+plain_prints s false is = tt
+plain_prints s true is = (
+  λ rest. ap (λ (ps : List Piece). pieces_shapes (opens ∷ ps))
+      (head_and_tail s (closes ∷ rest) ∙ ap (head_onto s) (plain_tail s (closes ∷ rest) is))
+      ∙ ap (λ (ss : List Shape). shape.Mark mark.Open ∷ ss) (head_front s (ends ∷ closes ∷ rest) ∙ around rest),
+  (tt, apart_append (spaced (head_of s)) (ended ∷ mark_after gaps.Space mark.Close ∷ []) (spaced_apart (head_of s)) (refl, (tt, tt))),
+)
+  where
+    last : List SpacedToken
+    last = ended ∷ mark_after gaps.Space mark.Close ∷ []
+
+    around : (rest : List Piece) → head_of s ++ pieces_shapes (ends ∷ closes ∷ rest) ≡ shapes_in (spaced (head_of s) ++ last) ++ pieces_shapes rest
+    around rest = sym (append_assoc (head_of s) (shapes_in last) (pieces_shapes rest))
+        ∙ ap (λ (ss : List Shape). (ss ++ shapes_in last) ++ pieces_shapes rest) (sym (spaced_shapes (head_of s)))
+        ∙ ap (λ (ss : List Shape). ss ++ pieces_shapes rest) (sym (shapes_append (spaced (head_of s)) last))
+
+line_prints : (body : Steps) → PrintsIfSome body (one_line body)
+line_prints stop = (λ rest. refl, (tt, (refl, tt)))
+line_prints (step s stop) = plain_prints s (is_plain s) refl
+line_prints (step s (step t ss)) = tt
+
+fitting_prints : (body : Steps) (old : List SpacedToken) (line : Option (List SpacedToken)) → PrintsIfSome body line →
+    PrintsIfSome body (fitting old line)
+fitting_prints body old None prints = tt
+fitting_prints body old (Some line) prints = by_test (fits old line)
+  where
+    by_test : (fit : Bool) → PrintsIfSome body (cond fit (Some line) None)
+    by_test true = prints
+    by_test false = tt
+
+-- the steps of a block, where their tokens are laid out behind any others
+abbrev LaysSteps : Steps → (List SpacedToken → List SpacedToken) → Type 0
+LaysSteps body steps = (before : List SpacedToken) → Lays before (steps_pieces body) (steps before) (steps_pieces stop)
+
+block_lays : (level : ℕ) (body : Steps) (steps : List SpacedToken → List SpacedToken) (left : Print) → LaysSteps body steps →
+    (old : List SpacedToken) → Lays old (λ rest. block_onto body (left rest)) (with_block level body steps old) left
+block_lays level body steps left lays old = by_line (fitting old (one_line body)) (fitting_prints body old (one_line body) (line_prints body))
+  where
+    by_line : (line : Option (List SpacedToken)) → PrintsIfSome body line →
+        Lays old (λ rest. block_onto body (left rest)) (line_or level line steps old) left
+    by_line (Some line) prints = lays_more old line (λ rest. block_onto body (left rest)) left (λ rest. prints.0 (left rest)) prints.1
+    by_line None prints =
+        let inner = old ++ opened ∷ [] in
+        lays_both old inner (line_or level None steps old) (λ rest. block_onto body (left rest)) (λ rest. steps_pieces body (left rest)) left
+        (lays_more old (opened ∷ []) (λ rest. block_onto body (left rest)) (λ rest. steps_pieces body (left rest)) (λ rest. refl) (tt, tt))
+        (lays_both inner (steps inner) (line_or level None steps old) (λ rest. steps_pieces body (left rest)) (λ rest. closes ∷ left rest) left
+        (record { same = λ rest. (lays inner).same (left rest); apart = (lays inner).apart })
+        (lays_more (steps inner) (mark_after (gaps.Line level) mark.Close ∷ []) (λ rest. closes ∷ left rest) left (λ rest. refl) (tt, tt)))
+
+-- ---- steps
+
+mutual
+  steps_lay : (level : ℕ) (ss : Steps) → LaysSteps ss (with_steps level ss)
+  steps_lay level stop before = lays_none before (steps_pieces stop)
+  steps_lay level (step s ss) before =
+      let line = step_line level s in
+      let all = steps_pieces (step s ss) in
+      let behind : Print = λ rest. tail_onto s (steps_pieces ss rest) in
+      lays_both before (before ++ line) (with_steps level (step s ss) before) all behind (steps_pieces stop)
+      (lays_more before line all behind (λ rest. ap pieces_shapes (head_and_tail s (steps_pieces ss rest))
+      ∙ head_front s (tail_onto s (steps_pieces ss rest))
+      ∙ ap (λ (xs : List Shape). xs ++ pieces_shapes (tail_onto s (steps_pieces ss rest))) (sym (line_shapes level (head_of s))))
+      (line_apart level (head_of s)))
+      (lays_both (before ++ line) (with_rest level s (before ++ line)) (with_steps level (step s ss) before) behind (steps_pieces ss) (steps_pieces stop)
+      (rest_lays level s (steps_pieces ss) (before ++ line)) (steps_lay level ss (with_rest level s (before ++ line))))
+
+  rest_lays : (level : ℕ) (s : Step) (left : Print) (before : List SpacedToken) →
+      Lays before (λ rest. tail_onto s (left rest)) (with_rest level s before) left
+  rest_lays level (scope name deadline shield fail body) left before =
+      block_lays level body (with_steps (level + 1) body) left (steps_lay (level + 1) body) before
+  rest_lays level (nursery name deadline shield body) left before =
+      block_lays level body (with_steps (level + 1) body) left (steps_lay (level + 1) body) before
+  rest_lays level (start name over body) left before =
+      block_lays level body (with_steps (level + 1) body) left (steps_lay (level + 1) body) before
+  rest_lays level (repeat count body) left before =
+      block_lays level body (with_steps (level + 1) body) left (steps_lay (level + 1) body) before
+  rest_lays level (attempt body handler cleanup) left before =
+      let tried = with_block level body (with_steps (level + 1) body) before in
+      let handled = with_handler level handler tried in
+      lays_both before tried (with_cleanup level cleanup handled) (λ rest. tail_onto (attempt body handler cleanup) (left rest))
+      (λ rest. handler_pieces handler (cleanup_pieces cleanup (left rest))) left
+      (block_lays level body (with_steps (level + 1) body) (λ rest. handler_pieces handler (cleanup_pieces cleanup (left rest)))
+      (steps_lay (level + 1) body) before)
+      (lays_both tried handled (with_cleanup level cleanup handled) (λ rest. handler_pieces handler (cleanup_pieces cleanup (left rest)))
+      (λ rest. cleanup_pieces cleanup (left rest)) left
+      (handler_lays level handler (λ rest. cleanup_pieces cleanup (left rest)) tried) (cleanup_lays level cleanup left handled))
+  rest_lays level _ left before = lays_more before (ended ∷ []) (λ rest. ends ∷ left rest) left (λ rest. refl) (refl, tt)
+
+  handler_lays : (level : ℕ) (handler : Handled) (left : Print) (before : List SpacedToken) →
+      Lays before (λ rest. handler_pieces handler (left rest)) (with_handler level handler before) left
+  handler_lays level unhandled left before = lays_none before left
+  handler_lays level (except name body) left before =
+      let words = after_gap gaps.Space (pieces_shapes (keyword word.Except ∷ named role.Handled name ∷ [])) in
+      lays_both before (before ++ words) (with_handler level (except name body) before) (λ rest. handler_pieces (except name body) (left rest))
+      (λ rest. block_onto body (left rest)) left
+      (lays_more before words (λ rest. handler_pieces (except name body) (left rest)) (λ rest. block_onto body (left rest)) (λ rest. refl) (tt, (tt, tt)))
+      (block_lays level body (with_steps (level + 1) body) left (steps_lay (level + 1) body) (before ++ words))
+
+  cleanup_lays : (level : ℕ) (cleanup : Cleaned) (left : Print) (before : List SpacedToken) →
+      Lays before (λ rest. cleanup_pieces cleanup (left rest)) (with_cleanup level cleanup before) left
+  cleanup_lays level uncleaned left before = lays_none before left
+  cleanup_lays level (finally body) left before =
+      let words = after_gap gaps.Space (pieces_shapes (keyword word.Finally ∷ [])) in
+      lays_both before (before ++ words) (with_cleanup level (finally body) before) (λ rest. cleanup_pieces (finally body) (left rest))
+      (λ rest. block_onto body (left rest)) left
+      (lays_more before words (λ rest. cleanup_pieces (finally body) (left rest)) (λ rest. block_onto body (left rest)) (λ rest. refl) (tt, tt))
+      (block_lays level body (with_steps (level + 1) body) left (steps_lay (level + 1) body) (before ++ words))
+
+-- ---- a job
+
+-- the tokens of a job are those that it prints, and each but the first is apart
+pub job_lays : (job : Tree) → (shapes_in (job_tokens job) ≡ pieces_shapes (job_pieces job)) × AreApartBehind (job_tokens job)
+job_lays job =
+    let words = after_gap gaps.Joined (pieces_shapes (keyword word.Job ∷ named role.Given job.name ∷ [])) in
+    let laid = block_lays 0 job.steps (with_steps 1 job.steps) (λ rest. rest) (steps_lay 1 job.steps) words in
+    (sym (laid.same [] ∙ append-nil (shapes_in (job_tokens job))), laid.apart (tt, tt))

@@ -1,0 +1,7 @@
+pub mod Rereading
+pub mod Lexes
+pub mod Tails
+pub mod Laying
+pub mod Passed
+pub mod Formatted
+pub mod Counting

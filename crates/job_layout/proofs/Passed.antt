@@ -1,0 +1,139 @@
+-- A text with the tokens of a job that some text spells spells it too.
+use Rattle.std.proofs.Common.{◌≡◌, ℕ, ◌+◌, ◌≤◌, Bool, true, false, cond, List, [], ◌∷◌, ◌++◌, length, take, drop, Option, Some, None, inl, inr, refl, sym, ap, subst, ◌∙◌, arith}
+use Rattle.std.specs.List.{prefix_len, list_all}
+use Rattle.std.proofs.lemmas.List.{length-append}
+use Rattle.std.proofs.lemmas.Bool.{cases_lt}
+use Rattle.job_tree.specs.declared.format.Format.{Format}
+use Rattle.job_tree.specs.declared.format.Format.TheVariants.{One, Two}
+use Rattle.job_tree.specs.Tree.{Tree}
+use Rattle.job_tree.specs.Modest.{most_steps}
+use Rattle.job_tokens.specs.declared.token.Shape.{Shape}
+use Rattle.job_tokens.specs.declared.token.Shape.TheVariants as shape
+use Rattle.job_tokens.specs.declared.token.Token.{Token}
+use Rattle.job_tokens.specs.Shapes.{shapes_of}
+use Rattle.job_tokens.specs.Lexing.{Lexes}
+use Rattle.job_tokens.proofs.Round_bytes.{and_parts}
+use Rattle.job_tokens.proofs.Round_tokens.{IsWritable, AreWritable}
+use Rattle.job_tokens.proofs.Shortest_tokens.{IsSpelled, AreSpelled}
+use Rattle.job_tree.specs.Names.{size_of}
+use Rattle.job_syntax.specs.declared.keyword.Keyword.{Keyword}
+use Rattle.job_syntax.specs.Syntax.{fault_at, whole_job}
+use Rattle.job_syntax.specs.Ranges.{number_fault, is_in_range, keyword_in}
+use Rattle.job_syntax.specs.Depth.{depth_fault}
+use Rattle.job_syntax.proofs.Places.{fault_at-text}
+use Rattle.job_syntax.proofs.Names.{text_of_job}
+use Rattle.job_syntax.proofs.Modest.{numbers_by_shapes}
+use Rattle.job_syntax.proofs.Deep.{depth_by_shapes}
+use Rattle.job_checks.specs.Given.{twice_in}
+use Rattle.job_checks.specs.Cancels.{cancels_of}
+use Rattle.job_checks.specs.Reserved.{reserved_in}
+use Rattle.job_checks.proofs.ByShapes.{twice_by_shapes, stray_by_shapes, reserved_by_shapes}
+use Rattle.job_grammar.specs.declared.fault.JobKind.{JobKind}
+use Rattle.job_grammar.specs.declared.fault.JobKind.TheVariants as kind
+use Rattle.job_grammar.specs.Refusals.{most_bytes, first_line, format_of, is_ascii, HasTokens, AreTokensOf, IsOf, roles_of, stray_of, Finds, Spells}
+use Rattle.job_grammar.proofs.Passing.{format_is, none_of, small_enough, passes_one, passes_two, passes_three, passes_tokens, passes_numbers, passes_syntax, passes_depth, passes_given, passes_cancels, passes_reserved, passes_size, passes_all}
+
+no_some : (x : ℕ) → None ≡ Some x → ⊥
+no_some x e = cc
+
+-- a test that went on
+went_on : (b : Bool) (o : Option ℕ) (at : ℕ) → cond b o (Some at) ≡ None → (b ≡ true) × (o ≡ None)
+went_on true o at e = (refl, e)
+went_on false o at e = absurd (no_some at (sym e))
+
+-- what the passes along tokens of a job find nothing in
+pub record PassesTokens (ts : List Token) (job : Tree) : Type 0 where
+  pub numbers : number_fault job.format None ts ≡ None
+  pub depth : depth_fault 0 ts ≡ None
+  pub given : twice_in [] ts (roles_of job) ≡ None
+  pub cancels : stray_of job ts (roles_of job) ≡ None
+  pub reserved : reserved_in ts (roles_of job) ≡ None
+  pub size : size_of job.steps ≤ most_steps job.format
+
+-- it does not depend on their places
+by_shapes : (ts us : List Token) (job : Tree) → shapes_of ts ≡ shapes_of us → PassesTokens ts job → PassesTokens us job
+by_shapes ts us job e old = record {
+  numbers = numbers_by_shapes job.format None ts us e old.numbers;
+  depth = depth_by_shapes 0 ts us e old.depth;
+  given = twice_by_shapes [] ts us (roles_of job) e old.given;
+  cancels = stray_by_shapes (cancels_of [] job.steps) ts us (roles_of job) e old.cancels;
+  reserved = reserved_by_shapes ts us (roles_of job) e old.reserved;
+  size = old.size;
+}
+
+pub passed : (text : List ℕ) (ts : List Token) (job : Tree) → IsOf text ts job → ((k : JobKind) (at : ℕ) → Finds k text at → ⊥) →
+    PassesTokens ts job
+passed text ts job is_of none = record {
+  numbers = none_of (number_fault job.format None ts) (λ at e. none kind.Number at
+      (ts, is_of.0, ap (λ (format : Format). number_fault format None ts) (sym is_of.2) ∙ e));
+  depth = none_of (depth_fault 0 ts) (λ at e. none kind.Depth at (ts, is_of.0, e));
+  given = none_of (twice_in [] ts (roles_of job)) (λ at e. none kind.Twice at (ts, job, is_of, e));
+  cancels = none_of (stray_of job ts (roles_of job)) (λ at e. none kind.NotEnclosing at (ts, job, is_of, e));
+  reserved = none_of (reserved_in ts (roles_of job)) (λ at e. none kind.Reserved at (ts, job, is_of, e));
+  size = small_enough (most_steps job.format) (size_of job.steps) (λ lt. none kind.TooLarge 0 (ts, job, is_of, lt, refl));
+}
+
+-- numbers in their ranges are written
+writable : (format : Format) (before : Option Keyword) (s : Shape) → IsSpelled s → is_in_range format before s ≡ true → IsWritable s
+writable format before (shape.Word word) is in_range = is
+writable format before (shape.Number None) is in_range = absurd cc
+writable format before (shape.Number (Some n)) is in_range = is
+writable format before (shape.Text text) is in_range = is
+writable format before (shape.Mark mark) is in_range = is
+
+pub all_writable : (format : Format) (before : Option Keyword) (ts : List Token) → AreSpelled ts → number_fault format before ts ≡ None →
+    AreWritable (shapes_of ts)
+all_writable format before [] are none = tt
+all_writable format before (t ∷ ts) are none =
+    let parts = went_on (is_in_range format before t.shape) (number_fault format (keyword_in t.shape) ts) t.at none in
+    (writable format before t.shape are.0 parts.0, all_writable format (keyword_in t.shape) ts are.1 parts.1)
+
+all_ascii : (bytes : List ℕ) → list_all is_ascii bytes ≡ true → length bytes ≤ prefix_len is_ascii bytes
+all_ascii [] all = omega arith
+all_ascii (b ∷ bytes) all =
+    let parts = and_parts (is_ascii b) (list_all is_ascii bytes) all in
+    rw parts.0 (omega (arith, all_ascii bytes parts.1))
+
+-- a text that passes each test spells the job of its tokens
+passing_spells : (text : List ℕ) (ts : List Token) (job : Tree) → length text ≤ most_bytes → length text ≤ prefix_len is_ascii text →
+    take 11 text ≡ first_line job.format → IsOf text ts job → PassesTokens ts job → Spells text job
+passing_spells text ts job short ascii headed is_of found =
+    let lexed = is_of.0 in
+    let numbers : number_fault (format_of text) None ts ≡ None =
+    subst (λ (format : Format). number_fault format None ts ≡ None) is_of.2 found.numbers in
+    let grammatical : fault_at (format_of text) (length text) whole_job ts ≡ None =
+    subst (λ (format : Format). fault_at format (length text) whole_job ts ≡ None) is_of.2
+    (fault_at-text job.format (length text) whole_job ts (text_of_job (shapes_of ts) job is_of.1.0 is_of.1.1)) in
+    let three = passes_three text job.format (passes_two text (passes_one text short) ascii) headed in
+    let five = passes_numbers text ts (passes_tokens text ts three lexed) lexed numbers in
+    let seven = passes_depth text ts (passes_syntax text ts five lexed grammatical) lexed found.depth in
+    let nine = passes_cancels text ts job (passes_given text ts job seven is_of found.given) is_of found.cancels in
+    (ts, is_of, passes_all text (passes_size text ts job (passes_reserved text ts job nine is_of found.reserved) is_of found.size))
+
+pub short_enough : (text : List ℕ) → ((at : ℕ) → Finds kind.TooLong text at → ⊥) → length text ≤ most_bytes
+short_enough text never = elim (cases_lt most_bytes (length text)) [ inl lt ↦ absurd (never most_bytes (lt, refl)) | inr le ↦ le ]
+
+-- what is known of a first line in front of other bytes
+record IsHeaded (format : Format) (body : List ℕ) : Type 0 where
+  pub line : take 11 (first_line format ++ body) ≡ first_line format
+  pub rest : drop 11 (first_line format ++ body) ≡ body
+  pub long : length (first_line format ++ body) ≡ 11 + length body
+  pub small : list_all is_ascii (first_line format ++ body) ≡ list_all is_ascii body
+
+headed_by : (format : Format) (body : List ℕ) → IsHeaded format body
+headed_by One body = record { line = refl; rest = refl; long = length-append (first_line One) body; small = refl }
+headed_by Two body = record { line = refl; rest = refl; long = length-append (first_line Two) body; small = refl }
+
+-- the first line, and tokens behind it
+pub headed_spells : (limit : ℕ) (body : List ℕ) (job : Tree) (old : List Token) → limit ≤ most_bytes → 11 + length body ≤ limit →
+    list_all is_ascii body ≡ true
+    → (ts : List Token) → Lexes (11 + length body) body ts None → shapes_of ts ≡ shapes_of old → AreTokensOf old job →
+    PassesTokens old job → Spells (first_line job.format ++ body) job
+headed_spells limit body job old most short ascii ts lexed same are found =
+    let text : List ℕ = first_line job.format ++ body in
+    let headed = headed_by job.format body in
+    let tokens : HasTokens text ts None =
+    subst (λ (n : ℕ). Lexes n (drop 11 text) ts None) (sym headed.long)
+    (subst (λ (bytes : List ℕ). Lexes (11 + length body) bytes ts None) (sym headed.rest) lexed) in
+    passing_spells text ts job (omega (arith, headed.long, short, most)) (all_ascii text (headed.small ∙ ascii)) headed.line
+    (tokens, (are.0, same ∙ are.1), format_is text job.format headed.line) (by_shapes old ts job (sym same) found)

@@ -1,0 +1,133 @@
+-- A token is read again from its text, whatever follows it.
+use Rattle.std.proofs.Common.{◌≡◌, ℕ, ◌<◌, ◌≤◌, Bool, true, false, cond, eqb, ◌&&◌, ◌||◌, leb, List, [], ◌∷◌, ◌++◌, length, Some, None, ◌⊎◌, inl, inr, refl, sym, ap, subst, ◌∙◌, arith}
+use Rattle.std.specs.List.{prefix_len, list_all}
+use Rattle.std.specs.Fmt.{decimal}
+use Rattle.std.proofs.lemmas.Bool.{cond-true, leb-true, eqb-true}
+use Rattle.std.proofs.lemmas.Fmt.{decimal_nonempty}
+use Rattle.job_tree.specs.Words.{is_letter, is_digit, is_word_byte, starts_word}
+use Rattle.job_tokens.specs.declared.token.Mark.{Mark}
+use Rattle.job_tokens.specs.declared.token.Mark.TheVariants as mark
+use Rattle.job_tokens.specs.declared.token.Shape.{Shape}
+use Rattle.job_tokens.specs.declared.token.Shape.TheVariants as shape
+use Rattle.job_tokens.specs.declared.token.Token.{Token}
+use Rattle.job_tokens.specs.Shapes.{shapes_of}
+use Rattle.job_tree.specs.declared.limits.TheConstants.{GREATEST_NUMBER}
+use Rattle.job_tokens.specs.Canon.{mark_byte, token, is_wordlike}
+use Rattle.job_tokens.proofs.Round_bytes.{and_parts, either_way}
+use Rattle.job_tokens.proofs.Round_words.{word_again, token_unless_word, token_unless_number}
+use Rattle.job_tokens.proofs.Round_numbers.{number_at-again, digits_of_number, digit_in_word}
+use Rattle.job_tokens.proofs.Round_strings.{string_again}
+use Rattle.job_tokens.proofs.Round_tokens.{IsWritable, letter_in_word}
+use Rattle.job_tokens.specs.Lexing.{is_blank, behind_blanks, token_at, word_at, number_at, Lexes}
+
+-- a blank is one of four bytes
+blank_cases : (P : ℕ → Type 0) (b : ℕ) → P 32 → P 9 → P 10 → P 13 → is_blank b ≡ true → P b
+blank_cases P b p32 p9 p10 p13 is = first (either_way (eqb b 32)) (either_way (eqb b 9)) (either_way (eqb b 10))
+  where
+    at : (n : ℕ) → eqb b n ≡ true → P n → P b
+    at n e p = subst P (sym (eqb-true b n e)) p
+
+    last : (eqb b 32 ≡ false) → (eqb b 9 ≡ false) → (eqb b 10 ≡ false) → P b
+    last e f g = at 13 (sym (ap (λ (x : Bool). (x || eqb b 9) || (eqb b 10 || eqb b 13)) e
+        ∙ ap (λ (x : Bool). (false || x) || (eqb b 10 || eqb b 13)) f ∙ ap (λ (x : Bool). (false || false) || (x || eqb b 13)) g) ∙ is) p13
+
+    first : ((eqb b 32 ≡ true) ⊎ (eqb b 32 ≡ false)) → ((eqb b 9 ≡ true) ⊎ (eqb b 9 ≡ false)) → ((eqb b 10 ≡ true) ⊎ (eqb b 10 ≡ false)) →
+        P b
+    first (inl e) f g = at 32 e p32
+    first (inr e) (inl f) g = at 9 f p9
+    first (inr e) (inr f) (inl g) = at 10 g p10
+    first (inr e) (inr f) (inr g) = last e f g
+
+true_not_false : (b : Bool) → b ≡ true → b ≡ false → ⊥
+true_not_false b p q = cc
+
+word_byte_not_blank : (b : ℕ) → is_word_byte b ≡ true → is_blank b ≡ false
+word_byte_not_blank b is = by_test (either_way (is_blank b))
+  where
+    by_test : (is_blank b ≡ true) ⊎ (is_blank b ≡ false) → is_blank b ≡ false
+    by_test (inl blank) = absurd (true_not_false (is_word_byte b) is
+        (blank_cases (λ x. is_word_byte x ≡ false) b refl refl refl refl blank))
+    by_test (inr none) = none
+
+-- bytes whose first is no blank
+abbrev pub BeginsAToken : List ℕ → Type 0
+BeginsAToken [] = ⊥
+BeginsAToken (b ∷ bytes) = is_blank b ≡ false
+
+pub no_blanks : (bytes : List ℕ) → BeginsAToken bytes → behind_blanks bytes ≡ bytes
+no_blanks [] begins = absurd begins
+no_blanks (b ∷ bytes) begins = rw begins refl
+
+mark_begins : (m : Mark) → is_blank (mark_byte m) ≡ false
+mark_begins mark.Open = refl
+mark_begins mark.Close = refl
+mark_begins mark.Semicolon = refl
+
+-- digits that begin so
+digits_begin : (ds rest : List ℕ) → 0 < length ds → list_all is_digit ds ≡ true → (b : ℕ) × (others : List ℕ) × (ds ≡ b ∷ others)
+    × (is_digit b ≡ true)
+digits_begin [] rest some all = absurd (omega arith)
+digits_begin (b ∷ ds) rest some all = (b, ds, refl, (and_parts (is_digit b) (list_all is_digit ds) all).0)
+
+pub token_begins : (s : Shape) (rest : List ℕ) → IsWritable s → BeginsAToken (token s ++ rest)
+token_begins (shape.Word []) rest is = absurd cc
+token_begins (shape.Word (b ∷ word)) rest is =
+    let parts = and_parts (starts_word (b ∷ word) && list_all is_word_byte (b ∷ word)) (leb (length (b ∷ word)) 32) is in
+    word_byte_not_blank b (letter_in_word b (and_parts (is_letter b) (list_all is_word_byte (b ∷ word)) parts.0).0)
+token_begins (shape.Number None) rest is = absurd is
+token_begins (shape.Number (Some n)) rest le =
+    let are = digits_of_number n (omega arith) in
+    let first = digits_begin (decimal n) rest (decimal_nonempty n (omega arith)) are.all in
+    subst (λ (ds : List ℕ). BeginsAToken (ds ++ rest)) (sym first.2) (word_byte_not_blank first.0 (digit_in_word first.0 first.3))
+token_begins (shape.Text text) rest is = refl
+token_begins (shape.Mark m) rest is = mark_begins m
+
+-- ---- one token
+
+not_letter : (b : ℕ) → is_digit b ≡ true → is_letter b ≡ false
+not_letter b is =
+    let parts = and_parts (leb 48 b) (leb b 57) is in
+    let small : b ≤ 57 = leb-true b 57 parts.1 in
+    let capital : leb 65 b ≡ false = grind arith in
+    let small_letter : leb 97 b ≡ false = grind arith in
+    rw (capital, small_letter) refl
+
+number_begins : (b : ℕ) (rest : List ℕ) → is_digit b ≡ true → token_at (b ∷ rest) ≡ number_at (b ∷ rest)
+number_begins b rest is =
+    ap (λ (x : Bool). cond x (word_at (b ∷ rest)) (token_unless_word b rest)) (not_letter b is)
+    ∙ cond-true (is_digit b) (number_at (b ∷ rest)) (token_unless_number b rest) is
+
+number_again : (n : ℕ) (rest : List ℕ) → n ≤ GREATEST_NUMBER → prefix_len is_word_byte rest ≡ 0 →
+    token_at (decimal n ++ rest) ≡ Some (shape.Number (Some n), rest)
+number_again n rest le stops =
+    let are = digits_of_number n (omega arith) in
+    let first = digits_begin (decimal n) rest (decimal_nonempty n (omega arith)) are.all in
+    let begins : token_at (decimal n ++ rest) ≡ number_at (decimal n ++ rest) =
+    subst (λ (ds : List ℕ). token_at (ds ++ rest) ≡ number_at (ds ++ rest)) (sym first.2)
+    (number_begins first.0 (first.1 ++ rest) first.3) in
+    begins ∙ number_at-again n rest le stops
+
+mark_again : (m : Mark) (rest : List ℕ) → token_at (mark_byte m ∷ rest) ≡ Some (shape.Mark m, rest)
+mark_again mark.Open rest = refl
+mark_again mark.Close rest = refl
+mark_again mark.Semicolon rest = refl
+
+abbrev pub StopsWord : Bool → List ℕ → Type 0
+StopsWord true rest = prefix_len is_word_byte rest ≡ 0
+StopsWord false rest = Unit {0}
+
+pub token_again : (s : Shape) (rest : List ℕ) → IsWritable s → StopsWord (is_wordlike s) rest → token_at (token s ++ rest) ≡ Some (s, rest)
+token_again (shape.Word word) rest is stops = word_again word rest is stops
+token_again (shape.Number None) rest is stops = absurd is
+token_again (shape.Number (Some n)) rest le stops = number_again n rest le stops
+token_again (shape.Text text) rest is stops =
+    string_again text rest is.0 (leb-true (length text) 64 (and_parts (leb 1 (length text)) (leb (length text) 64) is.0).1) is.1
+token_again (shape.Mark m) rest is stops = mark_again m rest
+
+pub mark_stops : (m : Mark) (rest : List ℕ) → prefix_len is_word_byte (mark_byte m ∷ rest) ≡ 0
+mark_stops mark.Open rest = refl
+mark_stops mark.Close rest = refl
+mark_stops mark.Semicolon rest = refl
+
+abbrev pub LexesAs : ℕ → List ℕ → List Shape → Type 0
+LexesAs end bytes ss = (ts : List Token) × Lexes end bytes ts None × (shapes_of ts ≡ ss)

@@ -1,0 +1,41 @@
+-- What the formatting of a text answers.
+use Rattle.std.specs.Prelude.{◌≡◌, ℕ, ◌<◌, List, length}
+use Rattle.job_tree.specs.Tree.{Tree}
+use Rattle.job_grammar.specs.declared.fault.JobKind.{JobKind}
+use Rattle.job_grammar.specs.declared.fault.JobKind.TheVariants as kind
+use Rattle.job_grammar.specs.declared.fault.JobFault.{JobFault}
+use Rattle.job_grammar.specs.Refusals.{most_bytes, IsRefused, Spells}
+use Rattle.job_layout.specs.declared.fault.FormatFault.{FormatFault}
+use Rattle.job_layout.specs.declared.fault.FormatFault.TheVariants.{Refused, TooLong, NoMemory}
+use Rattle.job_layout.specs.Layout.{formatted}
+
+-- a refusal of a text, or want of memory
+abbrev pub fault_by : JobKind → JobFault → FormatFault
+fault_by kind.NoMemory fault = NoMemory
+fault_by _ fault = Refused fault
+
+abbrev pub fault_of : JobFault → FormatFault
+fault_of fault = fault_by fault.kind fault
+
+-- the formatted text of the job that a text spells
+pub record IsFormatted (text bytes : List ℕ) : Type 0 where
+  pub job : Tree
+  pub spelled : Spells text job
+  pub same : bytes ≡ formatted job
+  pub again : Spells bytes job
+
+-- a formatted text of so many bytes, which are more than a job text may have
+abbrev pub IsTooLong : Tree → ℕ → Type 0
+IsTooLong job bytes = (bytes ≡ length (formatted job)) × (most_bytes < length (formatted job))
+
+-- of a job: a formatted text that is too long, or want of memory
+abbrev pub IsFairFault : Tree → FormatFault → Type 0
+IsFairFault job (Refused fault) = ⊥
+IsFairFault job (TooLong bytes) = IsTooLong job bytes
+IsFairFault job NoMemory = Unit {0}
+
+-- of a text: a refusal, the formatted text of its job that is too long, or want of memory
+abbrev pub IsTextFault : List ℕ → FormatFault → Type 0
+IsTextFault text (Refused fault) = IsRefused text fault.kind fault.at
+IsTextFault text (TooLong bytes) = (job : Tree) × Spells text job × IsTooLong job bytes
+IsTextFault text NoMemory = Unit {0}

@@ -1,0 +1,95 @@
+-- The layout of a job text: one step in a line, two spaces for each level. A block that is empty or holds one step without a block stands in
+-- one line with what it belongs to, where it ends at column 80 or before.
+use Rattle.std.specs.Prelude.{ℕ, ◌+◌, Bool, true, false, nat_le, List, [], ◌∷◌, ◌++◌, Option, Some, None, if◌then◌else◌}
+use Rattle.job_tree.specs.Tree.{Step, scope, nursery, start, repeat, attempt, Steps, stop, step, Handled, unhandled, except, Cleaned, uncleaned, finally, Tree}
+use Rattle.job_tokens.specs.declared.token.Mark.TheVariants as mark
+use Rattle.job_tokens.specs.declared.token.Shape.{Shape}
+use Rattle.job_syntax.specs.declared.keyword.Keyword.TheVariants as word
+use Rattle.job_syntax.specs.declared.role.Role.TheVariants as role
+use Rattle.job_syntax.specs.Pieces.{shapes_in, keyword, named}
+use Rattle.job_grammar.specs.Refusals.{first_line}
+use Rattle.job_layout.specs.Heads.{head_of, is_plain}
+use Rattle.job_layout.specs.declared.spaced.Gap.TheVariants as gaps
+use Rattle.job_layout.specs.declared.spaced.SpacedToken.{SpacedToken}
+use Rattle.job_layout.specs.declared.layout.TheConstants.{MAX_COLUMNS}
+use Rattle.job_layout.specs.Spaced.{spaced_text, column_after, mark_after, spaced, after_gap}
+
+-- ---- blocks in one line
+
+abbrev pub opened : SpacedToken
+opened = mark_after gaps.Space mark.Open
+
+abbrev pub ended : SpacedToken
+ended = mark_after gaps.Joined mark.Semicolon
+
+abbrev pub plain_block : Bool → List Shape → Option (List SpacedToken)
+plain_block false head = None
+plain_block true head = Some (opened ∷ (spaced head ++ ended ∷ mark_after gaps.Space mark.Close ∷ []))
+
+-- the tokens of a block in one line, where it can stand in one: `{}`, or `{ step; }`
+abbrev pub one_line : Steps → Option (List SpacedToken)
+one_line stop = Some (opened ∷ mark_after gaps.Joined mark.Close ∷ [])
+one_line (step s stop) = plain_block (is_plain s) (head_of s)
+one_line (step s (step t ss)) = None
+
+-- ---- a job
+
+-- tokens that end at column 80 or before, after those before them
+abbrev pub fits : List SpacedToken → List SpacedToken → Bool
+fits before ts = nat_le (column_after (column_after 0 before) ts) MAX_COLUMNS
+
+-- a line where it fits
+abbrev pub fitting : List SpacedToken → Option (List SpacedToken) → Option (List SpacedToken)
+fitting before None = None
+fitting before (Some line) = if fits before line then Some line else None
+
+-- the line, or else the steps in lines of their own
+abbrev pub line_or : ℕ → Option (List SpacedToken) → (List SpacedToken → List SpacedToken) → List SpacedToken → List SpacedToken
+line_or level (Some line) steps before = before ++ line
+line_or level None steps before = steps (before ++ opened ∷ []) ++ mark_after (gaps.Line level) mark.Close ∷ []
+
+-- a block of a step at a level, after the tokens before it
+abbrev pub with_block : ℕ → Steps → (List SpacedToken → List SpacedToken) → List SpacedToken → List SpacedToken
+with_block level body steps before = line_or level (fitting before (one_line body)) steps before
+
+-- the line that a step begins
+abbrev pub step_line : ℕ → Step → List SpacedToken
+step_line level s = after_gap (gaps.Line level) (head_of s)
+
+abbrev mutual
+  -- the steps of a block at a level, after the tokens before them
+  pub with_steps : ℕ → Steps → List SpacedToken → List SpacedToken
+  with_steps level stop before = before
+  with_steps level (step s ss) before = with_steps level ss (with_rest level s (before ++ step_line level s))
+
+  -- what follows the head of a step: its semicolon or its blocks
+  pub with_rest : ℕ → Step → List SpacedToken → List SpacedToken
+  with_rest level (scope name deadline shield fail body) before = with_block level body (with_steps (level + 1) body) before
+  with_rest level (nursery name deadline shield body) before = with_block level body (with_steps (level + 1) body) before
+  with_rest level (start name over body) before = with_block level body (with_steps (level + 1) body) before
+  with_rest level (repeat count body) before = with_block level body (with_steps (level + 1) body) before
+  with_rest level (attempt body handler cleanup) before =
+      with_cleanup level cleanup (with_handler level handler (with_block level body (with_steps (level + 1) body) before))
+  with_rest level _ before = before ++ ended ∷ []
+
+  pub with_handler : ℕ → Handled → List SpacedToken → List SpacedToken
+  with_handler level unhandled before = before
+  with_handler level (except name body) before = with_block level body (with_steps (level + 1) body)
+      (before ++ after_gap gaps.Space (shapes_in (keyword word.Except ∷ named role.Handled name ∷ [])))
+
+  pub with_cleanup : ℕ → Cleaned → List SpacedToken → List SpacedToken
+  with_cleanup level uncleaned before = before
+  with_cleanup level (finally body) before = with_block level body (with_steps (level + 1) body)
+      (before ++ after_gap gaps.Space (shapes_in (keyword word.Finally ∷ [])))
+
+-- one step at a level, after the tokens before it
+abbrev pub with_step : ℕ → Step → List SpacedToken → List SpacedToken
+with_step level s before = with_rest level s (before ++ step_line level s)
+
+-- the tokens of a job, behind its first line
+abbrev pub job_tokens : Tree → List SpacedToken
+job_tokens job = with_block 0 job.steps (with_steps 1 job.steps) (after_gap gaps.Joined (shapes_in (keyword word.Job ∷ named role.Given job.name ∷ [])))
+
+-- the formatted text of a job
+abbrev pub formatted : Tree → List ℕ
+formatted job = first_line job.format ++ (spaced_text (job_tokens job) ++ 10 ∷ [])

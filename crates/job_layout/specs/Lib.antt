@@ -1,0 +1,5 @@
+pub mod Heads
+pub mod Spaced
+pub mod Layout
+pub mod Columns
+pub mod Faults

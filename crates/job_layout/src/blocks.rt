@@ -1,0 +1,182 @@
+ghost use Rattle.std.specs.Prelude.{◌≡◌, ◌++◌, ◌+◌, ◌-◌, Some, None, OnOk, IfOk, MatchOption};
+ghost use Rattle.job_tree.specs.Blocks.{step_of, steps_of, handled_of, cleaned_of};
+ghost use Rattle.job_syntax.specs.Depth.{AreWithin, IsWithin, IsHandlerWithin, IsCleanupWithin};
+ghost use Rattle.job_grammar.specs.Jobs.{IsReadable};
+ghost use Rattle.job_layout.specs.Spaced.{after_gap};
+ghost use Rattle.job_layout.specs.Layout.{one_line, fitting, with_steps, with_step, with_rest, with_block, with_handler, with_cleanup, job_tokens};
+ghost use Rattle.job_layout.specs.Columns.{IsNested};
+
+use crate::heads::{push_keyword, push_named};
+use crate::layout::Layout;
+use crate::lines::{after_gap, head_of, one_line};
+use crate::spaced::{Gap, SpacedToken};
+use job_grammar::{Body, Handler, Job, Step};
+use job_syntax::Keyword;
+use job_tokens::{Mark, Shape};
+use std::alloc::{AllocError, Global};
+
+// The tokens of a job, behind its first line.
+pub(crate) fn tokens_of(alloc: Global, job: &Job) -> Result<Vec<SpacedToken>, AllocError>
+    ensures tokens { IfOk result (λ tokens. tokens.items ≡ job_tokens job.now) }
+    ensures spelled { OnOk result (IsReadable job.now) }
+{
+    let mut head = Vec::new(alloc);
+    push_named(&mut head, Keyword::Job, job.name())?;
+    let mut layout = Layout::new(alloc);
+    push_words(&mut layout, alloc, Gap::Joined, head.as_slice())?;
+    push_block(&mut layout, alloc, 0, job.steps())?;
+    Ok(layout.into_tokens())
+}
+
+// Words, with the gap in front of the first and a space in front of each other.
+fn push_words(
+    layout: &mut Layout,
+    alloc: Global,
+    gap: Gap,
+    words: &[Shape],
+) -> Result<(), AllocError>
+    ensures { OnOk result (layout.new ≡ layout.old ++ after_gap gap words.now) }
+{
+    let tokens = after_gap(alloc, gap, words)?;
+    layout.extend(alloc, tokens.as_slice())?;
+    Ok(())
+}
+
+// The steps of a block at a level, each in a line of its own.
+#[cycle(blocks)]
+fn push_steps(
+    layout: &mut Layout,
+    alloc: Global,
+    level: u64,
+    steps: &[Step],
+) -> Result<(), AllocError>
+    requires { AreWithin (32 - level) (steps_of steps.now) }
+    ensures { OnOk result (layout.new ≡ with_steps level (steps_of steps.now) layout.old) }
+{
+    let mut rest = steps;
+    'steps: while let Some((first, others)) = rest.split_first() {
+        push_step(layout, alloc, level, first)?;
+        rest = others;
+    }
+    Ok(())
+}
+
+#[cycle(blocks)]
+fn push_step(layout: &mut Layout, alloc: Global, level: u64, step: &Step) -> Result<(), AllocError>
+    requires { IsWithin (32 - level) (step_of step.now) }
+    ensures { OnOk result (layout.new ≡ with_step level (step_of step.now) layout.old) }
+{
+    let head = head_of(alloc, step)?;
+    push_words(layout, alloc, Gap::Line(level), head.as_slice())?;
+    push_rest(layout, alloc, level, step)?;
+    Ok(())
+}
+
+// What follows the head of a step: its semicolon, or its blocks.
+#[cycle(blocks)]
+fn push_rest(layout: &mut Layout, alloc: Global, level: u64, step: &Step) -> Result<(), AllocError>
+    requires { IsWithin (32 - level) (step_of step.now) }
+    ensures { OnOk result (layout.new ≡ with_rest level (step_of step.now) layout.old) }
+{
+    match step {
+        Step::Scope { body, .. } => push_block(layout, alloc, level, body.as_slice()),
+        Step::Nursery { body, .. } => push_block(layout, alloc, level, body.as_slice()),
+        Step::Start { body, .. } => push_block(layout, alloc, level, body.as_slice()),
+        Step::Repeat { body, .. } => push_block(layout, alloc, level, body.as_slice()),
+        Step::Try {
+            body,
+            handler,
+            cleanup,
+        } => {
+            push_block(layout, alloc, level, body.as_slice())?;
+            push_handler(layout, alloc, level, handler)?;
+            push_cleanup(layout, alloc, level, cleanup)?;
+            Ok(())
+        }
+        _ => layout.push(alloc, Gap::Joined, Shape::Mark(Mark::Semicolon)),
+    }
+}
+
+#[cycle(blocks)]
+fn push_handler(
+    layout: &mut Layout,
+    alloc: Global,
+    level: u64,
+    handler: &Option<Handler>,
+) -> Result<(), AllocError>
+    requires { IsHandlerWithin (32 - level) (handled_of handler.now) }
+    ensures { OnOk result (layout.new ≡ with_handler level (handled_of handler.now) layout.old) }
+{
+    let Some(handler) = handler else {
+        return Ok(());
+    };
+    let mut head = Vec::new(alloc);
+    push_named(&mut head, Keyword::Except, handler.name)?;
+    push_words(layout, alloc, Gap::Space, head.as_slice())?;
+    push_block(layout, alloc, level, handler.body.as_slice())?;
+    Ok(())
+}
+
+#[cycle(blocks)]
+fn push_cleanup(
+    layout: &mut Layout,
+    alloc: Global,
+    level: u64,
+    cleanup: &Option<Body>,
+) -> Result<(), AllocError>
+    requires { IsCleanupWithin (32 - level) (cleaned_of cleanup.now) }
+    ensures { OnOk result (layout.new ≡ with_cleanup level (cleaned_of cleanup.now) layout.old) }
+{
+    let Some(cleanup) = cleanup else {
+        return Ok(());
+    };
+    let mut head = Vec::new(alloc);
+    push_keyword(&mut head, Keyword::Finally)?;
+    push_words(layout, alloc, Gap::Space, head.as_slice())?;
+    push_block(layout, alloc, level, cleanup.as_slice())?;
+    Ok(())
+}
+
+// A block of a step at a level: in the line so far where it fits, or in lines of its own.
+#[cycle(blocks)]
+fn push_block(
+    layout: &mut Layout,
+    alloc: Global,
+    level: u64,
+    steps: &[Step],
+) -> Result<(), AllocError>
+    requires { IsNested level (steps_of steps.now) }
+    ensures { OnOk result (layout.new
+        ≡ with_block level (steps_of steps.now) (with_steps (level + 1) (steps_of steps.now)) layout.old) }
+{
+    match fitting(layout, alloc, steps)? {
+        Some(line) => {
+            layout.extend(alloc, line.as_slice())?;
+            Ok(())
+        }
+        None => {
+            layout.push(alloc, Gap::Space, Shape::Mark(Mark::Open))?;
+            push_steps(layout, alloc, level + 1, steps)?;
+            layout.push(alloc, Gap::Line(level), Shape::Mark(Mark::Close))?;
+            Ok(())
+        }
+    }
+}
+
+// The block in one line, where it can stand in one and fits into the line so far.
+fn fitting(
+    layout: &Layout,
+    alloc: Global,
+    steps: &[Step],
+) -> Result<Option<Vec<SpacedToken>>, AllocError>
+    ensures { IfOk result (λ line. MatchOption line (fitting layout.now (one_line (steps_of steps.now)) ≡ None)
+        (λ found. fitting layout.now (one_line (steps_of steps.now)) ≡ Some found.items)) }
+{
+    let Some(line) = one_line(alloc, steps)? else {
+        return Ok(None);
+    };
+    if !layout.fits(alloc, line.as_slice())? {
+        return Ok(None);
+    }
+    Ok(Some(line))
+}

@@ -1,0 +1,36 @@
+ghost use Rattle.std.specs.Prelude.{◌≡◌};
+ghost use Rattle.job_layout.specs.Faults.{fault_of};
+ghost use Rattle.job_layout.specs.declared.fault.FormatFault.TheVariants.{NoMemory};
+
+use job_grammar::{JobFault, JobKind};
+use std::alloc::AllocError;
+
+/// Why a text has no formatted text.
+#[derive(Clone, Copy, Debug, PartialEq, Eq)]
+pub enum FormatFault {
+    /// The text is refused.
+    Refused(JobFault),
+    /// The formatted text would have so many bytes, which are more than a job text may have.
+    TooLong(usize),
+    /// A growth was refused.
+    NoMemory,
+}
+
+impl From<AllocError> for FormatFault {
+    ghost from_gives = { λ _ fault. fault ≡ NoMemory };
+
+    fn from(_: AllocError) -> FormatFault {
+        FormatFault::NoMemory
+    }
+}
+
+impl From<JobFault> for FormatFault {
+    ghost from_gives = { λ fault e. e ≡ fault_of fault };
+
+    fn from(fault: JobFault) -> FormatFault {
+        match fault.kind {
+            JobKind::NoMemory => FormatFault::NoMemory,
+            _ => FormatFault::Refused(fault),
+        }
+    }
+}

@@ -1,0 +1,13 @@
+//! The law of formatted texts. The function does nothing: its contract is the law.
+
+ghost use Rattle.std.specs.Prelude.{◌≡◌, ◌≤◌, ℕ, List, length};
+ghost use Rattle.job_tree.specs.Tree.{Tree};
+ghost use Rattle.job_grammar.specs.Refusals.{Spells, most_bytes};
+ghost use Rattle.job_layout.specs.Layout.{formatted};
+
+/// The formatted text of a job that a text spells spells it too, where it is no longer than a job text may be. So formatting it again gives
+/// the same text.
+pub fn law_formatted()
+    ensures again { (text : List ℕ) (job : Tree) → Spells text job → length (formatted job) ≤ most_bytes → Spells (formatted job) job }
+    ensures same { (text : List ℕ) (job other : Tree) → Spells text job → Spells (formatted job) other → formatted other ≡ formatted job }
+{}

@@ -1,0 +1,114 @@
+ghost use Rattle.std.specs.Prelude.{◌≡◌, ◌++◌, ◌∷◌, [], ◌+◌, length, OnOk, IfOk};
+ghost use Rattle.job_tokens.specs.Canon.{token};
+ghost use Rattle.job_layout.specs.Spaced.{column_after, column_behind, with_gap};
+ghost use Rattle.job_layout.specs.Layout.{fits};
+ghost use Rattle.job_layout.specs.Columns.{capped};
+
+use crate::spaced::{Gap, SpacedToken, width};
+use job_tokens::Shape;
+use std::alloc::{AllocError, Global};
+use std::marker::Model;
+
+/// The column at which a block that stands in one line ends at the latest.
+pub(crate) const MAX_COLUMNS: u64 = 80;
+
+// The tokens that are laid out so far. A contract sees it as these tokens.
+#[derive(Drop)]
+pub(crate) struct Layout {
+    tokens: Vec<SpacedToken>,
+    // The column at which the last of them ends.
+    column: u64,
+}
+
+impl Model for Layout {
+    ghost use Rattle.std.specs.Prelude.{List, ◌≡◌};
+    ghost use Rattle.job_layout.specs.declared.spaced.SpacedToken.{SpacedToken};
+    ghost use Rattle.job_layout.specs.Spaced.{column_after};
+    ghost use Rattle.job_layout.specs.Columns.{capped};
+
+    ghost Value = { List SpacedToken };
+
+    ghost view = { λ l. l.tokens.items };
+
+    ghost invariant = { λ l. l.column ≡ capped (column_after 0 l.tokens.items) };
+}
+
+impl Layout {
+    // No tokens. Takes no memory.
+    pub(crate) fn new(alloc: Global) -> Layout
+        ensures { result ≡ [] }
+    {
+        Layout {
+            tokens: Vec::new(alloc),
+            column: 0,
+        }
+    }
+
+    // One more token.
+    pub(crate) fn push(&mut self, alloc: Global, gap: Gap, shape: Shape) -> Result<(), AllocError>
+        ensures { OnOk result (self.new ≡ self.old ++ with_gap gap shape ∷ []) }
+    {
+        let next = SpacedToken { gap, shape };
+        let column = end_of(alloc, self.column, &next)?;
+        self.tokens.push(next)?;
+        self.column = column;
+        Ok(())
+    }
+
+    // More tokens.
+    pub(crate) fn extend(&mut self, alloc: Global, tokens: &[SpacedToken]) -> Result<(), AllocError>
+        ensures { OnOk result (self.new ≡ self.old ++ tokens.now) }
+    {
+        'tokens: for token in tokens {
+            self.push(alloc, token.gap, token.shape)?;
+        }
+        Ok(())
+    }
+
+    // Whether the tokens, after those so far, end at the last column of a line or before.
+    pub(crate) fn fits(&self, alloc: Global, tokens: &[SpacedToken]) -> Result<bool, AllocError>
+        ensures { IfOk result (λ fit. fit ≡ fits self.now tokens.now) }
+    {
+        let column = column_after(alloc, self.column, tokens)?;
+        Ok(column <= MAX_COLUMNS)
+    }
+
+    // The tokens.
+    pub(crate) fn into_tokens(self) -> Vec<SpacedToken>
+        ensures { result.items ≡ self }
+    {
+        self.tokens
+    }
+}
+
+// The column at which the tokens end, where the one before them ends at the column.
+fn column_after(alloc: Global, column: u64, tokens: &[SpacedToken]) -> Result<u64, AllocError>
+    ensures { IfOk result (λ end. end ≡ capped (column_after column tokens.now)) }
+{
+    let mut end = column;
+    let mut rest = tokens;
+    'tokens: while let Some((first, others)) = rest.split_first() {
+        end = end_of(alloc, end, first)?;
+        rest = others;
+    }
+    Ok(end)
+}
+
+// The column at which a token ends, where the one before it ends at the column.
+fn end_of(alloc: Global, column: u64, next: &SpacedToken) -> Result<u64, AllocError>
+    ensures { IfOk result (λ end. end ≡ capped (capped (column_behind column next.now.gap) + length (token next.now.shape))) }
+{
+    let width = width(alloc, next.shape)? as u64;
+    Ok(column_behind(column, next.gap).saturating_add(width))
+}
+
+// The column at which a token begins, where the one before it ends at the column.
+fn column_behind(column: u64, gap: Gap) -> u64
+    ensures { result ≡ capped (column_behind column gap) }
+{
+    match gap {
+        Gap::Joined => column,
+        Gap::Space => column.saturating_add(1),
+        Gap::Line(level) => level.saturating_mul(2),
+    }
+}

@@ -1,0 +1,107 @@
+ghost use Rattle.std.specs.Prelude.{◌≡◌, ◌++◌, ◌∷◌, [], Some, None, IfOk, OnOk, MatchOption};
+ghost use Rattle.job_tree.specs.Blocks.{step_of, steps_of};
+ghost use Rattle.job_tokens.specs.declared.token.Mark.TheVariants as mark;
+ghost use Rattle.job_layout.specs.Heads.{head_of};
+ghost use Rattle.job_layout.specs.declared.spaced.Gap.TheVariants as gaps;
+ghost use Rattle.job_layout.specs.Spaced.{spaced, after_gap, mark_after};
+ghost use Rattle.job_layout.specs.Layout.{one_line};
+
+use crate::heads::{is_plain, push_head};
+use crate::spaced::{Gap, SpacedToken};
+use job_grammar::Step;
+use job_tokens::{Mark, Shape};
+use std::alloc::{AllocError, Global};
+
+// The tokens of a block in one line, where it can stand in one.
+pub(crate) fn one_line(
+    alloc: Global,
+    steps: &[Step],
+) -> Result<Option<Vec<SpacedToken>>, AllocError>
+    ensures { IfOk result (λ line. MatchOption line (one_line (steps_of steps.now) ≡ None)
+        (λ found. one_line (steps_of steps.now) ≡ Some found.items)) }
+{
+    let Some((first, others)) = steps.split_first() else {
+        let line = empty_block(alloc)?;
+        return Ok(Some(line));
+    };
+    if let Some((_second, _more)) = others.split_first() {
+        return Ok(None);
+    }
+    if !is_plain(first) {
+        return Ok(None);
+    }
+    let line = block_of(alloc, first)?;
+    Ok(Some(line))
+}
+
+fn empty_block(alloc: Global) -> Result<Vec<SpacedToken>, AllocError>
+    ensures { IfOk result (λ line. line.items ≡ mark_after gaps.Space mark.Open ∷ mark_after gaps.Joined mark.Close ∷ []) }
+{
+    let mut line = Vec::new(alloc);
+    push_mark(&mut line, Gap::Space, Mark::Open)?;
+    push_mark(&mut line, Gap::Joined, Mark::Close)?;
+    Ok(line)
+}
+
+// A block of one step that has no block.
+fn block_of(alloc: Global, step: &Step) -> Result<Vec<SpacedToken>, AllocError>
+    ensures { IfOk result (λ line. line.items ≡ mark_after gaps.Space mark.Open
+        ∷ (spaced (head_of (step_of step.now)) ++ mark_after gaps.Joined mark.Semicolon ∷ mark_after gaps.Space mark.Close ∷ [])) }
+{
+    let head = head_of(alloc, step)?;
+    let mut line = Vec::new(alloc);
+    push_mark(&mut line, Gap::Space, Mark::Open)?;
+    push_spaced(&mut line, head.as_slice())?;
+    push_mark(&mut line, Gap::Joined, Mark::Semicolon)?;
+    push_mark(&mut line, Gap::Space, Mark::Close)?;
+    Ok(line)
+}
+
+fn push_mark(line: &mut Vec<SpacedToken>, gap: Gap, mark: Mark) -> Result<(), AllocError>
+    ensures { OnOk result (line.new.items ≡ line.old.items ++ mark_after gap mark ∷ []) }
+{
+    line.push(SpacedToken {
+        gap,
+        shape: Shape::Mark(mark),
+    })?;
+    Ok(())
+}
+
+// The tokens of a step in front of its semicolon or of its first block.
+pub(crate) fn head_of(alloc: Global, step: &Step) -> Result<Vec<Shape>, AllocError>
+    ensures { IfOk result (λ shapes. shapes.items ≡ head_of (step_of step.now)) }
+{
+    let mut shapes = Vec::new(alloc);
+    push_head(&mut shapes, step)?;
+    Ok(shapes)
+}
+
+// The tokens, with a space in front of each.
+pub(crate) fn push_spaced(line: &mut Vec<SpacedToken>, shapes: &[Shape]) -> Result<(), AllocError>
+    ensures { OnOk result (line.new.items ≡ line.old.items ++ spaced shapes.now) }
+{
+    'shapes: for shape in shapes {
+        line.push(SpacedToken {
+            gap: Gap::Space,
+            shape: *shape,
+        })?;
+    }
+    Ok(())
+}
+
+// The tokens, with the gap in front of the first and a space in front of each other.
+pub(crate) fn after_gap(
+    alloc: Global,
+    gap: Gap,
+    shapes: &[Shape],
+) -> Result<Vec<SpacedToken>, AllocError>
+    ensures { IfOk result (λ line. line.items ≡ after_gap gap shapes.now) }
+{
+    let mut line = Vec::new(alloc);
+    let Some((first, others)) = shapes.split_first() else {
+        return Ok(line);
+    };
+    line.push(SpacedToken { gap, shape: *first })?;
+    push_spaced(&mut line, others)?;
+    Ok(line)
+}
