@@ -1,0 +1,63 @@
+-- What `format` writes of a job text, and whether a text is formatted.
+use Rattle.std.specs.Prelude.{◌≡◌, ℕ, ◌+◌, ◌<◌, ◌==◌, if◌then◌else◌, Option, Some, None, List, [], ◌∷◌, length, take}
+use Rattle.std.specs.Io.KnownBytes.{Appends}
+use Rattle.job_tree.specs.Tree.{Tree}
+use Rattle.job_grammar.specs.Refusals.{Spells, IsRefused}
+use Rattle.job_layout.specs.Layout.{formatted}
+use Rattle.job_layout.specs.Faults.{IsFormatted, IsTooLong}
+use Rattle.nursery_app.specs.Verdict.{refusal_line}
+use Rattle.nursery_app.specs.declared.verdict.ServeFault.{ServeFault}
+use Rattle.nursery_app.specs.declared.verdict.ServeFault.TheVariants.{Send, NoMemory}
+use Rattle.format_app.specs.declared.verdict.FormatVerdict.{FormatVerdict}
+use Rattle.format_app.specs.declared.verdict.FormatVerdict.TheVariants as verdicts
+use Rattle.format_app.specs.declared.verdict.FormatCheck.{FormatCheck}
+use Rattle.format_app.specs.declared.verdict.FormatCheck.TheVariants as checks
+
+-- the text spells a job whose formatted text would have so many bytes, which are too many
+abbrev pub HasLongFormat : List ℕ → ℕ → Type 0
+HasLongFormat text bytes = (job : Tree) × Spells text job × IsTooLong job bytes
+
+-- A verdict and its bytes: the formatted text of the job, the line of the refusal, or none.
+abbrev pub IsAnswer : List ℕ → FormatVerdict → List ℕ → Type 0
+IsAnswer text verdicts.Formatted bytes = IsFormatted text bytes
+IsAnswer text (verdicts.JobRefused fault) bytes = IsRefused text fault.kind fault.at × (bytes ≡ refusal_line fault)
+IsAnswer text (verdicts.TooLong long) bytes = HasLongFormat text long × (bytes ≡ [])
+
+-- They were sent, all of them.
+abbrev pub IsSent : List ℕ → Option (List ℕ) → Option (List ℕ) → FormatVerdict → Type 0
+IsSent text before after verdict = (bytes : List ℕ) × IsAnswer text verdict bytes × Appends before after bytes
+
+-- The writer failed after the first `sent` of them; or memory was refused, and nothing was sent.
+abbrev pub IsFormatFault : List ℕ → Option (List ℕ) → Option (List ℕ) → ServeFault → Type 0
+IsFormatFault text before after (Send sent) =
+    (verdict : FormatVerdict) × (bytes : List ℕ) × IsAnswer text verdict bytes × (sent < length bytes) × Appends before after (take sent bytes)
+IsFormatFault text before after NoMemory = after ≡ before
+
+-- ---- whether a text is formatted
+
+-- the first place at which two texts differ, from a place on that is theirs
+abbrev pub difference_from : ℕ → List ℕ → List ℕ → Option ℕ
+difference_from place [] [] = None
+difference_from place [] (b ∷ other) = Some place
+difference_from place (a ∷ one) [] = Some place
+difference_from place (a ∷ one) (b ∷ other) = if a == b then difference_from (place + 1) one other else Some place
+
+abbrev pub difference : List ℕ → List ℕ → Option ℕ
+difference one other = difference_from 0 one other
+
+abbrev pub by_place : Option ℕ → FormatCheck
+by_place None = checks.Same
+by_place (Some place) = checks.Differs place
+
+abbrev pub compared : List ℕ → List ℕ → FormatCheck
+compared text bytes = by_place (difference text bytes)
+
+-- of a text that spells a job: the comparison with the job's formatted text
+abbrev pub IsComparison : List ℕ → FormatCheck → Type 0
+IsComparison text check = (job : Tree) × Spells text job × (check ≡ compared text (formatted job))
+
+-- what is found of a text
+abbrev pub IsCheck : List ℕ → FormatCheck → Type 0
+IsCheck text (checks.JobRefused fault) = IsRefused text fault.kind fault.at
+IsCheck text (checks.TooLong long) = HasLongFormat text long
+IsCheck text check = IsComparison text check

@@ -1,0 +1,29 @@
+ghost use Rattle.std.specs.Prelude.{◌≡◌, IfOk};
+ghost use Rattle.format_app.specs.Formats.{IsCheck, compared};
+
+use crate::difference::difference;
+use crate::verdict::FormatCheck;
+use job_layout::{FormatFault, format_text};
+use std::alloc::{AllocError, Global};
+
+/// Says whether a job text is its own formatted text, and otherwise from which place on it differs. Want of memory is the only error.
+pub fn check_format(alloc: Global, job_text: &[u8]) -> Result<FormatCheck, AllocError>
+    ensures { IfOk result (IsCheck job_text.now) }
+{
+    match format_text(alloc, job_text) {
+        Ok(bytes) => Ok(compared(job_text, bytes.as_slice())),
+        Err(FormatFault::Refused(fault)) => Ok(FormatCheck::JobRefused(fault)),
+        Err(FormatFault::TooLong(bytes)) => Ok(FormatCheck::TooLong(bytes)),
+        Err(FormatFault::NoMemory) => Err(AllocError),
+    }
+}
+
+// The check of a text by its formatted text.
+fn compared(text: &[u8], formatted: &[u8]) -> FormatCheck
+    ensures { result ≡ compared text.now formatted.now }
+{
+    match difference(text, formatted) {
+        None => FormatCheck::Same,
+        Some(place) => FormatCheck::Differs(place),
+    }
+}
