@@ -120,6 +120,57 @@ cp raise.job in
 wants 1 "$story" '' explain -
 : > in
 
+# ---- fmt
+
+formatted='trio-job 1\njob main {\n  sleep 2;\n  raise Boom;\n}\n'
+differs='2:11: not formatted from here on\njob main { sleep 2; raise Boom; }\n          ^\n'
+wants 0 "$formatted" '' fmt raise.job
+wants 1 '' "raise.job:$differs" fmt raise.job --check
+cp raise.job in
+wants 0 "$formatted" '' fmt -
+words='fmt --check -'
+holds 1 err '-:2:11: not formatted from here on'
+: > in
+cp raise.job mine.job
+chmod 640 mine.job
+ln -s mine.job link.job
+mkdir mine.job.nursery-new
+wants 4 '' 'cannot write the job file\n' fmt mine.job --write
+cmp -s raise.job mine.job || fail 'the job file is not as it was'
+rmdir mine.job.nursery-new
+wants 0 '' '' fmt link.job --write
+printf "$formatted" | cmp -s - mine.job || fail 'the job file is not formatted'
+[ -L link.job ] || fail 'the link was replaced'
+[ "$(stat -c %a mine.job)" = 640 ] || fail 'the job file has other permissions'
+[ ! -e mine.job.nursery-new ] || fail 'a file was left beside the job file'
+for mode in '' --check --write; do
+    # An empty mode is no word.
+    wants 0 "$([ "$mode" ] || printf '%s' "$formatted")" '' fmt mine.job $mode
+done
+printf 'trio-job 1\njob main { sleep }\n' > wrong.job
+wrong='wrong.job:2:18: expected a number\njob main { sleep }\n                 ^\n'
+wants 2 'refused J6 Syntax at 28\n' "$wrong" fmt wrong.job
+wants 2 '' "$wrong" fmt wrong.job --check
+wants 2 '' "$wrong" fmt wrong.job --write
+printf 'trio-job 1\njob main { sleep }\n' | cmp -s - wrong.job || fail 'a refused job was written'
+{
+    printf 'trio-job 1\njob a{'
+    for depth in $(seq 31); do printf 'scope s%s{' "$depth"; done
+    for step in $(seq 900); do printf 'checkpoint;'; done
+    for depth in $(seq 32); do printf '}'; done
+} > deep.job
+cp deep.job kept.job
+for mode in '' --check --write; do
+    wants 2 '' 'error: the formatted text would have 70830 bytes: a job text has at most 65536\n' fmt deep.job $mode
+done
+cmp -s kept.job deep.job || fail 'a job with a text that is too long was written'
+wants 4 '' 'cannot read the job file\n' fmt none.job --write
+wants 4 '' 'cannot read the job file\n' fmt a_folder
+helps fmt 'job hedge { nursery both { start fast { sleep 2; cancel both; } start slow { sleep 9; } } }\n'
+printf 'trio-job 1\njob hedge { nursery both { start fast { sleep 2; cancel both; } start slow { sleep 9; } } }\n' > hedge_in_a_line.job
+wants 0 'trio-job 1\njob hedge {\n  nursery both {\n    start fast {\n      sleep 2;\n      cancel both;\n    }\n    start slow { sleep 9; }\n  }\n}\n' '' fmt hedge_in_a_line.job
+helps fmt 'trio-job 1\njob hedge {\n  nursery both {\n    start fast {\n      sleep 2;\n      cancel both;\n    }\n    start slow { sleep 9; }\n  }\n}\n'
+
 # ---- chart
 
 wants 0 '      0\nmain  | done\n' '' chart find.job

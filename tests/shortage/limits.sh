@@ -67,6 +67,7 @@ from_little_to_enough run grid.job lines.txt --workers 64
 # A thread that cannot be started is none: the others compute.
 from_little_to_enough run parts.job lines.txt --workers 64
 from_little_to_enough explain grid.job lines.txt
+from_little_to_enough fmt grid.job
 from_little_to_enough chart grid.job lines.txt
 from_little_to_enough chart grid.job lines.txt --svg
 from_little_to_enough faults few.job lines.txt
@@ -111,6 +112,7 @@ for job in scopes nurseries cleanups handlers sleeps leaves grid; do
     in_little_stack faults $job.job log.txt --workers 2
     in_little_stack races $job.job log.txt --workers 2
     in_little_stack check $job.job
+    in_little_stack fmt $job.job
 done
 column=$(awk 'NR == 2 { print index($0, "sleep 1") + 6 }' cleanups.job)
 in_little_stack sweep cleanups.job --at "2:$column" --values 1..9 --workers 2

@@ -22,6 +22,10 @@ import time
 from concurrent.futures import ProcessPoolExecutor
 
 HERE = os.path.dirname(os.path.abspath(__file__))
+sys.path.insert(0, os.path.join(HERE, "..", "random"))
+
+from formats import formatted  # noqa: E402: it stands beside the random jobs
+
 TEN_BYTES = b"aa\nb\ncccc\n"
 
 # Each job's name, its steps or whole text, its input, its status and its bytes.
@@ -228,6 +232,11 @@ def written(folder, name, content):
     return path
 
 
+def content_of(path):
+    with open(path, newline="") as file:
+        return file.read()
+
+
 def runs_of_program(folder):
     """The runs of the program: what is shown of each, its words, its status, its bytes, and whether it tells something."""
     for number, (name, steps, buffer, status, right) in enumerate(ROWS):
@@ -255,6 +264,8 @@ def runs_of_program(folder):
                 yield f"{name}, sweep with {workers} workers", words, 0, told, False
         if name in CHECKS:
             yield f"{name}, check", ["check", job], status, CHECKS[name], status == 2
+            text = formatted(content_of(job))
+            yield f"{name}, fmt", ["fmt", job], status, CHECKS[name] if status == 2 else text.encode(), status == 2
 
 
 def refuse_in_program(shim, program, pool):

@@ -13,6 +13,10 @@ use Rattle.story_app.specs.Stories as stories
 use Rattle.story_app.specs.Statuses.{story_status_of}
 use Rattle.chart_app.specs.declared.form.Form.{Form}
 use Rattle.chart_app.specs.Charts as charts
+use Rattle.format_app.specs.declared.verdict.FormatVerdict.{FormatVerdict}
+use Rattle.format_app.specs.declared.verdict.FormatCheck.{FormatCheck}
+use Rattle.format_app.specs.Formats as formats
+use Rattle.format_app.specs.Statuses.{status_of as format_status_of, check_status_of as format_check_status_of}
 use Rattle.fault_text.specs.declared.deny.Deny.{Deny}
 use Rattle.fault_app.specs.declared.verdict.FaultsVerdict.{FaultsVerdict}
 use Rattle.fault_app.specs.Verdicts as fates
@@ -25,7 +29,7 @@ use Rattle.sweep_app.specs.declared.verdict.SweepVerdict.{SweepVerdict}
 use Rattle.sweep_app.specs.Verdicts as sweeps
 use Rattle.sweep_app.specs.Statuses.{sweep_status_of}
 use Rattle.nursery.specs.declared.stop.Stop.{Stop}
-use Rattle.nursery.specs.declared.stop.Stop.TheVariants.{Words, NoText, JobFile, InputFile, TooLong, Write, NoMemory}
+use Rattle.nursery.specs.declared.stop.Stop.TheVariants.{Words, NoText, JobFile, InputFile, TooLong, JobFileKept, Write, NoMemory}
 
 -- where there is no verdict
 abbrev pub status_of : Stop → ℕ
@@ -34,6 +38,7 @@ status_of NoText = 2
 status_of JobFile = 4
 status_of InputFile = 4
 status_of TooLong = 4
+status_of JobFileKept = 4
 status_of Write = 4
 status_of NoMemory = 5
 
@@ -78,3 +83,12 @@ TellsSweep text input limit target values status =
 abbrev pub TellsAnswer : (Tree → Tree) → List ℕ → ℕ → Type 0
 TellsAnswer shown text status =
     (verdict : CheckVerdict) × (bytes : List ℕ) × IsAnswer shown text verdict bytes × (status ≡ verdicts.check_status_of verdict)
+
+-- the status is that of the verdict on the formatted text of the job
+abbrev pub TellsFormat : List ℕ → ℕ → Type 0
+TellsFormat text status =
+    (verdict : FormatVerdict) × (bytes : List ℕ) × formats.IsAnswer text verdict bytes × (status ≡ format_status_of verdict)
+
+-- the status is that of the comparison of a text with its formatted text
+abbrev pub TellsFormatCheck : List ℕ → ℕ → Type 0
+TellsFormatCheck text status = (check : FormatCheck) × formats.IsCheck text check × (status ≡ format_check_status_of check)

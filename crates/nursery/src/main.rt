@@ -1,6 +1,6 @@
 //! The program `nursery`: `run` runs a job file over an input file, `explain` tells the story of such a run, `chart` draws it, `faults` tells what
 //! becomes of the job where any one of its waiting steps fails or hangs, `races` where its outcome hangs on a hair, `sweep` what becomes of
-//! it for each value of one of its numbers, `check` writes a job's canonical text, `upgrade` that of the same job in format 2, and with no
+//! it for each value of one of its numbers, `fmt` formats a job text, `check` writes a job's canonical text, `upgrade` that of the same job in format 2, and with no
 //! words it serves standard input: a job text, a line that is exactly `%input`, and the input. Its answer goes to standard output, and
 //! what went wrong to standard error. The work is in `nursery_app`, `story_app`, `chart_app`, `fault_app`, `race_app` and `sweep_app`.
 #![tactic(auto)]
@@ -8,8 +8,10 @@
 mod answers;
 mod charts;
 mod faults;
+mod formats;
 mod progress;
 mod races;
+mod replacing;
 mod sources;
 mod stop;
 mod sweep;
@@ -17,6 +19,7 @@ mod sweep;
 use crate::answers::{check_job, explain_job, run_feed, run_job, show_help, upgrade_job};
 use crate::charts::chart_job;
 use crate::faults::faults_job;
+use crate::formats::format_job_file;
 use crate::races::races_job;
 use crate::stop::Stop;
 use crate::sweep::sweep_job;
@@ -129,6 +132,7 @@ where
                 at_terminal,
             )
         }
+        Ok(Command::Fmt { job, mode }) => format_job_file(rt, job.as_str(), mode),
         Ok(Command::Check { job }) => check_job(rt, job.as_str()),
         Ok(Command::Upgrade { job }) => upgrade_job(rt, job.as_str()),
         Ok(Command::Help { text }) => show_help(rt, text.as_str()),

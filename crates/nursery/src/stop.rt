@@ -22,6 +22,9 @@ pub enum Stop {
     /// The input has more bytes than it may have.
     #[error("input too long\n")]
     TooLong,
+    /// The job file cannot be replaced: it is as it was.
+    #[error("cannot write the job file\n")]
+    JobFileKept,
     /// Standard output took not all bytes.
     #[error("cannot write\n")]
     Write,
@@ -37,7 +40,7 @@ impl Stop {
     {
         match self {
             Stop::Words { .. } | Stop::NoText => 2,
-            Stop::JobFile | Stop::InputFile | Stop::TooLong | Stop::Write => 4,
+            Stop::JobFile | Stop::InputFile | Stop::TooLong | Stop::JobFileKept | Stop::Write => 4,
             Stop::NoMemory => 5,
         }
     }

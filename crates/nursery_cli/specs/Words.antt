@@ -3,7 +3,10 @@ use Rattle.std.specs.Prelude.{◌≡◌, ℕ, ◌≤◌, Bool, not, ◌||◌, Op
 use Rattle.std.specs.Str.{bytes_eq}
 use Rattle.job_syntax.specs.Keywords.{keyword_of}
 use Rattle.nursery_cli.specs.declared.command.Command.{Command}
-use Rattle.nursery_cli.specs.declared.command.Command.TheVariants.{Feed, Run, Explain, Chart, Faults, Races, Sweep, Check, Upgrade, Help}
+use Rattle.nursery_cli.specs.declared.command.Command.TheVariants.{Feed, Run, Explain, Chart, Faults, Races, Sweep, Fmt, Check, Upgrade, Help}
+use Rattle.std.specs.String.{string_bytes}
+use Rattle.nursery_cli.specs.declared.command.FormatMode.{FormatMode}
+use Rattle.nursery_cli.specs.declared.command.FormatMode.TheVariants as modes
 use Rattle.nursery_cli.specs.Values.{values_from}
 use Rattle.nursery_cli.specs.declared.parser.TheConstants.{LEAST_WIDTH, MOST_WIDTH}
 
@@ -21,7 +24,13 @@ abbrev pub IsWidth : Option ℕ → Type 0
 IsWidth None = Unit {0}
 IsWidth (Some width) = (LEAST_WIDTH ≤ width) × (width ≤ MOST_WIDTH)
 
--- a chart is not too wide, a faulty step can raise the exception, and a sweep has values
+-- a file that is written is not standard input
+abbrev pub IsWritten : List ℕ → FormatMode → Type 0
+IsWritten job modes.Print = Unit {0}
+IsWritten job modes.Write = IsTrue (not (bytes_eq job (codes "-")))
+IsWritten job modes.Check = Unit {0}
+
+-- a chart is not too wide, a faulty step can raise the exception, a sweep has values, and what is formatted in place is a file
 abbrev pub IsFit : Command → Type 0
 IsFit Feed = Unit {0}
 IsFit (Run job input settings order) = Unit {0}
@@ -30,6 +39,7 @@ IsFit (Chart job input width svg settings) = IsWidth width
 IsFit (Faults job input name deny settings) = IsTrue (may_be_raised name)
 IsFit (Races job input deny settings) = Unit {0}
 IsFit (Sweep job input target values settings) = AreValues values.items
+IsFit (Fmt job mode) = IsWritten (string_bytes job) mode
 IsFit (Check job) = Unit {0}
 IsFit (Upgrade job) = Unit {0}
 IsFit (Help text) = Unit {0}

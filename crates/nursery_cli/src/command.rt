@@ -19,6 +19,17 @@ pub enum Order {
     Turn,
 }
 
+/// What is done with the formatted text of a job.
+#[derive(Clone, Copy, Debug, PartialEq, Eq)]
+pub enum FormatMode {
+    /// It is written to standard output.
+    Print,
+    /// It takes the job file's place.
+    Write,
+    /// The job file is compared with it.
+    Check,
+}
+
 /// What the words after the program's name ask for.
 #[derive(Drop)]
 pub enum Command {
@@ -97,6 +108,13 @@ pub enum Command {
         values: Vec<u64>,
         /// The number of threads, and the last tick at which a job may end.
         settings: Settings,
+    },
+    /// The formatted text of a job: two spaces for each level, and one step in a line.
+    Fmt {
+        /// The job file, or `-` for standard input, which is never written.
+        job: String,
+        /// What is done with the text.
+        mode: FormatMode,
     },
     /// The canonical text of a job.
     Check {

@@ -161,6 +161,34 @@ The same by the place of the number, which begins in column 21 of line 3:
 
 Exit status: 0; the others are those of `run`.";
 
+pub(crate) const FMT_EXAMPLE: &str =
+    "A block that is empty or holds one step without a block stands in one line, where it ends at column 80
+or before. The formatted text spells the same job; formatting it again changes nothing.
+
+Example:
+
+    $ cat hedge.job
+    trio-job 1
+    job hedge { nursery both { start fast { sleep 2; cancel both; } start slow { sleep 9; } } }
+    $ nursery fmt hedge.job
+    trio-job 1
+    job hedge {
+      nursery both {
+        start fast {
+          sleep 2;
+          cancel both;
+        }
+        start slow { sleep 9; }
+      }
+    }
+    $ nursery fmt hedge.job --check
+    hedge.job:2:12: not formatted from here on
+    job hedge { nursery both { start fast { sleep 2; ca
+               ^
+
+Exit status: 0; 1 where `--check` finds a difference; 2 where the job is refused, or its formatted text is
+longer than a job text may be; 4 where a file could not be read or written; 5 no memory.";
+
 pub(crate) const CHECK_EXAMPLE: &str = "Example:
 
     $ cat wait.job

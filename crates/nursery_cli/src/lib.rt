@@ -12,6 +12,6 @@ mod parser;
 mod reading;
 mod sweeping;
 
-pub use command::{Command, CommandFault, Order};
+pub use command::{Command, CommandFault, FormatMode, Order};
 pub use parser::{DEFAULT_LIMIT, LEAST_WIDTH, MOST_WIDTH};
 pub use reading::read_command;

@@ -1,6 +1,6 @@
 use crate::examples::{
-    CHART_EXAMPLE, CHECK_EXAMPLE, EXAMPLE, EXPLAIN_EXAMPLE, FAULTS_EXAMPLE, RACES_EXAMPLE,
-    RUN_EXAMPLE, SWEEP_EXAMPLE, UPGRADE_EXAMPLE,
+    CHART_EXAMPLE, CHECK_EXAMPLE, EXAMPLE, EXPLAIN_EXAMPLE, FAULTS_EXAMPLE, FMT_EXAMPLE,
+    RACES_EXAMPLE, RUN_EXAMPLE, SWEEP_EXAMPLE, UPGRADE_EXAMPLE,
 };
 use clap::{Arg, ArgAction, ArgGroup, Command, value_parser};
 use job_runner::{GREATEST_LIMIT, MOST_WORKERS};
@@ -42,6 +42,7 @@ pub(crate) fn parser<'a>(alloc: Global) -> Result<Command<'a>, AllocError> {
         .subcommand(faults_parser(alloc)?)?
         .subcommand(races_parser(alloc)?)?
         .subcommand(sweep_parser(alloc)?)?
+        .subcommand(fmt_parser(alloc)?)?
         .subcommand(check_parser(alloc)?)?
         .subcommand(upgrade_parser(alloc)?)
 }
@@ -180,6 +181,26 @@ fn sweep_parser<'a>(alloc: Global) -> Result<Command<'a>, AllocError> {
         .group(target)?
         .arg(workers_option(alloc))?
         .arg(limit_option(alloc))
+}
+
+// What reads the words after `fmt`.
+fn fmt_parser<'a>(alloc: Global) -> Result<Command<'a>, AllocError> {
+    let write = Arg::new(alloc, "write")
+        .long("write")
+        .help("Writes the formatted text to the job file, or leaves the file as it is")
+        .action(ArgAction::SetTrue);
+    let check = Arg::new(alloc, "check")
+        .long("check")
+        .help("Writes nothing; the status is 1 where the job file differs from its formatted text")
+        .action(ArgAction::SetTrue);
+    let mode = ArgGroup::new(alloc, "mode").arg("write")?.arg("check")?;
+    Command::new(alloc, "fmt")
+        .about("Formats a job: two spaces for each level, and one step in a line")
+        .after_help(FMT_EXAMPLE)
+        .arg(job_argument(alloc))?
+        .arg(write)?
+        .arg(check)?
+        .group(mode)
 }
 
 // What reads the words after `check`.

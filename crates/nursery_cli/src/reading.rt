@@ -1,8 +1,9 @@
-ghost use Rattle.std.specs.Prelude.{◌≡◌, [], Ok, IfOk, IfSome, IsTrue};
+ghost use Rattle.std.specs.Prelude.{◌≡◌, [], Ok, IfOk, IfSome, IsTrue, codes};
+ghost use Rattle.std.specs.Str.{bytes_eq};
 ghost use Rattle.nursery_cli.specs.declared.command.Command.TheVariants.{Feed};
 ghost use Rattle.nursery_cli.specs.Words.{IsFit, IsAsked, IsWidth, may_be_raised};
 
-use crate::command::{Command, CommandFault, Order};
+use crate::command::{Command, CommandFault, FormatMode, Order};
 use crate::common::{OUT_OF_RANGE, owned, refusal, settings_of};
 use crate::parser::{DEFAULT_FAULT, LEAST_WIDTH, MOST_WIDTH, parser};
 use crate::sweeping::{target_of, values_of};
@@ -12,6 +13,9 @@ use fault_text::Deny;
 use job_syntax::Keyword;
 use job_tree::Name;
 use std::alloc::Global;
+
+// What is wrong where standard input is to be written.
+const NOT_WRITTEN: &str = "error: `--write` needs a file: JOB is standard input\n";
 
 /// Reads the words after the program's name.
 pub fn read_command(alloc: Global, words: &[String]) -> Result<Command, CommandFault>
@@ -67,6 +71,7 @@ fn chosen(alloc: Global, matches: &ArgMatches<'_>) -> Result<Command, CommandFau
         "faults" => faults_command(alloc, job, inner),
         "races" => races_command(alloc, job, inner),
         "sweep" => sweep_command(alloc, job, inner),
+        "fmt" => fmt_command(alloc, job, inner),
         "upgrade" => Ok(Command::Upgrade {
             job: String::from_str(alloc, job)?,
         }),
@@ -202,6 +207,38 @@ fn sweep_command(
         values,
         settings,
     })
+}
+
+// The command `fmt` with what is done with the text.
+fn fmt_command(alloc: Global, job: &str, matches: &ArgMatches<'_>) -> Result<Command, CommandFault>
+    ensures { IfOk result IsAsked }
+{
+    let mode = format_mode(matches);
+    if is_standard(job) && mode == FormatMode::Write {
+        return Err(refusal(alloc, NOT_WRITTEN));
+    }
+    Ok(Command::Fmt {
+        job: String::from_str(alloc, job)?,
+        mode,
+    })
+}
+
+// What is done with a formatted text.
+fn format_mode(matches: &ArgMatches<'_>) -> FormatMode {
+    if matches.get_flag("write") {
+        return FormatMode::Write;
+    }
+    if matches.get_flag("check") {
+        return FormatMode::Check;
+    }
+    FormatMode::Print
+}
+
+// Whether a file is standard input.
+fn is_standard(name: &str) -> bool
+    ensures { result ≡ bytes_eq name.now (codes "-") }
+{
+    name == "-"
 }
 
 // The name of that exception, where a step may raise it.

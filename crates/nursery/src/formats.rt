@@ -1,0 +1,112 @@
+ghost use Rattle.std.specs.Prelude.{◌≡◌, IfOk};
+ghost use Rattle.nursery.specs.Statuses.{TellsFormat, TellsFormatCheck};
+
+use crate::answers::{shown_name, tell_refusal};
+use crate::replacing::replace;
+use crate::sources::read_job_text;
+use crate::stop::Stop;
+use format_app::{FormatCheck, FormatFault, FormatVerdict, check_format, format, format_text};
+use nursery_app::{WriteOut, pointed_message};
+use nursery_cli::FormatMode;
+use std::alloc::{AllocError, Global};
+use std::io;
+use std::rt::Files;
+
+/// What is said of a job file that is not formatted.
+const NOT_FORMATTED: &str = "not formatted from here on";
+
+/// Formats a job file, and gives the status.
+pub(crate) fn format_job_file<R: Files + Input + Print + Eprint + AllocGlobal>(
+    rt: &R,
+    job: &str,
+    mode: FormatMode,
+) -> Result<u8, Stop> {
+    let text = read_job_text(rt, job)?;
+    match mode {
+        FormatMode::Print => print_formatted(rt, job, text.as_slice()),
+        FormatMode::Check => compare(rt, job, text.as_slice()),
+        FormatMode::Write => write_formatted(rt, job, text.as_slice()),
+    }
+}
+
+// Writes the formatted text of a job text, and gives the status.
+fn print_formatted<R: Print + Eprint + AllocGlobal>(
+    rt: &R,
+    job: &str,
+    text: &[u8],
+) -> Result<u8, Stop>
+    ensures { IfOk result (TellsFormat text.now) }
+{
+    let mut out = WriteOut::new(io::writer(rt));
+    let verdict = format(rt.alloc(), text, &mut out)?;
+    match verdict {
+        FormatVerdict::Formatted => {}
+        FormatVerdict::JobRefused(fault) => tell_refusal(rt, job, text, fault),
+        FormatVerdict::TooLong(bytes) => tell_too_long(rt, bytes),
+    }
+    Ok(verdict.status())
+}
+
+// Compares a job text with its formatted text, says where it differs, and gives the status.
+fn compare<R: Eprint + AllocGlobal>(rt: &R, job: &str, text: &[u8]) -> Result<u8, Stop>
+    ensures { IfOk result (TellsFormatCheck text.now) }
+{
+    let check = match check_format(rt.alloc(), text) {
+        Ok(check) => check,
+        Err(_) => return Err(Stop::NoMemory),
+    };
+    match check {
+        FormatCheck::Same => {}
+        FormatCheck::Differs(place) => tell_difference(rt, job, text, place),
+        FormatCheck::JobRefused(fault) => tell_refusal(rt, job, text, fault),
+        FormatCheck::TooLong(bytes) => tell_too_long(rt, bytes),
+    }
+    Ok(check.status())
+}
+
+// Puts the formatted text in the place of a job file that differs from it, and gives the status. A text that is refused, or whose formatted text
+// is too long, stays as it is.
+fn write_formatted<R: Files + Eprint + AllocGlobal>(
+    rt: &R,
+    job: &str,
+    text: &[u8],
+) -> Result<u8, Stop> {
+    match format_text(rt.alloc(), text) {
+        Ok(formatted) => {
+            if formatted.as_slice() != text {
+                replace(rt, job, formatted.as_slice())?;
+            }
+            Ok(0)
+        }
+        Err(FormatFault::Refused(fault)) => {
+            tell_refusal(rt, job, text, fault);
+            Ok(2)
+        }
+        Err(FormatFault::TooLong(bytes)) => {
+            tell_too_long(rt, bytes);
+            Ok(2)
+        }
+        Err(FormatFault::NoMemory) => Err(Stop::NoMemory),
+    }
+}
+
+// Says on standard error that a job text differs from its formatted text, from a place on. Where memory or a write fails here nothing more is
+// said.
+fn tell_difference<R: Eprint + AllocGlobal>(rt: &R, job: &str, text: &[u8], place: usize) {
+    let Ok(name) = shown_name(rt.alloc(), job) else {
+        return;
+    };
+    if let Ok(message) = pointed_message(rt.alloc(), name.as_str(), text, place, NOT_FORMATTED) {
+        let _ = rt.eprint(message.as_str());
+    }
+}
+
+// Says on standard error how long a formatted text would be. Where memory or a write fails here nothing more is said.
+fn tell_too_long<R: Eprint + AllocGlobal>(rt: &R, bytes: usize) {
+    let message = format!(in rt.alloc();
+        "error: the formatted text would have {bytes} bytes: a job text has at most 65536\n"
+    );
+    if let Ok(message) = message {
+        let _ = rt.eprint(message.as_str());
+    }
+}

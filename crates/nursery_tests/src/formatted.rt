@@ -1,0 +1,151 @@
+//! The formatted texts of jobs: what `format_text` gives, and where `check_format` finds that a text differs.
+
+use format_app::{FormatCheck, FormatFault, FormatVerdict, check_format, format, format_text};
+use job_grammar::JobKind;
+use job_report::{MemOut, Out};
+use nursery_app::ServeFault;
+use std::alloc::Global;
+use std::process::Abort;
+use std::test::Fail;
+
+// A job text and its formatted text. The last but one is a block that ends at column 80 in one line, and the last one that would end at 81.
+const TEXTS: &[(&str, &str)] = &[
+    ("trio-job 1\njob a{}", "trio-job 1\njob a {}\n"),
+    (
+        "trio-job 1\n\r\n\tjob a { sleep 3 ; } ",
+        "trio-job 1\njob a { sleep 3; }\n",
+    ),
+    (
+        "trio-job 2\njob a { sleep 3; checkpoint; }",
+        "trio-job 2\njob a {\n  sleep 3;\n  checkpoint;\n}\n",
+    ),
+    (
+        "trio-job 2\njob a { nursery n after 2 shield { start b over 3 { pace 2; } start c { scope s at 5 fail { } } } }",
+        "trio-job 2\njob a {\n  nursery n after 2 shield {\n    start b over 3 { pace 2; }\n    start c {\n      scope s at 5 fail {}\n    }\n  }\n}\n",
+    ),
+    (
+        "trio-job 2\njob a { repeat 3 { try { need \"a\\x00\\\"\\x7e\" B; } except B { raise C; } finally { longest; head 2; } } }",
+        "trio-job 2\njob a {\n  repeat 3 {\n    try { need \"a\\x00\\\"~\" B; } except B { raise C; } finally {\n      longest;\n      head 2;\n    }\n  }\n}\n",
+    ),
+    (
+        "trio-job 1\njob a { scope s { find \"0123456789012345678901234567890123456789012345678901234567\"; } }",
+        "trio-job 1\njob a {\n  scope s { find \"0123456789012345678901234567890123456789012345678901234567\"; }\n}\n",
+    ),
+    (
+        "trio-job 1\njob a { scope s { find \"01234567890123456789012345678901234567890123456789012345678\"; } }",
+        "trio-job 1\njob a {\n  scope s {\n    find \"01234567890123456789012345678901234567890123456789012345678\";\n  }\n}\n",
+    ),
+];
+
+// The formatted text of a job text.
+fn formatted(alloc: Global, text: &[u8]) -> Result<Vec<u8>, Fail> {
+    match format_text(alloc, text) {
+        Ok(bytes) => Ok(bytes),
+        Err(FormatFault::NoMemory) => match format_text(alloc, text) {
+            Ok(bytes) => Ok(bytes),
+            Err(_) => Err("no formatted text".into()),
+        },
+        Err(_) => Err("no formatted text".into()),
+    }
+}
+
+#[test]
+fn each_step_stands_in_a_line_and_short_blocks_in_one(rt: HostRuntime) -> Result<(), Fail> {
+    for &(text, expected) in TEXTS {
+        let bytes = formatted(rt.alloc(), text.as_bytes())?;
+        assert_eq!(rt; bytes.as_slice(), expected.as_bytes());
+        let again = formatted(rt.alloc(), expected.as_bytes())?;
+        assert_eq!(rt; again.as_slice(), expected.as_bytes());
+    }
+    Ok(())
+}
+
+// What is found of a job text. Where memory is refused it is asked for again.
+fn checked(alloc: Global, text: &[u8]) -> Result<FormatCheck, Fail> {
+    match check_format(alloc, text) {
+        Ok(check) => Ok(check),
+        Err(_) => Ok(check_format(alloc, text)?),
+    }
+}
+
+// A job text, and where it differs from its formatted text.
+const PLACES: &[(&str, FormatCheck)] = &[
+    ("trio-job 1\njob a {}\n", FormatCheck::Same),
+    ("trio-job 1\njob a {}", FormatCheck::Differs(19)),
+    ("trio-job 1\njob a {}\n\n", FormatCheck::Differs(20)),
+    ("trio-job 1\njob a { }\n", FormatCheck::Differs(18)),
+    (
+        "trio-job 2\njob a { sleep 1; sleep 2; }\n",
+        FormatCheck::Differs(18),
+    ),
+];
+
+#[test]
+fn a_difference_has_its_place(rt: HostRuntime) -> Result<(), Fail> {
+    for &(text, expected) in PLACES {
+        assert!(rt; checked(rt.alloc(), text.as_bytes())? == expected, "{text}");
+    }
+    let found = checked(rt.alloc(), b"trio-job 1\njob a { slep 1; }")?;
+    assert!(rt;
+        matches!(found, FormatCheck::JobRefused(fault) if fault.at == 19 && fault.kind == JobKind::Syntax)
+    );
+    Ok(())
+}
+
+// A job text of 31 scopes in one another, and in the innermost so many steps.
+fn deep(alloc: Global, steps: usize) -> Result<Vec<u8>, Fail> {
+    let mut text = Vec::from_slice(alloc, b"trio-job 1\njob a{")?;
+    for depth in 0..31u8 {
+        text.extend_from_slice(b"scope s")?;
+        text.extend_from_slice(&[b'0' + depth / 10, b'0' + depth % 10, b'{'])?;
+    }
+    for _step in 0..steps {
+        text.extend_from_slice(b"checkpoint;")?;
+    }
+    for _depth in 0..32u8 {
+        text.extend_from_slice(b"}")?;
+    }
+    Ok(text)
+}
+
+// The formatted text has 2,439 bytes without the innermost steps, and 76 for each of these.
+#[test]
+fn a_text_is_formatted_up_to_the_greatest_length(rt: HostRuntime) -> Result<(), Fail> {
+    let most = deep(rt.alloc(), 800)?;
+    let bytes = formatted(rt.alloc(), most.as_slice())?;
+    let long = deep(rt.alloc(), 900)?;
+    let found = checked(rt.alloc(), long.as_slice())?;
+    assert_eq!(rt; bytes.len(), 2_439 + 800 * 76);
+    assert!(rt; found == FormatCheck::TooLong(2_439 + 900 * 76));
+    Ok(())
+}
+
+// Writes the formatted text of a job text, with a writer that has not failed.
+fn written<R: Abort + AllocGlobal>(
+    rt: &R,
+    text: &[u8],
+    out: &mut MemOut,
+) -> Result<FormatVerdict, ServeFault> {
+    assert!(rt; out.failures() == 0);
+    format(rt.alloc(), text, out)
+}
+
+// A job text, the status, and what is written.
+const ANSWERS: &[(&str, u8, &str)] = &[
+    ("trio-job 1\njob a{}", 0, "trio-job 1\njob a {}\n"),
+    ("trio-job 1\njob a{", 2, "refused J6 Syntax at 17\n"),
+];
+
+#[test]
+fn the_formatted_text_or_the_refusal_is_written(rt: HostRuntime) -> Result<(), Fail> {
+    for &(text, status, expected) in ANSWERS {
+        let mut out = MemOut::new(rt.alloc(), 1_000_000, 7, None)?;
+        let verdict = match written(&rt, text.as_bytes(), &mut out) {
+            Err(ServeFault::NoMemory) => written(&rt, text.as_bytes(), &mut out)?,
+            answer => answer?,
+        };
+        assert_eq!(rt; verdict.status(), status);
+        assert_eq!(rt; out.taken(), expected.as_bytes());
+    }
+    Ok(())
+}
