@@ -86,12 +86,13 @@ done
 for name in retry shutdown supervisor; do pictures "$name"; done
 
 for workers in 1 3 64; do
-    for feed in examples/hedge examples/race tests/races/copies tests/races/fallback tests/races/lost; do
+    for feed in examples/hedge examples/race tests/races/race tests/races/copies tests/races/fallback tests/races/lost; do
         races "$feed.feed" --workers "$workers"
     done
     sweeps tests/faults/again_in_budget.feed --of budget --values 10..30 --workers "$workers"
     sweeps examples/supervisor.feed --of flush --values 1..9 --workers "$workers"
-    for feed in examples/cleanup examples/request examples/supervisor tests/faults/miss tests/faults/ingest tests/faults/ingest_in_time \
+    for feed in examples/cleanup examples/request examples/supervisor tests/faults/cleanup tests/faults/request \
+        tests/faults/supervisor tests/faults/miss tests/faults/ingest tests/faults/ingest_in_time \
         tests/faults/close tests/faults/close_in_time; do
         faults "$feed.feed" --workers "$workers"
     done
