@@ -1,0 +1,47 @@
+-- The tokens of a text that spells a job, and their opening keywords.
+use Rattle.std.proofs.Common.{◌≡◌, ℕ, Option, Some, None, List, [], length, drop, ap, subst, ◌∙◌}
+use Rattle.job_tree.specs.Tree.{Tree}
+use Rattle.job_tokens.specs.declared.token.Token.{Token}
+use Rattle.job_tokens.specs.Lexing.{Lexes}
+use Rattle.job_tokens.proofs.Course.{Lexes-unique}
+use Rattle.job_syntax.specs.declared.keyword.Keyword.{Keyword}
+use Rattle.job_checks.specs.Reserved.{reserved_in}
+use Rattle.job_grammar.specs.Refusals.{Spells, HasTokens, roles_of}
+use Rattle.job_grammar.specs.declared.fault.JobKind.TheVariants as kind
+use Rattle.job_grammar.proofs.Passing.{none_of}
+use Rattle.job_lint.specs.Openings.{opening_places, openings_of, numbered_in}
+use Rattle.job_lint.specs.Warnings.{outside, job_warnings}
+use Rattle.job_lint.specs.Fitting.{opening_keywords, keywords_of, AllStandAtKeywords}
+use Rattle.job_lint.proofs.Keywords.{as_many_places, same_keywords}
+use Rattle.job_lint.proofs.Standing.{as_many, all_stand}
+
+-- they reach to the end
+pub lexed_to_the_end : (text body : List ℕ) (job : Tree) (tokens : List Token) (fault : Option ℕ) (at : ℕ) → body ≡ drop 11 text →
+    fault ≡ Some at → Spells text job → Lexes (length text) body tokens fault → ⊥
+lexed_to_the_end text body job tokens fault at rest some spells lexed =
+    spells.2 kind.Token at (
+      tokens,
+      subst (λ (f : Option ℕ). Lexes (length text) (drop 11 text) tokens f) some
+          (subst (λ (b : List ℕ). Lexes (length text) b tokens fault) rest lexed),
+    )
+
+-- the tokens have the opening keywords of the tree
+pub keywords_of_text : (text : List ℕ) (job : Tree) (tokens : List Token) → Spells text job → HasTokens text tokens None →
+    opening_keywords tokens ≡ keywords_of job.steps []
+keywords_of_text text job tokens (ts, is_of, none) lexed =
+    let same : ts ≡ tokens = (Lexes-unique (length text) (drop 11 text) ts tokens None None is_of.0 lexed).0 in
+    let free : reserved_in ts (roles_of job) ≡ None =
+    none_of (reserved_in ts (roles_of job)) (λ at e. none kind.Reserved at (ts, job, is_of, e)) in
+    subst (λ (us : List Token). opening_keywords us ≡ keywords_of job.steps []) same (same_keywords job ts is_of.1.1 free)
+
+-- as many as are counted in the tree
+pub keywords_have_places : (text : List ℕ) (job : Tree) (tokens : List Token) → Spells text job → HasTokens text tokens None →
+    length (opening_places tokens) ≡ openings_of job.steps
+keywords_have_places text job tokens spells lexed =
+    as_many_places tokens ∙ ap (length {A = Keyword}) (keywords_of_text text job tokens spells lexed) ∙ as_many job.steps
+
+-- and each warning stands at one that it can be about
+pub warnings_stand : (text : List ℕ) (job : Tree) (tokens : List Token) → Spells text job → HasTokens text tokens None →
+    AllStandAtKeywords (opening_places tokens) (opening_keywords tokens) (job_warnings (numbered_in (opening_places tokens)) job)
+warnings_stand text job tokens spells lexed =
+    all_stand (opening_places tokens) (opening_keywords tokens) outside job.steps (keywords_of_text text job tokens spells lexed)

@@ -1,0 +1,7 @@
+pub mod Openings
+pub mod Seeking
+pub mod Warnings
+pub mod Adding
+pub mod Linted
+pub mod Sentences
+pub mod Fitting

@@ -1,0 +1,33 @@
+-- What a warning says, in a sentence.
+use Rattle.std.specs.Prelude.{ℕ, List, [], ◌++◌, Option, Some, None, codes, if◌then◌else◌}
+use Rattle.std.specs.Str.{bytes_eq}
+use Rattle.job_lint.specs.declared.warning.Lint.{Lint}
+use Rattle.job_lint.specs.declared.warning.Lint.TheVariants.{Unreachable, ExposedWait, RaiseInCleanup, ShieldWithoutDeadline, IdleScope, IdleHandler}
+use Rattle.job_lint.specs.declared.warning.Warning.{Warning}
+
+abbrev pub idle_scope_text : List ℕ → List ℕ
+idle_scope_text name =
+    codes "nothing cancels the scope " ++ name ++ codes ": it has no deadline, and no `cancel " ++ name ++ codes "` is in it"
+
+abbrev pub idle_handler_text : List ℕ → List ℕ
+idle_handler_text name =
+    if bytes_eq name (codes "TooSlow") then
+    codes "no scope in this `try` has `fail`, so nothing raises TooSlow and its handler never runs"
+    else codes "nothing in this `try` raises " ++ name ++ codes ", so its handler never runs"
+
+-- the sentence for a kind of mistake, with the name that it is about
+abbrev pub sentence_for : Lint → List ℕ → List ℕ
+sentence_for Unreachable name = codes "this step never runs: the step before it never ends well"
+sentence_for ExposedWait name =
+    codes "a cleanup that waits here is cut off when its task is cancelled: put the wait into a scope with a deadline and `shield`"
+sentence_for RaiseInCleanup name = codes "an exception raised in a cleanup replaces the one that the cleanup began with"
+sentence_for ShieldWithoutDeadline name = codes "nothing outside can cancel a wait in this shield: give it a deadline"
+sentence_for IdleScope name = idle_scope_text name
+sentence_for IdleHandler name = idle_handler_text name
+
+abbrev pub name_or_none : Option (List ℕ) → List ℕ
+name_or_none None = []
+name_or_none (Some name) = name
+
+abbrev pub sentence_of : Warning → List ℕ
+sentence_of warning = sentence_for warning.lint (name_or_none warning.name)

@@ -1,0 +1,137 @@
+-- What is probably a mistake in a job, keyword by keyword.
+use Rattle.std.specs.Prelude.{ℕ, ◌+◌, Bool, true, false, ◌&&◌, ◌||◌, not, List, [], ◌∷◌, Option, Some, None, codes, if◌then◌else◌}
+use Rattle.std.specs.Str.{bytes_eq}
+use Rattle.job_tree.specs.declared.deadline.Deadline.{Deadline}
+use Rattle.job_tree.specs.Tree.{Step, sleep, checkpoint, forever, pace, find, head, longest, need, raise, cancel, scope, nursery, start, repeat, attempt, Steps, stop, step, Handled, unhandled, except, Cleaned, uncleaned, finally, Tree}
+use Rattle.job_lint.specs.declared.around.Around.{Around}
+use Rattle.job_lint.specs.declared.warning.Lint.TheVariants.{Unreachable, ExposedWait, RaiseInCleanup, ShieldWithoutDeadline, IdleScope, IdleHandler}
+use Rattle.job_lint.specs.declared.warning.Warning.{Warning}
+use Rattle.job_lint.specs.declared.sought.Sought.TheVariants.{Cancel, Raise, Fail, Wait}
+use Rattle.job_lint.specs.Seeking.{has, is_never}
+use Rattle.job_lint.specs.Openings.{openings_of, openings_in, handled_openings}
+
+-- ---- what surrounds a block
+
+-- the block of a job
+abbrev pub outside : Around
+outside = record { cleanup = false; exposed = false }
+
+-- the block of a cleanup
+abbrev pub in_cleanup : Around
+in_cleanup = record { cleanup = true; exposed = true }
+
+-- the block of a scope or nursery, with a shield or without
+abbrev pub within : Bool → Around → Around
+within shield around = if shield then record { cleanup = around.cleanup; exposed = false } else around
+
+-- ---- at one keyword
+
+abbrev pub warn_if : Bool → Warning → Option Warning
+warn_if holds warning = if holds then Some warning else None
+
+abbrev pub with_warning : Option Warning → List Warning → List Warning
+with_warning None others = others
+with_warning (Some w) others = w ∷ others
+
+-- what no step of the same block comes after
+abbrev pub never_ends_well : Step → Bool
+never_ends_well forever = true
+never_ends_well (raise name) = true
+never_ends_well _ = false
+
+abbrev pub unreachable_step : Bool → ℕ → Option Warning
+unreachable_step unreachable at = warn_if unreachable (record { at = at; lint = Unreachable; name = None })
+
+-- a wait in a cleanup, with no shield in it around the wait
+abbrev pub exposed_wait : Around → ℕ → Option Warning
+exposed_wait around at = warn_if around.exposed (record { at = at; lint = ExposedWait; name = None })
+
+abbrev pub raise_in_cleanup : Around → ℕ → Option Warning
+raise_in_cleanup around at = warn_if around.cleanup (record { at = at; lint = RaiseInCleanup; name = None })
+
+-- a shield without a deadline that something waits in
+abbrev pub endless_shield : List ℕ → Steps → ℕ → Option Warning
+endless_shield name body at = warn_if (has Wait body) (record { at = at; lint = ShieldWithoutDeadline; name = Some name })
+
+-- a scope that nothing in it cancels by its name
+abbrev pub idle_scope : List ℕ → Steps → ℕ → Option Warning
+idle_scope name body at = warn_if (not (has (Cancel name) body)) (record { at = at; lint = IdleScope; name = Some name })
+
+abbrev pub scope_warning : List ℕ → Deadline → Bool → Steps → ℕ → Option Warning
+scope_warning name deadline shield body at =
+    if not (is_never deadline) then None else (if shield then endless_shield name body at else idle_scope name body at)
+
+abbrev pub nursery_warning : List ℕ → Deadline → Bool → Steps → ℕ → Option Warning
+nursery_warning name deadline shield body at = if is_never deadline && shield then endless_shield name body at else None
+
+-- exceptions of a name are raised by a step of a block, or are `TooSlow` and raised by a scope with `fail`
+abbrev pub can_raise : List ℕ → Steps → Bool
+can_raise name body = has (Raise name) body || (bytes_eq name (codes "TooSlow") && has Fail body)
+
+-- a handler of what the block of its `try` cannot raise
+abbrev pub idle_handler : List ℕ → Steps → ℕ → Option Warning
+idle_handler name tried at = warn_if (not (can_raise name tried)) (record { at = at; lint = IdleHandler; name = Some name })
+
+-- the warning at the keyword of a step, but for that the step is unreachable
+abbrev pub own_warning : Around → ℕ → Step → Option Warning
+own_warning around at (sleep n) = exposed_wait around at
+own_warning around at checkpoint = exposed_wait around at
+own_warning around at forever = exposed_wait around at
+own_warning around at (pace k) = exposed_wait around at
+own_warning around at (raise name) = raise_in_cleanup around at
+own_warning around at (scope name deadline shield fail body) = scope_warning name deadline shield body at
+own_warning around at (nursery name deadline shield body) = nursery_warning name deadline shield body at
+own_warning around at _ = None
+
+-- both, in front of others
+abbrev pub warnings_at : (unreachable : Bool) → Around → ℕ → Step → List Warning → List Warning
+warnings_at unreachable around at s others = with_warning (unreachable_step unreachable at) (with_warning (own_warning around at s) others)
+
+-- ---- keyword by keyword
+
+abbrev mutual
+  -- The warnings of a block, in front of others: by the place of each keyword, what surrounds the block, whether its first step is unreachable,
+  -- and the number of its first keyword.
+  pub warnings_of : (place : ℕ → ℕ) → Around → (unreachable : Bool) → (number : ℕ) → Steps → List Warning → List Warning
+  warnings_of place around unreachable number stop others = others
+  warnings_of place around unreachable number (step s ss) others =
+      warnings_at unreachable around (place number) s
+      (warnings_in place around (number + 1) s
+      (warnings_of place around (never_ends_well s) (number + 1 + openings_in s) ss others))
+
+  -- those inside a step
+  pub warnings_in : (ℕ → ℕ) → Around → ℕ → Step → List Warning → List Warning
+  warnings_in place around number (sleep n) others = others
+  warnings_in place around number checkpoint others = others
+  warnings_in place around number forever others = others
+  warnings_in place around number (pace k) others = others
+  warnings_in place around number (find text) others = others
+  warnings_in place around number (head n) others = others
+  warnings_in place around number longest others = others
+  warnings_in place around number (need text name) others = others
+  warnings_in place around number (raise name) others = others
+  warnings_in place around number (cancel name) others = others
+  warnings_in place around number (scope name deadline shield fail body) others =
+      warnings_of place (within shield around) false number body others
+  warnings_in place around number (nursery name deadline shield body) others =
+      warnings_of place (within shield around) false number body others
+  warnings_in place around number (start name over body) others = warnings_of place around false number body others
+  warnings_in place around number (repeat count body) others = warnings_of place around false number body others
+  warnings_in place around number (attempt body handler cleanup) others =
+      warnings_of place around false number body
+      (handled_warnings place around (number + openings_of body) body handler
+      (cleaned_warnings place (number + openings_of body + handled_openings handler) cleanup others))
+
+  -- those of the handler of a `try`, whose block is known
+  pub handled_warnings : (ℕ → ℕ) → Around → ℕ → Steps → Handled → List Warning → List Warning
+  handled_warnings place around number tried unhandled others = others
+  handled_warnings place around number tried (except name body) others =
+      with_warning (idle_handler name tried (place number)) (warnings_of place around false (number + 1) body others)
+
+  pub cleaned_warnings : (ℕ → ℕ) → ℕ → Cleaned → List Warning → List Warning
+  cleaned_warnings place number uncleaned others = others
+  cleaned_warnings place number (finally body) others = warnings_of place in_cleanup false (number + 1) body others
+
+-- the warnings of a job, by the place of each keyword
+abbrev pub job_warnings : (ℕ → ℕ) → Tree → List Warning
+job_warnings place job = warnings_of place outside false 0 job.steps []

@@ -1,0 +1,22 @@
+//! Probable mistakes in a job, each with its place.
+//!
+//! The layer promises that `lints` finds in a job exactly what a definition over the job's tree finds (`specs/Warnings.antt`): steps that never run,
+//! cleanups that wait without a shield or raise, shields in which nothing outside can cancel a wait, scopes that nothing cancels, and handlers of what
+//! nothing raises; and that each place is that of the keyword in the text which the warning is about (`specs/Openings.antt`, `laws.rt`). It stands on
+//! `job_grammar` for the job that a text spells and on `job_tokens` for the places.
+#![tactic(auto)]
+
+mod around;
+mod laws;
+mod linting;
+mod opening;
+mod own;
+mod sentences;
+mod sought;
+mod walk;
+mod warning;
+
+pub use laws::{law_keywords_have_places, law_warnings_stand_at_keywords};
+pub use linting::lints;
+pub use sentences::sentence;
+pub use warning::{Lint, Warning};

@@ -1,0 +1,71 @@
+ghost use Rattle.std.specs.Prelude.{◌≡◌, ℕ, None, Err, drop, IfOk, IfErr, MatchResult};
+ghost use Rattle.job_tree.specs.Tree.{Tree};
+ghost use Rattle.job_grammar.specs.declared.fault.JobKind.{JobKind};
+ghost use Rattle.job_grammar.specs.Refusals.{Spells, HasTokens, IsRefused, IsFair, AnswersUnlessMemory};
+ghost use Rattle.job_lint.specs.Linted.{AreWarnings, IsOkUnlessMemory};
+
+use crate::around::outside;
+use crate::laws::law_keywords_have_places;
+use crate::opening::opening_places;
+use crate::walk::walk_steps;
+use crate::warning::Warning;
+use job_grammar::{FIRST_LINE_LENGTH, Job, JobFault, read_job};
+use job_tokens::{Lexed, Token, lex};
+use std::alloc::{AllocError, Global};
+
+/// The probable mistakes in the job that a text spells, in the order of the keywords that they are about, or why the text is refused.
+/// Want of memory is told as a refusal of the kind `NoMemory`.
+pub fn lints(alloc: Global, text: &[u8]) -> Result<Vec<Warning>, JobFault>
+    // What is found are the warnings of the job, each at its place.
+    ensures found { IfOk result (λ warnings. AreWarnings text.now warnings.items) }
+    // What is refused has that fault at that place, and no fault of an earlier kind.
+    ensures refused { IfErr result (IsFair text.now) }
+    // Of a text that spells a job the warnings are found, unless a growth is refused.
+    ensures only { (job : Tree) → Spells text.now job → IsOkUnlessMemory result }
+    // Where a refusal's condition holds it is that refusal, unless a growth is refused.
+    ensures exact { (kind : JobKind) (at : ℕ) → IsRefused text.now kind at
+        → AnswersUnlessMemory result (Err (record { at = at; kind = kind })) }
+{
+    read_and_lint(alloc, text)
+}
+
+// The same, with what the clauses follow from.
+fn read_and_lint(alloc: Global, text: &[u8]) -> Result<Vec<Warning>, JobFault>
+    ensures { MatchResult result (λ warnings. AreWarnings text.now warnings.items) (IsFair text.now) }
+{
+    let job = read_job(alloc, text)?;
+    let warnings = lints_of_job(alloc, text, &job)?;
+    Ok(warnings)
+}
+
+// The warnings of the job that a text spells.
+fn lints_of_job(alloc: Global, text: &[u8], job: &Job) -> Result<Vec<Warning>, AllocError>
+    requires { Spells text.now job.now }
+    ensures { IfOk result (λ warnings. AreWarnings text.now warnings.items) }
+{
+    law_keywords_have_places();
+    let tokens = tokens_of(alloc, text, job)?;
+    let places = opening_places(alloc, tokens.as_slice())?;
+    let mut found = Vec::new(alloc);
+    walk_steps(job.steps(), places.as_slice(), outside(), 0, &mut found)?;
+    Ok(found)
+}
+
+// The tokens of a text that spells a job.
+fn tokens_of(alloc: Global, text: &[u8], job: &Job) -> Result<Vec<Token>, AllocError>
+    requires { Spells text.now job.now }
+    ensures { IfOk result (λ tokens. HasTokens text.now tokens.items None) }
+{
+    let Lexed { tokens, fault } = lex(alloc, after_first_line(text), text.len())?;
+    match fault {
+        None => Ok(tokens),
+        Some(_) => unreachable!(),
+    }
+}
+
+// The bytes after the first line of a text.
+fn after_first_line(text: &[u8]) -> &[u8]
+    ensures { result.now ≡ drop 11 text.now }
+{
+    text.split_at(FIRST_LINE_LENGTH.min(text.len())).1
+}

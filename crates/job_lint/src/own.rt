@@ -1,0 +1,150 @@
+ghost use Rattle.std.specs.Prelude.{◌≡◌, OnOk};
+ghost use Rattle.job_tree.specs.Blocks.{step_of};
+ghost use Rattle.job_lint.specs.Warnings.{warn_if, own_warning, scope_warning, nursery_warning, idle_scope, endless_shield, idle_handler, can_raise, never_ends_well, with_warning, warnings_at};
+ghost use Rattle.job_lint.specs.Adding.{Adds};
+
+use crate::around::Around;
+use crate::sought::{Sought, has, is_never};
+use crate::warning::{Lint, Warning};
+use job_tree::{Body, Deadline, Name, Step};
+use std::alloc::AllocError;
+
+// Appends the warnings at the keyword of a step: whether the step is unreachable is known.
+pub(crate) fn push_own(
+    step: &Step,
+    unreachable: bool,
+    around: Around,
+    at: usize,
+    found: &mut Vec<Warning>,
+) -> Result<(), AllocError>
+    ensures { OnOk result (Adds found.old.items found.new.items (warnings_at unreachable around at (step_of step.now))) }
+{
+    push_found(warn_if(unreachable, at, Lint::Unreachable, None), found)?;
+    push_found(own_warning(step, around, at), found)?;
+    Ok(())
+}
+
+// Appends a warning, if there is one.
+pub(crate) fn push_found(
+    warning: Option<Warning>,
+    found: &mut Vec<Warning>,
+) -> Result<(), AllocError>
+    ensures { OnOk result (Adds found.old.items found.new.items (with_warning warning)) }
+{
+    let Some(Warning { at, lint, name }) = warning else {
+        return Ok(());
+    };
+    found.push(Warning { at, lint, name })?;
+    Ok(())
+}
+
+// Whether the steps after this one in its block never run.
+pub(crate) fn never_ends_well(step: &Step) -> bool
+    ensures { result ≡ never_ends_well (step_of step.now) }
+{
+    match step {
+        Step::Forever => true,
+        Step::Raise(_) => true,
+        _ => false,
+    }
+}
+
+// The warning at the keyword of a step, but for that it is unreachable.
+fn own_warning(step: &Step, around: Around, at: usize) -> Option<Warning>
+    ensures { result ≡ own_warning around at (step_of step.now) }
+{
+    match step {
+        Step::Sleep(_) => warn_if(around.exposed, at, Lint::ExposedWait, None),
+        Step::Checkpoint => warn_if(around.exposed, at, Lint::ExposedWait, None),
+        Step::Forever => warn_if(around.exposed, at, Lint::ExposedWait, None),
+        Step::Pace(_) => warn_if(around.exposed, at, Lint::ExposedWait, None),
+        Step::Raise(_) => warn_if(around.cleanup, at, Lint::RaiseInCleanup, None),
+        Step::Scope {
+            name,
+            deadline,
+            shield,
+            body,
+            ..
+        } => scope_warning(*name, *deadline, *shield, body, at),
+        Step::Nursery {
+            name,
+            deadline,
+            shield,
+            body,
+        } => nursery_warning(*name, *deadline, *shield, body, at),
+        _ => None,
+    }
+}
+
+// The warning at a scope.
+fn scope_warning(
+    name: Name,
+    deadline: Deadline,
+    shield: bool,
+    body: &Body,
+    at: usize,
+) -> Option<Warning>
+    ensures { result ≡ scope_warning name deadline shield body.now at }
+{
+    if !is_never(deadline) {
+        None
+    } else if shield {
+        endless_shield(name, body, at)
+    } else {
+        let is_idle = !has(body.as_slice(), &Sought::Cancel(name));
+        warn_if(is_idle, at, Lint::IdleScope, Some(name))
+    }
+}
+
+// The warning at a nursery.
+fn nursery_warning(
+    name: Name,
+    deadline: Deadline,
+    shield: bool,
+    body: &Body,
+    at: usize,
+) -> Option<Warning>
+    ensures { result ≡ nursery_warning name deadline shield body.now at }
+{
+    if is_never(deadline) && shield {
+        endless_shield(name, body, at)
+    } else {
+        None
+    }
+}
+
+// The warning at a shield without a deadline.
+fn endless_shield(name: Name, body: &Body, at: usize) -> Option<Warning>
+    ensures { result ≡ endless_shield name body.now at }
+{
+    let waits = has(body.as_slice(), &Sought::Wait);
+    warn_if(waits, at, Lint::ShieldWithoutDeadline, Some(name))
+}
+
+// The warning at a handler, by its name and the block of its `try`.
+pub(crate) fn idle_handler(name: Name, body: &Body, at: usize) -> Option<Warning>
+    ensures { result ≡ idle_handler name body.now at }
+{
+    let is_idle = !can_raise(name, body);
+    warn_if(is_idle, at, Lint::IdleHandler, Some(name))
+}
+
+// Whether something in a block can raise exceptions of a name.
+fn can_raise(name: Name, body: &Body) -> bool
+    ensures { result ≡ can_raise name body.now }
+{
+    let steps = body.as_slice();
+    let is_too_slow = name.bytes() == b"TooSlow".as_slice();
+    has(steps, &Sought::Raise(name)) || (is_too_slow && has(steps, &Sought::Fail))
+}
+
+// A warning, where what it warns of holds.
+fn warn_if(holds: bool, at: usize, lint: Lint, name: Option<Name>) -> Option<Warning>
+    ensures { result ≡ warn_if holds (record { at = at; lint = lint; name = name }) }
+{
+    if holds {
+        Some(Warning { at, lint, name })
+    } else {
+        None
+    }
+}

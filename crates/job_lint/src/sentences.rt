@@ -1,0 +1,62 @@
+ghost use Rattle.std.specs.Prelude.{◌≡◌, ◌++◌, IfOk, OnOk};
+ghost use Rattle.job_lint.specs.Sentences.{sentence_of, sentence_for, idle_scope_text, idle_handler_text};
+
+use crate::warning::{Lint, Warning};
+use std::alloc::{AllocError, Global};
+
+/// What a warning says to the user, in a sentence of ASCII with no newline. Want of memory is the only error.
+pub fn sentence(alloc: Global, warning: &Warning) -> Result<Vec<u8>, AllocError>
+    ensures { IfOk result (λ text. text.items ≡ sentence_of warning.now) }
+{
+    let mut text = Vec::new(alloc);
+    match &warning.name {
+        Some(name) => push_sentence(&mut text, warning.lint, name.bytes())?,
+        None => push_sentence(&mut text, warning.lint, b"")?,
+    }
+    Ok(text)
+}
+
+// Appends the sentence of a kind of mistake, with the name that it is about.
+fn push_sentence(text: &mut Vec<u8>, lint: Lint, name: &[u8]) -> Result<(), AllocError>
+    ensures { OnOk result (text.new.items ≡ text.old.items ++ sentence_for lint name.now) }
+{
+    match lint {
+        Lint::Unreachable => {
+            text.extend_from_slice(b"this step never runs: the step before it never ends well")
+        }
+        Lint::ExposedWait => text.extend_from_slice(
+            b"a cleanup that waits here is cut off when its task is cancelled: put the wait into a scope with a deadline and `shield`",
+        ),
+        Lint::RaiseInCleanup => text.extend_from_slice(
+            b"an exception raised in a cleanup replaces the one that the cleanup began with",
+        ),
+        Lint::ShieldWithoutDeadline => text.extend_from_slice(
+            b"nothing outside can cancel a wait in this shield: give it a deadline",
+        ),
+        Lint::IdleScope => push_idle_scope(text, name),
+        Lint::IdleHandler => push_idle_handler(text, name),
+    }
+}
+
+fn push_idle_scope(text: &mut Vec<u8>, name: &[u8]) -> Result<(), AllocError>
+    ensures { OnOk result (text.new.items ≡ text.old.items ++ idle_scope_text name.now) }
+{
+    text.extend_from_slice(b"nothing cancels the scope ")?;
+    text.extend_from_slice(name)?;
+    text.extend_from_slice(b": it has no deadline, and no `cancel ")?;
+    text.extend_from_slice(name)?;
+    text.extend_from_slice(b"` is in it")
+}
+
+fn push_idle_handler(text: &mut Vec<u8>, name: &[u8]) -> Result<(), AllocError>
+    ensures { OnOk result (text.new.items ≡ text.old.items ++ idle_handler_text name.now) }
+{
+    if name == b"TooSlow".as_slice() {
+        return text.extend_from_slice(
+            b"no scope in this `try` has `fail`, so nothing raises TooSlow and its handler never runs",
+        );
+    }
+    text.extend_from_slice(b"nothing in this `try` raises ")?;
+    text.extend_from_slice(name)?;
+    text.extend_from_slice(b", so its handler never runs")
+}

@@ -1,0 +1,151 @@
+ghost use Rattle.std.specs.Prelude.{◌≡◌};
+ghost use Rattle.job_tree.specs.Blocks.{step_of, steps_of, handled_of, cleaned_of};
+ghost use Rattle.job_lint.specs.Seeking.{cancels, raises, fails, waits, is_never, is_sought, is_entered, has, has_inside, handled_has, cleaned_has};
+
+use job_tree::{Body, Deadline, Handler, Name, Step};
+
+// What is sought in a block.
+#[derive(Drop)]
+pub(crate) enum Sought {
+    // A `cancel` of that name.
+    Cancel(Name),
+    // What raises an exception of that name: a `raise` or a `need`.
+    Raise(Name),
+    // A scope with `fail`.
+    Fail,
+    // A step that waits, in no scope or nursery with a deadline.
+    Wait,
+}
+
+// Whether a block has what is sought, at any depth.
+#[cycle(seeking)]
+pub(crate) fn has(steps: &[Step], sought: &Sought) -> bool
+    ensures { result ≡ has sought.now (steps_of steps.now) }
+{
+    'steps: for step in steps {
+        if is_sought(step, sought) || has_inside(step, sought) {
+            return true;
+        }
+    }
+    false
+}
+
+// Whether the blocks of a step have it.
+#[cycle(seeking)]
+fn has_inside(step: &Step, sought: &Sought) -> bool
+    ensures { result ≡ has_inside sought.now (step_of step.now) }
+{
+    match step {
+        Step::Scope { deadline, body, .. } => {
+            is_entered(sought, *deadline) && has(body.as_slice(), sought)
+        }
+        Step::Nursery { deadline, body, .. } => {
+            is_entered(sought, *deadline) && has(body.as_slice(), sought)
+        }
+        Step::Start { body, .. } => has(body.as_slice(), sought),
+        Step::Repeat { body, .. } => has(body.as_slice(), sought),
+        Step::Try {
+            body,
+            handler,
+            cleanup,
+        } => {
+            has(body.as_slice(), sought)
+                || (handled_has(handler, sought) || cleaned_has(cleanup, sought))
+        }
+        _ => false,
+    }
+}
+
+#[cycle(seeking)]
+fn handled_has(handler: &Option<Handler>, sought: &Sought) -> bool
+    ensures { result ≡ handled_has sought.now (handled_of handler.now) }
+{
+    match handler {
+        Some(handler) => has(handler.body.as_slice(), sought),
+        None => false,
+    }
+}
+
+#[cycle(seeking)]
+fn cleaned_has(cleanup: &Option<Body>, sought: &Sought) -> bool
+    ensures { result ≡ cleaned_has sought.now (cleaned_of cleanup.now) }
+{
+    match cleanup {
+        Some(body) => has(body.as_slice(), sought),
+        None => false,
+    }
+}
+
+// Whether a step is what is sought.
+fn is_sought(step: &Step, sought: &Sought) -> bool
+    ensures { result ≡ is_sought sought.now (step_of step.now) }
+{
+    match sought {
+        Sought::Cancel(name) => cancels(step, name),
+        Sought::Raise(name) => raises(step, name),
+        Sought::Fail => fails(step),
+        Sought::Wait => waits(step),
+    }
+}
+
+// Whether what is sought is also sought in a scope or nursery with that deadline.
+fn is_entered(sought: &Sought, deadline: Deadline) -> bool
+    ensures { result ≡ is_entered sought.now deadline }
+{
+    match sought {
+        Sought::Cancel(_) => true,
+        Sought::Raise(_) => true,
+        Sought::Fail => true,
+        Sought::Wait => is_never(deadline),
+    }
+}
+
+pub(crate) fn is_never(deadline: Deadline) -> bool
+    ensures { result ≡ is_never deadline }
+{
+    match deadline {
+        Deadline::Never => true,
+        Deadline::After(_) => false,
+        Deadline::At(_) => false,
+    }
+}
+
+fn cancels(step: &Step, name: &Name) -> bool
+    ensures { result ≡ cancels name.now (step_of step.now) }
+{
+    match step {
+        Step::Cancel(other) => name == other,
+        _ => false,
+    }
+}
+
+fn raises(step: &Step, name: &Name) -> bool
+    ensures { result ≡ raises name.now (step_of step.now) }
+{
+    match step {
+        Step::Raise(other) => name == other,
+        Step::Need { name: other, .. } => name == other,
+        _ => false,
+    }
+}
+
+fn fails(step: &Step) -> bool
+    ensures { result ≡ fails (step_of step.now) }
+{
+    match step {
+        Step::Scope { fail, .. } => *fail,
+        _ => false,
+    }
+}
+
+fn waits(step: &Step) -> bool
+    ensures { result ≡ waits (step_of step.now) }
+{
+    match step {
+        Step::Sleep(_) => true,
+        Step::Checkpoint => true,
+        Step::Forever => true,
+        Step::Pace(_) => true,
+        _ => false,
+    }
+}

@@ -1,0 +1,125 @@
+ghost use Rattle.std.specs.Prelude.{◌≡◌, ◌+◌, ◌≤◌, false, length, IfOk};
+ghost use Rattle.job_tree.specs.Blocks.{step_of, steps_of, handled_of, cleaned_of};
+ghost use Rattle.job_lint.specs.Openings.{openings_of, openings_in, handled_openings, cleaned_openings, numbered_in};
+ghost use Rattle.job_lint.specs.Warnings.{warnings_of, warnings_in, handled_warnings, cleaned_warnings};
+ghost use Rattle.job_lint.specs.Adding.{Adds};
+
+use crate::around::{Around, in_cleanup};
+use crate::own::{idle_handler, never_ends_well, push_found, push_own};
+use crate::warning::Warning;
+use job_tree::{Body, Handler, Step};
+use std::alloc::AllocError;
+
+// Each of these appends the warnings of a part of a job, whose first keyword has a number, by the places of all keywords. The answer is the
+// number of the first keyword after the part.
+
+// The warnings of the steps of a block.
+#[cycle(walking)]
+pub(crate) fn walk_steps(
+    steps: &[Step],
+    places: &[usize],
+    around: Around,
+    number: usize,
+    found: &mut Vec<Warning>,
+) -> Result<usize, AllocError>
+    requires { number + openings_of (steps_of steps.now) ≤ length places.now }
+    ensures { IfOk result (λ next. (next ≡ number + openings_of (steps_of steps.now))
+        × Adds found.old.items found.new.items (warnings_of (numbered_in places.now) around false number (steps_of steps.now))) }
+{
+    let mut next = number;
+    let mut unreachable = false;
+    'steps: for step in steps {
+        push_own(step, unreachable, around, places[next], found)?;
+        next = walk_inside(step, places, around, next + 1, found)?;
+        unreachable = never_ends_well(step);
+    }
+    Ok(next)
+}
+
+// The warnings inside a step, after its own keyword.
+#[cycle(walking)]
+fn walk_inside(
+    step: &Step,
+    places: &[usize],
+    around: Around,
+    number: usize,
+    found: &mut Vec<Warning>,
+) -> Result<usize, AllocError>
+    requires { number + openings_in (step_of step.now) ≤ length places.now }
+    ensures { IfOk result (λ next. (next ≡ number + openings_in (step_of step.now))
+        × Adds found.old.items found.new.items (warnings_in (numbered_in places.now) around number (step_of step.now))) }
+{
+    match step {
+        Step::Scope { shield, body, .. } => {
+            let around = around.within(*shield);
+            let next = walk_steps(body.as_slice(), places, around, number, found)?;
+            Ok(next)
+        }
+        Step::Nursery { shield, body, .. } => {
+            let around = around.within(*shield);
+            let next = walk_steps(body.as_slice(), places, around, number, found)?;
+            Ok(next)
+        }
+        Step::Start { body, .. } => {
+            let next = walk_steps(body.as_slice(), places, around, number, found)?;
+            Ok(next)
+        }
+        Step::Repeat { body, .. } => {
+            let next = walk_steps(body.as_slice(), places, around, number, found)?;
+            Ok(next)
+        }
+        Step::Try {
+            body,
+            handler,
+            cleanup,
+        } => {
+            let next = walk_steps(body.as_slice(), places, around, number, found)?;
+            let next = walk_handler(handler, body, places, around, next, found)?;
+            let next = walk_cleanup(cleanup, places, next, found)?;
+            Ok(next)
+        }
+        _ => Ok(number),
+    }
+}
+
+// The warnings of the handler of a `try`, where there is one, by the block of the `try`.
+#[cycle(walking)]
+fn walk_handler(
+    handler: &Option<Handler>,
+    tried: &Body,
+    places: &[usize],
+    around: Around,
+    number: usize,
+    found: &mut Vec<Warning>,
+) -> Result<usize, AllocError>
+    requires { number + handled_openings (handled_of handler.now) ≤ length places.now }
+    ensures { IfOk result (λ next. (next ≡ number + handled_openings (handled_of handler.now))
+        × Adds found.old.items found.new.items
+        (handled_warnings (numbered_in places.now) around number tried.now (handled_of handler.now))) }
+{
+    let Some(handler) = handler else {
+        return Ok(number);
+    };
+    push_found(idle_handler(handler.name, tried, places[number]), found)?;
+    let next = walk_steps(handler.body.as_slice(), places, around, number + 1, found)?;
+    Ok(next)
+}
+
+// The warnings of the cleanup of a `try`, where there is one.
+#[cycle(walking)]
+fn walk_cleanup(
+    cleanup: &Option<Body>,
+    places: &[usize],
+    number: usize,
+    found: &mut Vec<Warning>,
+) -> Result<usize, AllocError>
+    requires { number + cleaned_openings (cleaned_of cleanup.now) ≤ length places.now }
+    ensures { IfOk result (λ next. (next ≡ number + cleaned_openings (cleaned_of cleanup.now))
+        × Adds found.old.items found.new.items (cleaned_warnings (numbered_in places.now) number (cleaned_of cleanup.now))) }
+{
+    let Some(body) = cleanup else {
+        return Ok(number);
+    };
+    let next = walk_steps(body.as_slice(), places, in_cleanup(), number + 1, found)?;
+    Ok(next)
+}
