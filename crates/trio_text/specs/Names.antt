@@ -1,0 +1,21 @@
+-- The names of a job's tasks, scopes and nurseries in its Python program.
+use Rattle.std.specs.Prelude.{ℕ, Bool, not, ◌&&◌, List, ◌++◌, codes, nat_eq, if◌then◌else◌}
+use Rattle.std.specs.List.{list_any, ends_with}
+use Rattle.std.specs.Str.{bytes_eq}
+use Rattle.trio_text.specs.declared.taken.TheConstants.{TAKEN}
+
+-- whether the program has a word for something else
+unfoldable pub is_taken : List ℕ → Bool
+is_taken word = list_any (λ other. bytes_eq other.now word) TAKEN.now
+
+-- whether a word can stand in the program as it is: it does not end with `_`, and is not taken
+unfoldable pub is_free : List ℕ → Bool
+is_free word = not (ends_with nat_eq word (codes "_")) && not (is_taken word)
+
+-- a name in the program: itself, or `_` after it
+unfoldable pub name_text : List ℕ → List ℕ
+name_text name = if is_free name then name else name ++ codes "_"
+
+-- the class of an exception: its name, or `_` before it where that is not free or is given to a task, scope or nursery
+unfoldable pub class_text : Bool → List ℕ → List ℕ
+class_text is_given name = if is_free name && not is_given then name else codes "_" ++ name

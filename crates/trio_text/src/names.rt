@@ -1,0 +1,75 @@
+// The names of a job as names of the program. No name of the program ends with `_` but one of the job to which `_` was added, and none begins
+// with `_` but that of an exception.
+ghost use Rattle.std.specs.Prelude.{◌≡◌, ◌++◌, OnOk};
+ghost use Rattle.std.specs.List.{list_any};
+ghost use Rattle.std.specs.Str.{bytes_eq};
+ghost use Rattle.trio_text.specs.Names.{class_text, is_free, is_taken, name_text};
+
+use crate::taken::TAKEN;
+use crate::words::Words;
+use job_tree::Name;
+use std::alloc::AllocError;
+
+// Appends the name of a task, scope or nursery: the job's own, and `_` after it where the program has that word for something else.
+#[tactic(auto, unfolding(crate::specs::Names::name_text))]
+pub(crate) fn push_name(out: &mut Vec<u8>, name: Name) -> Result<(), AllocError>
+    ensures { OnOk result (out.new.items ≡ out.old.items ++ name_text name) }
+{
+    out.extend_from_slice(name.bytes())?;
+    if !is_free(name.bytes()) {
+        out.extend_from_slice(b"_")?;
+    }
+    Ok(())
+}
+
+// Appends the class of an exception: the job's own name for it, and `_` before it where that is another name of the program.
+pub(crate) fn push_class(out: &mut Vec<u8>, words: &Words, name: Name) -> Result<(), AllocError> {
+    push_class_text(out, words.gives(name), name)
+}
+
+// The same, where it is known whether a task, scope or nursery has that name.
+#[tactic(auto, unfolding(crate::specs::Names::class_text))]
+fn push_class_text(out: &mut Vec<u8>, is_given: bool, name: Name) -> Result<(), AllocError>
+    ensures { OnOk result (out.new.items ≡ out.old.items ++ class_text is_given name) }
+{
+    if !is_free(name.bytes()) || is_given {
+        out.extend_from_slice(b"_")?;
+    }
+    out.extend_from_slice(name.bytes())
+}
+
+// Appends the class of the exceptions that a handler handles: Trio's own for `TooSlow`.
+pub(crate) fn push_handled(out: &mut Vec<u8>, words: &Words, name: Name) -> Result<(), AllocError> {
+    if is_too_slow(name) {
+        return out.extend_from_slice(b"trio.TooSlowError");
+    }
+    push_class(out, words, name)
+}
+
+// Whether it is the name of what a `fail` scope raises.
+pub(crate) fn is_too_slow(name: Name) -> bool {
+    name.bytes() == b"TooSlow".as_slice()
+}
+
+// Whether a word of a job can stand in the program as it is.
+#[tactic(auto, unfolding(crate::specs::Names::is_free))]
+fn is_free(word: &[u8]) -> bool
+    ensures { result ≡ is_free word.now }
+{
+    !word.ends_with(b"_") && !is_taken(word)
+}
+
+// Whether the program has a word for something else.
+#[tactic(auto, unfolding(crate::specs::Names::is_taken))]
+fn is_taken(word: &[u8]) -> bool
+    ensures { result ≡ is_taken word.now }
+{
+    is_among(TAKEN, word)
+}
+
+// Whether a word is one of these.
+fn is_among(words: &[&'static [u8]], word: &[u8]) -> bool
+    ensures { result ≡ list_any (λ other. bytes_eq other.now word.now) words.now }
+{
+    words.iter().any(|other| *other == word)
+}

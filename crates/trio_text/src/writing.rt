@@ -1,0 +1,72 @@
+ghost use Rattle.std.specs.Prelude.{◌≡◌, ◌-◌, ◌++◌, IfOk, codes, drop, length, take};
+ghost use Rattle.trio_text.specs.Program.{header, ending};
+
+use crate::helpers::{push_classes, push_helpers, push_imports};
+use crate::names::push_name;
+use crate::pieces::push_line;
+use crate::place::Place;
+use crate::steps::push_steps;
+use crate::texts::{HARNESS, HEADER};
+use crate::words::Words;
+use job_grammar::Job;
+use std::alloc::{AllocError, Global};
+
+/// The job as a Python program on plain Trio (Python 3.8 or newer, Trio 0.22 or newer). Its first lines say which job it is, and how it is run. Then come
+/// a class for each exception, a function for the root task with the others inside it, where they are started, helpers for what the job language has
+/// and Trio has not, and what tells how each task ended. Want of memory is the only error.
+pub fn program(alloc: Global, job: &Job) -> Result<Vec<u8>, AllocError>
+    ensures begins { IfOk result (λ text. take (length (header job.now.name)) text.items ≡ header job.now.name) }
+    ensures ends { IfOk result (λ text. drop (length text.items - length (ending job.now.name)) text.items ≡ ending job.now.name) }
+{
+    let design = design_of(alloc, job)?;
+    let ending = ending_of(alloc, job)?;
+    let mut text = header_of(alloc, job)?;
+    text.extend_from_slice(design.as_slice())?;
+    text.extend_from_slice(ending.as_slice())?;
+    Ok(text)
+}
+
+// The first lines, which say which job it is and how the program is run.
+fn header_of(alloc: Global, job: &Job) -> Result<Vec<u8>, AllocError>
+    ensures { IfOk result (λ text. text.items ≡ header job.now.name) }
+{
+    let mut text = Vec::new(alloc);
+    text.extend_from_slice(b"# The job ")?;
+    let name = job.name();
+    text.extend_from_slice(name.bytes())?;
+    text.extend_from_slice(HEADER)?;
+    Ok(text)
+}
+
+// All that stands between the first lines and the last.
+fn design_of(alloc: Global, job: &Job) -> Result<Vec<u8>, AllocError> {
+    let words = Words::of(alloc, job)?;
+    let mut text = Vec::new(alloc);
+    push_imports(&mut text, &words)?;
+    push_classes(&mut text, &words)?;
+    push_root(alloc, &mut text, &words, job)?;
+    push_helpers(&mut text, &words)?;
+    Ok(text)
+}
+
+// The last lines, which run the function of the root task, and tell how each task ended.
+fn ending_of(alloc: Global, job: &Job) -> Result<Vec<u8>, AllocError>
+    ensures { IfOk result (λ text. text.items ≡ ending job.now.name) }
+{
+    let mut text = Vec::new(alloc);
+    text.extend_from_slice(HARNESS)?;
+    push_name(&mut text, job.name())?;
+    text.extend_from_slice(b")\n")?;
+    Ok(text)
+}
+
+// Appends the function of the root task.
+fn push_root(alloc: Global, out: &mut Vec<u8>, words: &Words, job: &Job) -> Result<(), AllocError> {
+    out.extend_from_slice(b"\n\nasync def ")?;
+    push_name(out, job.name())?;
+    out.extend_from_slice(b"(part):\n")?;
+    if words.uses().start {
+        push_line(out, 1, b"start = trio.current_time()")?;
+    }
+    push_steps(alloc, out, words, &Place::root(job.name()), job.steps())
+}
