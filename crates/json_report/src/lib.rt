@@ -1,0 +1,17 @@
+//! A report as JSON: the values of exceptions, of a run's records and of a whole report, and their texts.
+//!
+//! The layer promises that `report_json` is the JSON text of a definition over a run's records (`Values`), and that no byte of a label, a name or
+//! a line stands in it other than as in a report. It stands on `job_runner` for the records, on `job_report` for how bytes are shown, and on
+//! `serde_json` for values and their texts.
+#![tactic(auto)]
+
+mod exc;
+mod laws;
+mod rows;
+mod text;
+mod whole;
+
+pub use exc::exc_value;
+pub use laws::law_labels;
+pub use text::{document, label_value, text_value};
+pub use whole::report_json;
