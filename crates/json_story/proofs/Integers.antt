@@ -1,0 +1,179 @@
+-- All numbers of a story are integers.
+use Rattle.std.proofs.Common.{◌≡◌, ℕ, Bool, List, [], ◌∷◌, map, refl, Ordering, Less, Equal, Greater}
+use Rattle.std.specs.Prelude.{true, false, ◌||◌, Option, Some, None, codes}
+use Rattle.std.specs.Ordering.{nat_cmp, match_ordering}
+use Rattle.std.specs.Cmp.Lexicographic.{slice_cmp}
+use Rattle.serde_json.specs.Data.{Data, null, boolean, Members, no_members, member, put}
+use Rattle.serde_json.specs.View.{items_of}
+use Rattle.serde_json.specs.Written.{has_float, items_have_float, members_have_float}
+use Rattle.buffer_parts.specs.Lines.{Span}
+use Rattle.exc_groups.specs.Exceptions.{Label, Exc}
+use Rattle.cancel_scopes.specs.Sight.{Tick}
+use Rattle.job_meaning.specs.Log.{Table}
+use Rattle.job_story.specs.Story.{Happening, enters, sleeps, is_cancelled, finds, misses, raises, cancels, handles, cleans, replaces, waits, leaves}
+use Rattle.job_story.specs.Events.{What, starts, happens, ends, Event}
+use Rattle.job_story.specs.Limit.{running_in}
+use Rattle.job_story.specs.Causes.{Cause, by_deadline, by_task, by_failure, by_cancellation, cause_of}
+use Rattle.json_report.specs.Values.{integer, word, list_of, text_json, label_json, exc_json}
+use Rattle.json_report.proofs.Integers.{exc_without_float}
+use Rattle.json_story.specs.Events.{tick_json, label_or_null, exc_or_null, cause_json, why_json, cancel_from, failure_from, kind_key, span_json, with_happening, with_what, event_head, event_json}
+use Rattle.json_story.specs.Lasts.{last_event}
+use Rattle.json_story.specs.Running.{idle, with_doing, with_last, task_json}
+use Rattle.json_story.specs.Stories.{running_json, kept_json}
+
+-- ---- members
+
+neither : (a b : Bool) → (a || b) ≡ false → (a ≡ false) × (b ≡ false)
+neither false false h = (refl, refl)
+neither false true h = (refl, h)
+neither true b h = (h, absurd (let f : true ≡ false = h in cc))
+
+put_by : (o : Ordering) (k l : List ℕ) (d e : Data) (ms later : Members) → has_float d ≡ false → has_float e ≡ false →
+    members_have_float ms ≡ false → members_have_float later ≡ false
+    → members_have_float (match_ordering o (member k d (member l e ms)) (member l d ms) (member l e later)) ≡ false
+put_by Less k l d e ms later hd he hm hl = rw (hd, he, hm) refl
+put_by Equal k l d e ms later hd he hm hl = rw (hd, hm) refl
+put_by Greater k l d e ms later hd he hm hl = rw (he, hl) refl
+
+with_put : (k : List ℕ) (d : Data) (ms : Members) → has_float d ≡ false → members_have_float ms ≡ false →
+    members_have_float (put k d ms) ≡ false
+with_put k d no_members hd hm = rw hd refl
+with_put k d (member l e ms) hd hm =
+    let parts = neither (has_float e) (members_have_float ms) hm in
+    put_by (slice_cmp nat_cmp k l) k l d e ms (put k d ms) hd parts.0 parts.1 (with_put k d ms hd parts.1)
+
+put_two : (k l : List ℕ) (d e : Data) (ms : Members) → has_float d ≡ false → has_float e ≡ false → members_have_float ms ≡ false →
+    members_have_float (put k d (put l e ms)) ≡ false
+put_two k l d e ms hd he hm = with_put k d (put l e ms) hd (with_put l e ms he hm)
+
+put_three : (k l m : List ℕ) (d e f : Data) (ms : Members) → has_float d ≡ false → has_float e ≡ false → has_float f ≡ false →
+    members_have_float ms ≡ false → members_have_float (put k d (put l e (put m f ms))) ≡ false
+put_three k l m d e f ms hd he hf hm = with_put k d (put l e (put m f ms)) hd (put_two l m e f ms he hf hm)
+
+put_four : (k l m n : List ℕ) (d e f g : Data) (ms : Members) → has_float d ≡ false → has_float e ≡ false → has_float f ≡ false →
+    has_float g ≡ false → members_have_float ms ≡ false → members_have_float (put k d (put l e (put m f (put n g ms)))) ≡ false
+put_four k l m n d e f g ms hd he hf hg hm =
+    with_put k d (put l e (put m f (put n g ms))) hd (put_three l m n e f g ms he hf hg hm)
+
+-- ---- values that may be none
+
+tick_has_none : (t : Tick) → has_float (tick_json t) ≡ false
+tick_has_none None = refl
+tick_has_none (Some t) = refl
+
+label_has_none : (l : Option Label) → has_float (label_or_null l) ≡ false
+label_has_none None = refl
+label_has_none (Some l) = refl
+
+exc_has_none : (e : Option Exc) → has_float (exc_or_null e) ≡ false
+exc_has_none None = refl
+exc_has_none (Some e) = exc_without_float e
+
+cause_has_none : (c : Option Cause) → has_float (cause_json c) ≡ false
+cause_has_none None = refl
+cause_has_none (Some by_deadline) = refl
+cause_has_none (Some (by_task task t)) = refl
+cause_has_none (Some (by_failure task t)) = refl
+cause_has_none (Some (by_cancellation task t)) = refl
+
+why_has_none : (table : Table) (es : List Event) (l : Option Label) → has_float (why_json table es l) ≡ false
+why_has_none table es None = refl
+why_has_none table es (Some l) = cause_has_none (cause_of table es l)
+
+spans_have_none : (ss : List Span) → items_have_float (items_of (map span_json ss)) ≡ false
+spans_have_none [] = refl
+spans_have_none (s ∷ ss) = spans_have_none ss
+
+-- ---- events
+
+happening_has_none : (table : Table) (es : List Event) (t : ℕ) (h : Happening) (ms : Members) → members_have_float ms ≡ false →
+    members_have_float (with_happening table es t h ms) ≡ false
+happening_has_none table es t (enters kind label deadline shield) ms hm =
+    put_three (codes "shield") (codes "deadline") (kind_key kind) (boolean shield) (tick_json deadline) (label_json label) ms refl
+    (tick_has_none deadline) refl hm
+happening_has_none table es t (sleeps until) ms hm = with_put (codes "until") (tick_json until) ms (tick_has_none until) hm
+happening_has_none table es t (is_cancelled by since in_cleanup) ms hm =
+    put_four (codes "in_cleanup") (codes "since") (codes "why") (codes "by") (boolean in_cleanup) (tick_json since)
+    (why_json table es by) (label_or_null by) ms refl (tick_has_none since) (why_has_none table es by) (label_has_none by) hm
+happening_has_none table es t (finds lines) ms hm =
+    with_put (codes "lines") (list_of (map span_json lines)) ms (spans_have_none lines) hm
+happening_has_none table es t (misses name) ms hm = with_put (codes "name") (text_json name) ms refl hm
+happening_has_none table es t (raises name) ms hm = with_put (codes "name") (text_json name) ms refl hm
+happening_has_none table es t (cancels label) ms hm =
+    put_two (codes "from") (codes "label") (tick_json (cancel_from table label t)) (label_or_null label) ms
+    (tick_has_none (cancel_from table label t)) (label_has_none label) hm
+happening_has_none table es t (handles matched rest) ms hm =
+    put_two (codes "rest") (codes "matched") (exc_or_null rest) (exc_json matched) ms (exc_has_none rest) (exc_without_float matched) hm
+happening_has_none table es t (cleans exc) ms hm = with_put (codes "exception") (exc_or_null exc) ms (exc_has_none exc) hm
+happening_has_none table es t (replaces lost fresh) ms hm =
+    put_two (codes "fresh") (codes "lost") (exc_json fresh) (exc_json lost) ms (exc_without_float fresh) (exc_without_float lost) hm
+happening_has_none table es t (waits nursery exc) ms hm =
+    put_three (codes "from") (codes "exception") (codes "nursery") (tick_json (failure_from table (Some nursery) exc t)) (exc_or_null exc)
+    (label_json nursery) ms (tick_has_none (failure_from table (Some nursery) exc t)) (exc_has_none exc) refl hm
+happening_has_none table es t (leaves kind label inside caught outside) ms hm =
+    put_four (codes "outside") (codes "caught") (codes "inside") (kind_key kind) (exc_or_null outside) (boolean caught)
+    (exc_or_null inside) (label_json label) ms (exc_has_none outside) refl (exc_has_none inside) refl hm
+
+what_has_none : (table : Table) (es : List Event) (t : ℕ) (w : What) (ms : Members) → members_have_float ms ≡ false →
+    members_have_float (with_what table es t w ms) ≡ false
+what_has_none table es t (starts home part) ms hm = with_put (codes "nursery") (label_or_null home) ms (label_has_none home) hm
+what_has_none table es t (happens what) ms hm = happening_has_none table es t what ms hm
+what_has_none table es t (ends home exc) ms hm =
+    put_three (codes "from") (codes "exception") (codes "nursery") (tick_json (failure_from table home exc t)) (exc_or_null exc)
+    (label_or_null home) ms (tick_has_none (failure_from table home exc t)) (exc_has_none exc) (label_has_none home) hm
+
+event_has_none : (table : Table) (es : List Event) (e : Event) → has_float (event_json table es e) ≡ false
+event_has_none table es e = what_has_none table es e.tick e.what (event_head e) refl
+
+events_have_none : (table : Table) (all es : List Event) → items_have_float (items_of (map (event_json table all) es)) ≡ false
+events_have_none table all [] = refl
+events_have_none table all (e ∷ es) = rw (event_has_none table all e, events_have_none table all es) refl
+
+-- ---- tasks that have not ended
+
+idle_has_none : (ms : Members) → members_have_float ms ≡ false → members_have_float (idle ms) ≡ false
+idle_has_none ms hm = with_put (codes "doing") null ms refl hm
+
+doing_in_has_none : (t : ℕ) (h : Happening) (ms : Members) → members_have_float ms ≡ false →
+    members_have_float (with_doing t (happens h) ms) ≡ false
+doing_in_has_none t (enters kind label deadline shield) ms hm = idle_has_none ms hm
+doing_in_has_none t (sleeps until) ms hm =
+    put_three (codes "until") (codes "since") (codes "doing") (tick_json until) (integer t) (word (codes "sleeping")) ms
+    (tick_has_none until) refl refl hm
+doing_in_has_none t (is_cancelled by since in_cleanup) ms hm = idle_has_none ms hm
+doing_in_has_none t (finds lines) ms hm = idle_has_none ms hm
+doing_in_has_none t (misses name) ms hm = idle_has_none ms hm
+doing_in_has_none t (raises name) ms hm = idle_has_none ms hm
+doing_in_has_none t (cancels label) ms hm = idle_has_none ms hm
+doing_in_has_none t (handles matched rest) ms hm = idle_has_none ms hm
+doing_in_has_none t (cleans exc) ms hm = idle_has_none ms hm
+doing_in_has_none t (replaces lost fresh) ms hm = idle_has_none ms hm
+doing_in_has_none t (waits nursery exc) ms hm =
+    put_three (codes "nursery") (codes "since") (codes "doing") (label_json nursery) (integer t) (word (codes "waiting")) ms
+    refl refl refl hm
+doing_in_has_none t (leaves kind label inside caught outside) ms hm = idle_has_none ms hm
+
+doing_has_none : (t : ℕ) (w : What) (ms : Members) → members_have_float ms ≡ false → members_have_float (with_doing t w ms) ≡ false
+doing_has_none t (starts home part) ms hm = idle_has_none ms hm
+doing_has_none t (happens what) ms hm = doing_in_has_none t what ms hm
+doing_has_none t (ends home exc) ms hm = idle_has_none ms hm
+
+last_has_none : (e : Option Event) (ms : Members) → members_have_float ms ≡ false → members_have_float (with_last e ms) ≡ false
+last_has_none None ms hm = idle_has_none ms hm
+last_has_none (Some e) ms hm = doing_has_none e.tick e.what ms hm
+
+tasks_have_none : (es : List Event) (ls : List Label) → items_have_float (items_of (map (task_json es) ls)) ≡ false
+tasks_have_none es [] = refl
+tasks_have_none es (l ∷ ls) =
+    let here : has_float (task_json es l) ≡ false = last_has_none (last_event l es None) (put (codes "task") (label_json l) no_members) refl in
+    rw (here, tasks_have_none es ls) refl
+
+running_has_none : (until : Tick) (sorted walked : List Event) → items_have_float (items_of (running_json until sorted walked)) ≡ false
+running_has_none None sorted walked = refl
+running_has_none (Some limit) sorted walked = tasks_have_none sorted (running_in walked walked)
+
+-- a story as a value has no float
+pub kept_without_float : (value : Data) (name : List ℕ) (until : Tick) (table : Table) (all sorted walked : List Event) →
+    value ≡ kept_json name until table all sorted walked → has_float value ≡ false
+kept_without_float value name until table all sorted walked is =
+    rw (is, events_have_none table all sorted, tick_has_none until, running_has_none until sorted walked) refl

@@ -1,0 +1,131 @@
+-- The events of a story as JSON objects. Each has its `event`, its `task` and its `tick`, and its data at the names that stand here.
+use Rattle.std.specs.Prelude.{ℕ, ◌+◌, Option, Some, None, List, map, codes, if◌then◌else◌}
+use Rattle.serde_json.specs.Data.{Data, null, boolean, object, Members, no_members, put}
+use Rattle.buffer_parts.specs.Lines.{Span}
+use Rattle.exc_groups.specs.Exceptions.{Label, Exc}
+use Rattle.cancel_scopes.specs.Sight.{Tick}
+use Rattle.job_meaning.specs.Log.{Table}
+use Rattle.job_meaning.specs.Walk.{Kind, a_scope, a_nursery}
+use Rattle.job_story.specs.Story.{Happening, enters, sleeps, is_cancelled, finds, misses, raises, cancels, handles, cleans, replaces, waits, leaves}
+use Rattle.job_story.specs.Tell.{is_from}
+use Rattle.job_story.specs.Events.{What, starts, happens, ends, Event}
+use Rattle.job_story.specs.Causes.{Cause, by_deadline, by_task, by_failure, by_cancellation, cause_of}
+use Rattle.json_report.specs.Values.{integer, word, list_of, text_json, label_json, exc_json}
+
+-- ---- values that may be none
+
+abbrev pub tick_json : Tick → Data
+tick_json None = null
+tick_json (Some t) = integer t
+
+abbrev pub label_or_null : Option Label → Data
+label_or_null None = null
+label_or_null (Some l) = label_json l
+
+abbrev pub exc_or_null : Option Exc → Data
+exc_or_null None = null
+exc_or_null (Some e) = exc_json e
+
+-- ---- why a scope or nursery is cancelled
+
+-- `{"cause":WORD,"task":LABEL,"tick":T}`: by what a task did
+abbrev pub act_json : List ℕ → Label → ℕ → Data
+act_json cause task t =
+    object (put (codes "tick") (integer t) (put (codes "task") (label_json task) (put (codes "cause") (word cause) no_members)))
+
+abbrev pub cause_json : Option Cause → Data
+cause_json None = null
+cause_json (Some by_deadline) = object (put (codes "cause") (word (codes "deadline")) no_members)
+cause_json (Some (by_task task t)) = act_json (codes "cancel") task t
+cause_json (Some (by_failure task t)) = act_json (codes "failure") task t
+cause_json (Some (by_cancellation task t)) = act_json (codes "cancellation") task t
+
+abbrev pub why_json : Table → List Event → Option Label → Data
+why_json table es None = null
+why_json table es (Some l) = cause_json (cause_of table es l)
+
+-- ---- from when something is cancelled
+
+-- the next tick, if a label is cancelled from then on
+abbrev pub next_if : Tick → ℕ → Tick
+next_if from t = if is_from from (t + 1) then Some (t + 1) else None
+
+abbrev pub cancel_from : Table → Option Label → ℕ → Tick
+cancel_from table None t = None
+cancel_from table (Some l) t = next_if (table l) t
+
+-- a nursery whose member or body ends with an exception
+abbrev pub failure_from : Table → Option Label → Option Exc → ℕ → Tick
+failure_from table home None t = None
+failure_from table home (Some e) t = cancel_from table home t
+
+-- ---- what happens
+
+abbrev pub kind_key : Kind → List ℕ
+kind_key (a_scope fail) = codes "scope"
+kind_key a_nursery = codes "nursery"
+
+-- a line of the input
+abbrev pub span_json : Span → Data
+span_json line = object (put (codes "length") (integer line.len) (put (codes "at") (integer line.at) no_members))
+
+abbrev pub happening_word : Happening → List ℕ
+happening_word (enters kind label deadline shield) = codes "enters"
+happening_word (sleeps until) = codes "sleeps"
+happening_word (is_cancelled by since in_cleanup) = codes "cancelled"
+happening_word (finds lines) = codes "finds"
+happening_word (misses name) = codes "misses"
+happening_word (raises name) = codes "raises"
+happening_word (cancels label) = codes "cancels"
+happening_word (handles matched rest) = codes "handles"
+happening_word (cleans exc) = codes "cleanup"
+happening_word (replaces lost fresh) = codes "replaces"
+happening_word (waits nursery exc) = codes "waits"
+happening_word (leaves kind label inside caught outside) = codes "leaves"
+
+-- the data of what happens in a tick, put to the members that are there
+abbrev pub with_happening : Table → List Event → ℕ → Happening → Members → Members
+with_happening table es t (enters kind label deadline shield) ms =
+    put (codes "shield") (boolean shield) (put (codes "deadline") (tick_json deadline) (put (kind_key kind) (label_json label) ms))
+with_happening table es t (sleeps until) ms = put (codes "until") (tick_json until) ms
+with_happening table es t (is_cancelled by since in_cleanup) ms =
+    put (codes "in_cleanup") (boolean in_cleanup) (put (codes "since") (tick_json since)
+    (put (codes "why") (why_json table es by) (put (codes "by") (label_or_null by) ms)))
+with_happening table es t (finds lines) ms = put (codes "lines") (list_of (map span_json lines)) ms
+with_happening table es t (misses name) ms = put (codes "name") (text_json name) ms
+with_happening table es t (raises name) ms = put (codes "name") (text_json name) ms
+with_happening table es t (cancels label) ms =
+    put (codes "from") (tick_json (cancel_from table label t)) (put (codes "label") (label_or_null label) ms)
+with_happening table es t (handles matched rest) ms =
+    put (codes "rest") (exc_or_null rest) (put (codes "matched") (exc_json matched) ms)
+with_happening table es t (cleans exc) ms = put (codes "exception") (exc_or_null exc) ms
+with_happening table es t (replaces lost fresh) ms = put (codes "fresh") (exc_json fresh) (put (codes "lost") (exc_json lost) ms)
+with_happening table es t (waits nursery exc) ms =
+    put (codes "from") (tick_json (failure_from table (Some nursery) exc t)) (put (codes "exception") (exc_or_null exc)
+    (put (codes "nursery") (label_json nursery) ms))
+with_happening table es t (leaves kind label inside caught outside) ms =
+    put (codes "outside") (exc_or_null outside) (put (codes "caught") (boolean caught) (put (codes "inside") (exc_or_null inside)
+    (put (kind_key kind) (label_json label) ms)))
+
+-- ---- events
+
+abbrev pub what_word : What → List ℕ
+what_word (starts home part) = codes "starts"
+what_word (happens what) = happening_word what
+what_word (ends home exc) = codes "ends"
+
+abbrev pub with_what : Table → List Event → ℕ → What → Members → Members
+with_what table es t (starts home part) ms = put (codes "nursery") (label_or_null home) ms
+with_what table es t (happens what) ms = with_happening table es t what ms
+with_what table es t (ends home exc) ms =
+    put (codes "from") (tick_json (failure_from table home exc t)) (put (codes "exception") (exc_or_null exc)
+    (put (codes "nursery") (label_or_null home) ms))
+
+-- what each event has
+abbrev pub event_head : Event → Members
+event_head e =
+    put (codes "event") (word (what_word e.what)) (put (codes "task") (label_json e.task) (put (codes "tick") (integer e.tick) no_members))
+
+-- an event of a story with these events by a table
+abbrev pub event_json : Table → List Event → Event → Data
+event_json table es e = object (with_what table es e.tick e.what (event_head e))

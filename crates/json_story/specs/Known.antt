@@ -1,0 +1,15 @@
+-- What is known of a story.
+use Rattle.std.specs.Prelude.{List, map}
+use Rattle.job_meaning.specs.Log.{Table}
+use Rattle.job_story.specs.Events as told
+use Rattle.job_story.specs.Froms.{table_in}
+use Rattle.story_causes.specs.Seen.{seen}
+use Rattle.json_story.specs.declared.known.Known.{Known}
+
+-- its events
+abbrev pub events_in : Known → List told.Event
+events_in known = map seen known.events.now
+
+-- from which tick each label is cancelled
+abbrev pub froms_in : Known → Table
+froms_in known = table_in known.froms.now

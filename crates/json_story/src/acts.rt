@@ -1,0 +1,49 @@
+ghost use Rattle.std.specs.Prelude.{◌≡◌, Some, IfOk, codes};
+ghost use Rattle.serde_json.specs.View.{view};
+ghost use Rattle.story_causes.specs.Found.{cause_in_code};
+ghost use Rattle.json_story.specs.Events.{act_json, cause_json, why_json};
+ghost use Rattle.json_story.specs.Known.{events_in, froms_in};
+
+use crate::known::Known;
+use exc_groups::Label;
+use json_report::label_value;
+use serde_json::{Value, json};
+use std::alloc::{AllocError, Global};
+use story_causes::Cause;
+
+// Why a scope or nursery is cancelled, or `null`.
+pub(crate) fn why_value(
+    alloc: Global,
+    known: &Known<'_, '_>,
+    label: &Option<Label>,
+) -> Result<Value, AllocError>
+    ensures { IfOk result (λ value. view value ≡ why_json (froms_in known.now) (events_in known.now) label.now) }
+{
+    let Some(label) = label else {
+        return Ok(Value::Null);
+    };
+    let Some(cause) = known.cause(label) else {
+        return Ok(Value::Null);
+    };
+    cause_value(alloc, &cause)
+}
+
+// A cause.
+fn cause_value(alloc: Global, cause: &Cause<'_>) -> Result<Value, AllocError>
+    ensures { IfOk result (λ value. view value ≡ cause_json (Some (cause_in_code cause.now))) }
+{
+    match cause {
+        Cause::Deadline => json!(in alloc; {"cause": "deadline"}),
+        Cause::Task { task, tick } => act_value(alloc, "cancel", task, *tick),
+        Cause::Failure { task, tick } => act_value(alloc, "failure", task, *tick),
+        Cause::Cancellation { task, tick } => act_value(alloc, "cancellation", task, *tick),
+    }
+}
+
+// A cause by what a task did in a tick.
+fn act_value(alloc: Global, cause: &str, task: &Label, tick: u64) -> Result<Value, AllocError>
+    ensures { IfOk result (λ value. view value ≡ act_json cause.now task.now tick) }
+{
+    let by = label_value(alloc, task)?;
+    json!(in alloc; {"cause": cause, "task": by, "tick": tick})
+}

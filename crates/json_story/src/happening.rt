@@ -1,0 +1,273 @@
+ghost use Rattle.std.specs.Prelude.{◌≡◌, ◌++◌, [], ◌∷◌, Some, take, map, IfOk, OnOk, codes};
+ghost use Rattle.serde_json.specs.Data.{boolean, put as with_member};
+ghost use Rattle.serde_json.specs.View.{view, members_view};
+ghost use Rattle.exc_groups.specs.Held.{exc_of};
+ghost use Rattle.job_story.specs.Held.{boxed, kind_of, span_in, happening_of};
+ghost use Rattle.json_report.specs.Values.{list_of, label_json, exc_json};
+ghost use Rattle.json_story.specs.Events.{tick_json, label_or_null, exc_or_null, why_json, cancel_from, failure_from, kind_key, span_json, happening_word, with_happening};
+ghost use Rattle.json_story.specs.Known.{events_in, froms_in};
+
+use crate::acts::why_value;
+use crate::known::Known;
+use crate::optional::{exc_or_null, label_or_null, tick_value};
+use exc_groups::{Exc, Label};
+use job_story::{Happening, Kind, Span};
+use json_report::{exc_value, label_value, text_value};
+use serde_json::{Map, Value, json, put};
+use std::alloc::{AllocError, Global};
+
+// The word for what happens.
+pub(crate) fn happening_word(happening: &Happening) -> &'static str
+    ensures { result.now ≡ happening_word (happening_of happening.now) }
+{
+    match happening {
+        Happening::Enters { .. } => "enters",
+        Happening::Sleeps { .. } => "sleeps",
+        Happening::IsCancelled { .. } => "cancelled",
+        Happening::Finds { .. } => "finds",
+        Happening::Misses { .. } => "misses",
+        Happening::Raises { .. } => "raises",
+        Happening::Cancels { .. } => "cancels",
+        Happening::Handles { .. } => "handles",
+        Happening::Cleans { .. } => "cleanup",
+        Happening::Replaces { .. } => "replaces",
+        Happening::Waits { .. } => "waits",
+        Happening::Leaves { .. } => "leaves",
+    }
+}
+
+// Puts the data of what happens in a tick.
+pub(crate) fn put_happening(
+    members: &mut Map<String, Value>,
+    alloc: Global,
+    known: &Known<'_, '_>,
+    tick: u64,
+    happening: &Happening,
+) -> Result<(), AllocError>
+    ensures { OnOk result (members_view members.new.entries ≡ with_happening (froms_in known.now) (events_in known.now) tick
+        (happening_of happening.now) (members_view members.old.entries)) }
+{
+    match happening {
+        Happening::Enters {
+            kind,
+            label,
+            deadline,
+            shield,
+        } => put_enters(members, alloc, *kind, label, *deadline, *shield),
+        Happening::Sleeps { until } => put(members, alloc, "until", tick_value(*until)),
+        Happening::IsCancelled {
+            by,
+            since,
+            in_cleanup,
+        } => put_cancelled(members, alloc, known, by, *since, *in_cleanup),
+        Happening::Finds { lines } => put_lines(members, alloc, lines.as_slice()),
+        Happening::Misses { name } | Happening::Raises { name } => {
+            let text = text_value(alloc, name.bytes())?;
+            put(members, alloc, "name", text)
+        }
+        Happening::Cancels { label } => put_cancels(members, alloc, known, label, tick),
+        Happening::Handles { matched, rest } => put_handles(members, alloc, matched, rest),
+        Happening::Cleans { exc } => {
+            let exception = exc_or_null(alloc, exc)?;
+            put(members, alloc, "exception", exception)
+        }
+        Happening::Replaces { lost, fresh } => put_replaces(members, alloc, lost, fresh),
+        Happening::Waits { nursery, exc } => put_waits(members, alloc, known, nursery, exc, tick),
+        Happening::Leaves {
+            kind,
+            label,
+            inside,
+            caught,
+            outside,
+        } => {
+            put_kind(members, alloc, *kind, label)?;
+            put_leaving(members, alloc, inside, *caught, outside)
+        }
+    }
+}
+
+// Puts the label of a scope or nursery at the word for what it is.
+fn put_kind(
+    members: &mut Map<String, Value>,
+    alloc: Global,
+    kind: Kind,
+    label: &Label,
+) -> Result<(), AllocError>
+    ensures { OnOk result (members_view members.new.entries
+        ≡ with_member (kind_key (kind_of kind)) (label_json label.now) (members_view members.old.entries)) }
+{
+    let text = label_value(alloc, label)?;
+    match kind {
+        Kind::Scope { .. } => put(members, alloc, "scope", text),
+        Kind::Nursery => put(members, alloc, "nursery", text),
+    }
+}
+
+// Puts how a scope or nursery is entered.
+fn put_enters(
+    members: &mut Map<String, Value>,
+    alloc: Global,
+    kind: Kind,
+    label: &Label,
+    deadline: Option<u64>,
+    shield: bool,
+) -> Result<(), AllocError>
+    ensures { OnOk result (members_view members.new.entries
+        ≡ with_member (codes "shield") (boolean shield) (with_member (codes "deadline") (tick_json deadline)
+        (with_member (kind_key (kind_of kind)) (label_json label.now) (members_view members.old.entries)))) }
+{
+    put_kind(members, alloc, kind, label)?;
+    put(members, alloc, "deadline", tick_value(deadline))?;
+    put(members, alloc, "shield", Value::Bool(shield))
+}
+
+// Puts by what a task is cancelled, why that is, since when the task slept, and whether it was in a cleanup.
+fn put_cancelled(
+    members: &mut Map<String, Value>,
+    alloc: Global,
+    known: &Known<'_, '_>,
+    by: &Option<Label>,
+    since: Option<u64>,
+    in_cleanup: bool,
+) -> Result<(), AllocError>
+    ensures { OnOk result (members_view members.new.entries ≡ with_member (codes "in_cleanup") (boolean in_cleanup)
+        (with_member (codes "since") (tick_json since) (with_member (codes "why") (why_json (froms_in known.now) (events_in known.now) by.now)
+        (with_member (codes "by") (label_or_null by.now) (members_view members.old.entries))))) }
+{
+    let label = label_or_null(alloc, by)?;
+    put(members, alloc, "by", label)?;
+    let why = why_value(alloc, known, by)?;
+    put(members, alloc, "why", why)?;
+    put(members, alloc, "since", tick_value(since))?;
+    put(members, alloc, "in_cleanup", Value::Bool(in_cleanup))
+}
+
+// Puts the places of the lines that a kernel answered.
+fn put_lines(
+    members: &mut Map<String, Value>,
+    alloc: Global,
+    lines: &[Span],
+) -> Result<(), AllocError>
+    ensures { OnOk result (members_view members.new.entries
+        ≡ with_member (codes "lines") (list_of (map span_json (map span_in lines.now))) (members_view members.old.entries)) }
+{
+    let values = span_values(alloc, lines)?;
+    put(members, alloc, "lines", Value::Array(values))
+}
+
+// The places of lines.
+fn span_values(alloc: Global, lines: &[Span]) -> Result<Vec<Value>, AllocError>
+    ensures { IfOk result (λ values. map view values.items ≡ map span_json (map span_in lines.now)) }
+{
+    let mut values = Vec::new(alloc);
+    'lines: for line in lines {
+        let value = span_value(alloc, *line)?;
+        values.push(value)?;
+    }
+    Ok(values)
+}
+
+// The place of a line.
+fn span_value(alloc: Global, line: Span) -> Result<Value, AllocError>
+    ensures { IfOk result (λ value. view value ≡ span_json (span_in line)) }
+{
+    json!(in alloc; {"at": line.at, "length": line.len})
+}
+
+// Puts what a task cancels, and from when on, unless that is cancelled already.
+fn put_cancels(
+    members: &mut Map<String, Value>,
+    alloc: Global,
+    known: &Known<'_, '_>,
+    label: &Option<Label>,
+    tick: u64,
+) -> Result<(), AllocError>
+    ensures { OnOk result (members_view members.new.entries ≡ with_member (codes "from") (tick_json (cancel_from (froms_in known.now) label.now tick))
+        (with_member (codes "label") (label_or_null label.now) (members_view members.old.entries))) }
+{
+    let text = label_or_null(alloc, label)?;
+    put(members, alloc, "label", text)?;
+    put(
+        members,
+        alloc,
+        "from",
+        tick_value(known.cancel_from(label, tick)),
+    )
+}
+
+// Puts what a handler handles, and what is left of the exception.
+fn put_handles(
+    members: &mut Map<String, Value>,
+    alloc: Global,
+    matched: &Exc,
+    rest: &Option<Box<Exc>>,
+) -> Result<(), AllocError>
+    ensures { OnOk result (members_view members.new.entries ≡ with_member (codes "rest") (exc_or_null (boxed rest.now))
+        (with_member (codes "matched") (exc_json (exc_of matched.now)) (members_view members.old.entries))) }
+{
+    let handled = exc_value(alloc, matched)?;
+    put(members, alloc, "matched", handled)?;
+    let left = exc_or_null(alloc, rest)?;
+    put(members, alloc, "rest", left)
+}
+
+// Puts the exception that is lost, and the one in its place.
+fn put_replaces(
+    members: &mut Map<String, Value>,
+    alloc: Global,
+    lost: &Exc,
+    fresh: &Exc,
+) -> Result<(), AllocError>
+    ensures { OnOk result (members_view members.new.entries ≡ with_member (codes "fresh") (exc_json (exc_of fresh.now))
+        (with_member (codes "lost") (exc_json (exc_of lost.now)) (members_view members.old.entries))) }
+{
+    let before = exc_value(alloc, lost)?;
+    put(members, alloc, "lost", before)?;
+    let after = exc_value(alloc, fresh)?;
+    put(members, alloc, "fresh", after)
+}
+
+// Puts the nursery that a task waits for, with what its body ended, and from when on that cancels the nursery.
+fn put_waits(
+    members: &mut Map<String, Value>,
+    alloc: Global,
+    known: &Known<'_, '_>,
+    nursery: &Label,
+    exc: &Option<Box<Exc>>,
+    tick: u64,
+) -> Result<(), AllocError>
+    ensures { OnOk result (members_view members.new.entries
+        ≡ with_member (codes "from") (tick_json (failure_from (froms_in known.now) (Some nursery.now) (boxed exc.now) tick))
+        (with_member (codes "exception") (exc_or_null (boxed exc.now))
+        (with_member (codes "nursery") (label_json nursery.now) (members_view members.old.entries)))) }
+{
+    let label = label_value(alloc, nursery)?;
+    put(members, alloc, "nursery", label)?;
+    let exception = exc_or_null(alloc, exc)?;
+    put(members, alloc, "exception", exception)?;
+    put(
+        members,
+        alloc,
+        "from",
+        tick_value(known.body_from(nursery, exc, tick)),
+    )
+}
+
+// Puts with what a scope or nursery is left, whether it caught a cancellation, and what goes on.
+fn put_leaving(
+    members: &mut Map<String, Value>,
+    alloc: Global,
+    inside: &Option<Box<Exc>>,
+    caught: bool,
+    outside: &Option<Box<Exc>>,
+) -> Result<(), AllocError>
+    ensures { OnOk result (members_view members.new.entries ≡ with_member (codes "outside") (exc_or_null (boxed outside.now))
+        (with_member (codes "caught") (boolean caught) (with_member (codes "inside") (exc_or_null (boxed inside.now))
+        (members_view members.old.entries)))) }
+{
+    let before = exc_or_null(alloc, inside)?;
+    put(members, alloc, "inside", before)?;
+    put(members, alloc, "caught", Value::Bool(caught))?;
+    let after = exc_or_null(alloc, outside)?;
+    put(members, alloc, "outside", after)
+}

@@ -1,0 +1,16 @@
+ghost use Rattle.std.specs.Prelude.{map};
+ghost use Rattle.job_story.specs.Froms.{table_in};
+ghost use Rattle.story_causes.specs.Knows.{Knows};
+ghost use Rattle.story_causes.specs.Seen.{seen};
+
+use job_story::{Event, Froms};
+use story_causes::Causes;
+
+// The events of a story in order, from which tick its scopes and nurseries are cancelled, and an index of both.
+#[derive(Drop)]
+pub(crate) struct Known<'k, 'e> {
+    pub events: &'k [&'e Event],
+    pub froms: &'k Froms,
+    pub causes: &'k Causes<'e>,
+    ghost known: { Knows causes.now (table_in froms.now) (map seen events.now) },
+}

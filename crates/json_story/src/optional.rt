@@ -1,0 +1,39 @@
+ghost use Rattle.std.specs.Prelude.{◌≡◌, IfOk};
+ghost use Rattle.serde_json.specs.View.{view};
+ghost use Rattle.job_story.specs.Held.{boxed};
+ghost use Rattle.json_story.specs.Events.{tick_json, label_or_null, exc_or_null};
+
+use exc_groups::{Exc, Label};
+use json_report::{exc_value, label_value};
+use serde_json::Value;
+use std::alloc::{AllocError, Global};
+
+// A tick, or `null` for never.
+pub(crate) fn tick_value(tick: Option<u64>) -> Value
+    ensures { view result ≡ tick_json tick }
+{
+    match tick {
+        Some(tick) => Value::from(tick),
+        None => Value::Null,
+    }
+}
+
+// A label, or `null`.
+pub(crate) fn label_or_null(alloc: Global, label: &Option<Label>) -> Result<Value, AllocError>
+    ensures { IfOk result (λ value. view value ≡ label_or_null label.now) }
+{
+    match label {
+        Some(label) => label_value(alloc, label),
+        None => Ok(Value::Null),
+    }
+}
+
+// An exception, or `null`.
+pub(crate) fn exc_or_null(alloc: Global, exc: &Option<Box<Exc>>) -> Result<Value, AllocError>
+    ensures { IfOk result (λ value. view value ≡ exc_or_null (boxed exc.now)) }
+{
+    match exc {
+        Some(exc) => exc_value(alloc, exc),
+        None => Ok(Value::Null),
+    }
+}

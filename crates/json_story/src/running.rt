@@ -1,0 +1,161 @@
+ghost use Rattle.std.specs.Prelude.{◌≡◌, ◌++◌, ◌&&◌, not, [], ◌∷◌, List, IfOk, OnOk, map, codes, drop};
+ghost use Rattle.serde_json.specs.Data.{put as with_member};
+ghost use Rattle.serde_json.specs.View.{view, members_view};
+ghost use Rattle.exc_groups.specs.Exceptions as tree;
+ghost use Rattle.job_story.specs.Held.{happening_of, what_of};
+ghost use Rattle.job_story.specs.Events as told;
+ghost use Rattle.job_story.specs.Limit.{has_ended, start_if, is_start, running_in};
+ghost use Rattle.story_causes.specs.Seen.{seen};
+ghost use Rattle.json_report.specs.Values.{integer, word};
+ghost use Rattle.json_story.specs.Lasts.{seen_last};
+ghost use Rattle.json_story.specs.Running.{idle, with_doing, with_last, task_json};
+ghost use Rattle.json_story.specs.Tasks.{sorted_in, walked_in};
+
+use crate::lasts::Tasks;
+use crate::optional::tick_value;
+use exc_groups::Label;
+use job_story::{Event, Happening, What};
+use json_report::label_value;
+use serde_json::{Map, Value, put};
+use std::alloc::{AllocError, Global};
+
+// The tasks that have not ended as JSON objects, in the order in which the walk starts them.
+pub(crate) fn running_values(
+    alloc: Global,
+    tasks: &Tasks<'_, '_>,
+    walked: &[&Event],
+) -> Result<Vec<Value>, AllocError>
+    ensures { IfOk result (λ values. map view values.items
+        ≡ map (task_json (sorted_in tasks.now)) (running_in (walked_in tasks.now) (map seen walked.now))) }
+{
+    let mut values = Vec::new(alloc);
+    'walked: for event in walked {
+        push_if_running(&mut values, alloc, tasks, event)?;
+    }
+    Ok(values)
+}
+
+// Pushes a task, if this event is its start and it has not ended.
+fn push_if_running(
+    values: &mut Vec<Value>,
+    alloc: Global,
+    tasks: &Tasks<'_, '_>,
+    event: &Event,
+) -> Result<(), AllocError>
+    ensures { OnOk result ((others : List tree.Label) →
+        map view values.new.items ++ map (task_json (sorted_in tasks.now)) others
+        ≡ map view values.old.items ++ map (task_json (sorted_in tasks.now))
+        (start_if (is_start (what_of event.now.what) && not (has_ended event.now.task (walked_in tasks.now))) event.now.task others)) }
+{
+    if !is_running(event, tasks) {
+        return Ok(());
+    }
+    let value = task_value(alloc, tasks, &event.task)?;
+    values.push(value)?;
+    Ok(())
+}
+
+// Whether an event is the start of a task that has not ended.
+fn is_running(event: &Event, tasks: &Tasks<'_, '_>) -> bool
+    ensures { result ≡ (is_start (what_of event.now.what) && not (has_ended event.now.task (walked_in tasks.now))) }
+{
+    starts(&event.what) && !tasks.has_ended(&event.task)
+}
+
+// Whether an event is the start of a task.
+fn starts(what: &What) -> bool
+    ensures { result ≡ is_start (what_of what.now) }
+{
+    match what {
+        What::Starts { .. } => true,
+        What::Happens(_) => false,
+        What::Ends { .. } => false,
+    }
+}
+
+// A task that has not ended as a JSON object.
+fn task_value(alloc: Global, tasks: &Tasks<'_, '_>, label: &Label) -> Result<Value, AllocError>
+    ensures { IfOk result (λ value. view value ≡ task_json (sorted_in tasks.now) label.now) }
+{
+    let mut members = Map::new(alloc);
+    let task = label_value(alloc, label)?;
+    put(&mut members, alloc, "task", task)?;
+    put_last(&mut members, alloc, tasks.last(label))?;
+    Ok(Value::Object(members))
+}
+
+// Puts what a task is doing, by the last of its events.
+fn put_last(
+    members: &mut Map<String, Value>,
+    alloc: Global,
+    last: Option<&Event>,
+) -> Result<(), AllocError>
+    ensures { OnOk result (members_view members.new.entries ≡ with_last (seen_last last.entry) (members_view members.old.entries)) }
+{
+    match last {
+        Some(event) => put_doing(members, alloc, event.tick, &event.what),
+        None => put_idle(members, alloc),
+    }
+}
+
+// Puts what a task is doing after an event: it sleeps, or it waits for a nursery.
+fn put_doing(
+    members: &mut Map<String, Value>,
+    alloc: Global,
+    tick: u64,
+    what: &What,
+) -> Result<(), AllocError>
+    ensures { OnOk result (members_view members.new.entries ≡ with_doing tick (what_of what.now) (members_view members.old.entries)) }
+{
+    match what {
+        What::Starts { .. } => put_idle(members, alloc),
+        What::Happens(happening) => put_doing_in(members, alloc, tick, happening),
+        What::Ends { .. } => put_idle(members, alloc),
+    }
+}
+
+// The same of what happens to a task between its start and its end.
+fn put_doing_in(
+    members: &mut Map<String, Value>,
+    alloc: Global,
+    tick: u64,
+    happening: &Happening,
+) -> Result<(), AllocError>
+    ensures { OnOk result (members_view members.new.entries
+        ≡ with_doing tick (told.happens (happening_of happening.now)) (members_view members.old.entries)) }
+{
+    match happening {
+        Happening::Sleeps { until } => {
+            put_state(members, alloc, "sleeping", tick)?;
+            put(members, alloc, "until", tick_value(*until))
+        }
+        Happening::Waits { nursery, .. } => {
+            put_state(members, alloc, "waiting", tick)?;
+            let label = label_value(alloc, nursery)?;
+            put(members, alloc, "nursery", label)
+        }
+        _ => put_idle(members, alloc),
+    }
+}
+
+// Puts the word for what a task is doing, and since when.
+fn put_state(
+    members: &mut Map<String, Value>,
+    alloc: Global,
+    doing: &str,
+    since: u64,
+) -> Result<(), AllocError>
+    ensures { OnOk result (members_view members.new.entries
+        ≡ with_member (codes "since") (integer since) (with_member (codes "doing") (word doing.now) (members_view members.old.entries))) }
+{
+    let text = Value::try_from_str(alloc, doing)?;
+    put(members, alloc, "doing", text)?;
+    put(members, alloc, "since", Value::from(since))
+}
+
+// Puts that a task waits for nothing.
+fn put_idle(members: &mut Map<String, Value>, alloc: Global) -> Result<(), AllocError>
+    ensures { OnOk result (members_view members.new.entries ≡ idle (members_view members.old.entries)) }
+{
+    put(members, alloc, "doing", Value::Null)
+}

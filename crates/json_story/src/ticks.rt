@@ -1,0 +1,95 @@
+ghost use Rattle.std.specs.Prelude.{◌≡◌, Some, map};
+ghost use Rattle.std.specs.Option.{option_map};
+ghost use Rattle.job_story.specs.Causes.{cause_of};
+ghost use Rattle.job_story.specs.Froms.{table_in};
+ghost use Rattle.job_story.specs.Held.{boxed};
+ghost use Rattle.story_causes.specs.Found.{cause_in_code};
+ghost use Rattle.story_causes.specs.Knows.{Knows};
+ghost use Rattle.story_causes.specs.Seen.{seen};
+ghost use Rattle.json_story.specs.Events.{next_if, cancel_from, failure_from};
+ghost use Rattle.json_story.specs.Known.{events_in, froms_in};
+
+use crate::known::Known;
+use exc_groups::{Exc, Label};
+use job_story::{Event, Froms};
+use story_causes::{Cause, Causes};
+
+impl<'k, 'e> Known<'k, 'e> {
+    // What is known by an index of these events and this table.
+    pub(crate) fn new(
+        events: &'k [&'e Event],
+        froms: &'k Froms,
+        causes: &'k Causes<'e>,
+    ) -> Known<'k, 'e>
+        requires { Knows causes.now (table_in froms.now) (map seen events.now) }
+        ensures events { events_in result ≡ map seen events.now }
+        ensures froms { froms_in result ≡ table_in froms.now }
+    {
+        Known {
+            events,
+            froms,
+            causes,
+        }
+    }
+
+    // Why a scope or nursery is cancelled: none where it never is.
+    pub(crate) fn cause(&self, label: &Label) -> Option<Cause<'e>>
+        ensures { option_map cause_in_code result ≡ cause_of (froms_in self.now) (events_in self.now) label.now }
+    {
+        self.causes.cause(label)
+    }
+
+    // The tick after this one, if a scope or nursery is cancelled from then on.
+    pub(crate) fn cancel_from(&self, label: &Option<Label>, tick: u64) -> Option<u64>
+        ensures { result ≡ cancel_from (froms_in self.now) label.now tick }
+    {
+        match label {
+            Some(label) => next_if(self.froms.of(label), tick),
+            None => None,
+        }
+    }
+
+    // The same of a nursery whose member or body ended, if with an exception.
+    pub(crate) fn failure_from(
+        &self,
+        home: &Option<Label>,
+        exc: &Option<Box<Exc>>,
+        tick: u64,
+    ) -> Option<u64>
+        ensures { result ≡ failure_from (froms_in self.now) home.now (boxed exc.now) tick }
+    {
+        match exc {
+            Some(_) => self.cancel_from(home, tick),
+            None => None,
+        }
+    }
+
+    // The same of a nursery whose body ended.
+    pub(crate) fn body_from(
+        &self,
+        nursery: &Label,
+        exc: &Option<Box<Exc>>,
+        tick: u64,
+    ) -> Option<u64>
+        ensures { result ≡ failure_from (froms_in self.now) (Some nursery.now) (boxed exc.now) tick }
+    {
+        match exc {
+            Some(_) => next_if(self.froms.of(nursery), tick),
+            None => None,
+        }
+    }
+}
+
+// The tick after this one, where it is a from.
+fn next_if(from: Option<u64>, tick: u64) -> Option<u64>
+    ensures { result ≡ next_if from tick }
+{
+    let Some(from) = from else {
+        return None;
+    };
+    if tick < from && from - tick == 1 {
+        Some(from)
+    } else {
+        None
+    }
+}
