@@ -1,0 +1,67 @@
+ghost use Rattle.std.specs.Prelude.{◌≡◌, ◌≢◌, ◌++◌, IfOk, OnOk, codes, decimal, string_bytes};
+ghost use Rattle.serde_json.specs.View.{view};
+ghost use Rattle.job_grammar.specs.declared.fault.JobKind.TheVariants as kinds;
+ghost use Rattle.json_report.specs.Values.{document};
+ghost use Rattle.json_app.specs.Answers.{refusal_json, limit_json};
+
+use itoa::Buffer;
+use job_grammar::{JobFault, JobKind};
+use json_report::document;
+use nursery_app::{column_of, line_of};
+use serde_json::{Value, json};
+use std::alloc::{AllocError, Global};
+
+// The refusal of a job text, with its line and column. Want of memory is not a refusal: a fault of that kind is an error here too.
+pub(crate) fn refusal(
+    alloc: Global,
+    job_text: &[u8],
+    fault: JobFault,
+) -> Result<Vec<u8>, AllocError>
+    ensures bytes { IfOk result (λ bytes. bytes.items ≡ document (refusal_json job_text.now fault)) }
+    ensures kind { OnOk result (fault.kind ≢ kinds.NoMemory) }
+{
+    if matches!(fault.kind, JobKind::NoMemory) {
+        return Err(AllocError);
+    }
+    let value = refusal_value(alloc, job_text, fault)?;
+    document(alloc, &value)
+}
+
+// The same as a JSON object.
+fn refusal_value(alloc: Global, job_text: &[u8], fault: JobFault) -> Result<Value, AllocError>
+    ensures { IfOk result (λ value. view value ≡ refusal_json job_text.now fault) }
+{
+    let code = kind_code(alloc, fault.kind.number())?;
+    json!(in alloc; {
+        "refused": code,
+        "name": fault.kind.name(),
+        "at": fault.at,
+        "line": line_of(job_text, fault.at),
+        "column": column_of(job_text, fault.at)
+    })
+}
+
+// A kind's number behind a `J`.
+fn kind_code(alloc: Global, number: u64) -> Result<String, AllocError>
+    ensures { IfOk result (λ text. string_bytes text ≡ codes "J" ++ decimal number) }
+{
+    let mut text = String::from_str(alloc, "J")?;
+    let mut buffer = Buffer::new();
+    text.push_str(buffer.format(number))?;
+    Ok(text)
+}
+
+// A limit by which a job does not end.
+pub(crate) fn past_limit(alloc: Global, limit: u64) -> Result<Vec<u8>, AllocError>
+    ensures { IfOk result (λ bytes. bytes.items ≡ document (limit_json limit)) }
+{
+    let value = limit_value(alloc, limit)?;
+    document(alloc, &value)
+}
+
+// The same as a JSON object.
+fn limit_value(alloc: Global, limit: u64) -> Result<Value, AllocError>
+    ensures { IfOk result (λ value. view value ≡ limit_json limit) }
+{
+    json!(in alloc; {"limit": limit})
+}

@@ -1,0 +1,99 @@
+ghost use Rattle.std.specs.Prelude.{◌≡◌, ◌<◌, ◌≤◌, length, IfOk, IfErr, OnOk};
+ghost use Rattle.std.specs.Option.{option_copied};
+ghost use Rattle.job_meaning.specs.declared.limits.TheConstants.{MOST_INPUT};
+ghost use Rattle.nursery_app.specs.Verdict.{CountsFailure};
+ghost use Rattle.json_app.specs.Explaining.{IsStoryVerdict, IsStory, IsStorySent, IsStoryFault};
+
+use crate::about::told_about;
+use crate::answers::refusal;
+use crate::meaning::meaning_of;
+use job_grammar::{Job, read_job};
+use job_report::{Out, send};
+use job_runner::{Gate, Pick, Settings};
+use job_teller::tell;
+use nursery_app::ServeFault;
+use std::alloc::{AllocError, Global};
+use std::thread::Threads;
+use story_app::{StoryVerdict, told_until};
+
+/// Runs a job text over an input, and writes the story of the job's one-thread meaning as one JSON document: an object for each event, in the
+/// order of the story. A job that ends later than the limit has its story up to the limit, with what each task is doing that has not ended.
+/// Where a task is asked for, by the text of its label, only what concerns it is told, as by `explain`; where no task has that label,
+/// nothing is written. A job text that is refused has its refusal written. The verdict and its status are those of `explain`.
+///
+/// The number of workers, the picker and the gate change no byte. All bytes are built before the first is sent, so after `NoMemory`
+/// nothing was sent.
+pub fn explain_json<R: Threads + Sync, P: Pick, G: Gate + Sync, W: Out>(
+    rt: &R,
+    alloc: Global,
+    job_text: &[u8],
+    input: &[u8],
+    settings: Settings,
+    task: Option<&[u8]>,
+    picker: &mut P,
+    gate: &G,
+    out: &mut W,
+) -> Result<StoryVerdict, ServeFault>
+    requires input { length input.now ≤ MOST_INPUT }
+    requires countable { W.failed out.old < 18446744073709551615 }
+
+    // The bytes written are the story of the meaning as JSON, or the refusal which it names.
+    ensures sent { IfOk result (IsStorySent job_text.now input.now settings.limit (option_copied task.entry) (W.contents out.old) (W.contents out.new)) }
+    ensures well { OnOk result (W.failed out.new ≡ W.failed out.old) }
+
+    // A writer that failed took the front of those bytes; after want of memory nothing was sent.
+    ensures fault { IfErr result (IsStoryFault job_text.now input.now settings.limit (option_copied task.entry) (W.contents out.old) (W.contents out.new)) }
+    ensures counted { IfErr result (CountsFailure (W.failed out.old) (W.failed out.new)) }
+{
+    let (verdict, bytes) = answer(rt, alloc, job_text, input, settings, task, picker, gate)?;
+    send(bytes.as_slice(), out)?;
+    Ok(verdict)
+}
+
+// The verdict and all its bytes.
+#[tactic(auto, using(crate::proofs::Explained::of_spelt))]
+fn answer<R: Threads + Sync, P: Pick, G: Gate + Sync>(
+    rt: &R,
+    alloc: Global,
+    job_text: &[u8],
+    input: &[u8],
+    settings: Settings,
+    task: Option<&[u8]>,
+    picker: &mut P,
+    gate: &G,
+) -> Result<(StoryVerdict, Vec<u8>), AllocError>
+    requires { length input.now ≤ MOST_INPUT }
+    ensures { IfOk result (λ r. IsStory job_text.now input.now settings.limit (option_copied task.entry) r.0 r.1.items) }
+{
+    match read_job(alloc, job_text) {
+        Ok(job) => {
+            let (verdict, bytes) = job_story(rt, alloc, &job, input, settings, task, picker, gate)?;
+            Ok((verdict, bytes))
+        }
+        Err(fault) => Ok((
+            StoryVerdict::JobRefused(fault),
+            refusal(alloc, job_text, fault)?,
+        )),
+    }
+}
+
+// The verdict on a job that was read, with its story.
+fn job_story<R: Threads + Sync, P: Pick, G: Gate + Sync>(
+    rt: &R,
+    alloc: Global,
+    job: &Job,
+    input: &[u8],
+    settings: Settings,
+    task: Option<&[u8]>,
+    picker: &mut P,
+    gate: &G,
+) -> Result<(StoryVerdict, Vec<u8>), AllocError>
+    requires { length input.now ≤ MOST_INPUT }
+    ensures { IfOk result (λ r. IsStoryVerdict job.now input.now settings.limit (option_copied task.entry) r.0 r.1.items) }
+{
+    let meaning = meaning_of(rt, alloc, job, input, settings, picker, gate)?;
+    let events = tell(alloc, job, input, &meaning.table)?;
+    let walked = told_until(alloc, events.as_slice(), meaning.until)?;
+    let answer = told_about(alloc, job, walked.as_slice(), &meaning, task)?;
+    Ok(answer)
+}
