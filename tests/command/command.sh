@@ -171,6 +171,29 @@ printf 'trio-job 1\njob hedge { nursery both { start fast { sleep 2; cancel both
 wants 0 'trio-job 1\njob hedge {\n  nursery both {\n    start fast {\n      sleep 2;\n      cancel both;\n    }\n    start slow { sleep 9; }\n  }\n}\n' '' fmt hedge_in_a_line.job
 helps fmt 'trio-job 1\njob hedge {\n  nursery both {\n    start fast {\n      sleep 2;\n      cancel both;\n    }\n    start slow { sleep 9; }\n  }\n}\n'
 
+# ---- lint, trio, completions, man
+
+printf 'trio-job 1\njob late {\n  try { sleep 5; } except Timeout { find "late"; }\n}\n' > late.job
+late='late.job:3:20: nothing in this `try` raises Timeout, so its handler never runs\n  try { sleep 5; } except Timeout { find "late"; }\n                   ^\n'
+wants 1 "$late" '' lint late.job
+helps lint "$late"
+wants 0 '' '' lint raise.job
+wants 2 'refused J6 Syntax at 28\n' "$wrong" lint wrong.job
+wants 4 '' 'cannot read the job file\n' lint none.job
+words='trio raise.job'
+holds 0 out 'as a program on plain Trio' 'import trio' 'await trio.sleep(2)' 'raise Boom'
+wants 2 'refused J6 Syntax at 28\n' "$wrong" trio wrong.job
+words='completions bash'
+holds 0 out 'complete -o filenames -F _nursery nursery'
+words='completions zsh'
+holds 0 out '#compdef nursery'
+words='completions fish'
+holds 0 out 'complete -c nursery'
+words='man'
+holds 0 out '.TH NURSERY 1'
+words='completions tcsh'
+holds 2 err 'bash, zsh, fish'
+
 # ---- chart
 
 wants 0 '      0\nmain  | done\n' '' chart find.job

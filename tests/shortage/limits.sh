@@ -67,7 +67,12 @@ from_little_to_enough run grid.job lines.txt --workers 64
 # A thread that cannot be started is none: the others compute.
 from_little_to_enough run parts.job lines.txt --workers 64
 from_little_to_enough explain grid.job lines.txt
-from_little_to_enough fmt grid.job
+{ printf 'trio-job 1\njob main { '; yes 'longest;' | head -c 45000; printf ' }\n'; } > wide.job
+from_little_to_enough fmt wide.job
+from_little_to_enough lint wide.job
+from_little_to_enough trio wide.job
+from_little_to_enough run grid.job lines.txt --json
+from_little_to_enough explain grid.job lines.txt --json
 from_little_to_enough chart grid.job lines.txt
 from_little_to_enough chart grid.job lines.txt --svg
 from_little_to_enough faults few.job lines.txt
@@ -113,6 +118,10 @@ for job in scopes nurseries cleanups handlers sleeps leaves grid; do
     in_little_stack races $job.job log.txt --workers 2
     in_little_stack check $job.job
     in_little_stack fmt $job.job
+    in_little_stack lint $job.job
+    in_little_stack trio $job.job
+    in_little_stack run $job.job log.txt --json
+    in_little_stack explain $job.job log.txt --json
 done
 column=$(awk 'NR == 2 { print index($0, "sleep 1") + 6 }' cleanups.job)
 in_little_stack sweep cleanups.job --at "2:$column" --values 1..9 --workers 2

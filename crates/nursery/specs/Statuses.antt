@@ -1,5 +1,5 @@
 -- The exit status of the program.
-use Rattle.std.specs.Prelude.{◌≡◌, ℕ, Bool, Option, List}
+use Rattle.std.specs.Prelude.{◌≡◌, ◌⊎◌, ℕ, Bool, Option, List, [], ◌∷◌}
 use Rattle.nursery_app.specs.declared.verdict.Verdict.{Verdict}
 use Rattle.nursery_app.specs.declared.verdict.CheckVerdict.{CheckVerdict}
 use Rattle.nursery_app.specs.declared.verdict.ServeFault.{ServeFault}
@@ -17,6 +17,12 @@ use Rattle.format_app.specs.declared.verdict.FormatVerdict.{FormatVerdict}
 use Rattle.format_app.specs.declared.verdict.FormatCheck.{FormatCheck}
 use Rattle.format_app.specs.Formats as formats
 use Rattle.format_app.specs.Statuses.{status_of as format_status_of, check_status_of as format_check_status_of}
+use Rattle.job_grammar.specs.declared.fault.JobFault.{JobFault}
+use Rattle.job_grammar.specs.Refusals.{IsRefused}
+use Rattle.job_lint.specs.declared.warning.Warning.{Warning}
+use Rattle.job_lint.specs.Linted.{AreWarnings}
+use Rattle.json_app.specs.Serving as documents
+use Rattle.json_app.specs.Explaining as told
 use Rattle.fault_text.specs.declared.deny.Deny.{Deny}
 use Rattle.fault_app.specs.declared.verdict.FaultsVerdict.{FaultsVerdict}
 use Rattle.fault_app.specs.Verdicts as fates
@@ -92,3 +98,24 @@ TellsFormat text status =
 -- the status is that of the comparison of a text with its formatted text
 abbrev pub TellsFormatCheck : List ℕ → ℕ → Type 0
 TellsFormatCheck text status = (check : FormatCheck) × formats.IsCheck text check × (status ≡ format_check_status_of check)
+
+-- the status is that of the verdict on the job's meaning, told as a JSON document
+abbrev pub TellsJson : List ℕ → List ℕ → ℕ → ℕ → Type 0
+TellsJson text input limit status =
+    (verdict : Verdict) × (bytes : List ℕ) × documents.IsVerdict text input limit verdict bytes × (status ≡ verdicts.status_of verdict)
+
+-- the status is that of the verdict on the story of the job's meaning, told as a JSON document
+abbrev pub TellsJsonStory : List ℕ → List ℕ → ℕ → Option (List ℕ) → ℕ → Type 0
+TellsJsonStory text input limit asked status =
+    (verdict : StoryVerdict) × (bytes : List ℕ) × told.IsStory text input limit asked verdict bytes × (status ≡ story_status_of verdict)
+
+-- 0 where there is no warning, and otherwise 1
+abbrev pub lint_status : List Warning → ℕ
+lint_status [] = 0
+lint_status (w ∷ ws) = 1
+
+-- the status is that of the warnings of the job that the text spells, or of its refusal
+abbrev pub TellsLints : List ℕ → ℕ → Type 0
+TellsLints text status =
+    ((warnings : List Warning) × AreWarnings text warnings × (status ≡ lint_status warnings))
+    ⊎ ((fault : JobFault) × IsRefused text fault.kind fault.at × (status ≡ 2))

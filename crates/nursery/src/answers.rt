@@ -5,6 +5,7 @@ ghost use Rattle.job_meaning.specs.Laws.{in_format_2};
 ghost use Rattle.nursery_app.specs.Checking.{as_it_is};
 ghost use Rattle.nursery.specs.Statuses.{TellsVerdict, TellsStory, TellsAnswer};
 
+use crate::documents::{explain_as_json, run_as_json};
 use crate::sources::{read_feed, read_input, read_job_text};
 use crate::stop::Stop;
 use job_grammar::JobFault;
@@ -82,8 +83,12 @@ pub(crate) fn run_job<R: Files + Input + Print + Eprint + Threads + Sync + Alloc
     input: &str,
     settings: Settings,
     order: Order,
+    json: bool,
 ) -> Result<u8, Stop> {
     let given = read_both(rt, job, Some(input))?;
+    if json {
+        return run_as_json(rt, job, &given, settings, order);
+    }
     let (text, input) = (given.text.as_slice(), given.input.as_slice());
     match order {
         Order::Forward => run_text(rt, job, text, input, settings, &mut Forward),
@@ -100,8 +105,12 @@ pub(crate) fn explain_job<R: Files + Input + Print + Eprint + Threads + Sync + A
     task: Option<&str>,
     settings: Settings,
     order: Order,
+    json: bool,
 ) -> Result<u8, Stop> {
     let given = read_both(rt, job, input)?;
+    if json {
+        return explain_as_json(rt, job, &given, task, settings, order);
+    }
     let (text, input) = (given.text.as_slice(), given.input.as_slice());
     match order {
         Order::Forward => explain_text(rt, job, text, input, task, settings, &mut Forward),
@@ -146,7 +155,7 @@ fn explain_text<R: Print + Eprint + Threads + Sync + AllocGlobal, P: Pick>(
 }
 
 // The bytes of a label, where there is one.
-fn bytes_of(label: Option<&str>) -> Option<&[u8]>
+pub(crate) fn bytes_of(label: Option<&str>) -> Option<&[u8]>
     ensures { option_copied result ≡ option_copied label.entry }
 {
     match label {
@@ -157,7 +166,7 @@ fn bytes_of(label: Option<&str>) -> Option<&[u8]>
 
 // Tells on standard error that no task has the label that was asked for, and which one is the nearest. Where memory or a write fails
 // here nothing more is told.
-fn tell_no_task<R: Eprint + AllocGlobal>(rt: &R, task: Option<&str>, nearest: Vec<u8>) {
+pub(crate) fn tell_no_task<R: Eprint + AllocGlobal>(rt: &R, task: Option<&str>, nearest: Vec<u8>) {
     let (Some(task), Ok(nearest)) = (task, String::from_utf8(nearest)) else {
         return;
     };

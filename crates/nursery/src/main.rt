@@ -7,22 +7,29 @@
 
 mod answers;
 mod charts;
+mod documents;
+mod exports;
 mod faults;
 mod formats;
+mod lints;
 mod progress;
 mod races;
 mod replacing;
 mod sources;
 mod stop;
 mod sweep;
+mod texts;
 
 use crate::answers::{check_job, explain_job, run_feed, run_job, show_help, upgrade_job};
 use crate::charts::chart_job;
+use crate::exports::trio_job;
 use crate::faults::faults_job;
 use crate::formats::format_job_file;
+use crate::lints::lint_job;
 use crate::races::races_job;
 use crate::stop::Stop;
 use crate::sweep::sweep_job;
+use crate::texts::{show_completions, show_man_page};
 use nursery_cli::{Command, CommandFault, read_command};
 use std::env;
 use std::io::{self, IsTerminal};
@@ -62,8 +69,9 @@ where
                 input,
                 settings,
                 order,
+                json,
             },
-        ) => run_job(rt, job.as_str(), input.as_str(), settings, order),
+        ) => run_job(rt, job.as_str(), input.as_str(), settings, order, json),
         Ok(
             Command::Explain {
                 job,
@@ -71,11 +79,12 @@ where
                 task,
                 settings,
                 order,
+                json,
             },
         ) => {
             let input = input.as_ref().map(|name| name.as_str());
             let task = task.as_ref().map(|label| label.as_str());
-            explain_job(rt, job.as_str(), input, task, settings, order)
+            explain_job(rt, job.as_str(), input, task, settings, order, json)
         }
         Ok(
             Command::Chart {
@@ -133,8 +142,12 @@ where
             )
         }
         Ok(Command::Fmt { job, mode }) => format_job_file(rt, job.as_str(), mode),
+        Ok(Command::Lint { job }) => lint_job(rt, job.as_str()),
+        Ok(Command::Trio { job }) => trio_job(rt, job.as_str()),
         Ok(Command::Check { job }) => check_job(rt, job.as_str()),
         Ok(Command::Upgrade { job }) => upgrade_job(rt, job.as_str()),
+        Ok(Command::Completions { shell }) => show_completions(rt, shell),
+        Ok(Command::Man) => show_man_page(rt),
         Ok(Command::Help { text }) => show_help(rt, text.as_str()),
         Err(CommandFault::Refused { text }) => Err(Stop::Words { text }),
         Err(CommandFault::NoMemory) => Err(Stop::NoMemory),

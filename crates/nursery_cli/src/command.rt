@@ -30,6 +30,17 @@ pub enum FormatMode {
     Check,
 }
 
+/// A shell whose words can be completed.
+#[derive(Clone, Copy, Debug, PartialEq, Eq)]
+pub enum Shell {
+    /// Bash.
+    Bash,
+    /// Zsh.
+    Zsh,
+    /// Fish.
+    Fish,
+}
+
 /// What the words after the program's name ask for.
 #[derive(Drop)]
 pub enum Command {
@@ -45,6 +56,8 @@ pub enum Command {
         settings: Settings,
         /// The order of turns.
         order: Order,
+        /// Whether the answer is to be one JSON document.
+        json: bool,
     },
     /// The story of a job over an input: why each task ended as it did.
     Explain {
@@ -58,6 +71,8 @@ pub enum Command {
         settings: Settings,
         /// The order of turns.
         order: Order,
+        /// Whether the answer is to be one JSON document.
+        json: bool,
     },
     /// A picture of the run of a job over an input.
     Chart {
@@ -116,6 +131,16 @@ pub enum Command {
         /// What is done with the text.
         mode: FormatMode,
     },
+    /// What is probably a mistake in a job.
+    Lint {
+        /// The job file, or `-` for standard input.
+        job: String,
+    },
+    /// A job as a Python program on Trio.
+    Trio {
+        /// The job file, or `-` for standard input.
+        job: String,
+    },
     /// The canonical text of a job.
     Check {
         /// The job file, or `-` for standard input.
@@ -126,6 +151,13 @@ pub enum Command {
         /// The job file, or `-` for standard input.
         job: String,
     },
+    /// The script that completes the program's words in a shell.
+    Completions {
+        /// The shell.
+        shell: Shell,
+    },
+    /// The man page.
+    Man,
     /// A text that was asked for: help, or the version.
     Help {
         /// The text, with its last newline.

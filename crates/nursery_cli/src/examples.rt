@@ -189,6 +189,36 @@ Example:
 Exit status: 0; 1 where `--check` finds a difference; 2 where the job is refused, or its formatted text is
 longer than a job text may be; 4 where a file could not be read or written; 5 no memory.";
 
+pub(crate) const LINT_EXAMPLE: &str =
+    "A warning is no refusal: the job runs. What is looked for: a step after a `forever` or a `raise`; in a `finally`
+a wait with no shield around it, or a `raise`; a shield without a deadline around a wait; a scope that
+nothing cancels; a handler of what nothing raises.
+
+Example:
+
+    $ cat late.job
+    trio-job 1
+    job late {
+      try { sleep 5; } except Timeout { find \"late\"; }
+    }
+    $ nursery lint late.job
+    late.job:3:20: nothing in this `try` raises Timeout, so its handler never runs
+      try { sleep 5; } except Timeout { find \"late\"; }
+                       ^
+
+Exit status: 0; 1 where there is a warning; the others are those of `check`.";
+
+pub(crate) const TRIO_EXAMPLE: &str =
+    "The program is plain Trio, to start real code from: its first lines say how it is run.
+
+Example:
+
+    $ nursery trio hedge.job > hedge.py
+    $ python3 hedge.py
+    $ python3 hedge.py --seeds 20
+
+Exit status: 0; the others are those of `check`.";
+
 pub(crate) const CHECK_EXAMPLE: &str = "Example:
 
     $ cat wait.job
@@ -210,3 +240,14 @@ pub(crate) const UPGRADE_EXAMPLE: &str = "Example:
     $ nursery upgrade first.job
     trio-job 2
     job main{find\"er\";}";
+
+pub(crate) const COMPLETIONS_EXAMPLE: &str = "Example: for bash, from now on in each new shell:
+
+    $ nursery completions bash > ~/.local/share/bash-completion/completions/nursery
+
+`make install` in the repository puts the scripts of the three shells in their places.";
+
+pub(crate) const MAN_EXAMPLE: &str = "Example:
+
+    $ nursery man > nursery.1
+    $ man ./nursery.1";

@@ -12,6 +12,6 @@ mod parser;
 mod reading;
 mod sweeping;
 
-pub use command::{Command, CommandFault, FormatMode, Order};
-pub use parser::{DEFAULT_LIMIT, LEAST_WIDTH, MOST_WIDTH};
-pub use reading::read_command;
+pub use command::{Command, CommandFault, FormatMode, Order, Shell};
+pub use parser::{DEFAULT_LIMIT, LEAST_WIDTH, MOST_WIDTH, command_line};
+pub use reading::{help_text, read_command};

@@ -1,6 +1,7 @@
 use crate::examples::{
-    CHART_EXAMPLE, CHECK_EXAMPLE, EXAMPLE, EXPLAIN_EXAMPLE, FAULTS_EXAMPLE, FMT_EXAMPLE,
-    RACES_EXAMPLE, RUN_EXAMPLE, SWEEP_EXAMPLE, UPGRADE_EXAMPLE,
+    CHART_EXAMPLE, CHECK_EXAMPLE, COMPLETIONS_EXAMPLE, EXAMPLE, EXPLAIN_EXAMPLE, FAULTS_EXAMPLE,
+    FMT_EXAMPLE, LINT_EXAMPLE, MAN_EXAMPLE, RACES_EXAMPLE, RUN_EXAMPLE, SWEEP_EXAMPLE,
+    TRIO_EXAMPLE, UPGRADE_EXAMPLE,
 };
 use clap::{Arg, ArgAction, ArgGroup, Command, value_parser};
 use job_runner::{GREATEST_LIMIT, MOST_WORKERS};
@@ -27,8 +28,8 @@ const ABOUT: &str =
 // The program's version, as `--version` tells it.
 const VERSION: &str = "0.1.0";
 
-// What reads the words after the program's name.
-pub(crate) fn parser<'a>(alloc: Global) -> Result<Command<'a>, AllocError> {
+/// What reads the words after the program's name: each command with what it does, its options and its help. Want of memory is the only error.
+pub fn command_line<'a>(alloc: Global) -> Result<Command<'a>, AllocError> {
     Command::new(alloc, "nursery")
         .no_binary_name(true)
         .bin_name("nursery")?
@@ -43,8 +44,12 @@ pub(crate) fn parser<'a>(alloc: Global) -> Result<Command<'a>, AllocError> {
         .subcommand(races_parser(alloc)?)?
         .subcommand(sweep_parser(alloc)?)?
         .subcommand(fmt_parser(alloc)?)?
+        .subcommand(lint_parser(alloc)?)?
+        .subcommand(trio_parser(alloc)?)?
         .subcommand(check_parser(alloc)?)?
-        .subcommand(upgrade_parser(alloc)?)
+        .subcommand(upgrade_parser(alloc)?)?
+        .subcommand(completions_parser(alloc)?)?
+        .subcommand(man_parser(alloc))
 }
 
 // What reads the words after `run`.
@@ -60,7 +65,8 @@ fn run_parser<'a>(alloc: Global) -> Result<Command<'a>, AllocError> {
         .arg(input)?
         .arg(workers_option(alloc))?
         .arg(order_option(alloc))?
-        .arg(limit_option(alloc))
+        .arg(limit_option(alloc))?
+        .arg(json_option(alloc))
 }
 
 // What reads the words after `explain`.
@@ -79,7 +85,8 @@ fn explain_parser<'a>(alloc: Global) -> Result<Command<'a>, AllocError> {
         .arg(task)?
         .arg(workers_option(alloc))?
         .arg(order_option(alloc))?
-        .arg(limit_option(alloc))
+        .arg(limit_option(alloc))?
+        .arg(json_option(alloc))
 }
 
 // What reads the words after `chart`.
@@ -203,6 +210,22 @@ fn fmt_parser<'a>(alloc: Global) -> Result<Command<'a>, AllocError> {
         .group(mode)
 }
 
+// What reads the words after `lint`.
+fn lint_parser<'a>(alloc: Global) -> Result<Command<'a>, AllocError> {
+    Command::new(alloc, "lint")
+        .about("Tells what is probably a mistake in a job, with its place")
+        .after_help(LINT_EXAMPLE)
+        .arg(job_argument(alloc))
+}
+
+// What reads the words after `trio`.
+fn trio_parser<'a>(alloc: Global) -> Result<Command<'a>, AllocError> {
+    Command::new(alloc, "trio")
+        .about("Writes a job as a Python program on Trio")
+        .after_help(TRIO_EXAMPLE)
+        .arg(job_argument(alloc))
+}
+
 // What reads the words after `check`.
 fn check_parser<'a>(alloc: Global) -> Result<Command<'a>, AllocError> {
     Command::new(alloc, "check")
@@ -219,6 +242,26 @@ fn upgrade_parser<'a>(alloc: Global) -> Result<Command<'a>, AllocError> {
         )
         .after_help(UPGRADE_EXAMPLE)
         .arg(job_argument(alloc))
+}
+
+// What reads the words after `completions`.
+fn completions_parser<'a>(alloc: Global) -> Result<Command<'a>, AllocError> {
+    let shell = Arg::new(alloc, "shell")
+        .value_name("SHELL")
+        .help("The shell")
+        .value_parser(["bash", "zsh", "fish"].as_slice())
+        .required(true);
+    Command::new(alloc, "completions")
+        .about("Writes the script that completes the words of nursery in a shell")
+        .after_help(COMPLETIONS_EXAMPLE)
+        .arg(shell)
+}
+
+// What reads the words after `man`.
+fn man_parser<'a>(alloc: Global) -> Command<'a> {
+    Command::new(alloc, "man")
+        .about("Writes the man page")
+        .after_help(MAN_EXAMPLE)
 }
 
 fn job_argument<'a>(alloc: Global) -> Arg<'a> {
@@ -250,6 +293,13 @@ fn order_option<'a>(alloc: Global) -> Arg<'a> {
         .help("The order in which ready tasks have their turns; the report is the same for all")
         .value_parser(["forward", "reverse", "turn"].as_slice())
         .default_value("forward")
+}
+
+fn json_option<'a>(alloc: Global) -> Arg<'a> {
+    Arg::new(alloc, "json")
+        .long("json")
+        .help("Writes one JSON document")
+        .action(ArgAction::SetTrue)
 }
 
 fn limit_option<'a>(alloc: Global) -> Arg<'a> {

@@ -3,16 +3,16 @@ ghost use Rattle.std.specs.Str.{bytes_eq};
 ghost use Rattle.nursery_cli.specs.declared.command.Command.TheVariants.{Feed};
 ghost use Rattle.nursery_cli.specs.Words.{IsFit, IsAsked, IsWidth, may_be_raised};
 
-use crate::command::{Command, CommandFault, FormatMode, Order};
+use crate::command::{Command, CommandFault, FormatMode, Order, Shell};
 use crate::common::{OUT_OF_RANGE, owned, refusal, settings_of};
-use crate::parser::{DEFAULT_FAULT, LEAST_WIDTH, MOST_WIDTH, parser};
+use crate::parser::{DEFAULT_FAULT, LEAST_WIDTH, MOST_WIDTH, command_line};
 use crate::sweeping::{target_of, values_of};
 use clap::ArgMatches;
 use clap::error::ErrorKind;
 use fault_text::Deny;
 use job_syntax::Keyword;
 use job_tree::Name;
-use std::alloc::Global;
+use std::alloc::{AllocError, Global};
 
 // What is wrong where standard input is to be written.
 const NOT_WRITTEN: &str = "error: `--write` needs a file: JOB is standard input\n";
@@ -29,11 +29,40 @@ pub fn read_command(alloc: Global, words: &[String]) -> Result<Command, CommandF
     asked(alloc, words)
 }
 
+/// The text that `--help` shows after the name of a command, or with no name that of the program. Empty where no command has the name. Want of
+/// memory is the only error.
+pub fn help_text(alloc: Global, name: &str) -> Result<String, AllocError> {
+    let words = help_words(alloc, name)?;
+    match read_command(alloc, words.as_slice()) {
+        Ok(Command::Help { text }) => Ok(text),
+        Err(CommandFault::NoMemory) => Err(AllocError),
+        _other => Ok(String::new(alloc)),
+    }
+}
+
+// The words that ask for that help.
+fn help_words(alloc: Global, name: &str) -> Result<Vec<String>, AllocError> {
+    let mut words = Vec::new(alloc);
+    if !name.is_empty() {
+        push_word(alloc, &mut words, name)?;
+    }
+    push_word(alloc, &mut words, "--help")?;
+    Ok(words)
+}
+
+// Appends a word.
+fn push_word(alloc: Global, words: &mut Vec<String>, word: &str) -> Result<(), AllocError> {
+    match words.push(String::from_str(alloc, word)?) {
+        Ok(()) => Ok(()),
+        Err(_full) => Err(AllocError),
+    }
+}
+
 // The command of some words.
 fn asked(alloc: Global, words: &[String]) -> Result<Command, CommandFault>
     ensures { IfOk result IsAsked }
 {
-    match parser(alloc)?.try_get_matches_from(words) {
+    match command_line(alloc)?.try_get_matches_from(words) {
         Ok(matches) => chosen(alloc, &matches),
         Err(error) => unmatched(alloc, &error),
     }
@@ -61,6 +90,19 @@ fn chosen(alloc: Global, matches: &ArgMatches<'_>) -> Result<Command, CommandFau
     let Some((name, inner)) = matches.subcommand() else {
         return Err(refusal(alloc, "error: name a command\n"));
     };
+    match name {
+        "completions" => Ok(Command::Completions {
+            shell: shell_named(inner.get_str("shell")),
+        }),
+        "man" => Ok(Command::Man),
+        _ => job_command(alloc, name, inner),
+    }
+}
+
+// The command of this name on a job file.
+fn job_command(alloc: Global, name: &str, inner: &ArgMatches<'_>) -> Result<Command, CommandFault>
+    ensures { IfOk result IsAsked }
+{
     let Some(job) = inner.get_str("job") else {
         return Err(refusal(alloc, "error: name the job file\n"));
     };
@@ -72,6 +114,12 @@ fn chosen(alloc: Global, matches: &ArgMatches<'_>) -> Result<Command, CommandFau
         "races" => races_command(alloc, job, inner),
         "sweep" => sweep_command(alloc, job, inner),
         "fmt" => fmt_command(alloc, job, inner),
+        "lint" => Ok(Command::Lint {
+            job: String::from_str(alloc, job)?,
+        }),
+        "trio" => Ok(Command::Trio {
+            job: String::from_str(alloc, job)?,
+        }),
         "upgrade" => Ok(Command::Upgrade {
             job: String::from_str(alloc, job)?,
         }),
@@ -94,6 +142,7 @@ fn run_command(alloc: Global, job: &str, matches: &ArgMatches<'_>) -> Result<Com
         input: String::from_str(alloc, input)?,
         settings,
         order: order_named(matches.get_str("order")),
+        json: matches.get_flag("json"),
     })
 }
 
@@ -113,6 +162,7 @@ fn explain_command(
         task: owned(alloc, matches.get_str("task"))?,
         settings,
         order: order_named(matches.get_str("order")),
+        json: matches.get_flag("json"),
     })
 }
 
@@ -221,6 +271,15 @@ fn fmt_command(alloc: Global, job: &str, matches: &ArgMatches<'_>) -> Result<Com
         job: String::from_str(alloc, job)?,
         mode,
     })
+}
+
+// The shell of a name that the parser let through.
+fn shell_named(name: Option<&str>) -> Shell {
+    match name {
+        Some("zsh") => Shell::Zsh,
+        Some("fish") => Shell::Fish,
+        _ => Shell::Bash,
+    }
 }
 
 // What is done with a formatted text.

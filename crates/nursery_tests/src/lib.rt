@@ -1,4 +1,4 @@
-//! The tests of the crates `job_runner`, `job_report`, `nursery_app`, `format_app`, `story_app`, `chart_app`, `fault_app`, `race_app`,
+//! The tests of the crates `job_runner`, `job_report`, `job_lint`, `nursery_app`, `format_app`, `story_app`, `chart_app`, `fault_app`, `race_app`,
 //! `sweep_app` and `nursery_cli`, through what these make public.
 //!
 //! They show what no clause says: that the reports of worked jobs, worked out by hand, are what the definitions give; how words and
@@ -20,6 +20,8 @@ mod faulty;
 mod fixtures;
 #[cfg(test)]
 mod formatted;
+#[cfg(test)]
+mod linted;
 #[cfg(test)]
 mod nested;
 #[cfg(test)]

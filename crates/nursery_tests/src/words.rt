@@ -55,6 +55,10 @@ fn word_of(command: &Command) -> &'static str {
         Command::Races { .. } => "races",
         Command::Sweep { .. } => "sweep",
         Command::Fmt { .. } => "fmt",
+        Command::Lint { .. } => "lint",
+        Command::Trio { .. } => "trio",
+        Command::Completions { .. } => "completions",
+        Command::Man => "man",
         Command::Check { .. } => "check",
         Command::Upgrade { .. } => "upgrade",
         Command::Help { .. } => "help",
@@ -72,6 +76,10 @@ fn text_of(command: &Command) -> &str {
         Command::Races { job, .. } => job.as_str(),
         Command::Sweep { job, .. } => job.as_str(),
         Command::Fmt { job, .. } => job.as_str(),
+        Command::Lint { job } => job.as_str(),
+        Command::Trio { job } => job.as_str(),
+        Command::Completions { .. } => "",
+        Command::Man => "",
         Command::Check { job } => job.as_str(),
         Command::Upgrade { job } => job.as_str(),
         Command::Help { text } => text.as_str(),
@@ -84,6 +92,12 @@ const NAMED: &[(&str, &str, &str)] = &[
     ("check j", "check", "j"),
     ("check -", "check", "-"),
     ("upgrade j", "upgrade", "j"),
+    ("lint j", "lint", "j"),
+    ("trio -", "trio", "-"),
+    ("completions zsh", "completions", ""),
+    ("man", "man", ""),
+    ("run j i --json", "run", "j"),
+    ("explain j --json --task t", "explain", "j"),
     ("fmt j", "fmt", "j"),
     ("fmt -", "fmt", "-"),
     ("fmt --check -", "fmt", "-"),
@@ -129,6 +143,7 @@ fn is_run(command: &Command, wanted: (usize, Order, u64)) -> bool {
             input,
             settings,
             order,
+            ..
         } => {
             let found = (settings.workers(), *order, settings.limit());
             job.as_str() == "j" && input.as_str() == "i" && found == wanted
@@ -204,6 +219,10 @@ const REFUSED: &[Row] = &[
     ("explain - -", "JOB and INPUT cannot both be `-`"),
     ("explain j --workers 0", "0 is not in 1..=64"),
     ("fmt", "<JOB>"),
+    ("lint", "<JOB>"),
+    ("completions", "<SHELL>"),
+    ("completions tcsh", "bash, zsh, fish"),
+    ("man j", "'j'"),
     ("fmt j --write --check", "cannot be used with"),
     ("fmt - --write", "`--write` needs a file"),
     ("chart", "<JOB>"),
@@ -228,12 +247,15 @@ const REFUSED: &[Row] = &[
 ];
 
 const HELP: &[Row] = &[
-    ("--help", "  run      Runs a job"),
-    ("--help", "  check    Writes the canonical text"),
-    ("--help", "  upgrade  Writes the canonical text"),
+    ("--help", " Runs a job over an input and writes the report"),
+    ("--help", " Writes the canonical text of a job, or says"),
+    (
+        "--help",
+        " Writes the canonical text of the same job in format 2",
+    ),
     ("-h", "$ nursery run first.job log.txt\n    job main 0\n"),
     ("help", "  line 0+5 error\n"),
-    ("--help", "  sweep    Tells what becomes"),
+    ("--help", " Tells what becomes of a job for each value"),
     ("sweep --help", "3:21 --values 7..8"),
     ("run --help", "Usage: nursery run [OPTIONS] <JOB> <INPUT>"),
     ("run --help", "--workers <N>"),
@@ -241,6 +263,9 @@ const HELP: &[Row] = &[
     ("run --help", "--limit <T>"),
     ("run --help", "  line 6+10 ERROR disk\n"),
     ("help run", "--workers <N>"),
+    ("help lint", "  late.job:3:20: nothing in this `try`"),
+    ("fmt --help", "hedge.job:2:12: not formatted from here on\n"),
+    ("trio --help", "$ nursery trio hedge.job > hedge.py\n"),
     ("check --help", "wait.job:2:18: expected a number\n"),
     ("upgrade --help", "job main{find\"er\";}"),
 ];

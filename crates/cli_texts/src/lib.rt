@@ -1,0 +1,25 @@
+//! The completions of `nursery` for bash, zsh and fish, and its man page.
+//!
+//! They are made from the table that the command line is read with (`nursery_cli::command_line`), so they cannot name a command or an option that the
+//! program does not have. What they hold is tested, and no clause says it.
+#![tactic(auto)]
+
+mod bash;
+mod fish;
+mod manual;
+mod options;
+mod zsh;
+
+pub use manual::man_page;
+use nursery_cli::{Shell, command_line};
+use std::alloc::{AllocError, Global};
+
+/// The script that completes the words of `nursery` in a shell. Want of memory is the only error.
+pub fn completions(alloc: Global, shell: Shell) -> Result<String, AllocError> {
+    let command = command_line(alloc)?;
+    match shell {
+        Shell::Bash => bash::script(alloc, &command),
+        Shell::Zsh => zsh::script(alloc, &command),
+        Shell::Fish => fish::script(alloc, &command),
+    }
+}

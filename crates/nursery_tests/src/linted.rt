@@ -1,0 +1,210 @@
+//! Worked jobs with the warnings that they have, each with twins that have none. The expected lines are worked out by hand.
+
+use job_grammar::{JobFault, JobKind};
+use job_lint::{Warning, lints, sentence};
+use std::alloc::{AllocError, Global};
+use std::test::Fail;
+
+// A job text, and a line for each warning: its place, a blank and its sentence.
+type Row = (&'static [u8], &'static [u8]);
+
+// Steps after one that never ends well: the first of them alone.
+const UNREACHABLE: &[Row] = &[
+    (
+        b"trio-job 1\njob m{forever;sleep 1;sleep 2;}",
+        b"25 this step never runs: the step before it never ends well\n",
+    ),
+    (
+        b"trio-job 1\njob m{raise A;try{longest;}finally{}}",
+        b"25 this step never runs: the step before it never ends well\n",
+    ),
+    (b"trio-job 1\njob m{sleep 1;forever;}", b""),
+    (b"trio-job 1\njob m{scope s after 1{forever;}sleep 1;}", b""),
+];
+
+// Waits in a cleanup.
+const EXPOSED: &[Row] = &[
+    (
+        b"trio-job 1\njob m{try{sleep 1;}finally{sleep 2;}}",
+        b"38 a cleanup that waits here is cut off when its task is cancelled: put the wait into a scope with a deadline and `shield`\n",
+    ),
+    (
+        b"trio-job 1\njob m{try{}finally{scope s after 9 shield{try{}finally{checkpoint;}}}}",
+        b"66 a cleanup that waits here is cut off when its task is cancelled: put the wait into a scope with a deadline and `shield`\n",
+    ),
+    (
+        b"trio-job 1\njob m{try{sleep 1;}finally{scope s after 5 shield{sleep 2;}}}",
+        b"",
+    ),
+    (b"trio-job 1\njob m{try{sleep 1;}finally{longest;}}", b""),
+];
+
+// Exceptions raised in a cleanup.
+const RAISED: &[Row] = &[
+    (
+        b"trio-job 1\njob m{try{sleep 1;}finally{raise A;}}",
+        b"38 an exception raised in a cleanup replaces the one that the cleanup began with\n",
+    ),
+    (
+        b"trio-job 1\njob m{try{}finally{scope s after 5 shield{raise A;}}}",
+        b"53 an exception raised in a cleanup replaces the one that the cleanup began with\n",
+    ),
+    (b"trio-job 1\njob m{try{raise A;}except A{raise B;}}", b""),
+];
+
+// Shields without a deadline.
+const SHIELDS: &[Row] = &[
+    (
+        b"trio-job 1\njob m{scope s shield{sleep 1;}}",
+        b"17 nothing outside can cancel a wait in this shield: give it a deadline\n",
+    ),
+    (
+        b"trio-job 2\njob m{nursery n shield{start a{repeat 2{checkpoint;}}}}",
+        b"17 nothing outside can cancel a wait in this shield: give it a deadline\n",
+    ),
+    (b"trio-job 1\njob m{scope s after 2 shield{sleep 1;}}", b""),
+    (
+        b"trio-job 1\njob m{scope s shield{scope t at 1{sleep 1;}}}",
+        b"",
+    ),
+    (b"trio-job 1\njob m{scope s shield{longest;}}", b""),
+];
+
+// Scopes that nothing cancels.
+const SCOPES: &[Row] = &[
+    (
+        b"trio-job 1\njob m{scope s{sleep 1;}}",
+        b"17 nothing cancels the scope s: it has no deadline, and no `cancel s` is in it\n",
+    ),
+    (
+        b"trio-job 1\njob m{scope s{scope t{nursery n{start a{cancel s;}}}}}",
+        b"25 nothing cancels the scope t: it has no deadline, and no `cancel t` is in it\n",
+    ),
+    (b"trio-job 1\njob m{scope s{cancel s;}}", b""),
+    (b"trio-job 1\njob m{nursery n{start a{sleep 1;}}}", b""),
+];
+
+// Handlers of what nothing raises.
+const HANDLERS: &[Row] = &[
+    (
+        b"trio-job 1\njob m{try{sleep 1;}except A{sleep 2;}}",
+        b"30 nothing in this `try` raises A, so its handler never runs\n",
+    ),
+    (
+        b"trio-job 1\njob m{try{scope s after 1{sleep 2;}}except TooSlow{longest;}}",
+        b"47 no scope in this `try` has `fail`, so nothing raises TooSlow and its handler never runs\n",
+    ),
+    (
+        b"trio-job 1\njob m{try{need \"x\" A;}except A{sleep 2;}}",
+        b"",
+    ),
+    (
+        b"trio-job 1\njob m{try{nursery n{start a{try{}finally{raise A;}}}}except A{}}",
+        b"52 an exception raised in a cleanup replaces the one that the cleanup began with\n",
+    ),
+    (
+        b"trio-job 1\njob m{try{scope s after 1 fail{sleep 2;}}except TooSlow{longest;}}",
+        b"",
+    ),
+];
+
+// Several warnings, in the order of their keywords.
+const SEVERAL: &[Row] = &[(
+    b"trio-job 1\njob m{try{}finally{forever;raise A;}scope s{}}",
+    b"30 a cleanup that waits here is cut off when its task is cancelled: put the wait into a scope with a deadline and `shield`\n38 this step never runs: the step before it never ends well\n38 an exception raised in a cleanup replaces the one that the cleanup began with\n47 nothing cancels the scope s: it has no deadline, and no `cancel s` is in it\n",
+)];
+
+// Appends a line for a warning.
+fn push_line(alloc: Global, lines: &mut Vec<u8>, warning: &Warning) -> Result<(), AllocError> {
+    let place = warning.at.to_string(alloc)?;
+    let text = sentence(alloc, warning)?;
+    lines.extend_from_slice(place.as_bytes())?;
+    lines.extend_from_slice(b" ")?;
+    lines.extend_from_slice(text.as_slice())?;
+    lines.extend_from_slice(b"\n")
+}
+
+// The warnings of a text. Where memory is refused it is asked for again.
+fn linted(alloc: Global, text: &[u8]) -> Result<Vec<Warning>, JobFault> {
+    match lints(alloc, text) {
+        Err(fault) if fault.kind == JobKind::NoMemory => lints(alloc, text),
+        answer => answer,
+    }
+}
+
+// A line for each warning of a text.
+fn lines_of(alloc: Global, text: &[u8]) -> Result<Vec<u8>, Fail> {
+    let warnings = linted(alloc, text)?;
+    let mut lines = Vec::new(alloc);
+    for warning in warnings.as_slice() {
+        push_line(alloc, &mut lines, warning)?;
+    }
+    Ok(lines)
+}
+
+// Fails at the first row with other lines, and tells them.
+fn are_found(alloc: Global, rows: &[Row]) -> Result<(), Fail> {
+    for i in 0..rows.len() {
+        let (text, expected) = rows[i];
+        let lines = lines_of(alloc, text)?;
+        if lines.as_slice() != expected {
+            return match str::from_utf8(lines.as_slice()) {
+                Ok(found) => Err(("found", found))?,
+                Err(_) => Err(("row", i))?,
+            };
+        }
+    }
+    Ok(())
+}
+
+#[test]
+fn steps_that_never_run(rt: HostRuntime) -> Result<(), Fail> {
+    are_found(rt.alloc(), UNREACHABLE)
+}
+
+#[test]
+fn cleanups_that_wait(rt: HostRuntime) -> Result<(), Fail> {
+    are_found(rt.alloc(), EXPOSED)
+}
+
+#[test]
+fn cleanups_that_raise(rt: HostRuntime) -> Result<(), Fail> {
+    are_found(rt.alloc(), RAISED)
+}
+
+#[test]
+fn shields_without_a_deadline(rt: HostRuntime) -> Result<(), Fail> {
+    are_found(rt.alloc(), SHIELDS)
+}
+
+#[test]
+fn scopes_that_nothing_cancels(rt: HostRuntime) -> Result<(), Fail> {
+    are_found(rt.alloc(), SCOPES)
+}
+
+#[test]
+fn handlers_of_what_nothing_raises(rt: HostRuntime) -> Result<(), Fail> {
+    are_found(rt.alloc(), HANDLERS)
+}
+
+#[test]
+fn warnings_stand_in_the_order_of_the_text(rt: HostRuntime) -> Result<(), Fail> {
+    are_found(rt.alloc(), SEVERAL)
+}
+
+// The refusal of a text.
+fn refusal_of(alloc: Global, text: &[u8]) -> Result<JobFault, Fail> {
+    match linted(alloc, text) {
+        Ok(_) => Err("not refused")?,
+        Err(fault) => Ok(fault),
+    }
+}
+
+#[test]
+fn a_text_of_no_job_is_refused(rt: HostRuntime) -> Result<(), Fail> {
+    let fault = refusal_of(rt.alloc(), b"trio-job 1\njob m{slep 1;}")?;
+    if fault.at != 17 || fault.kind != JobKind::Syntax {
+        return Err("another refusal")?;
+    }
+    Ok(())
+}
