@@ -25,7 +25,8 @@ for command in $commands; do
     for file in "$bash" "$zsh" "$fish" "$man"; do
         grep -qw -- "$command" "$file" || fail "$file does not have the command $command"
     done
-    [ "$command" = help ] || [ "$("$nursery" help "$command")" = "$("$nursery" "$command" --help)" ] || fail "help of $command"
+    [ "$command" != help ] || continue
+    [ "$("$nursery" help "$command")" = "$("$nursery" "$command" --help)" ] || fail "help of $command"
     for option in $("$nursery" "$command" --help | sed -n '/^Options:/,/^$/s/^.*--\([a-z]*\).*/\1/p'); do
         grep -q -- "--$option" "$bash" || fail "$bash does not have --$option of $command"
         grep -q -- "--$option" "$zsh" || fail "$zsh does not have --$option of $command"

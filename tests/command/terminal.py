@@ -34,10 +34,10 @@ def typed(program, text):
         return out.read(), err.read(), status
 
 
-# What a sweep of this job writes. A value takes the program half a second or so.
+# What a sweep of this job writes. A value takes the program a tenth of a second to half a second.
 LOOPS = b"trio-job 2\njob main { sleep 1; repeat 1000 { repeat 400 { checkpoint; } } }\n"
-VALUES = "1..8"
-SWEPT = b"as it is  done, ends 1\n1..8      done, ends 1..8\n8 values: 0 stuck, 0 cut a cleanup\n"
+VALUES = "1..40"
+SWEPT = b"as it is  done, ends 1\n1..40     done, ends 1..40\n40 values: 0 stuck, 0 cut a cleanup\n"
 
 # A line of progress: the line is cleared first.
 CLEAR = rb"\r\x1b\[K"
