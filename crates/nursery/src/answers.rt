@@ -11,9 +11,10 @@ use crate::stop::Stop;
 use job_grammar::JobFault;
 use nursery_app::{
     CheckVerdict, Forward, MOST_INPUT, NoGate, Pick, Reverse, Settings, Turn, Verdict, WriteOut,
-    check, refusal_message, send, serve, split_feed, upgrade,
+    check, send, serve, split_feed, upgrade,
 };
 use nursery_cli::{DEFAULT_LIMIT, Order};
+use refusal_text::refusal_message;
 use std::alloc::{AllocError, Global};
 use std::io::{self, IsTerminal};
 use std::rt::Files;

@@ -3,10 +3,4 @@ pub mod Reads
 pub mod Verdict
 pub mod Checking
 pub mod Places
-pub mod Sentences
-pub mod Expecting
-pub mod Explaining
 pub mod Statuses
-pub mod Nearness
-pub mod Scanning
-pub mod Hinting

@@ -6,21 +6,14 @@
 #![tactic(auto)]
 
 mod checking;
-mod expecting;
-mod explaining;
 mod feed;
-mod hinting;
 mod lines;
-mod nearness;
 mod places;
 mod read;
-mod scanning;
-mod sentences;
 mod serving;
 mod verdict;
 
 pub use checking::{check, upgrade};
-pub use explaining::{pointed_message, refusal_message};
 pub use feed::split_feed;
 pub use job_report::{MemOut, Out, PutFault, SendFault, WriteOut, send};
 pub use job_runner::{Forward, Gate, MOST_INPUT, NoGate, Pick, Reverse, Settings, Turn};

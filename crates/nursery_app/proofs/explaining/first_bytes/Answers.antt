@@ -1,5 +1,0 @@
-use Rattle.nursery_app.proofs.Told.{cut_front}
-use Rattle.nursery_app.proofs.explaining.first_bytes.Goals as goal
-
-pub returns : goal.returns
-returns c = cut_front c.args.bytes.now _ 40 c.min.result c.split_at.ensures.front c.min.ensures

@@ -1,8 +1,0 @@
-use Rattle.std.proofs.Common.{◌≡◌, ◌++◌, take}
-use Rattle.std.specs.Prelude.{map}
-use Rattle.std.specs.String.{string_bytes}
-use Rattle.nursery_app.specs.Explaining.{shown_byte}
-use Rattle.nursery_app.proofs.explaining.push_shown.Given as goal
-
-abbrev pub invariant-bytes : goal.invariant-bytes
-invariant-bytes l = string_bytes l.message ≡ string_bytes l.fn.message ++ map shown_byte (take l.b-index l.bytes)

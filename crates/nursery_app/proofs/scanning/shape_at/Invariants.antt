@@ -1,6 +1,0 @@
-use Rattle.std.proofs.Common.{◌≡◌, drop}
-use Rattle.nursery_app.specs.Scanning.{shape_at}
-use Rattle.nursery_app.proofs.scanning.shape_at.Given as goal
-
-abbrev pub invariant-tokens : goal.invariant-tokens
-invariant-tokens l = shape_at l.at (drop l.token-index l.tokens) ≡ shape_at l.at l.tokens

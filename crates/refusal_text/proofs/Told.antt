@@ -1,0 +1,126 @@
+-- The text that tells a refusal.
+use Rattle.std.proofs.Common.{◌≡◌, ℕ, zero, suc, ◌-◌, List, [], ◌∷◌, ◌++◌, refl, length, take, drop, min, map, ap, subst, ◌∙◌, append_assoc}
+use Rattle.std.specs.Prelude.{IfOk, Option, None, Result, Ok, Err, slice_get}
+use Rattle.std.specs.List.{before_first}
+use Rattle.std.proofs.lemmas.List.{take_min, drop_min}
+use Rattle.std.specs.declared.alloc.AllocError.{AllocError}
+use Rattle.job_tree.specs.declared.format.Format.{Format}
+use Rattle.job_tokens.specs.declared.token.Token.{Token}
+use Rattle.job_tokens.specs.Lexing.{Lexes}
+use Rattle.job_tokens.specs.declared.token.Shape.{Shape}
+use Rattle.job_syntax.specs.declared.role.Role.{Role}
+use Rattle.job_syntax.specs.Syntax.{fault_at, roles_at, whole_job}
+use Rattle.job_syntax.specs.declared.symbol.Symbol.{Symbol}
+use Rattle.job_grammar.specs.Refusals.{format_of}
+use Rattle.nursery_app.specs.Places.{column_of}
+use Rattle.refusal_text.specs.declared.hinting.Hint.{Hint}
+use Rattle.refusal_text.specs.Expecting.{expected_in, IsExpected}
+use Rattle.refusal_text.specs.Scanning.{shape_at}
+use Rattle.refusal_text.specs.Hinting.{syntax_hint, twice_hint, IsSyntaxHint, IsTwiceHint}
+use Rattle.refusal_text.specs.Explaining.{headed, shown_byte, is_newline, last_of, width_before, before, behind, most_before, most_behind}
+
+-- what the grammar asks for behind the tokens is what it asks for in the text
+pub expects : (format : Format) (text body : List ℕ) (tokens given : List Token) (fault : Option ℕ)
+    (r : Result (Option Symbol) AllocError) →
+    format ≡ format_of text → body ≡ drop 11 text → Lexes (length text) body tokens fault → given ≡ tokens
+    → IfOk r (λ symbol. symbol ≡ expected_in format whole_job given) → IfOk r (IsExpected text)
+expects format text body tokens given fault (Ok s) of is lexes same found = (
+  tokens,
+  fault,
+  subst (λ (b : List ℕ). Lexes (length text) b tokens fault) is lexes,
+  found ∙ ap (expected_in format whole_job) same ∙ ap (λ (f : Format). expected_in f whole_job tokens) of,
+)
+expects format text body tokens given fault (Err e) of is lexes same found = found
+
+-- the first bytes, cut at a place that may lie behind the end
+pub cut_front : (bytes front : List ℕ) (n m : ℕ) → front ≡ take m bytes → m ≡ min n (length bytes) → front ≡ take n bytes
+cut_front bytes front n m is min_is = is ∙ ap (λ (x : ℕ). take x bytes) min_is ∙ take_min n bytes
+
+-- the bytes from a place on, which may lie behind the end
+pub cut_back : (bytes back : List ℕ) (n m : ℕ) → back ≡ drop m bytes → m ≡ min n (length bytes) → back ≡ drop n bytes
+cut_back bytes back n m is min_is = is ∙ ap (λ (x : ℕ). drop x bytes) min_is ∙ drop_min n bytes
+
+-- how many bytes are shown in front of a place, by its column
+pub width_is : (text : List ℕ) (at column shown : ℕ) → column ≡ column_of text at → shown ≡ min (column - 1) most_before →
+    shown ≡ width_before text at
+width_is text at column shown column_is is = is ∙ ap (λ (x : ℕ). min (x - 1) most_before) column_is
+
+-- what is shown in front of a place, cut from the bytes up to it
+pub before_is : (text front last : List ℕ) (at shown : ℕ) → front ≡ take at text → shown ≡ width_before text at →
+    last ≡ last_of shown front → map shown_byte last ≡ before text at
+before_is text front last at shown front_is width is =
+    ap (map shown_byte) (is ∙ ap (λ (x : ℕ). last_of x front) width ∙ ap (last_of (width_before text at)) front_is)
+
+-- what is shown from a place on, cut from the bytes behind it
+pub behind_is : (text rest first line : List ℕ) (at : ℕ) → rest ≡ drop at text → first ≡ take most_behind rest →
+    line ≡ before_first is_newline first → map shown_byte line ≡ behind text at
+behind_is text rest first line at rest_is first_is is =
+    ap (map shown_byte) (is ∙ ap (before_first is_newline) (first_is ∙ ap (take most_behind) rest_is))
+
+get_drop : (text : List ℕ) (at : ℕ) → slice_get (drop at text) 0 ≡ slice_get text at
+get_drop [] zero = refl
+get_drop [] (suc at) = refl
+get_drop (b ∷ bs) zero = refl
+get_drop (b ∷ bs) (suc at) = get_drop bs at
+
+-- the byte at a place
+pub first_at : (text rest : List ℕ) (at : ℕ) → rest ≡ drop at text → slice_get rest 0 ≡ slice_get text at
+first_at text rest at is = ap (λ (x : List ℕ). slice_get x 0) is ∙ get_drop text at
+
+-- the first line of what is told, by the line, the column and the sentence in it
+pub headed_same : (job sentence wanted : List ℕ) (line line' column column' : ℕ) → line ≡ line' → column ≡ column' → sentence ≡ wanted →
+    headed job line column sentence ≡ headed job line' column' wanted
+headed_same job sentence wanted line line' column column' line_is column_is is =
+    ap (λ (x : ℕ). headed job x column sentence) line_is ∙ ap (λ (x : ℕ). headed job line' x sentence) column_is
+    ∙ ap (headed job line' column') is
+
+-- three pieces, one behind the other
+pub three_pieces : (old a b c h1 h2 h3 : List ℕ) → h1 ≡ old ++ a → h2 ≡ h1 ++ b → h3 ≡ h2 ++ c → h3 ≡ old ++ ((a ++ b) ++ c)
+three_pieces old a b c h1 h2 h3 is1 is2 is3 =
+    let two : h2 ≡ old ++ (a ++ b) = is2 ∙ ap (λ (x : List ℕ). x ++ b) is1 ∙ append_assoc old a b in
+    is3 ∙ ap (λ (x : List ℕ). x ++ c) two ∙ append_assoc old (a ++ b) c
+
+-- one piece behind the other
+pub pieces : (head front back newline spaces caret h0 h1 h2 h3 h4 h5 : List ℕ) → h0 ≡ head → h1 ≡ h0 ++ front → h2 ≡ h1 ++ back →
+    h3 ≡ h2 ++ newline → h4 ≡ h3 ++ spaces → h5 ≡ h4 ++ caret
+    → h5 ≡ head ++ ((((front ++ back) ++ newline) ++ spaces) ++ caret)
+pieces head front back newline spaces caret h0 h1 h2 h3 h4 h5 is0 is1 is2 is3 is4 is5 =
+    let two : h2 ≡ head ++ (front ++ back) = is2 ∙ ap (λ (x : List ℕ). x ++ back) (is1 ∙ ap (λ (x : List ℕ). x ++ front) is0)
+    ∙ append_assoc head front back in
+    let three : h3 ≡ head ++ ((front ++ back) ++ newline) = is3 ∙ ap (λ (x : List ℕ). x ++ newline) two
+    ∙ append_assoc head (front ++ back) newline in
+    let four : h4 ≡ head ++ (((front ++ back) ++ newline) ++ spaces) =
+    is4 ∙ ap (λ (x : List ℕ). x ++ spaces) three ∙ append_assoc head ((front ++ back) ++ newline) spaces in
+    is5 ∙ ap (λ (x : List ℕ). x ++ caret) four ∙ append_assoc head (((front ++ back) ++ newline) ++ spaces) caret
+
+-- what helps where a text goes on wrongly, or gives a name twice
+pub helps : (format : Format) (text body : List ℕ) (tokens given : List Token) (fault : Option ℕ) (at : ℕ) (shape : Option Shape)
+    (h : Option Hint) →
+    format ≡ format_of text → body ≡ drop 11 text → Lexes (length text) body tokens fault
+    → given ≡ tokens → shape ≡ shape_at at given → h ≡ syntax_hint format given shape → IsSyntaxHint text at h
+helps format text body tokens given fault at shape h of is lexes same shape_is h_is = (
+  tokens,
+  fault,
+  subst (λ (b : List ℕ). Lexes (length text) b tokens fault) is lexes,
+  h_is ∙ ap (syntax_hint format given) shape_is ∙ ap (λ (ts : List Token). syntax_hint format ts (shape_at at ts)) same
+      ∙ ap (λ (f : Format). syntax_hint f tokens (shape_at at tokens)) of,
+)
+
+-- what helps where a name is given twice, found by the tokens of the text and what they are for
+pub helps_twice : (format : Format) (text body : List ℕ) (tokens given : List Token) (roles shown : List Role) (fault stop : Option ℕ)
+    (at : ℕ)
+    (shape : Option Shape) (h : Option Hint) → format ≡ format_of text → body ≡ drop 11 text → Lexes (length text) body tokens fault
+    → given ≡ tokens → shown ≡ roles → stop ≡ fault_at format (length text) whole_job given →
+    (stop ≡ None → roles ≡ roles_at format whole_job given)
+    → shape ≡ shape_at at given → h ≡ twice_hint given shown shape → IsTwiceHint text at h
+helps_twice format text body tokens given roles shown fault stop at shape h of is lexes same shown_is stop_is roles_are shape_is h_is = (
+  tokens,
+  fault,
+  roles,
+  subst (λ (b : List ℕ). Lexes (length text) b tokens fault) is lexes,
+  (λ whole. roles_are (stop_is ∙ ap (fault_at format (length text) whole_job) same
+      ∙ ap (λ (f : Format). fault_at f (length text) whole_job tokens) of ∙ whole)
+      ∙ ap (roles_at format whole_job) same ∙ ap (λ (f : Format). roles_at f whole_job tokens) of),
+  h_is ∙ ap (twice_hint given shown) shape_is ∙ ap (λ (ts : List Token). twice_hint ts shown (shape_at at ts)) same
+      ∙ ap (λ (rs : List Role). twice_hint tokens rs (shape_at at tokens)) shown_is,
+)

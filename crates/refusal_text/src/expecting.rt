@@ -1,0 +1,59 @@
+ghost use Rattle.std.specs.Prelude.{◌≡◌, IfOk};
+ghost use Rattle.job_syntax.specs.Syntax.{whole_job};
+ghost use Rattle.refusal_text.specs.Expecting.{expected_in, IsExpected, IsAsked};
+
+use job_grammar::{FIRST_LINE_LENGTH, Format, JobKind, format_of};
+use job_syntax::Symbol;
+use job_tokens::{Token, lex};
+use std::alloc::{AllocError, Global};
+
+// What the sentence of a refusal asks for. The text's tokens are looked at again only where it goes on wrongly.
+pub(crate) fn asked(alloc: Global, text: &[u8], kind: JobKind) -> Result<Option<Symbol>, AllocError>
+    ensures { IfOk result (IsAsked kind text.now) }
+{
+    match kind {
+        JobKind::Syntax => expected(alloc, text),
+        JobKind::TooLong
+        | JobKind::NotAscii
+        | JobKind::Version
+        | JobKind::Token
+        | JobKind::Number
+        | JobKind::Depth
+        | JobKind::Twice
+        | JobKind::NotEnclosing
+        | JobKind::Reserved
+        | JobKind::TooLarge
+        | JobKind::NoMemory => Ok(None),
+    }
+}
+
+// What the grammar asks for where the tokens of a text leave it; none where it asks for the text's end.
+fn expected(alloc: Global, text: &[u8]) -> Result<Option<Symbol>, AllocError>
+    ensures { IfOk result (IsExpected text.now) }
+{
+    let (_, body) = text.split_at(FIRST_LINE_LENGTH.min(text.len()));
+    let lexed = lex(alloc, body, text.len())?;
+    expected_at(alloc, format_of(text), lexed.tokens.as_slice())
+}
+
+// The same of tokens, in a format.
+pub(crate) fn expected_at(
+    alloc: Global,
+    format: Format,
+    tokens: &[Token],
+) -> Result<Option<Symbol>, AllocError>
+    ensures { IfOk result (λ symbol. symbol ≡ expected_in format whole_job tokens.now) }
+{
+    let mut stack = Vec::new(alloc);
+    stack.push(Symbol::Job)?;
+    for token in tokens {
+        let Some(symbol) = stack.pop() else {
+            return Ok(None);
+        };
+        let Some(rest) = symbol.next(format, token.shape) else {
+            return Ok(Some(symbol));
+        };
+        stack.extend_from_slice(rest)?;
+    }
+    Ok(stack.pop())
+}

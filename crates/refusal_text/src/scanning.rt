@@ -1,0 +1,60 @@
+ghost use Rattle.std.specs.Prelude.{◌≡◌, [], IfOk, slice_get};
+ghost use Rattle.refusal_text.specs.Scanning.{shape_at, open_in, gives, first_given};
+
+use job_syntax::Role;
+use job_tokens::{Mark, Shape, Token};
+use job_tree::Name;
+use std::alloc::{AllocError, Global};
+
+// The token at a place.
+pub(crate) fn shape_at(tokens: &[Token], at: usize) -> Option<Shape>
+    ensures { result ≡ shape_at at tokens.now }
+{
+    'tokens: for token in tokens {
+        if token.at == at {
+            return Some(token.shape);
+        }
+    }
+    None
+}
+
+// The place of the innermost `{` that is not closed.
+pub(crate) fn innermost_open(alloc: Global, tokens: &[Token]) -> Result<Option<usize>, AllocError>
+    ensures { IfOk result (λ at. at ≡ slice_get (open_in [] tokens.now) 0) }
+{
+    let mut open = Vec::new(alloc);
+    'tokens: for token in tokens {
+        match token.shape.mark() {
+            Some(Mark::Open) => open.push(token.at)?,
+            Some(Mark::Close) => {
+                open.pop();
+            }
+            Some(Mark::Semicolon) | None => (),
+        }
+    }
+    Ok(open.pop())
+}
+
+// The place of the first token that gives a name.
+pub(crate) fn first_given(tokens: &[Token], roles: &[Role], name: Name) -> Option<usize>
+    ensures { result ≡ first_given name tokens.now roles.now }
+{
+    let mut left = roles;
+    'tokens: for token in tokens {
+        let (role, behind) = left.split_first()?;
+        left = behind;
+        if gives(*role, token.shape.word(), name) {
+            return Some(token.at);
+        }
+    }
+    None
+}
+
+fn gives(role: Role, word: Option<Name>, name: Name) -> bool
+    ensures { result ≡ gives role word name }
+{
+    match (role, word) {
+        (Role::Given, Some(word)) => word == name,
+        _ => false,
+    }
+}

@@ -1,0 +1,77 @@
+ghost use Rattle.std.specs.Prelude.{◌≡◌};
+ghost use Rattle.refusal_text.specs.Sentences.{sentence_of, token_sentence, expected_sentence};
+
+use job_grammar::JobKind;
+use job_syntax::Symbol;
+
+// What is wrong at a place with that byte (none is the text's end), where the grammar asks for that symbol.
+pub(crate) fn sentence_of(kind: JobKind, byte: Option<u8>, asked: Option<Symbol>) -> &'static str
+    ensures { result.now ≡ sentence_of kind byte asked }
+{
+    match kind {
+        JobKind::TooLong => "the job text has more than 65536 bytes",
+        JobKind::NotAscii => "this byte is not ASCII",
+        JobKind::Version =>
+            "a job text begins with the line `trio-job 1` or `trio-job 2`, ended by a newline alone",
+        JobKind::Token => token_sentence(byte),
+        JobKind::Number => {
+            "a number out of its range: `over` takes 1 to 64, `pace` 1 to 1000000, `repeat` 0 to 1000, others 0 to 1000000000; no leading zero"
+        }
+        JobKind::Syntax => expected_sentence(asked),
+        JobKind::Depth => "blocks are nested more than 32 deep",
+        JobKind::Twice =>
+            "this name was given before: jobs, scopes, nurseries and starts need names of their own",
+        JobKind::NotEnclosing => "no enclosing scope or nursery has this name",
+        JobKind::Reserved =>
+            "this name is reserved: no keyword, not `Cancelled`, and `TooSlow` only after `except`",
+        JobKind::TooLarge =>
+            "the job has more than 100000 steps, in format 2 more than 1000000, the copies that `over` makes and the passes of `repeat` counted",
+        JobKind::NoMemory => "no memory",
+    }
+}
+
+// Why no token begins with that byte.
+fn token_sentence(byte: Option<u8>) -> &'static str
+    ensures { result.now ≡ token_sentence byte }
+{
+    match byte {
+        Some(b'"') => {
+            "a string of 1 to 64 bytes was expected: printable, or `\\\"`, `\\\\` or `\\x` and two of 0-9a-f, and closed by a quote"
+        }
+        Some(b'0'..=b'9') => "a letter or `_` directly follows this number",
+        Some(b'A'..=b'Z' | b'a'..=b'z') => "this word has more than 32 bytes",
+        _ => "a word, a number, a string or one of `{`, `}` and `;` was expected",
+    }
+}
+
+// What the grammar asks for at a place; none where it asks for the text's end.
+fn expected_sentence(symbol: Option<Symbol>) -> &'static str
+    ensures { result.now ≡ expected_sentence symbol }
+{
+    match symbol {
+        None => "expected the text's end: nothing may follow the job's `}`",
+        Some(Symbol::Job) => "expected `job NAME { .. }`",
+        Some(Symbol::Steps) => {
+            "expected a step, as `sleep 1;`, or `}` (a `start` stands only right inside a nursery)"
+        }
+        Some(Symbol::Items) => "expected a step, as `sleep 1;`, a `start NAME { .. }` or `}`",
+        Some(Symbol::StepsTail | Symbol::ItemsTail) => {
+            "expected `except NAME { .. }` or `finally { .. }`"
+        }
+        Some(Symbol::StepsCleanup) => "expected `finally { .. }`, a step or `}`",
+        Some(Symbol::ItemsCleanup) => "expected `finally { .. }`, a step, a `start` or `}`",
+        Some(Symbol::Scope) => "expected `after N`, `at N`, `shield`, `fail` or `{`",
+        Some(Symbol::Shield) => "expected `shield`, `fail` or `{`",
+        Some(Symbol::Fail) => "expected `fail` or `{`",
+        Some(Symbol::Nursery) => "expected `{`, or in format 2 `after N` or `shield`",
+        Some(Symbol::NurseryShield) => "expected `shield` or `{`",
+        Some(Symbol::Over) => "expected `over N` or `{`",
+        Some(Symbol::Given) => "expected a name",
+        Some(Symbol::Raised | Symbol::Handled) => "expected the name of an exception",
+        Some(Symbol::Target) => "expected the name of an enclosing scope or nursery",
+        Some(Symbol::Number) => "expected a number",
+        Some(Symbol::Text) => "expected a string, as `\"error\"`",
+        Some(Symbol::Open) => "expected `{`",
+        Some(Symbol::Semicolon) => "expected `;`",
+    }
+}
