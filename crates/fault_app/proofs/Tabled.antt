@@ -15,17 +15,16 @@ use Rattle.fault_text.specs.declared.line.Line.{Line}
 use Rattle.slot_work.specs.Answers.{AreAnswers}
 use Rattle.slot_work.proofs.Answered.{seen_as}
 use Rattle.fault_app.specs.Fates.{IsLine}
-use Rattle.fault_app.specs.Verdicts.{IsTable}
+use Rattle.fault_app.specs.Verdicts.{AreFaultLines, IsTable}
 
--- by the limit of the settings, the text's tokens, and the lines as they were given on
-pub is_table : (text input : List ℕ) (limit l : ℕ) (name : List ℕ) (deny : Deny) (bytes denied : List ℕ) (job : Tree)
-    (tokens ts us : List Token) (variants vs : List Variant) (plan : Plan) (first : told.Fate) (lines ks ms : List Line) →
-    Spells text job → HasTokens text tokens None → l ≡ limit → ts ≡ tokens → variants ≡ variants_in ts → us ≡ tokens →
-    plan ≡ plan_of name us → first ≡ told.fate_of l None job input → vs ≡ variants →
-    AreAnswers (λ (v : Variant) (k : Line). IsLine text input l plan v (line_held k)) vs lines → ks ≡ lines →
-    bytes ≡ table_text l first (map line_held ks) → ms ≡ lines → denied ≡ denied_text l deny first (map line_held ms) →
-    IsTable text input limit name deny bytes denied
-is_table text input limit l name deny bytes denied job tokens ts us variants vs plan first lines ks ms spells has at t v u p f w are k b m d =
+-- by the limit of the settings, the text's tokens, and the variants as they were given on
+pub are_lines : (text input : List ℕ) (limit l : ℕ) (name : List ℕ) (job : Tree) (tokens ts us : List Token) (variants vs : List Variant)
+    (plan : Plan) (first : told.Fate) (lines : List Line) →
+    HasTokens text tokens None → l ≡ limit → ts ≡ tokens → variants ≡ variants_in ts → us ≡ tokens → plan ≡ plan_of name us →
+    first ≡ told.fate_of l None job input → vs ≡ variants →
+    AreAnswers (λ (v : Variant) (k : Line). IsLine text input l plan v (line_held k)) vs lines →
+    AreFaultLines text input limit name job first (map line_held lines)
+are_lines text input limit l name job tokens ts us variants vs plan first lines has at t v u p f w are =
     let held : List told_lines.Line = map line_held lines in
     let seen : AreAnswers (IsLine text input l plan) vs held = seen_as (IsLine text input l plan) line_held vs lines are in
     let planned : AreAnswers (IsLine text input l (plan_of name tokens)) vs held =
@@ -33,20 +32,31 @@ is_table text input limit l name deny bytes denied job tokens ts us variants vs 
     let limited : AreAnswers (IsLine text input limit (plan_of name tokens)) vs held =
     subst (λ (n : ℕ). AreAnswers (IsLine text input n (plan_of name tokens)) vs held) at planned in
     record {
-      job = job;
-      spells = spells;
       tokens = tokens;
       tokens_are = has;
-      lines = held;
       lines_are =
           subst (λ (xs : List Variant). AreAnswers (IsLine text input limit (plan_of name tokens)) xs held) (w ∙ v ∙ ap variants_in t)
           limited;
+      first_is = f ∙ ap (λ (n : ℕ). told.fate_of n None job input) at;
+    }
+
+-- by the limit of the settings, and the lines as they were given on
+pub is_table : (text input : List ℕ) (limit l : ℕ) (name : List ℕ) (deny : Deny) (bytes denied : List ℕ) (job : Tree) (first : told.Fate)
+    (lines ks ms : List Line) →
+    Spells text job → AreFaultLines text input limit name job first (map line_held lines) → l ≡ limit → ks ≡ lines →
+    bytes ≡ table_text l first (map line_held ks) → ms ≡ lines → denied ≡ denied_text l deny first (map line_held ms) →
+    IsTable text input limit name deny bytes denied
+is_table text input limit l name deny bytes denied job first lines ks ms spells are at k b m d =
+    record {
+      job = job;
+      spells = spells;
+      first = first;
+      lines = map line_held lines;
+      lines_are = are;
       table =
           b ∙ ap (λ (xs : List Line). table_text l first (map line_held xs)) k
-          ∙ ap (λ (g : told.Fate). table_text l g (map line_held lines)) f
-          ∙ ap (λ (n : ℕ). table_text n (told.fate_of n None job input) (map line_held lines)) at;
+          ∙ ap (λ (n : ℕ). table_text n first (map line_held lines)) at;
       denied_are =
           d ∙ ap (λ (xs : List Line). denied_text l deny first (map line_held xs)) m
-          ∙ ap (λ (g : told.Fate). denied_text l deny g (map line_held lines)) f
-          ∙ ap (λ (n : ℕ). denied_text n deny (told.fate_of n None job input) (map line_held lines)) at;
+          ∙ ap (λ (n : ℕ). denied_text n deny first (map line_held lines)) at;
     }

@@ -8,7 +8,7 @@ use Rattle.nursery_app.specs.Verdict.{refusal_line}
 use Rattle.nursery_app.specs.declared.verdict.ServeFault.{ServeFault}
 use Rattle.nursery_app.specs.declared.verdict.ServeFault.TheVariants.{Send, NoMemory}
 use Rattle.job_edits.specs.Faults.{variants_in, plan_of}
-use Rattle.fault_text.specs.Fates.{fate_of}
+use Rattle.fault_text.specs.Fates.{Fate, fate_of}
 use Rattle.fault_text.specs.Table.{Line, table_text, denied_text}
 use Rattle.fault_text.specs.declared.deny.Deny.{Deny}
 use Rattle.slot_work.specs.Answers.{AreAnswers}
@@ -16,17 +16,22 @@ use Rattle.fault_app.specs.Fates.{IsLine}
 use Rattle.fault_app.specs.declared.verdict.FaultsVerdict.{FaultsVerdict}
 use Rattle.fault_app.specs.declared.verdict.FaultsVerdict.TheVariants.{Told, JobRefused}
 
--- These bytes tell what becomes of the job as it is, and in a line each, in the order of places, with each fault of each of its waiting steps, each
--- kind once; and these lines of them are denied.
+-- What becomes of a job as it is, and, in the order of places, with each fault of each waiting step of its text, each kind once.
+pub record AreFaultLines (text input : List ℕ) (limit : ℕ) (name : List ℕ) (job : Tree) (first : Fate) (lines : List Line) : Type 0 where
+  pub tokens : List Token
+  pub tokens_are : HasTokens text tokens None
+  pub lines_are : AreAnswers (IsLine text input limit (plan_of name tokens)) (variants_in tokens) lines
+  pub first_is : first ≡ fate_of limit None job input
+
+-- These bytes tell of the job that the text spells, as it is and in a line each with each fault; and these lines of them are denied.
 pub record IsTable (text input : List ℕ) (limit : ℕ) (name : List ℕ) (deny : Deny) (bytes denied : List ℕ) : Type 0 where
   pub job : Tree
   pub spells : Spells text job
-  pub tokens : List Token
-  pub tokens_are : HasTokens text tokens None
+  pub first : Fate
   pub lines : List Line
-  pub lines_are : AreAnswers (IsLine text input limit (plan_of name tokens)) (variants_in tokens) lines
-  pub table : bytes ≡ table_text limit (fate_of limit None job input) lines
-  pub denied_are : denied ≡ denied_text limit deny (fate_of limit None job input) lines
+  pub lines_are : AreFaultLines text input limit name job first lines
+  pub table : bytes ≡ table_text limit first lines
+  pub denied_are : denied ≡ denied_text limit deny first lines
 
 -- a verdict and its bytes
 abbrev pub IsVerdict : List ℕ → List ℕ → ℕ → List ℕ → Deny → FaultsVerdict → List ℕ → Type 0

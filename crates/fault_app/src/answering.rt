@@ -4,17 +4,14 @@ ghost use Rattle.job_grammar.specs.Refusals.{Spells, HasTokens};
 ghost use Rattle.nursery_app.specs.Verdict.{CountsFailure};
 ghost use Rattle.fault_app.specs.Verdicts.{IsVerdict, IsTable, IsSent, IsFaultsFault};
 
-use crate::fate::fate_of_job;
-use crate::lines::Author;
+use crate::told::fault_lines;
 use crate::verdict::FaultsVerdict;
 use fault_text::{Deny, denied, table};
-use job_edits::{Plan, variants};
 use job_grammar::{FIRST_LINE_LENGTH, Job, Name, read_job};
 use job_report::{Out, send};
 use job_runner::Settings;
 use job_tokens::{Lexed, Token, lex};
 use nursery_app::{Gate, ServeFault, refusal};
-use slot_work::answers_for;
 use std::alloc::{AllocError, Global};
 use std::thread::Threads;
 
@@ -94,19 +91,10 @@ fn table_and_denied<R: Threads + Sync, G: Gate + Sync>(
     requires spells { Spells job_text.now job.now }
     ensures { IfOk result (λ r. IsTable job_text.now input.now settings.limit name deny r.1.items r.0.items) }
 {
-    let tokens = tokens_of(alloc, job_text, job)?;
-    let variants = variants(alloc, tokens.as_slice())?;
-    let author = Author {
-        text: job_text,
-        input,
-        limit: settings.limit(),
-        plan: Plan::of(alloc, name, tokens.as_slice())?,
-    };
-    let first = fate_of_job(rt, alloc, job, input, author.limit, None)?;
-    let workers = settings.workers();
-    let lines = answers_for(rt, alloc, &author, variants.as_slice(), workers, gate)?;
-    let bytes = table(alloc, author.limit, &first, lines.as_slice())?;
-    let denied = denied(alloc, author.limit, &first, lines.as_slice(), deny)?;
+    let told = fault_lines(rt, alloc, job_text, job, input, settings, name, gate)?;
+    let limit = settings.limit();
+    let bytes = table(alloc, limit, &told.first, told.lines.as_slice())?;
+    let denied = denied(alloc, limit, &told.first, told.lines.as_slice(), deny)?;
     Ok((denied, bytes))
 }
 

@@ -11,10 +11,12 @@ mod fate;
 mod lines;
 mod outcome;
 mod summary;
+mod told;
 mod verdict;
 
 pub use answering::{faults, tokens_of};
 pub use fate::{fate_of_job, fate_of_text};
 pub use fault_text::Deny;
 pub use summary::{Summary, summary_of};
+pub use told::{FaultLines, fault_lines};
 pub use verdict::FaultsVerdict;

@@ -11,12 +11,9 @@ use nursery_app::{column_of, line_of};
 use serde_json::{Value, json};
 use std::alloc::{AllocError, Global};
 
-// The refusal of a job text, with its line and column. Want of memory is not a refusal: a fault of that kind is an error here too.
-pub(crate) fn refusal(
-    alloc: Global,
-    job_text: &[u8],
-    fault: JobFault,
-) -> Result<Vec<u8>, AllocError>
+/// The refusal of a job text as one JSON document, with its line and column. Want of memory is the only error: it is not a refusal, and a fault of that
+/// kind is this error too.
+pub fn refusal(alloc: Global, job_text: &[u8], fault: JobFault) -> Result<Vec<u8>, AllocError>
     ensures bytes { IfOk result (λ bytes. bytes.items ≡ document (refusal_json job_text.now fault)) }
     ensures kind { OnOk result (fault.kind ≢ kinds.NoMemory) }
 {
@@ -51,8 +48,8 @@ fn kind_code(alloc: Global, number: u64) -> Result<String, AllocError>
     Ok(text)
 }
 
-// A limit by which a job does not end.
-pub(crate) fn past_limit(alloc: Global, limit: u64) -> Result<Vec<u8>, AllocError>
+/// A limit in ticks by which a job does not end, as one JSON document. Want of memory is the only error.
+pub fn past_limit(alloc: Global, limit: u64) -> Result<Vec<u8>, AllocError>
     ensures { IfOk result (λ bytes. bytes.items ≡ document (limit_json limit)) }
 {
     let value = limit_value(alloc, limit)?;

@@ -12,5 +12,6 @@ mod explaining;
 mod meaning;
 mod serving;
 
+pub use answers::{past_limit, refusal};
 pub use explaining::explain_json;
 pub use serving::serve_json;

@@ -1,5 +1,5 @@
--- The table of a text, by the tokens, places and lines as they were given on.
-use Rattle.std.proofs.Common.{◌≡◌, ℕ, ◌*◌, ◌<◌, ◌≤◌, Bool, true, false, Option, None, Some, List, [], sym, ap, subst, ◌∙◌, arith}
+-- The lines and the table of a text, by the tokens, places and lines as they were given on.
+use Rattle.std.proofs.Common.{◌≡◌, ℕ, ◌*◌, ◌<◌, ◌≤◌, Bool, true, false, Option, None, Some, List, [], map, sym, ap, subst, ◌∙◌, arith}
 use Rattle.std.specs.Prelude.{nat_le, length, if◌then◌else◌}
 use Rattle.std.proofs.lemmas.Bool.Decides.{nat_tests}
 use Rattle.job_tree.specs.Tree.{Tree}
@@ -15,9 +15,12 @@ use Rattle.job_edits.specs.declared.copied.CopiedStart.{CopiedStart}
 use Rattle.job_edits.specs.declared.finer.Finer.{Finer}
 use Rattle.race_text.specs.Lines as told
 use Rattle.race_text.specs.Table.{table_text, denied_text}
+use Rattle.race_text.specs.Views.{line_held}
+use Rattle.race_text.specs.declared.line.Line.{Line}
 use Rattle.race_app.specs.Ran.{Ran, ran, ran_of}
 use Rattle.race_app.specs.Lines.{AreLines}
-use Rattle.race_app.specs.Verdicts.{IsTable, HasNoFiner}
+use Rattle.race_app.specs.Answers.{AreRaceLines, HasNoFiner}
+use Rattle.race_app.specs.Verdicts.{IsTableOf}
 
 le_test : (m n : ℕ) → m ≤ n → nat_le m n ≡ true
 le_test m n h = grind (arith, nat_tests)
@@ -33,14 +36,13 @@ ran_in_time job input limit rows same soon =
     ap (λ (rs : List Row). ran true rs) same
     ∙ ap (λ (b : Bool). ran b (meaning_rows job input)) (sym (le_test (meaning_end job input) limit soon))
 
--- the table, where places, starts of copies and lines are those of the text's tokens
-pub is_table : (text input : List ℕ) (limit l : ℕ) (deny : Bool) (job : Tree) (denied bytes : List ℕ) (tokens : List Token) (f : Finer)
+-- the lines, where places and starts of copies are those of the text's tokens
+pub are_lines : (text input : List ℕ) (limit l : ℕ) (job : Tree) (tokens : List Token) (f : Finer)
     (sites : List Site) (starts : List CopiedStart) (first : Ran) (lines : List told.Line) (hairs : ℕ) →
     meaning_end job input ≤ limit → HasTokens text tokens None → sites ≡ sites_in tokens → starts ≡ copied_in tokens →
     Some f ≡ finer_for sites → l ≡ capped (limit * f.factor) → first ≡ ran_of limit job input →
-    AreLines text input l f sites starts first lines → hairs ≡ length (shifts_of sites) → bytes ≡ table_text hairs lines →
-    denied ≡ (if deny then denied_text lines else []) → IsTable text input limit deny job denied bytes
-is_table text input limit l deny job denied bytes tokens f sites starts first lines hairs soon has s c finer at same are h b d =
+    AreLines text input l f sites starts first lines → hairs ≡ length (shifts_of sites) → AreRaceLines text input limit job hairs lines
+are_lines text input limit l job tokens f sites starts first lines hairs soon has s c finer at same are h =
     let by_limit = subst (λ (n : ℕ). AreLines text input n f sites starts first lines) at are in
     let by_sites = subst (λ (ss : List Site). AreLines text input (capped (limit * f.factor)) f ss starts first lines) s by_limit in
     let by_starts =
@@ -51,24 +53,31 @@ is_table text input limit l deny job denied bytes tokens f sites starts first li
       tokens_are = has;
       f = f;
       finer_is = ap finer_for (sym s) ∙ sym finer;
-      lines = lines;
       lines_are =
           subst (λ (r : Ran). AreLines text input (capped (limit * f.factor)) f (sites_in tokens) (copied_in tokens) r lines) same by_starts;
-      table = b ∙ ap (λ (n : ℕ). table_text n lines) (h ∙ ap (λ (ss : List Site). length (shifts_of ss)) s);
-      denied_are = d;
+      hairs_are = h ∙ ap (λ (ss : List Site). length (shifts_of ss)) s;
     }
 
 -- a text whose numbers of ticks cannot be made finer
-pub has_no_finer : (text input : List ℕ) (limit : ℕ) (job : Tree) (bytes : List ℕ) (tokens : List Token) (sites : List Site) →
-    meaning_end job input ≤ limit → HasTokens text tokens None → sites ≡ sites_in tokens → None ≡ finer_for sites → bytes ≡ [] →
-    HasNoFiner text input limit job bytes
-has_no_finer text input limit job bytes tokens sites soon has s none nothing =
+pub has_no_finer : (text input : List ℕ) (limit : ℕ) (job : Tree) (tokens : List Token) (sites : List Site) →
+    meaning_end job input ≤ limit → HasTokens text tokens None → sites ≡ sites_in tokens → None ≡ finer_for sites →
+    HasNoFiner text input limit job
+has_no_finer text input limit job tokens sites soon has s none =
     record {
       in_time = soon;
       tokens = tokens;
       tokens_are = has;
       none = ap finer_for (sym s) ∙ sym none;
-      nothing = nothing;
+    }
+
+-- by the lines as they were given on
+pub is_table_of : (deny : Bool) (hairs : ℕ) (denied bytes : List ℕ) (lines ks ms : List Line) → ks ≡ lines → ms ≡ lines →
+    bytes ≡ table_text hairs (map line_held ks) → denied ≡ (if deny then denied_text (map line_held ms) else []) →
+    IsTableOf deny hairs (map line_held lines) denied bytes
+is_table_of deny hairs denied bytes lines ks ms k m b d =
+    record {
+      table = b ∙ ap (λ (ls : List Line). table_text hairs (map line_held ls)) k;
+      denied_are = d ∙ ap (λ (ls : List Line). if deny then denied_text (map line_held ls) else []) m;
     }
 
 abbrev factor_or : Option Finer → ℕ

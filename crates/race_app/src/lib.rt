@@ -13,7 +13,9 @@ mod copies;
 mod lines;
 mod moves;
 mod racing;
+mod told;
 mod verdict;
 
-pub use racing::races;
+pub use racing::{denied_if, races};
+pub use told::{RaceAnswer, RaceLines, race_lines};
 pub use verdict::RacesVerdict;

@@ -2,19 +2,15 @@ ghost use Rattle.std.specs.Prelude.{◌≡◌, ◌<◌, ◌≤◌, [], length, i
 ghost use Rattle.job_meaning.specs.declared.limits.TheConstants.{MOST_INPUT};
 ghost use Rattle.job_grammar.specs.Refusals.{Spells};
 ghost use Rattle.nursery_app.specs.Verdict.{CountsFailure};
-ghost use Rattle.job_edits.specs.Finer.{shifts_of};
 ghost use Rattle.race_text.specs.Table.{denied_text};
 ghost use Rattle.race_text.specs.Views.{line_held};
-ghost use Rattle.race_app.specs.Verdicts.{IsVerdict, IsJobVerdict, IsSent, IsRacesFault};
+ghost use Rattle.race_app.specs.Verdicts.{IsTableOf, IsVerdict, IsJobVerdict, IsSent, IsRacesFault};
 
-use crate::author::Author;
-use crate::lines::lines_for;
+use crate::told::{RaceAnswer, RaceLines, race_lines};
 use crate::verdict::RacesVerdict;
-use fault_app::tokens_of;
-use job_edits::{Finer, Site, copied_starts, shifts, sites};
 use job_grammar::{Job, read_job};
 use job_report::{Out, send};
-use job_runner::{Forward, NoGate, Settings, run_to_end};
+use job_runner::Settings;
 use nursery_app::{Gate, ServeFault, past_limit, refusal};
 use race_text::{Line, race_denied, race_table};
 use std::alloc::{AllocError, Global};
@@ -79,7 +75,6 @@ fn answer<R: Threads + Sync, G: Gate + Sync>(
 }
 
 // The verdict on a text that spells a job, and all its bytes.
-#[tactic(auto, using(crate::proofs::Tabled::some_ticks, crate::proofs::Tabled::has_no_finer))]
 fn answer_for_job<R: Threads + Sync, G: Gate + Sync>(
     rt: &R,
     alloc: Global,
@@ -94,41 +89,32 @@ fn answer_for_job<R: Threads + Sync, G: Gate + Sync>(
     requires spells { Spells job_text.now job.now }
     ensures { IfOk result (λ r. IsJobVerdict job_text.now job.now input.now settings.limit deny r.0 r.1.items) }
 {
-    let limit = settings.limit();
-    let run = run_to_end(rt, alloc, job, input, 1, &mut Forward, &NoGate)?;
-    if run.end() > limit {
-        return Ok((RacesVerdict::Limit, past_limit(alloc, limit)?));
+    match race_lines(rt, alloc, job_text, job, input, settings, gate)? {
+        RaceAnswer::Lines(told) => {
+            let (denied, bytes) = table_and_denied(alloc, deny, &told)?;
+            Ok((RacesVerdict::Told { denied }, bytes))
+        }
+        RaceAnswer::Limit => Ok((RacesVerdict::Limit, past_limit(alloc, settings.limit())?)),
+        RaceAnswer::NoFinerTicks => Ok((RacesVerdict::NoFinerTicks, Vec::new(alloc))),
     }
-    let tokens = tokens_of(alloc, job_text, job)?;
-    let sites = sites(alloc, tokens.as_slice())?;
-    let Some(finer) = Finer::of(sites.as_slice()) else {
-        return Ok((RacesVerdict::NoFinerTicks, Vec::new(alloc)));
-    };
-    let starts = copied_starts(alloc, tokens.as_slice())?;
-    let author = Author {
-        text: job_text,
-        limit: limit.saturating_mul(finer.factor),
-        finer,
-        sites: sites.as_slice(),
-        starts: starts.as_slice(),
-    };
-    let lines = lines_for(rt, alloc, &author, input, &run, settings.workers(), gate)?;
-    let hairs = hairs_of(alloc, author.sites)?;
-    let bytes = race_table(alloc, hairs, lines.as_slice())?;
-    let denied = denied_if(alloc, deny, lines.as_slice())?;
-    Ok((RacesVerdict::Told { denied }, bytes))
 }
 
-// How many hairs these places have.
-fn hairs_of(alloc: Global, sites: &[Site]) -> Result<usize, AllocError>
-    ensures { IfOk result (λ hairs. hairs ≡ length (shifts_of sites.now)) }
+// The lines that are denied, and the bytes of the table.
+fn table_and_denied(
+    alloc: Global,
+    deny: bool,
+    told: &RaceLines,
+) -> Result<(Vec<u8>, Vec<u8>), AllocError>
+    ensures { IfOk result (λ r. IsTableOf deny told.now.hairs (map line_held told.now.lines.items) r.0.items r.1.items) }
 {
-    let shifts = shifts(alloc, sites)?;
-    Ok(shifts.len())
+    let bytes = race_table(alloc, told.hairs, told.lines.as_slice())?;
+    let denied = denied_if(alloc, deny, told.lines.as_slice())?;
+    Ok((denied, bytes))
 }
 
-// The lines that are races, where they are denied.
-fn denied_if(alloc: Global, deny: bool, lines: &[Line]) -> Result<Vec<u8>, AllocError>
+/// The lines that are races, as they stand in the text that tells of all, where races are denied: none where they are not. Want of memory is the only
+/// error.
+pub fn denied_if(alloc: Global, deny: bool, lines: &[Line]) -> Result<Vec<u8>, AllocError>
     ensures { IfOk result (λ denied. denied.items ≡ (if deny then denied_text (map line_held lines.now) else [])) }
 {
     if deny {

@@ -38,8 +38,9 @@ pub(crate) fn place_of(alloc: Global, line: &Line) -> Result<Vec<u8>, AllocError
     Ok(text)
 }
 
-// What stands at the place of a line.
-pub(crate) fn step_of(alloc: Global, line: &Line) -> Result<Vec<u8>, AllocError>
+/// What stands at the place of a line, as it is written in a job text: nothing where the line is about the whole job. Want of memory is the only
+/// error.
+pub fn step_of(alloc: Global, line: &Line) -> Result<Vec<u8>, AllocError>
     ensures { IfOk result (λ text. text.items ≡ step_text (line_held line.now)) }
 {
     let mut text = Vec::new(alloc);

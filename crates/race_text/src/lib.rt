@@ -10,5 +10,6 @@ mod line;
 mod table;
 mod told;
 
+pub use columns::step_of;
 pub use line::{Found, Line};
-pub use table::{race_denied, race_table};
+pub use table::{race_denied, race_table, races_in, refused_in};

@@ -37,8 +37,8 @@ impl Found {
         }
     }
 
-    // Whether the text is refused.
-    fn is_refused(&self) -> bool
+    /// Whether the text is refused.
+    pub fn is_refused(&self) -> bool
         ensures { result ≡ is_refused_found (found_held self.now) }
     {
         matches!(self, Found::Refused)
@@ -83,8 +83,8 @@ pub enum Line {
 }
 
 impl Line {
-    // Whether the line is shown.
-    pub(crate) fn is_shown(&self) -> bool
+    /// Whether the line is shown: something differs, a text is refused, or copies meet.
+    pub fn is_shown(&self) -> bool
         ensures { result ≡ is_shown (line_held self.now) }
     {
         match self {

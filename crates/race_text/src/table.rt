@@ -89,15 +89,15 @@ fn push_counts(out: &mut Vec<u8>, hairs: usize, lines: &[Line]) -> Result<(), Al
     out.extend_from_slice(b"\n")
 }
 
-// How many lines are races.
-fn races_in(lines: &[Line]) -> usize
+/// How many lines are races.
+pub fn races_in(lines: &[Line]) -> usize
     ensures { result ≡ length (only is_race (map line_held lines.now)) }
 {
     lines.iter().filter(|line| line.is_race()).count()
 }
 
-// How many texts are refused.
-fn refused_in(lines: &[Line]) -> usize
+/// How many texts are refused.
+pub fn refused_in(lines: &[Line]) -> usize
     ensures { result ≡ length (only is_refused (map line_held lines.now)) }
 {
     lines.iter().filter(|line| line.is_refused()).count()

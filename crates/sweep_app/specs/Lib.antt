@@ -1,5 +1,6 @@
 pub mod Nearest
 pub mod Targets
 pub mod Values
+pub mod Answers
 pub mod Verdicts
 pub mod Statuses

@@ -1,15 +1,11 @@
 -- What becomes of a job for each value of a number.
 use Rattle.std.specs.Prelude.{◌≡◌, ◌≤◌, ℕ, None, List, [], ◌∷◌, length}
-use Rattle.job_tree.specs.Tree.{Tree}
 use Rattle.job_meaning.specs.declared.limits.TheConstants.{MOST_INPUT}
 use Rattle.job_edits.specs.Changes.{changed}
 use Rattle.job_edits.specs.Numbers.{set_to}
 use Rattle.job_edits.specs.declared.number.Number.{Number}
-use Rattle.fault_text.specs.Fates.{fate_of}
 use Rattle.fault_app.specs.Fates.{IsFate}
-use Rattle.slot_work.specs.Answers.{AreAnswers}
 use Rattle.sweep_text.specs.Groups as told
-use Rattle.sweep_text.specs.Sweeps.{sweep_text}
 use Rattle.sweep_text.specs.Views.{value_held}
 use Rattle.sweep_text.specs.declared.value.Value.{Value}
 use Rattle.sweep_app.specs.declared.values.Swept.{Swept}
@@ -19,12 +15,6 @@ pub record IsValue (text input : List ℕ) (limit : ℕ) (number : Number) (n : 
   pub value : v.value ≡ n
   pub fate : IsFate (changed text (set_to number n ∷ [])) input limit None v.fate
 
--- the text that tells of the job as it is, and of each value in turn
-pub record IsTold (text input : List ℕ) (limit : ℕ) (number : Number) (job : Tree) (values bytes : List ℕ) : Type 0 where
-  pub vs : List told.Value
-  pub vs_are : AreAnswers (IsValue text input limit number) values vs
-  pub text_is : bytes ≡ sweep_text limit (fate_of limit None job input) vs
-
 -- ---- as the code holds them
 
 -- the input is no longer than an input may be
@@ -33,6 +23,3 @@ HasRoom swept = length swept.input.now ≤ MOST_INPUT
 
 abbrev pub IsValueOf : Swept → ℕ → Value → Type 0
 IsValueOf swept n v = IsValue swept.text.now swept.input.now swept.limit swept.number n (value_held v)
-
-abbrev pub IsToldOf : Tree → Swept → List ℕ → List ℕ → Type 0
-IsToldOf job swept values bytes = IsTold swept.text.now swept.input.now swept.limit swept.number job values bytes

@@ -1,40 +1,32 @@
 -- What `sweep` answers: what becomes of a job for each value of a number, or the refusal of its text, or that it has no such number.
-use Rattle.std.specs.Prelude.{◌≡◌, ℕ, ◌<◌, Option, None, List, [], length, take}
+use Rattle.std.specs.Prelude.{◌≡◌, ℕ, ◌<◌, Option, List, [], length, take}
 use Rattle.std.specs.Io.KnownBytes.{Appends}
 use Rattle.job_tree.specs.Tree.{Tree}
-use Rattle.job_tokens.specs.declared.token.Token.{Token}
-use Rattle.job_grammar.specs.Refusals.{Spells, HasTokens, IsRefused}
+use Rattle.job_grammar.specs.Refusals.{Spells, IsRefused}
 use Rattle.nursery_app.specs.Verdict.{refusal_line}
 use Rattle.nursery_app.specs.declared.verdict.ServeFault.{ServeFault}
 use Rattle.nursery_app.specs.declared.verdict.ServeFault.TheVariants.{Send, NoMemory}
-use Rattle.job_edits.specs.declared.number.Number.{Number}
 use Rattle.job_edits.specs.declared.number.Target.{Target}
-use Rattle.sweep_app.specs.Targets.{IsNumber, IsMissing}
-use Rattle.sweep_app.specs.Values.{IsTold}
-use Rattle.sweep_app.specs.declared.verdict.Missing.{Missing}
+use Rattle.fault_text.specs.Fates.{Fate}
+use Rattle.sweep_text.specs.Groups.{Value}
+use Rattle.sweep_text.specs.Sweeps.{sweep_text}
+use Rattle.sweep_app.specs.Answers.{AreSweepValues, IsWithoutTarget}
 use Rattle.sweep_app.specs.declared.verdict.SweepVerdict.{SweepVerdict}
 use Rattle.sweep_app.specs.declared.verdict.SweepVerdict.TheVariants.{Told, JobRefused, NoTarget}
 
 -- these bytes tell what becomes of the job as it is, and for each value of the number that is meant
 pub record IsSweep (text : List ℕ) (job : Tree) (input : List ℕ) (limit : ℕ) (target : Target) (values bytes : List ℕ) : Type 0 where
-  pub tokens : List Token
-  pub tokens_are : HasTokens text tokens None
-  pub number : Number
-  pub number_is : IsNumber text tokens target number
-  pub told : IsTold text input limit number job values bytes
-
--- the text does not have the number that is meant, for this reason, and nothing is written
-pub record HasNoTarget (text : List ℕ) (target : Target) (missing : Missing) (bytes : List ℕ) : Type 0 where
-  pub tokens : List Token
-  pub tokens_are : HasTokens text tokens None
-  pub reason : IsMissing text tokens target missing
-  pub nothing : bytes ≡ []
+  pub first : Fate
+  pub vs : List Value
+  pub told : AreSweepValues text job input limit target values first vs
+  pub text_is : bytes ≡ sweep_text limit first vs
 
 -- a verdict on a text that spells a job, and its bytes
 abbrev pub IsJobVerdict : List ℕ → Tree → List ℕ → ℕ → Target → List ℕ → SweepVerdict → List ℕ → Type 0
 IsJobVerdict text job input limit target values Told bytes = IsSweep text job input limit target values bytes
 IsJobVerdict text job input limit target values (JobRefused fault) bytes = ⊥
-IsJobVerdict text job input limit target values (NoTarget missing) bytes = HasNoTarget text target missing bytes
+IsJobVerdict text job input limit target values (NoTarget missing) bytes =
+    IsWithoutTarget text target missing × (bytes ≡ [])
 
 -- a verdict and its bytes
 abbrev pub IsVerdict : List ℕ → List ℕ → ℕ → Target → List ℕ → SweepVerdict → List ℕ → Type 0

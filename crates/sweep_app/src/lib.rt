@@ -9,8 +9,10 @@
 mod nearest;
 mod number;
 mod sweeping;
+mod told;
 mod values;
 mod verdict;
 
 pub use sweeping::sweep;
+pub use told::{SweepAnswer, SweepValues, sweep_values};
 pub use verdict::{Missing, SweepVerdict};

@@ -2,19 +2,15 @@ ghost use Rattle.std.specs.Prelude.{◌≡◌, ◌<◌, ◌≤◌, length, IfOk,
 ghost use Rattle.job_meaning.specs.declared.limits.TheConstants.{MOST_INPUT};
 ghost use Rattle.job_grammar.specs.Refusals.{Spells};
 ghost use Rattle.nursery_app.specs.Verdict.{CountsFailure};
-ghost use Rattle.sweep_app.specs.Values.{IsToldOf};
 ghost use Rattle.sweep_app.specs.Verdicts.{IsVerdict, IsJobVerdict, IsSent, IsSweepFault};
 
-use crate::number::{Found, number_for};
-use crate::values::Swept;
+use crate::told::{SweepAnswer, sweep_values};
 use crate::verdict::SweepVerdict;
-use fault_app::{fate_of_job, tokens_of};
 use job_edits::Target;
 use job_grammar::{Job, read_job};
 use job_report::{Out, send};
 use job_runner::Settings;
 use nursery_app::{Gate, ServeFault, refusal};
-use slot_work::answers_for;
 use std::alloc::{AllocError, Global};
 use std::thread::Threads;
 use sweep_text::sweep_table;
@@ -81,7 +77,7 @@ fn answer<R: Threads + Sync, G: Gate + Sync>(
 }
 
 // The verdict on a text that spells a job, and all its bytes.
-#[tactic(auto, using(crate::proofs::Tabled::is_sweep, crate::proofs::Tabled::has_no_target))]
+#[tactic(auto, using(crate::proofs::Tabled::is_sweep))]
 fn answer_for_job<R: Threads + Sync, G: Gate + Sync>(
     rt: &R,
     alloc: Global,
@@ -97,37 +93,14 @@ fn answer_for_job<R: Threads + Sync, G: Gate + Sync>(
     requires spells { Spells job_text.now job.now }
     ensures { IfOk result (λ r. IsJobVerdict job_text.now job.now input.now settings.limit target values.now r.0 r.1.items) }
 {
-    let tokens = tokens_of(alloc, job_text, job)?;
-    match number_for(alloc, job_text, tokens.as_slice(), target)? {
-        Found::Number(number) => {
-            let swept = Swept {
-                text: job_text,
-                input,
-                limit: settings.limit(),
-                number,
-            };
-            let bytes = table(rt, alloc, job, &swept, values, settings.workers(), gate)?;
+    match sweep_values(
+        rt, alloc, job_text, job, input, settings, target, values, gate,
+    )? {
+        SweepAnswer::Values(told) => {
+            let limit = settings.limit();
+            let bytes = sweep_table(alloc, limit, &told.first, told.values.as_slice())?;
             Ok((SweepVerdict::Told, bytes))
         }
-        Found::Missing(missing) => Ok((SweepVerdict::NoTarget(missing), Vec::new(alloc))),
+        SweepAnswer::NoTarget(missing) => Ok((SweepVerdict::NoTarget(missing), Vec::new(alloc))),
     }
-}
-
-// The text that tells what becomes of the job for each value.
-fn table<R: Threads + Sync, G: Gate + Sync>(
-    rt: &R,
-    alloc: Global,
-    job: &Job,
-    swept: &Swept<'_>,
-    values: &[u64],
-    workers: usize,
-    gate: &G,
-) -> Result<Vec<u8>, AllocError>
-    requires input { length swept.now.input.now ≤ MOST_INPUT }
-    requires some_workers { 1 ≤ workers }
-    ensures { IfOk result (λ bytes. IsToldOf job.now swept.now values.now bytes.items) }
-{
-    let first = fate_of_job(rt, alloc, job, swept.input, swept.limit, None)?;
-    let told = answers_for(rt, alloc, swept, values, workers, gate)?;
-    sweep_table(alloc, swept.limit, &first, told.as_slice())
 }

@@ -4,10 +4,7 @@ use Rattle.fault_app.proofs.answering.table_and_denied.Goals as goal
 
 pub returns : goal.returns
 returns g c =
-    is_table c.args.job_text.now c.args.input.now c.args.settings.limit c.limit.result c.args.name c.args.deny c.in_ok-bytes.bytes.items
-    c.in_ok-denied.denied.items c.args.job.now c.in_ok-tokens.tokens.items c.as_slice.result.now c.as_slice-2.result.now
-    c.in_ok-variants.variants.items c.as_slice-3.result.now c.in_ok-of.field-0 (fate_held c.in_ok-first.first) c.in_ok-lines.lines.items
-    c.as_slice-4.result.now c.as_slice-5.result.now c.requires.spells c.in_ok-tokens.ensures c.limit.ensures.value
-    c.as_slice.ensures.value c.in_ok-variants.ensures c.as_slice-2.ensures.value c.in_ok-of.ensures c.in_ok-first.ensures
-    c.as_slice-3.ensures.value c.in_ok-lines.ensures c.as_slice-4.ensures.value
-    c.in_ok-bytes.ensures c.as_slice-5.ensures.value c.in_ok-denied.ensures
+    is_table c.args.job_text.now c.args.input.now c.args.settings.limit c.limit-limit.result c.args.name c.args.deny
+    c.in_ok-bytes.bytes.items c.in_ok-denied.denied.items c.args.job.now (fate_held c.in_ok-told.told.first)
+    c.in_ok-told.told.lines.items c.as_slice.result.now c.as_slice-2.result.now c.requires.spells c.in_ok-told.ensures
+    c.limit-limit.ensures.value c.as_slice.ensures.value c.in_ok-bytes.ensures c.as_slice-2.ensures.value c.in_ok-denied.ensures

@@ -1,0 +1,60 @@
+ghost use Rattle.std.specs.Prelude.{◌≤◌, length, IfOk, map};
+ghost use Rattle.job_meaning.specs.declared.limits.TheConstants.{MOST_INPUT};
+ghost use Rattle.job_grammar.specs.Refusals.{Spells};
+ghost use Rattle.fault_text.specs.Views.{fate_held, line_held};
+ghost use Rattle.fault_app.specs.Verdicts.{AreFaultLines};
+
+use crate::answering::tokens_of;
+use crate::fate::fate_of_job;
+use crate::lines::Author;
+use fault_text::{Fate, Line};
+use job_edits::{Plan, variants};
+use job_grammar::{Job, Name};
+use job_runner::Settings;
+use nursery_app::Gate;
+use slot_work::answers_for;
+use std::alloc::{AllocError, Global};
+use std::thread::Threads;
+
+/// What becomes of a job: as it is, and with each fault of each of its waiting steps.
+#[derive(Drop)]
+pub struct FaultLines {
+    /// What becomes of the job as it is.
+    pub first: Fate,
+    /// What becomes of it with each fault, in the order of the steps' places.
+    pub lines: Vec<Line>,
+}
+
+/// What becomes of the job that a text spells, over an input: as it is, and with each fault of each of its waiting steps, each kind once. A step that
+/// fails raises an exception of the given name.
+///
+/// The settings' number of workers is the number of threads among which the faults are split; the gate is called around each fault, with its
+/// place among the lines, by the thread that works on it. Neither changes a line. Want of memory is the only error.
+pub fn fault_lines<R: Threads + Sync, G: Gate + Sync>(
+    rt: &R,
+    alloc: Global,
+    job_text: &[u8],
+    job: &Job,
+    input: &[u8],
+    settings: Settings,
+    name: Name,
+    gate: &G,
+) -> Result<FaultLines, AllocError>
+    requires input { length input.now ≤ MOST_INPUT }
+    requires spells { Spells job_text.now job.now }
+    ensures { IfOk result (λ told. AreFaultLines job_text.now input.now settings.limit name job.now (fate_held told.first)
+        (map line_held told.lines.items)) }
+{
+    let tokens = tokens_of(alloc, job_text, job)?;
+    let variants = variants(alloc, tokens.as_slice())?;
+    let author = Author {
+        text: job_text,
+        input,
+        limit: settings.limit(),
+        plan: Plan::of(alloc, name, tokens.as_slice())?,
+    };
+    let first = fate_of_job(rt, alloc, job, input, author.limit, None)?;
+    let workers = settings.workers();
+    let lines = answers_for(rt, alloc, &author, variants.as_slice(), workers, gate)?;
+    Ok(FaultLines { first, lines })
+}

@@ -1,0 +1,41 @@
+-- What comes of moving the places of a text that spells a job by a hair.
+use Rattle.std.specs.Prelude.{◌≡◌, ℕ, ◌*◌, ◌<◌, ◌≤◌, Some, None, List, length, map}
+use Rattle.job_tree.specs.Tree.{Tree}
+use Rattle.job_tokens.specs.declared.token.Token.{Token}
+use Rattle.job_grammar.specs.Refusals.{HasTokens}
+use Rattle.job_meaning.specs.Meaning.{meaning_end}
+use Rattle.job_edits.specs.Sites.{sites_in}
+use Rattle.job_edits.specs.Copied.{copied_in}
+use Rattle.job_edits.specs.Finer.{capped, finer_for, shifts_of}
+use Rattle.job_edits.specs.declared.finer.Finer.{Finer}
+use Rattle.race_text.specs.Lines.{Line}
+use Rattle.race_text.specs.Views.{line_held}
+use Rattle.race_app.specs.Ran.{ran_of}
+use Rattle.race_app.specs.Lines.{AreLines}
+use Rattle.race_app.specs.declared.told.RaceAnswer.{RaceAnswer}
+use Rattle.race_app.specs.declared.told.RaceAnswer.TheVariants.{Lines, Limit, NoFinerTicks}
+
+-- the job ends by the limit, and these lines tell of each hair of each place of its text, of which there are so many
+pub record AreRaceLines (text input : List ℕ) (limit : ℕ) (job : Tree) (hairs : ℕ) (lines : List Line) : Type 0 where
+  pub in_time : meaning_end job input ≤ limit
+  pub tokens : List Token
+  pub tokens_are : HasTokens text tokens None
+  pub f : Finer
+  pub finer_is : finer_for (sites_in tokens) ≡ Some f
+  pub lines_are :
+      AreLines text input (capped (limit * f.factor)) f (sites_in tokens) (copied_in tokens) (ran_of limit job input) lines
+  pub hairs_are : hairs ≡ length (shifts_of (sites_in tokens))
+
+-- the job ends by the limit, and some number of its ticks is too large to be made finer
+pub record HasNoFiner (text input : List ℕ) (limit : ℕ) (job : Tree) : Type 0 where
+  pub in_time : meaning_end job input ≤ limit
+  pub tokens : List Token
+  pub tokens_are : HasTokens text tokens None
+  pub none : finer_for (sites_in tokens) ≡ None
+
+-- ---- as the code holds them
+
+abbrev pub IsRaceAnswer : List ℕ → Tree → List ℕ → ℕ → RaceAnswer → Type 0
+IsRaceAnswer text job input limit (Lines told) = AreRaceLines text input limit job told.hairs (map line_held told.lines.items)
+IsRaceAnswer text job input limit Limit = limit < meaning_end job input
+IsRaceAnswer text job input limit NoFinerTicks = HasNoFiner text input limit job

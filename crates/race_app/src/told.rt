@@ -1,0 +1,86 @@
+ghost use Rattle.std.specs.Prelude.{◌≡◌, ◌<◌, ◌≤◌, length, IfOk};
+ghost use Rattle.job_meaning.specs.declared.limits.TheConstants.{MOST_INPUT};
+ghost use Rattle.job_grammar.specs.Refusals.{Spells};
+ghost use Rattle.job_edits.specs.Finer.{shifts_of};
+ghost use Rattle.race_app.specs.Answers.{IsRaceAnswer};
+
+use crate::author::Author;
+use crate::lines::lines_for;
+use fault_app::tokens_of;
+use job_edits::{Finer, Site, copied_starts, shifts, sites};
+use job_grammar::Job;
+use job_runner::{Forward, NoGate, Settings, run_to_end};
+use nursery_app::Gate;
+use race_text::Line;
+use std::alloc::{AllocError, Global};
+use std::thread::Threads;
+
+/// What each hair of each place of a job changes.
+#[derive(Drop)]
+pub struct RaceLines {
+    /// How many hairs there are.
+    pub hairs: usize,
+    /// The text in finer ticks, each hair in the order of places, and the copies that meet: also the lines that are not shown.
+    pub lines: Vec<Line>,
+}
+
+/// What comes of moving the places of a job by a hair.
+#[derive(Drop)]
+pub enum RaceAnswer {
+    /// What each hair changes.
+    Lines(RaceLines),
+    /// The job does not end by the limit, so there is no outcome that could hang on a hair.
+    Limit,
+    /// Some `sleep`, `after` or `at` of the job text is of more than 100,000,000 ticks, and cannot be told in finer ticks.
+    NoFinerTicks,
+}
+
+/// What becomes of the job that a text spells, over an input, where any one place of its text takes a hair more or less time: the text in finer ticks
+/// beside the text as it is, then each hair of each place beside the text in finer ticks, and the copies of one `start .. over` that meet.
+///
+/// The settings' number of workers is the number of threads among which the hairs are split; the gate is called around each, with its place
+/// among them, by the thread that works on it. Neither changes a line. Want of memory is the only error.
+#[tactic(auto, using(crate::proofs::Tabled::some_ticks, crate::proofs::Tabled::has_no_finer))]
+pub fn race_lines<R: Threads + Sync, G: Gate + Sync>(
+    rt: &R,
+    alloc: Global,
+    job_text: &[u8],
+    job: &Job,
+    input: &[u8],
+    settings: Settings,
+    gate: &G,
+) -> Result<RaceAnswer, AllocError>
+    requires input { length input.now ≤ MOST_INPUT }
+    requires spells { Spells job_text.now job.now }
+    ensures { IfOk result (IsRaceAnswer job_text.now job.now input.now settings.limit) }
+{
+    let limit = settings.limit();
+    let run = run_to_end(rt, alloc, job, input, 1, &mut Forward, &NoGate)?;
+    if run.end() > limit {
+        return Ok(RaceAnswer::Limit);
+    }
+    let tokens = tokens_of(alloc, job_text, job)?;
+    let sites = sites(alloc, tokens.as_slice())?;
+    let Some(finer) = Finer::of(sites.as_slice()) else {
+        return Ok(RaceAnswer::NoFinerTicks);
+    };
+    let starts = copied_starts(alloc, tokens.as_slice())?;
+    let author = Author {
+        text: job_text,
+        limit: limit.saturating_mul(finer.factor),
+        finer,
+        sites: sites.as_slice(),
+        starts: starts.as_slice(),
+    };
+    let lines = lines_for(rt, alloc, &author, input, &run, settings.workers(), gate)?;
+    let hairs = hairs_of(alloc, author.sites)?;
+    Ok(RaceAnswer::Lines(RaceLines { hairs, lines }))
+}
+
+// How many hairs these places have.
+fn hairs_of(alloc: Global, sites: &[Site]) -> Result<usize, AllocError>
+    ensures { IfOk result (λ hairs. hairs ≡ length (shifts_of sites.now)) }
+{
+    let shifts = shifts(alloc, sites)?;
+    Ok(shifts.len())
+}

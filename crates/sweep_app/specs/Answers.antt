@@ -1,0 +1,49 @@
+-- What comes of a sweep over a number of a text that spells a job.
+use Rattle.std.specs.Prelude.{◌≡◌, ℕ, None, List, map}
+use Rattle.job_tree.specs.Tree.{Tree}
+use Rattle.job_tokens.specs.declared.token.Token.{Token}
+use Rattle.job_grammar.specs.Refusals.{HasTokens}
+use Rattle.job_edits.specs.declared.number.Number.{Number}
+use Rattle.job_edits.specs.declared.number.Target.{Target}
+use Rattle.fault_text.specs.Fates.{Fate, fate_of}
+use Rattle.fault_text.specs.Views.{fate_held}
+use Rattle.slot_work.specs.Answers.{AreAnswers}
+use Rattle.sweep_text.specs.Groups.{Value}
+use Rattle.sweep_text.specs.Views.{value_held}
+use Rattle.sweep_app.specs.Targets.{IsNumber, IsMissing}
+use Rattle.sweep_app.specs.Values.{IsValue}
+use Rattle.sweep_app.specs.declared.values.Swept.{Swept}
+use Rattle.sweep_app.specs.declared.verdict.Missing.{Missing}
+use Rattle.sweep_app.specs.declared.told.SweepValues.{SweepValues}
+use Rattle.sweep_app.specs.declared.told.SweepAnswer.{SweepAnswer}
+use Rattle.sweep_app.specs.declared.told.SweepAnswer.TheVariants.{Values, NoTarget}
+
+-- what becomes of a job as it is, and in turn of its text with each value in the place of a number
+pub record AreValues (text input : List ℕ) (limit : ℕ) (number : Number) (job : Tree) (values : List ℕ) (first : Fate) (vs : List Value) : Type 0 where
+  pub first_is : first ≡ fate_of limit None job input
+  pub vs_are : AreAnswers (IsValue text input limit number) values vs
+
+-- the same of the number of the text that is meant
+pub record AreSweepValues (text : List ℕ) (job : Tree) (input : List ℕ) (limit : ℕ) (target : Target) (values : List ℕ) (first : Fate) (vs : List Value) : Type 0 where
+  pub tokens : List Token
+  pub tokens_are : HasTokens text tokens None
+  pub number : Number
+  pub number_is : IsNumber text tokens target number
+  pub told : AreValues text input limit number job values first vs
+
+-- the text does not have the number that is meant, for this reason
+pub record IsWithoutTarget (text : List ℕ) (target : Target) (missing : Missing) : Type 0 where
+  pub tokens : List Token
+  pub tokens_are : HasTokens text tokens None
+  pub reason : IsMissing text tokens target missing
+
+-- ---- as the code holds them
+
+abbrev pub AreValuesOf : Tree → Swept → List ℕ → SweepValues → Type 0
+AreValuesOf job swept values told =
+    AreValues swept.text.now swept.input.now swept.limit swept.number job values (fate_held told.first) (map value_held told.values.items)
+
+abbrev pub IsSweepAnswer : List ℕ → Tree → List ℕ → ℕ → Target → List ℕ → SweepAnswer → Type 0
+IsSweepAnswer text job input limit target values (Values told) =
+    AreSweepValues text job input limit target values (fate_held told.first) (map value_held told.values.items)
+IsSweepAnswer text job input limit target values (NoTarget missing) = IsWithoutTarget text target missing

@@ -1,0 +1,95 @@
+ghost use Rattle.std.specs.Prelude.{◌≡◌, ◌≤◌, length, IfOk};
+ghost use Rattle.job_meaning.specs.declared.limits.TheConstants.{MOST_INPUT};
+ghost use Rattle.job_grammar.specs.Refusals.{Spells};
+ghost use Rattle.sweep_app.specs.Answers.{AreValuesOf, IsSweepAnswer};
+
+use crate::number::{Found, number_for};
+use crate::values::Swept;
+use crate::verdict::Missing;
+use fault_app::{fate_of_job, tokens_of};
+use fault_text::Fate;
+use job_edits::Target;
+use job_grammar::Job;
+use job_runner::Settings;
+use nursery_app::Gate;
+use slot_work::answers_for;
+use std::alloc::{AllocError, Global};
+use std::thread::Threads;
+use sweep_text::Value;
+
+/// What becomes of a job: as it is, and for each value of one of its numbers.
+#[derive(Drop)]
+pub struct SweepValues {
+    /// What becomes of the job as it is.
+    pub first: Fate,
+    /// What becomes of it for each value, in their order.
+    pub values: Vec<Value>,
+}
+
+/// What comes of a sweep over a number of a job text.
+#[derive(Drop)]
+pub enum SweepAnswer {
+    /// What becomes of the job for each value.
+    Values(SweepValues),
+    /// The text does not have the number that is meant.
+    NoTarget(Missing),
+}
+
+/// What becomes of the job that a text spells, over an input: as it is, and for each of these values of one of its numbers, in their order; or why the
+/// text does not have the number that is meant. A value that the text cannot have there is told as refused.
+///
+/// The settings' number of workers is the number of threads among which the values are split; the gate is called around each value, with its
+/// place among them, by the thread that works on it. Neither changes an answer. Want of memory is the only error.
+#[tactic(auto, using(crate::proofs::Tabled::are_values, crate::proofs::Tabled::is_without_target))]
+pub fn sweep_values<R: Threads + Sync, G: Gate + Sync>(
+    rt: &R,
+    alloc: Global,
+    job_text: &[u8],
+    job: &Job,
+    input: &[u8],
+    settings: Settings,
+    target: Target,
+    values: &[u64],
+    gate: &G,
+) -> Result<SweepAnswer, AllocError>
+    requires input { length input.now ≤ MOST_INPUT }
+    requires spells { Spells job_text.now job.now }
+    ensures { IfOk result (IsSweepAnswer job_text.now job.now input.now settings.limit target values.now) }
+{
+    let tokens = tokens_of(alloc, job_text, job)?;
+    match number_for(alloc, job_text, tokens.as_slice(), target)? {
+        Found::Number(number) => {
+            let swept = Swept {
+                text: job_text,
+                input,
+                limit: settings.limit(),
+                number,
+            };
+            let told = values_of(rt, alloc, job, &swept, values, settings.workers(), gate)?;
+            Ok(SweepAnswer::Values(told))
+        }
+        Found::Missing(missing) => Ok(SweepAnswer::NoTarget(missing)),
+    }
+}
+
+// What becomes of the job as it is, and for each value of its number.
+fn values_of<R: Threads + Sync, G: Gate + Sync>(
+    rt: &R,
+    alloc: Global,
+    job: &Job,
+    swept: &Swept<'_>,
+    values: &[u64],
+    workers: usize,
+    gate: &G,
+) -> Result<SweepValues, AllocError>
+    requires input { length swept.now.input.now ≤ MOST_INPUT }
+    requires some_workers { 1 ≤ workers }
+    ensures { IfOk result (AreValuesOf job.now swept.now values.now) }
+{
+    let first = fate_of_job(rt, alloc, job, swept.input, swept.limit, None)?;
+    let told = answers_for(rt, alloc, swept, values, workers, gate)?;
+    Ok(SweepValues {
+        first,
+        values: told,
+    })
+}
