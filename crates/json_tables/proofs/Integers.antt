@@ -1,0 +1,99 @@
+-- All numbers of these documents are integers.
+use Rattle.std.proofs.Common.{◌≡◌, ℕ, Option, Some, None, List, [], ◌∷◌, map, refl}
+use Rattle.std.specs.Prelude.{false}
+use Rattle.serde_json.specs.Data.{Data}
+use Rattle.serde_json.specs.View.{items_of}
+use Rattle.serde_json.specs.Written.{has_float, items_have_float}
+use Rattle.exc_groups.specs.Exceptions.{Label, Exc}
+use Rattle.fault_text.specs.Fates.{Fate, refused, stuck, ended}
+use Rattle.fault_text.specs.Table as faults
+use Rattle.sweep_text.specs.Groups as sweeps
+use Rattle.race_rows.specs.Differences.{Difference, otherwise, inside}
+use Rattle.race_text.specs.Lines as races
+use Rattle.race_text.specs.Lines.{finer, moved, copies, is_shown}
+use Rattle.race_text.specs.Table.{only}
+use Rattle.job_lint.specs.declared.warning.Warning.{Warning}
+use Rattle.json_report.specs.Values.{label_json}
+use Rattle.json_report.proofs.Integers.{exc_without_float}
+use Rattle.json_tables.specs.Results.{exc_or_null, result_json}
+use Rattle.json_tables.specs.Faults.{fault_line_json, faults_json}
+use Rattle.json_tables.specs.Sweeps.{value_json, sweep_json}
+use Rattle.json_tables.specs.Races.{difference_json, differences_json, race_line_json, races_json}
+use Rattle.json_tables.specs.Lints.{name_or_null, warning_json, lints_json}
+
+-- ---- what becomes of a job
+
+labels_have_none : (ls : List Label) → items_have_float (items_of (map label_json ls)) ≡ false
+labels_have_none [] = refl
+labels_have_none (l ∷ ls) = labels_have_none ls
+
+exc_has_none : (o : Option Exc) → has_float (exc_or_null o) ≡ false
+exc_has_none None = refl
+exc_has_none (Some e) = exc_without_float e
+
+result_has_none : (limit : ℕ) (fate : Fate) → has_float (result_json limit fate) ≡ false
+result_has_none limit refused = refl
+result_has_none limit (stuck sleeping) = rw (labels_have_none sleeping) refl
+result_has_none limit (ended end exc labels cut lost) = rw (labels_have_none labels, labels_have_none cut, exc_has_none exc) refl
+
+-- ---- faults
+
+fault_line_has_none : (limit : ℕ) (l : faults.Line) → has_float (fault_line_json limit l) ≡ false
+fault_line_has_none limit l = rw (result_has_none limit l.fate) refl
+
+fault_lines_have_none : (limit : ℕ) (ls : List faults.Line) → items_have_float (items_of (map (fault_line_json limit) ls)) ≡ false
+fault_lines_have_none limit [] = refl
+fault_lines_have_none limit (l ∷ ls) = rw (fault_line_has_none limit l, fault_lines_have_none limit ls) refl
+
+pub faults_without_float : (value : Data) (limit : ℕ) (first : Fate) (ls : List faults.Line) → value ≡ faults_json limit first ls →
+    has_float value ≡ false
+faults_without_float value limit first ls is = rw (is, result_has_none limit first, fault_lines_have_none limit ls) refl
+
+-- ---- values
+
+values_have_none : (limit : ℕ) (vs : List sweeps.Value) → items_have_float (items_of (map (value_json limit) vs)) ≡ false
+values_have_none limit [] = refl
+values_have_none limit (v ∷ vs) = rw (result_has_none limit v.fate, values_have_none limit vs) refl
+
+pub sweep_without_float : (value : Data) (limit : ℕ) (first : Fate) (vs : List sweeps.Value) → value ≡ sweep_json limit first vs →
+    has_float value ≡ false
+sweep_without_float value limit first vs is = rw (is, result_has_none limit first, values_have_none limit vs) refl
+
+-- ---- hairs
+
+difference_has_none : (d : Difference) → has_float (difference_json d) ≡ false
+difference_has_none (otherwise task before after) = refl
+difference_has_none (inside task) = refl
+
+tasks_have_none : (ds : List Difference) → items_have_float (items_of (map difference_json ds)) ≡ false
+tasks_have_none [] = refl
+tasks_have_none (d ∷ ds) = rw (difference_has_none d, tasks_have_none ds) refl
+
+differences_have_none : (found : races.Found) → items_have_float (items_of (differences_json found)) ≡ false
+differences_have_none races.refused = refl
+differences_have_none (races.differs tasks) = tasks_have_none tasks
+
+race_line_has_none : (l : races.Line) → has_float (race_line_json l) ≡ false
+race_line_has_none (finer found) = rw (differences_have_none found) refl
+race_line_has_none (moved line column moment hair found) = rw (differences_have_none found) refl
+race_line_has_none (copies line column name count one other tick) = refl
+
+race_lines_have_none : (ls : List races.Line) → items_have_float (items_of (map race_line_json ls)) ≡ false
+race_lines_have_none [] = refl
+race_lines_have_none (l ∷ ls) = rw (race_line_has_none l, race_lines_have_none ls) refl
+
+pub races_without_float : (value : Data) (hairs : ℕ) (ls : List races.Line) → value ≡ races_json hairs ls → has_float value ≡ false
+races_without_float value hairs ls is = rw (is, race_lines_have_none (only is_shown ls)) refl
+
+-- ---- warnings
+
+name_has_none : (name : Option (List ℕ)) → has_float (name_or_null name) ≡ false
+name_has_none None = refl
+name_has_none (Some name) = refl
+
+warnings_have_none : (text : List ℕ) (ws : List Warning) → items_have_float (items_of (map (warning_json text) ws)) ≡ false
+warnings_have_none text [] = refl
+warnings_have_none text (w ∷ ws) = rw (name_has_none w.name, warnings_have_none text ws) refl
+
+pub lints_without_float : (value : Data) (text : List ℕ) (ws : List Warning) → value ≡ lints_json text ws → has_float value ≡ false
+lints_without_float value text ws is = rw (is, warnings_have_none text ws) refl

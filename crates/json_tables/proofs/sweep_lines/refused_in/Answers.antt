@@ -1,0 +1,7 @@
+use Rattle.std.proofs.Common.{rules}
+use Rattle.fault_text.specs.Fates.{is_refused}
+use Rattle.sweep_text.proofs.Counted.{counted}
+use Rattle.json_tables.proofs.sweep_lines.refused_in.Goals as goal
+
+pub returns : goal.returns
+returns c = rw (counted is_refused c.args.values.now) (search rules)

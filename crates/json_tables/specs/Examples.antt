@@ -1,0 +1,81 @@
+-- Worked documents, by computing.
+use Rattle.std.specs.Prelude.{◌≡◌, ℕ, true, false, Some, None, List, [], ◌∷◌, ◌++◌, codes, refl}
+use Rattle.std.specs.Fmt.{digits}
+use Rattle.json.specs.Print.{escape_byte}
+use Rattle.exc_groups.specs.Exceptions.{Label, by_nursery, cancelled, raised, group, no_parts, part}
+use Rattle.job_edits.specs.declared.fault.Fault.TheVariants.{Fails, Hangs, Misses}
+use Rattle.job_edits.specs.declared.waiting.Wait.TheVariants as wait
+use Rattle.job_edits.specs.declared.site.Moment.TheVariants.{Sleep}
+use Rattle.job_edits.specs.declared.shift.Hair.TheVariants.{Earlier, Later}
+use Rattle.job_lint.specs.declared.warning.Lint.TheVariants.{Unreachable, IdleScope}
+use Rattle.fault_text.specs.Fates.{refused, stuck, ended}
+use Rattle.fault_text.specs.Examples.{task, told}
+use Rattle.sweep_text.specs.Examples.{told as value}
+use Rattle.race_rows.specs.Differences.{otherwise, inside}
+use Rattle.race_text.specs.Examples.{copy}
+use Rattle.race_text.specs.Lines as races
+use Rattle.json_report.specs.Values.{document}
+use Rattle.json_tables.specs.Faults.{faults_json}
+use Rattle.json_tables.specs.Sweeps.{sweep_json}
+use Rattle.json_tables.specs.Races.{races_json}
+use Rattle.json_tables.specs.Lints.{lints_json}
+
+-- A fault that is lost, one that leaves a task asleep and is not reached, and a text that is refused. A backslash of a step is doubled as in a
+-- report, and once more by JSON.
+pub faults_are_written :
+    document (faults_json 50 (ended 3 (Some cancelled) [] [] false)
+    (told 7 11 (wait.Sleep 3) Fails true
+    (ended 4 (Some (group (by_nursery (task (codes "n"))) (part (raised (codes "E") (task (codes "a")) 2) no_parts))) (task (codes "b") ∷ []) (task (codes "c") ∷ []) true)
+    ∷ told 9 3 wait.Forever Hangs false (stuck (task (codes "a") ∷ []))
+    ∷ told 10 3 (wait.Need (codes "k\\") (codes "Gone")) (Misses (codes "X")) false refused
+    ∷ []))
+    ≡ codes "{\"as_it_is\":{\"result\":{\"cancelled\":[],\"cut\":[],\"end\":3,\"exception\":{\"cancelled\":true},\"lost\":false,\"outcome\":\"cancelled\"}},"
+    ++ codes "\"counts\":{\"cut\":1,\"faults\":3,\"lost\":1,\"not_reached\":1,\"refused\":1,\"stuck\":1},"
+    ++ codes "\"lines\":[{\"column\":11,\"fault\":\"fails\",\"line\":7,\"reached\":true,"
+    ++ codes "\"result\":{\"cancelled\":[\"b\"],\"cut\":[\"c\"],\"end\":4,"
+    ++ codes "\"exception\":{\"group\":\"n\",\"parts\":[{\"raised\":\"E\",\"task\":\"a\",\"tick\":2}]},\"lost\":true,\"outcome\":\"raised\"},\"step\":\"sleep 3\"},"
+    ++ codes "{\"column\":3,\"fault\":\"hangs\",\"line\":9,\"reached\":false,\"result\":{\"limit\":50,\"outcome\":\"stuck\",\"sleeping\":[\"a\"]},\"step\":\"forever\"},"
+    ++ codes "{\"column\":3,\"fault\":\"misses\",\"line\":10,\"reached\":false,\"result\":{\"outcome\":\"refused\"},\"step\":\"need \\\"k\\\\\\\\\\\\\\\\\\\" Gone\"}]}\n"
+unfolding digits escape_byte
+faults_are_written = refl
+
+-- neighbours do not share a line
+pub sweep_is_written :
+    document (sweep_json 50 (ended 3 None [] [] false)
+    (value 1 (ended 3 None [] [] false) ∷ value 2 (ended 3 None [] [] false) ∷ value 3 (stuck []) ∷ value 4 refused ∷ []))
+    ≡ codes "{\"as_it_is\":{\"result\":{\"cancelled\":[],\"cut\":[],\"end\":3,\"exception\":null,\"lost\":false,\"outcome\":\"done\"}},"
+    ++ codes "\"counts\":{\"cut\":0,\"refused\":1,\"stuck\":1,\"values\":4},"
+    ++ codes "\"lines\":[{\"result\":{\"cancelled\":[],\"cut\":[],\"end\":3,\"exception\":null,\"lost\":false,\"outcome\":\"done\"},\"value\":1},"
+    ++ codes "{\"result\":{\"cancelled\":[],\"cut\":[],\"end\":3,\"exception\":null,\"lost\":false,\"outcome\":\"done\"},\"value\":2},"
+    ++ codes "{\"result\":{\"limit\":50,\"outcome\":\"stuck\",\"sleeping\":[]},\"value\":3},"
+    ++ codes "{\"result\":{\"outcome\":\"refused\"},\"value\":4}]}\n"
+unfolding digits escape_byte
+sweep_is_written = refl
+
+-- a hair that changes nothing is left out
+pub races_are_written :
+    document (races_json 4
+    (races.finer (races.differs (inside (copy (codes "w") 1) ∷ []))
+    ∷ races.moved 4 18 (Sleep (record { from = 0; to = 0; value = 5 })) Earlier
+    (races.differs (otherwise (task (codes "a")) (codes "done") (codes "cancelled") ∷ []))
+    ∷ races.moved 4 18 (Sleep (record { from = 0; to = 0; value = 5 })) Later (races.differs [])
+    ∷ races.copies 2 26 (codes "w") 3 (copy (codes "w") 0) (copy (codes "w") 1) 2
+    ∷ []))
+    ≡ codes "{\"counts\":{\"hairs\":4,\"races\":3,\"refused\":0},"
+    ++ codes "\"lines\":[{\"differences\":[{\"entries_differ\":true,\"task\":\"w.1\"}],\"hair\":\"finer\",\"refused\":false},"
+    ++ codes "{\"column\":18,\"differences\":[{\"after\":\"cancelled\",\"before\":\"done\",\"task\":\"a\"}],\"hair\":\"earlier\",\"line\":4,\"refused\":false,\"step\":\"sleep 5\"},"
+    ++ codes "{\"column\":26,\"hair\":\"copies\",\"line\":2,\"step\":\"start w over 3\",\"tasks\":[\"w.0\",\"w.1\"],\"tick\":2}]}\n"
+unfolding digits escape_byte
+races_are_written = refl
+
+-- with the places in this text, of two lines
+pub lints_are_written :
+    document (lints_json (codes "nursery 1\njob x { forever; sleep 1; }")
+    (record { at = 26; lint = Unreachable; name = None } ∷ record { at = 18; lint = IdleScope; name = Some (codes "s") } ∷ []))
+    ≡ codes "{\"counts\":{\"warnings\":2},"
+    ++ codes "\"lines\":[{\"at\":26,\"column\":17,\"kind\":\"unreachable\",\"line\":2,\"name\":null,"
+    ++ codes "\"sentence\":\"this step never runs: the step before it never ends well\"},"
+    ++ codes "{\"at\":18,\"column\":9,\"kind\":\"idle_scope\",\"line\":2,\"name\":\"s\","
+    ++ codes "\"sentence\":\"nothing cancels the scope s: it has no deadline, and no `cancel s` is in it\"}]}\n"
+unfolding digits escape_byte
+lints_are_written = refl

@@ -1,0 +1,61 @@
+-- The places of a job that its outcome hangs on by a hair, as a JSON value.
+use Rattle.std.specs.Prelude.{ℕ, true, List, [], ◌∷◌, length, map, codes}
+use Rattle.serde_json.specs.Data.{Data, boolean, object, member, no_members}
+use Rattle.exc_groups.specs.Exceptions.{Label}
+use Rattle.job_edits.specs.declared.shift.Hair.{Hair}
+use Rattle.race_rows.specs.Differences.{Difference, otherwise, inside}
+use Rattle.race_text.specs.Lines.{Found, refused, differs, Line, finer, moved, copies, is_shown, is_race, is_refused_found, is_refused}
+use Rattle.race_text.specs.Table.{hair_name, step_text, only}
+use Rattle.json_report.specs.Values.{integer, word, list_of, text_json, label_json}
+
+-- `{"after":TEXT,"before":TEXT,"task":LABEL}`, or `{"entries_differ":true,"task":LABEL}` where only lines or scopes differ
+abbrev pub difference_json : Difference → Data
+difference_json (otherwise task before after) =
+    object (member (codes "after") (text_json after) (member (codes "before") (text_json before)
+    (member (codes "task") (label_json task) no_members)))
+difference_json (inside task) =
+    object (member (codes "entries_differ") (boolean true) (member (codes "task") (label_json task) no_members))
+
+-- all differences: none where the text is refused
+abbrev pub differences_json : Found → List Data
+differences_json refused = []
+differences_json (differs tasks) = map difference_json tasks
+
+-- the text in finer ticks: `{"differences":[..],"hair":"finer","refused":B}`
+abbrev pub finer_json : Found → Data
+finer_json found =
+    object (member (codes "differences") (list_of (differences_json found)) (member (codes "hair") (word (codes "finer"))
+    (member (codes "refused") (boolean (is_refused_found found)) no_members)))
+
+-- a place that is moved: `{"column":N,"differences":[..],"hair":WORD,"line":N,"refused":B,"step":TEXT}`
+abbrev pub moved_json : ℕ → ℕ → Hair → Found → List ℕ → Data
+moved_json line column hair found step =
+    object (member (codes "column") (integer column) (member (codes "differences") (list_of (differences_json found))
+    (member (codes "hair") (word (hair_name hair)) (member (codes "line") (integer line)
+    (member (codes "refused") (boolean (is_refused_found found)) (member (codes "step") (text_json step) no_members))))))
+
+-- copies that meet: `{"column":N,"hair":"copies","line":N,"step":TEXT,"tasks":[LABEL,LABEL],"tick":T}`
+abbrev pub copies_json : ℕ → ℕ → Label → Label → ℕ → List ℕ → Data
+copies_json line column one other tick step =
+    object (member (codes "column") (integer column) (member (codes "hair") (word (codes "copies")) (member (codes "line") (integer line)
+    (member (codes "step") (text_json step) (member (codes "tasks") (list_of (label_json one ∷ label_json other ∷ []))
+    (member (codes "tick") (integer tick) no_members))))))
+
+-- a line, with what stands at its place
+abbrev pub race_line_json : Line → Data
+race_line_json (finer found) = finer_json found
+race_line_json (moved line column moment hair found) = moved_json line column hair found (step_text (moved line column moment hair found))
+race_line_json (copies line column name count one other tick) =
+    copies_json line column one other tick (step_text (copies line column name count one other tick))
+
+-- how many hairs were tried, how many lines are races, and how many texts were refused
+abbrev pub race_counts_json : ℕ → List Line → Data
+race_counts_json hairs ls =
+    object (member (codes "hairs") (integer hairs) (member (codes "races") (integer (length (only is_race ls)))
+    (member (codes "refused") (integer (length (only is_refused ls))) no_members)))
+
+-- the counts, and the lines of which something is to be told
+abbrev pub races_json : ℕ → List Line → Data
+races_json hairs ls =
+    object (member (codes "counts") (race_counts_json hairs ls)
+    (member (codes "lines") (list_of (map race_line_json (only is_shown ls))) no_members))

@@ -1,0 +1,32 @@
+-- What becomes of a job by a limit, as a JSON value. The members of an object stand in the order of their keys.
+use Rattle.std.specs.Prelude.{ℕ, Option, Some, None, List, map, codes}
+use Rattle.serde_json.specs.Data.{Data, null, boolean, object, member, no_members}
+use Rattle.exc_groups.specs.Exceptions.{Exc, cancelled}
+use Rattle.fault_text.specs.Fates.{Fate, refused, stuck, ended}
+use Rattle.json_report.specs.Values.{integer, word, list_of, label_json, exc_json}
+
+-- how a job ends, in a word: well, with one `Cancelled` outside any group, or with another exception
+abbrev pub end_word : Option Exc → List ℕ
+end_word None = codes "done"
+end_word (Some cancelled) = codes "cancelled"
+end_word (Some e) = codes "raised"
+
+abbrev pub exc_or_null : Option Exc → Data
+exc_or_null None = null
+exc_or_null (Some e) = exc_json e
+
+-- `{"outcome":"refused"}`, or `{"limit":T,"outcome":"stuck","sleeping":[LABEL..]}`, or
+-- `{"cancelled":[LABEL..],"cut":[LABEL..],"end":T,"exception":EXC,"lost":B,"outcome":WORD}`
+abbrev pub result_json : ℕ → Fate → Data
+result_json limit refused = object (member (codes "outcome") (word (codes "refused")) no_members)
+result_json limit (stuck sleeping) =
+    object (member (codes "limit") (integer limit) (member (codes "outcome") (word (codes "stuck"))
+    (member (codes "sleeping") (list_of (map label_json sleeping)) no_members)))
+result_json limit (ended end exc labels cut lost) =
+    object (member (codes "cancelled") (list_of (map label_json labels)) (member (codes "cut") (list_of (map label_json cut))
+    (member (codes "end") (integer end) (member (codes "exception") (exc_or_null exc) (member (codes "lost") (boolean lost)
+    (member (codes "outcome") (word (end_word exc)) no_members))))))
+
+-- what becomes of the job as it is: `{"result":RESULT}`
+abbrev pub first_json : ℕ → Fate → Data
+first_json limit first = object (member (codes "result") (result_json limit first) no_members)

@@ -1,0 +1,150 @@
+ghost use Rattle.std.specs.Prelude.{◌≡◌, ◌++◌, [], ◌∷◌, IfOk, length, map, take, codes};
+ghost use Rattle.serde_json.specs.View.{view};
+ghost use Rattle.fault_text.specs.Fates.{is_stuck, has_cut, has_lost, is_refused};
+ghost use Rattle.fault_text.specs.Table.{count, fault_text, is_unreached, step_text};
+ghost use Rattle.fault_text.specs.Views.{fate_held, line_held};
+ghost use Rattle.json_report.specs.Values.{document, text_json};
+ghost use Rattle.json_tables.specs.Faults.{fault_line_json, fault_counts_json, faults_json};
+
+use crate::results::{first_value, result_value};
+use fault_text::{Fate, Line};
+use job_edits::{Fault, push_wait};
+use json_report::{document, text_value};
+use serde_json::{Value, json};
+use std::alloc::{AllocError, Global};
+
+/// What becomes of a job, as one JSON document in compact form and with a newline: as it is (`first`), with each fault, and how many faults are of
+/// each kind. The limit is the last tick at which the job may end. Want of memory is the only error.
+#[tactic(auto, using(crate::proofs::Integers::faults_without_float))]
+pub fn faults_json(
+    alloc: Global,
+    limit: u64,
+    first: &Fate,
+    lines: &[Line],
+) -> Result<Vec<u8>, AllocError>
+    ensures { IfOk result (λ bytes. bytes.items ≡ document (faults_json limit (fate_held first.now) (map line_held lines.now))) }
+{
+    let value = faults_value(alloc, limit, first, lines)?;
+    document(alloc, &value)
+}
+
+// The same as a JSON object.
+fn faults_value(
+    alloc: Global,
+    limit: u64,
+    first: &Fate,
+    lines: &[Line],
+) -> Result<Value, AllocError>
+    ensures { IfOk result (λ value. view value ≡ faults_json limit (fate_held first.now) (map line_held lines.now)) }
+{
+    let as_it_is = first_value(alloc, limit, first)?;
+    let counts = counts_value(alloc, lines)?;
+    let values = line_values(alloc, limit, lines)?;
+    json!(in alloc; {"as_it_is": as_it_is, "counts": counts, "lines": values})
+}
+
+// What becomes of a job with each fault, as JSON objects.
+fn line_values(alloc: Global, limit: u64, lines: &[Line]) -> Result<Vec<Value>, AllocError>
+    ensures { IfOk result (λ values. map view values.items ≡ map (fault_line_json limit) (map line_held lines.now)) }
+{
+    let mut values = Vec::new(alloc);
+    'lines: for line in lines {
+        let value = line_value(alloc, limit, line)?;
+        values.push(value)?;
+    }
+    Ok(values)
+}
+
+// What becomes of a job with a fault, as a JSON object.
+fn line_value(alloc: Global, limit: u64, line: &Line) -> Result<Value, AllocError>
+    ensures { IfOk result (λ value. view value ≡ fault_line_json limit (line_held line.now)) }
+{
+    let step = step_value(alloc, line)?;
+    let result = result_value(alloc, limit, &line.fate)?;
+    json!(in alloc; {
+        "line": line.line,
+        "column": line.column,
+        "step": step,
+        "fault": fault_word(line.variant.fault),
+        "reached": line.reached,
+        "result": result
+    })
+}
+
+// The step of a line.
+fn step_value(alloc: Global, line: &Line) -> Result<Value, AllocError>
+    ensures { IfOk result (λ value. view value ≡ text_json (step_text (line_held line.now))) }
+{
+    let mut text = Vec::new(alloc);
+    push_wait(alloc, &mut text, line.variant.step.wait)?;
+    text_value(alloc, text.as_slice())
+}
+
+// The name of a fault.
+fn fault_word(fault: Fault) -> &'static str
+    ensures { result.now ≡ fault_text fault }
+{
+    match fault {
+        Fault::Fails => "fails",
+        Fault::FailsLate => "fails late",
+        Fault::Hangs => "hangs",
+        Fault::Cancelled => "cancelled",
+        Fault::Misses(_) => "misses",
+    }
+}
+
+// How many faults are of each kind.
+fn counts_value(alloc: Global, lines: &[Line]) -> Result<Value, AllocError>
+    ensures { IfOk result (λ value. view value ≡ fault_counts_json (map line_held lines.now)) }
+{
+    json!(in alloc; {
+        "faults": count_of(lines),
+        "stuck": stuck_in(lines),
+        "cut": cut_in(lines),
+        "lost": lost_in(lines),
+        "not_reached": unreached_in(lines),
+        "refused": refused_in(lines)
+    })
+}
+
+// How many faults there are.
+fn count_of(lines: &[Line]) -> usize
+    ensures { result ≡ length (map line_held lines.now) }
+{
+    lines.len()
+}
+
+// How many jobs do not end by the limit.
+fn stuck_in(lines: &[Line]) -> usize
+    ensures { result ≡ count (λ l. is_stuck l.fate) (map line_held lines.now) }
+{
+    lines.iter().filter(|line| line.fate.is_stuck()).count()
+}
+
+// How many jobs cut a cleanup.
+fn cut_in(lines: &[Line]) -> usize
+    ensures { result ≡ count (λ l. has_cut l.fate) (map line_held lines.now) }
+{
+    lines.iter().filter(|line| line.fate.has_cut()).count()
+}
+
+// How many jobs lose the fault's exception.
+fn lost_in(lines: &[Line]) -> usize
+    ensures { result ≡ count (λ l. has_lost l.fate) (map line_held lines.now) }
+{
+    lines.iter().filter(|line| line.fate.has_lost()).count()
+}
+
+// How many faults are not reached.
+fn unreached_in(lines: &[Line]) -> usize
+    ensures { result ≡ count is_unreached (map line_held lines.now) }
+{
+    lines.iter().filter(|line| line.is_unreached()).count()
+}
+
+// How many texts are refused.
+fn refused_in(lines: &[Line]) -> usize
+    ensures { result ≡ count (λ l. is_refused l.fate) (map line_held lines.now) }
+{
+    lines.iter().filter(|line| line.fate.is_refused()).count()
+}

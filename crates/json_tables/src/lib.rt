@@ -1,0 +1,19 @@
+//! What becomes of a job with faults, for values of a number and by a hair, and what is probably wrong in it, each as one JSON document.
+//!
+//! The layer promises that `faults_json`, `sweep_json`, `races_json` and `lints_json` give the JSON text of a definition over the same lines that the
+//! text tables tell (`specs/`). Bytes of a job text and of names are shown as in a report, so a backslash is doubled and a byte that is not printable
+//! ASCII is escaped. It stands on `fault_text`, `sweep_text`, `race_text` and `job_lint` for the lines, and on `json_report` for the values of labels,
+//! exceptions and bytes.
+#![tactic(auto)]
+
+mod fault_lines;
+mod race_lines;
+mod results;
+mod sweep_lines;
+mod warnings;
+
+pub use fault_lines::faults_json;
+pub use race_lines::races_json;
+pub use results::result_value;
+pub use sweep_lines::sweep_json;
+pub use warnings::lints_json;

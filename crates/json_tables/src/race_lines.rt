@@ -1,0 +1,223 @@
+ghost use Rattle.std.specs.Prelude.{◌≡◌, ◌++◌, [], ◌∷◌, List, IfOk, OnOk, length, map, take, drop, codes, if◌then◌else◌};
+ghost use Rattle.serde_json.specs.View.{view};
+ghost use Rattle.race_rows.specs.Views.{difference_held};
+ghost use Rattle.race_text.specs.Lines as told;
+ghost use Rattle.race_text.specs.Lines.{is_shown};
+ghost use Rattle.race_text.specs.Table.{hair_name, only};
+ghost use Rattle.race_text.specs.Views.{found_held, line_held};
+ghost use Rattle.json_report.specs.Values.{document, label_json, list_of};
+ghost use Rattle.json_tables.specs.Races.{difference_json, differences_json, finer_json, moved_json, copies_json, race_line_json, race_counts_json, races_json};
+
+use exc_groups::Label;
+use job_edits::Hair;
+use json_report::{document, label_value, text_value};
+use race_rows::Difference;
+use race_text::{Found, Line, races_in, refused_in, step_of};
+use serde_json::{Value, json};
+use std::alloc::{AllocError, Global};
+
+/// What is told of a job with one of its places moved by a hair, as one JSON document in compact form and with a newline: each line of which
+/// something is to be told, in their order, with all differences; and how many hairs were tried, and how many lines are races. Want of memory is
+/// the only error.
+#[tactic(auto, using(crate::proofs::Integers::races_without_float))]
+pub fn races_json(alloc: Global, hairs: usize, lines: &[Line]) -> Result<Vec<u8>, AllocError>
+    ensures { IfOk result (λ bytes. bytes.items ≡ document (races_json hairs (map line_held lines.now))) }
+{
+    let value = races_value(alloc, hairs, lines)?;
+    document(alloc, &value)
+}
+
+// The same as a JSON object.
+fn races_value(alloc: Global, hairs: usize, lines: &[Line]) -> Result<Value, AllocError>
+    ensures { IfOk result (λ value. view value ≡ races_json hairs (map line_held lines.now)) }
+{
+    let counts = counts_value(alloc, hairs, lines)?;
+    let values = line_values(alloc, lines)?;
+    json!(in alloc; {"counts": counts, "lines": values})
+}
+
+// How many hairs were tried, how many lines are races, and how many texts were refused.
+fn counts_value(alloc: Global, hairs: usize, lines: &[Line]) -> Result<Value, AllocError>
+    ensures { IfOk result (λ value. view value ≡ race_counts_json hairs (map line_held lines.now)) }
+{
+    json!(in alloc; {
+        "hairs": hairs,
+        "races": races_in(lines),
+        "refused": refused_in(lines)
+    })
+}
+
+// The lines of which something is to be told, as JSON objects.
+fn line_values(alloc: Global, lines: &[Line]) -> Result<Vec<Value>, AllocError>
+    ensures { IfOk result (λ values. map view values.items ≡ map race_line_json (only is_shown (map line_held lines.now))) }
+{
+    let mut values = Vec::new(alloc);
+    'lines: for line in lines {
+        push_if_shown(&mut values, alloc, line)?;
+    }
+    Ok(values)
+}
+
+// Pushes a line, if something is to be told of it. The clause has the lines that a loop pushes later, `others`, on both sides.
+fn push_if_shown(values: &mut Vec<Value>, alloc: Global, line: &Line) -> Result<(), AllocError>
+    ensures { OnOk result ((others : List told.Line) →
+        map view values.new.items ++ map race_line_json others
+        ≡ map view values.old.items ++ map race_line_json (if is_shown (line_held line.now) then line_held line.now ∷ others else others)) }
+{
+    if !line.is_shown() {
+        return Ok(());
+    }
+    let value = line_value(alloc, line)?;
+    values.push(value)?;
+    Ok(())
+}
+
+// A line as a JSON object.
+#[tactic(auto, using(crate::proofs::Raced::of_moved, crate::proofs::Raced::of_copies))]
+fn line_value(alloc: Global, line: &Line) -> Result<Value, AllocError>
+    ensures { IfOk result (λ value. view value ≡ race_line_json (line_held line.now)) }
+{
+    let step = step_of(alloc, line)?;
+    match line {
+        Line::Finer(found) => finer_value(alloc, found),
+        Line::Moved {
+            line,
+            column,
+            hair,
+            found,
+            ..
+        } => {
+            let value = moved_value(alloc, *line, *column, *hair, found, step.as_slice())?;
+            Ok(value)
+        }
+        Line::Copies {
+            line,
+            column,
+            one,
+            other,
+            tick,
+            ..
+        } => {
+            let value = copies_value(alloc, *line, *column, one, other, *tick, step.as_slice())?;
+            Ok(value)
+        }
+    }
+}
+
+// The text in finer ticks.
+fn finer_value(alloc: Global, found: &Found) -> Result<Value, AllocError>
+    ensures { IfOk result (λ value. view value ≡ finer_json (found_held found.now)) }
+{
+    let differences = difference_values(alloc, found)?;
+    json!(in alloc; {"hair": "finer", "refused": found.is_refused(), "differences": differences})
+}
+
+// A place that is moved, with its step.
+fn moved_value(
+    alloc: Global,
+    line: usize,
+    column: usize,
+    hair: Hair,
+    found: &Found,
+    step: &[u8],
+) -> Result<Value, AllocError>
+    ensures { IfOk result (λ value. view value ≡ moved_json line column hair (found_held found.now) step.now) }
+{
+    let text = text_value(alloc, step)?;
+    let differences = difference_values(alloc, found)?;
+    json!(in alloc; {
+        "line": line,
+        "column": column,
+        "step": text,
+        "hair": hair_word(hair),
+        "refused": found.is_refused(),
+        "differences": differences
+    })
+}
+
+// Copies that meet, with the step that starts them.
+fn copies_value(
+    alloc: Global,
+    line: usize,
+    column: usize,
+    one: &Label,
+    other: &Label,
+    tick: u64,
+    step: &[u8],
+) -> Result<Value, AllocError>
+    ensures { IfOk result (λ value. view value ≡ copies_json line column one.now other.now tick step.now) }
+{
+    let text = text_value(alloc, step)?;
+    let tasks = pair_value(alloc, one, other)?;
+    json!(in alloc; {
+        "line": line,
+        "column": column,
+        "step": text,
+        "hair": "copies",
+        "tasks": tasks,
+        "tick": tick
+    })
+}
+
+// Two tasks.
+fn pair_value(alloc: Global, one: &Label, other: &Label) -> Result<Value, AllocError>
+    ensures { IfOk result (λ value. view value ≡ list_of (label_json one.now ∷ label_json other.now ∷ [])) }
+{
+    let first = label_value(alloc, one)?;
+    let second = label_value(alloc, other)?;
+    json!(in alloc; [first, second])
+}
+
+// The direction of a hair, in a word.
+fn hair_word(hair: Hair) -> &'static str
+    ensures { result.now ≡ hair_name hair }
+{
+    match hair {
+        Hair::Earlier => "earlier",
+        Hair::Later => "later",
+    }
+}
+
+// What differs, as JSON objects.
+fn difference_values(alloc: Global, found: &Found) -> Result<Vec<Value>, AllocError>
+    ensures { IfOk result (λ values. map view values.items ≡ differences_json (found_held found.now)) }
+{
+    match found {
+        Found::Refused => Ok(Vec::new(alloc)),
+        Found::Differs(tasks) => values_of(alloc, tasks.as_slice()),
+    }
+}
+
+// Differences as JSON objects.
+fn values_of(alloc: Global, tasks: &[Difference]) -> Result<Vec<Value>, AllocError>
+    ensures { IfOk result (λ values. map view values.items ≡ map difference_json (map difference_held tasks.now)) }
+{
+    let mut values = Vec::new(alloc);
+    'tasks: for difference in tasks {
+        let value = difference_value(alloc, difference)?;
+        values.push(value)?;
+    }
+    Ok(values)
+}
+
+// A task that differs, as a JSON object.
+fn difference_value(alloc: Global, difference: &Difference) -> Result<Value, AllocError>
+    ensures { IfOk result (λ value. view value ≡ difference_json (difference_held difference.now)) }
+{
+    match difference {
+        Difference::Otherwise {
+            task,
+            before,
+            after,
+        } => {
+            let label = label_value(alloc, task)?;
+            let old = text_value(alloc, before.as_slice())?;
+            let new = text_value(alloc, after.as_slice())?;
+            json!(in alloc; {"task": label, "before": old, "after": new})
+        }
+        Difference::Inside { task } => {
+            let label = label_value(alloc, task)?;
+            json!(in alloc; {"task": label, "entries_differ": true})
+        }
+    }
+}

@@ -1,0 +1,95 @@
+ghost use Rattle.std.specs.Prelude.{◌≡◌, ◌++◌, [], ◌∷◌, Some, IfOk, codes, map, take};
+ghost use Rattle.std.specs.Option.{option_map};
+ghost use Rattle.serde_json.specs.View.{view};
+ghost use Rattle.exc_groups.specs.Held.{exc_of};
+ghost use Rattle.fault_text.specs.Views.{fate_held};
+ghost use Rattle.json_report.specs.Values.{label_json};
+ghost use Rattle.json_tables.specs.Results.{end_word, exc_or_null, result_json, first_json};
+
+use exc_groups::{Exc, Label};
+use fault_text::Fate;
+use json_report::{exc_value, label_value};
+use serde_json::{Value, json};
+use std::alloc::{AllocError, Global};
+
+/// What becomes of a job by a limit in ticks, as a JSON object. Want of memory is the only error.
+pub fn result_value(alloc: Global, limit: u64, fate: &Fate) -> Result<Value, AllocError>
+    ensures { IfOk result (λ value. view value ≡ result_json limit (fate_held fate.now)) }
+{
+    match fate {
+        Fate::Refused => json!(in alloc; {"outcome": "refused"}),
+        Fate::Stuck { sleeping } => {
+            let tasks = label_values(alloc, sleeping.as_slice())?;
+            json!(in alloc; {"outcome": "stuck", "limit": limit, "sleeping": tasks})
+        }
+        Fate::Ended {
+            end,
+            exc,
+            cancelled,
+            cut,
+            lost,
+        } => {
+            let ended_cancelled = label_values(alloc, cancelled.as_slice())?;
+            let cut_in_cleanup = label_values(alloc, cut.as_slice())?;
+            let exception = exception_value(alloc, exc)?;
+            json!(in alloc; {
+                "outcome": end_word(exc),
+                "end": *end,
+                "exception": exception,
+                "cancelled": ended_cancelled,
+                "cut": cut_in_cleanup,
+                "lost": *lost
+            })
+        }
+    }
+}
+
+// What becomes of the job as it is.
+pub(crate) fn first_value(alloc: Global, limit: u64, first: &Fate) -> Result<Value, AllocError>
+    ensures { IfOk result (λ value. view value ≡ first_json limit (fate_held first.now)) }
+{
+    let result = result_value(alloc, limit, first)?;
+    json!(in alloc; {"result": result})
+}
+
+// How a job ends, in a word.
+fn end_word(exc: &Option<Exc>) -> &'static str
+    ensures { result.now ≡ end_word (option_map exc_of exc.now) }
+{
+    let Some(exc) = exc else {
+        return "done";
+    };
+    exc_word(exc)
+}
+
+// With what exception a job ends, in a word: a cancellation, or another.
+fn exc_word(exc: &Exc) -> &'static str
+    ensures { result.now ≡ end_word (Some (exc_of exc.now)) }
+{
+    match exc {
+        Exc::Cancelled => "cancelled",
+        Exc::Raised { .. } | Exc::TooSlow { .. } | Exc::Group { .. } => "raised",
+    }
+}
+
+// The exception that a job ends with, or `null`.
+fn exception_value(alloc: Global, exc: &Option<Exc>) -> Result<Value, AllocError>
+    ensures { IfOk result (λ value. view value ≡ exc_or_null (option_map exc_of exc.now)) }
+{
+    match exc {
+        Some(exc) => exc_value(alloc, exc),
+        None => Ok(Value::Null),
+    }
+}
+
+// Labels as JSON strings.
+fn label_values(alloc: Global, labels: &[Label]) -> Result<Vec<Value>, AllocError>
+    ensures { IfOk result (λ values. map view values.items ≡ map label_json labels.now) }
+{
+    let mut values = Vec::new(alloc);
+    'labels: for label in labels {
+        let value = label_value(alloc, label)?;
+        values.push(value)?;
+    }
+    Ok(values)
+}

@@ -1,0 +1,105 @@
+ghost use Rattle.std.specs.Prelude.{◌≡◌, ◌++◌, [], ◌∷◌, IfOk, length, map, take, codes};
+ghost use Rattle.serde_json.specs.View.{view};
+ghost use Rattle.fault_text.specs.Fates.{is_stuck, has_cut, is_refused};
+ghost use Rattle.fault_text.specs.Views.{fate_held};
+ghost use Rattle.sweep_text.specs.Sweeps.{count};
+ghost use Rattle.sweep_text.specs.Views.{value_held};
+ghost use Rattle.json_report.specs.Values.{document};
+ghost use Rattle.json_tables.specs.Sweeps.{value_json, value_counts_json, sweep_json};
+
+use crate::results::{first_value, result_value};
+use fault_text::Fate;
+use json_report::document;
+use serde_json::{Value, json};
+use std::alloc::{AllocError, Global};
+use sweep_text::Value as Swept;
+
+/// What becomes of a job, as one JSON document in compact form and with a newline: as it is (`first`), for each value of a number in their order,
+/// ticks included, and how many values are of each kind. The limit is the last tick at which the job may end. Want of memory is the only error.
+#[tactic(auto, using(crate::proofs::Integers::sweep_without_float))]
+pub fn sweep_json(
+    alloc: Global,
+    limit: u64,
+    first: &Fate,
+    values: &[Swept],
+) -> Result<Vec<u8>, AllocError>
+    ensures { IfOk result (λ bytes. bytes.items ≡ document (sweep_json limit (fate_held first.now) (map value_held values.now))) }
+{
+    let value = sweep_value(alloc, limit, first, values)?;
+    document(alloc, &value)
+}
+
+// The same as a JSON object.
+fn sweep_value(
+    alloc: Global,
+    limit: u64,
+    first: &Fate,
+    values: &[Swept],
+) -> Result<Value, AllocError>
+    ensures { IfOk result (λ value. view value ≡ sweep_json limit (fate_held first.now) (map value_held values.now)) }
+{
+    let as_it_is = first_value(alloc, limit, first)?;
+    let counts = counts_value(alloc, values)?;
+    let lines = line_values(alloc, limit, values)?;
+    json!(in alloc; {"as_it_is": as_it_is, "counts": counts, "lines": lines})
+}
+
+// What becomes of a job for each value, as JSON objects.
+fn line_values(alloc: Global, limit: u64, values: &[Swept]) -> Result<Vec<Value>, AllocError>
+    ensures { IfOk result (λ lines. map view lines.items ≡ map (value_json limit) (map value_held values.now)) }
+{
+    let mut lines = Vec::new(alloc);
+    'values: for value in values {
+        let line = line_value(alloc, limit, value)?;
+        lines.push(line)?;
+    }
+    Ok(lines)
+}
+
+// What becomes of a job for a value, as a JSON object.
+fn line_value(alloc: Global, limit: u64, value: &Swept) -> Result<Value, AllocError>
+    ensures { IfOk result (λ line. view line ≡ value_json limit (value_held value.now)) }
+{
+    let result = result_value(alloc, limit, &value.fate)?;
+    json!(in alloc; {"value": value.value, "result": result})
+}
+
+// How many values are of each kind.
+fn counts_value(alloc: Global, values: &[Swept]) -> Result<Value, AllocError>
+    ensures { IfOk result (λ value. view value ≡ value_counts_json (map value_held values.now)) }
+{
+    json!(in alloc; {
+        "values": count_of(values),
+        "stuck": stuck_in(values),
+        "cut": cut_in(values),
+        "refused": refused_in(values)
+    })
+}
+
+// How many values there are.
+fn count_of(values: &[Swept]) -> usize
+    ensures { result ≡ length (map value_held values.now) }
+{
+    values.len()
+}
+
+// For how many values the job does not end by the limit.
+fn stuck_in(values: &[Swept]) -> usize
+    ensures { result ≡ count is_stuck (map value_held values.now) }
+{
+    values.iter().filter(|v| v.fate.is_stuck()).count()
+}
+
+// For how many values the job cuts a cleanup.
+fn cut_in(values: &[Swept]) -> usize
+    ensures { result ≡ count has_cut (map value_held values.now) }
+{
+    values.iter().filter(|v| v.fate.has_cut()).count()
+}
+
+// For how many values the text is refused.
+fn refused_in(values: &[Swept]) -> usize
+    ensures { result ≡ count is_refused (map value_held values.now) }
+{
+    values.iter().filter(|v| v.fate.is_refused()).count()
+}

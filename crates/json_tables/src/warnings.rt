@@ -1,0 +1,106 @@
+ghost use Rattle.std.specs.Prelude.{◌≡◌, ◌++◌, [], ◌∷◌, IfOk, length, map, take, codes};
+ghost use Rattle.serde_json.specs.View.{view};
+ghost use Rattle.job_lint.specs.Sentences.{sentence_of};
+ghost use Rattle.json_report.specs.Values.{document, text_json};
+ghost use Rattle.json_tables.specs.Lints.{kind_word, name_or_null, warning_json, warning_counts_json, lints_json};
+
+use job_lint::{Lint, Warning, sentence};
+use job_tree::Name;
+use json_report::{document, text_value};
+use nursery_app::{column_of, line_of};
+use serde_json::{Value, json};
+use std::alloc::{AllocError, Global};
+
+/// The probable mistakes in a job text, as one JSON document in compact form and with a newline: how many there are, and each with its place in
+/// bytes, its line and column, its kind, the name that it is about and a sentence. Want of memory is the only error.
+#[tactic(auto, using(crate::proofs::Integers::lints_without_float))]
+pub fn lints_json(
+    alloc: Global,
+    job_text: &[u8],
+    warnings: &[Warning],
+) -> Result<Vec<u8>, AllocError>
+    ensures { IfOk result (λ bytes. bytes.items ≡ document (lints_json job_text.now warnings.now)) }
+{
+    let value = lints_value(alloc, job_text, warnings)?;
+    document(alloc, &value)
+}
+
+// The same as a JSON object.
+fn lints_value(alloc: Global, job_text: &[u8], warnings: &[Warning]) -> Result<Value, AllocError>
+    ensures { IfOk result (λ value. view value ≡ lints_json job_text.now warnings.now) }
+{
+    let counts = counts_value(alloc, warnings)?;
+    let lines = warning_values(alloc, job_text, warnings)?;
+    json!(in alloc; {"counts": counts, "lines": lines})
+}
+
+// How many warnings there are.
+fn counts_value(alloc: Global, warnings: &[Warning]) -> Result<Value, AllocError>
+    ensures { IfOk result (λ value. view value ≡ warning_counts_json warnings.now) }
+{
+    json!(in alloc; {"warnings": warnings.len()})
+}
+
+// Warnings as JSON objects.
+fn warning_values(
+    alloc: Global,
+    job_text: &[u8],
+    warnings: &[Warning],
+) -> Result<Vec<Value>, AllocError>
+    ensures { IfOk result (λ values. map view values.items ≡ map (warning_json job_text.now) warnings.now) }
+{
+    let mut values = Vec::new(alloc);
+    'warnings: for warning in warnings {
+        let value = warning_value(alloc, job_text, warning)?;
+        values.push(value)?;
+    }
+    Ok(values)
+}
+
+// A warning as a JSON object.
+fn warning_value(alloc: Global, job_text: &[u8], warning: &Warning) -> Result<Value, AllocError>
+    ensures { IfOk result (λ value. view value ≡ warning_json job_text.now warning.now) }
+{
+    let name = name_value(alloc, &warning.name)?;
+    let said = sentence_value(alloc, warning)?;
+    json!(in alloc; {
+        "at": warning.at,
+        "line": line_of(job_text, warning.at),
+        "column": column_of(job_text, warning.at),
+        "kind": kind_word(warning.lint),
+        "name": name,
+        "sentence": said
+    })
+}
+
+// The sentence of a warning.
+fn sentence_value(alloc: Global, warning: &Warning) -> Result<Value, AllocError>
+    ensures { IfOk result (λ value. view value ≡ text_json (sentence_of warning.now)) }
+{
+    let said = sentence(alloc, warning)?;
+    text_value(alloc, said.as_slice())
+}
+
+// A name, or `null`.
+fn name_value(alloc: Global, name: &Option<Name>) -> Result<Value, AllocError>
+    ensures { IfOk result (λ value. view value ≡ name_or_null name.now) }
+{
+    match name {
+        Some(name) => text_value(alloc, name.bytes()),
+        None => Ok(Value::Null),
+    }
+}
+
+// The kind of a mistake, in a word.
+fn kind_word(lint: Lint) -> &'static str
+    ensures { result.now ≡ kind_word lint }
+{
+    match lint {
+        Lint::Unreachable => "unreachable",
+        Lint::ExposedWait => "exposed_wait",
+        Lint::RaiseInCleanup => "raise_in_cleanup",
+        Lint::ShieldWithoutDeadline => "shield_without_deadline",
+        Lint::IdleScope => "idle_scope",
+        Lint::IdleHandler => "idle_handler",
+    }
+}

@@ -1,0 +1,88 @@
+-- The documents of lines, by the lines and the limit as they were given on.
+use Rattle.std.proofs.Common.{◌≡◌, ℕ, ◌<◌, Bool, List, [], ◌∷◌, length, map, ap, subst, ◌∙◌, arith}
+use Rattle.std.specs.Prelude.{if◌then◌else◌}
+use Rattle.job_tree.specs.Tree.{Tree}
+use Rattle.job_grammar.specs.Refusals.{Spells}
+use Rattle.job_edits.specs.declared.number.Target.{Target}
+use Rattle.job_lint.specs.Linted.{AreWarnings}
+use Rattle.job_lint.specs.declared.warning.Warning.{Warning}
+use Rattle.fault_text.specs.Fates.{Fate}
+use Rattle.fault_text.specs.Table as faults
+use Rattle.fault_text.specs.Views as faults_held
+use Rattle.fault_text.specs.declared.deny.Deny.{Deny}
+use Rattle.fault_text.specs.declared.line.Line as faults_kept
+use Rattle.sweep_text.specs.Views.{value_held}
+use Rattle.sweep_text.specs.declared.value.Value.{Value}
+use Rattle.race_text.specs.Table as races
+use Rattle.race_text.specs.Views.{line_held}
+use Rattle.race_text.specs.declared.line.Line.{Line}
+use Rattle.fault_app.specs.Verdicts.{AreFaultLines}
+use Rattle.sweep_app.specs.Answers.{AreSweepValues}
+use Rattle.json_report.specs.Values.{document}
+use Rattle.json_tables.specs.Faults.{faults_json}
+use Rattle.json_tables.specs.Sweeps.{sweep_json}
+use Rattle.json_tables.specs.Races.{races_json}
+use Rattle.json_tables.specs.Lints.{lints_json}
+use Rattle.json_tables_app.specs.Faults as of_faults_are
+use Rattle.json_tables_app.specs.Sweeps as of_values_are
+use Rattle.json_tables_app.specs.Races.{IsDocumentOf}
+use Rattle.json_tables_app.specs.Lints.{IsDocument}
+
+pub of_faults : (text input : List ℕ) (limit l : ℕ) (name : List ℕ) (deny : Deny) (bytes denied : List ℕ) (job : Tree) (first : Fate)
+    (lines ks ms : List faults_kept.Line) →
+    Spells text job → AreFaultLines text input limit name job first (map faults_held.line_held lines) → l ≡ limit → ks ≡ lines →
+    bytes ≡ document (faults_json l first (map faults_held.line_held ks)) → ms ≡ lines →
+    denied ≡ faults.denied_text l deny first (map faults_held.line_held ms) →
+    of_faults_are.IsDocument text input limit name deny bytes denied
+of_faults text input limit l name deny bytes denied job first lines ks ms spells are at k b m d =
+    record {
+      job = job;
+      spells = spells;
+      first = first;
+      lines = map faults_held.line_held lines;
+      lines_are = are;
+      document_is =
+          b ∙ ap (λ (xs : List faults_kept.Line). document (faults_json l first (map faults_held.line_held xs))) k
+          ∙ ap (λ (n : ℕ). document (faults_json n first (map faults_held.line_held lines))) at;
+      denied_are =
+          d ∙ ap (λ (xs : List faults_kept.Line). faults.denied_text l deny first (map faults_held.line_held xs)) m
+          ∙ ap (λ (n : ℕ). faults.denied_text n deny first (map faults_held.line_held lines)) at;
+    }
+
+pub of_values : (text : List ℕ) (job : Tree) (input : List ℕ) (limit l : ℕ) (target : Target) (values bytes : List ℕ) (first : Fate)
+    (vs us : List Value) →
+    AreSweepValues text job input limit target values first (map value_held vs) → l ≡ limit → us ≡ vs →
+    bytes ≡ document (sweep_json l first (map value_held us)) →
+    of_values_are.IsDocument text job input limit target values bytes
+of_values text job input limit l target values bytes first vs us are at same b =
+    record {
+      first = first;
+      vs = map value_held vs;
+      vs_are = are;
+      document_is =
+          b ∙ ap (λ (xs : List Value). document (sweep_json l first (map value_held xs))) same
+          ∙ ap (λ (n : ℕ). document (sweep_json n first (map value_held vs))) at;
+    }
+
+pub of_races : (deny : Bool) (hairs : ℕ) (denied bytes : List ℕ) (lines ks ms : List Line) → ks ≡ lines → ms ≡ lines →
+    bytes ≡ document (races_json hairs (map line_held ks)) → denied ≡ (if deny then races.denied_text (map line_held ms) else []) →
+    IsDocumentOf deny hairs (map line_held lines) denied bytes
+of_races deny hairs denied bytes lines ks ms k m b d =
+    record {
+      document_is = b ∙ ap (λ (ls : List Line). document (races_json hairs (map line_held ls))) k;
+      denied_are = d ∙ ap (λ (ls : List Line). if deny then races.denied_text (map line_held ls) else []) m;
+    }
+
+-- ---- warnings
+
+pub of_none : (text : List ℕ) (found : List Warning) (bytes : List ℕ) → AreWarnings text found → found ≡ [] →
+    bytes ≡ document (lints_json text found) → IsDocument text [] bytes
+of_none text found bytes are none is =
+    record {
+      found_are = subst (λ (ws : List Warning). AreWarnings text ws) none are;
+      document_is = is ∙ ap (λ (ws : List Warning). document (lints_json text ws)) none;
+    }
+
+pub of_some : (text : List ℕ) (found : List Warning) (bytes : List ℕ) → AreWarnings text found → 0 < length found →
+    bytes ≡ document (lints_json text found) → (ws : List Warning) × (0 < length ws) × IsDocument text ws bytes
+of_some text found bytes are some is = (found, some, record { found_are = are; document_is = is })

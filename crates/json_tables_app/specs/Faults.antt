@@ -1,0 +1,44 @@
+-- What `faults_json` answers: what becomes of a job with each fault, or the refusal of its text.
+use Rattle.std.specs.Prelude.{◌≡◌, ℕ, ◌<◌, Option, List, length, take}
+use Rattle.std.specs.Io.KnownBytes.{Appends}
+use Rattle.job_tree.specs.Tree.{Tree}
+use Rattle.job_grammar.specs.Refusals.{Spells, IsRefused}
+use Rattle.nursery_app.specs.declared.verdict.ServeFault.{ServeFault}
+use Rattle.nursery_app.specs.declared.verdict.ServeFault.TheVariants.{Send, NoMemory}
+use Rattle.fault_text.specs.Fates.{Fate}
+use Rattle.fault_text.specs.Table.{Line, denied_text}
+use Rattle.fault_text.specs.declared.deny.Deny.{Deny}
+use Rattle.fault_app.specs.Verdicts.{AreFaultLines}
+use Rattle.fault_app.specs.declared.verdict.FaultsVerdict.{FaultsVerdict}
+use Rattle.fault_app.specs.declared.verdict.FaultsVerdict.TheVariants.{Told, JobRefused}
+use Rattle.json_report.specs.Values.{document}
+use Rattle.json_app.specs.Answers.{refusal_json}
+use Rattle.json_tables.specs.Faults.{faults_json}
+
+-- These bytes tell of the job that the text spells, as it is and with each fault; and these lines of the text table are denied.
+pub record IsDocument (text input : List ℕ) (limit : ℕ) (name : List ℕ) (deny : Deny) (bytes denied : List ℕ) : Type 0 where
+  pub job : Tree
+  pub spells : Spells text job
+  pub first : Fate
+  pub lines : List Line
+  pub lines_are : AreFaultLines text input limit name job first lines
+  pub document_is : bytes ≡ document (faults_json limit first lines)
+  pub denied_are : denied ≡ denied_text limit deny first lines
+
+-- a verdict and its bytes
+abbrev pub IsVerdict : List ℕ → List ℕ → ℕ → List ℕ → Deny → FaultsVerdict → List ℕ → Type 0
+IsVerdict text input limit name deny (Told denied) bytes = IsDocument text input limit name deny bytes denied.items
+IsVerdict text input limit name deny (JobRefused fault) bytes =
+    IsRefused text fault.kind fault.at × (bytes ≡ document (refusal_json text fault))
+
+-- The verdict's bytes were sent, all of them.
+abbrev pub IsSent : List ℕ → List ℕ → ℕ → List ℕ → Deny → Option (List ℕ) → Option (List ℕ) → FaultsVerdict → Type 0
+IsSent text input limit name deny before after verdict =
+    (bytes : List ℕ) × IsVerdict text input limit name deny verdict bytes × Appends before after bytes
+
+-- The writer failed after the first `sent` of the verdict's bytes; or memory was refused, and nothing was sent.
+abbrev pub IsFaultsFault : List ℕ → List ℕ → ℕ → List ℕ → Deny → Option (List ℕ) → Option (List ℕ) → ServeFault → Type 0
+IsFaultsFault text input limit name deny before after (Send sent) =
+    (verdict : FaultsVerdict) × (bytes : List ℕ) × IsVerdict text input limit name deny verdict bytes × (sent < length bytes)
+    × Appends before after (take sent bytes)
+IsFaultsFault text input limit name deny before after NoMemory = after ≡ before

@@ -1,0 +1,5 @@
+pub mod Faults
+pub mod Sweeps
+pub mod Races
+pub mod Lints
+pub mod Statuses

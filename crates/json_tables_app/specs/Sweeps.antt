@@ -1,0 +1,48 @@
+-- What `sweep_json` answers: what becomes of a job for each value of a number, or the refusal of its text, or that it has no such number.
+use Rattle.std.specs.Prelude.{◌≡◌, ℕ, ◌<◌, Option, List, [], length, take}
+use Rattle.std.specs.Io.KnownBytes.{Appends}
+use Rattle.job_tree.specs.Tree.{Tree}
+use Rattle.job_grammar.specs.Refusals.{Spells, IsRefused}
+use Rattle.nursery_app.specs.declared.verdict.ServeFault.{ServeFault}
+use Rattle.nursery_app.specs.declared.verdict.ServeFault.TheVariants.{Send, NoMemory}
+use Rattle.job_edits.specs.declared.number.Target.{Target}
+use Rattle.fault_text.specs.Fates.{Fate}
+use Rattle.sweep_text.specs.Groups.{Value}
+use Rattle.sweep_app.specs.Answers.{AreSweepValues, IsWithoutTarget}
+use Rattle.sweep_app.specs.declared.verdict.SweepVerdict.{SweepVerdict}
+use Rattle.sweep_app.specs.declared.verdict.SweepVerdict.TheVariants.{Told, JobRefused, NoTarget}
+use Rattle.json_report.specs.Values.{document}
+use Rattle.json_app.specs.Answers.{refusal_json}
+use Rattle.json_tables.specs.Sweeps.{sweep_json}
+
+-- these bytes tell what becomes of the job as it is, and for each value of the number that is meant
+pub record IsDocument (text : List ℕ) (job : Tree) (input : List ℕ) (limit : ℕ) (target : Target) (values bytes : List ℕ) : Type 0 where
+  pub first : Fate
+  pub vs : List Value
+  pub vs_are : AreSweepValues text job input limit target values first vs
+  pub document_is : bytes ≡ document (sweep_json limit first vs)
+
+-- a verdict on a text that spells a job, and its bytes
+abbrev pub IsJobVerdict : List ℕ → Tree → List ℕ → ℕ → Target → List ℕ → SweepVerdict → List ℕ → Type 0
+IsJobVerdict text job input limit target values Told bytes = IsDocument text job input limit target values bytes
+IsJobVerdict text job input limit target values (JobRefused fault) bytes = ⊥
+IsJobVerdict text job input limit target values (NoTarget missing) bytes = IsWithoutTarget text target missing × (bytes ≡ [])
+
+-- a verdict and its bytes
+abbrev pub IsVerdict : List ℕ → List ℕ → ℕ → Target → List ℕ → SweepVerdict → List ℕ → Type 0
+IsVerdict text input limit target values (JobRefused fault) bytes =
+    IsRefused text fault.kind fault.at × (bytes ≡ document (refusal_json text fault))
+IsVerdict text input limit target values verdict bytes =
+    (job : Tree) × Spells text job × IsJobVerdict text job input limit target values verdict bytes
+
+-- The verdict's bytes were sent, all of them.
+abbrev pub IsSent : List ℕ → List ℕ → ℕ → Target → List ℕ → Option (List ℕ) → Option (List ℕ) → SweepVerdict → Type 0
+IsSent text input limit target values before after verdict =
+    (bytes : List ℕ) × IsVerdict text input limit target values verdict bytes × Appends before after bytes
+
+-- The writer failed after the first `sent` of the verdict's bytes; or memory was refused, and nothing was sent.
+abbrev pub IsSweepFault : List ℕ → List ℕ → ℕ → Target → List ℕ → Option (List ℕ) → Option (List ℕ) → ServeFault → Type 0
+IsSweepFault text input limit target values before after (Send sent) =
+    (verdict : SweepVerdict) × (bytes : List ℕ) × IsVerdict text input limit target values verdict bytes × (sent < length bytes)
+    × Appends before after (take sent bytes)
+IsSweepFault text input limit target values before after NoMemory = after ≡ before

@@ -1,0 +1,69 @@
+ghost use Rattle.std.specs.Prelude.{◌≡◌, ◌<◌, [], length, IfOk, IfErr, OnOk};
+ghost use Rattle.nursery_app.specs.Verdict.{CountsFailure};
+ghost use Rattle.job_lint.specs.Linted.{AreWarnings};
+ghost use Rattle.json_tables_app.specs.Lints.{IsVerdict, IsSent, IsLintsFault};
+
+use crate::verdict::LintsVerdict;
+use job_lint::{Warning, lints};
+use job_report::{Out, send};
+use json_app::refusal;
+use json_tables::lints_json as lints_document;
+use nursery_app::ServeFault;
+use std::alloc::{AllocError, Global};
+
+/// Writes the probable mistakes in a job text as one JSON document, in the order of the keywords that they are about, and how many there are. A job text
+/// that is refused has its refusal written, as a JSON document too. All bytes are built before the first is sent, so after `NoMemory` nothing was sent;
+/// after `Send` the writer failed, and took the front of the bytes.
+pub fn lints_json<W: Out>(
+    alloc: Global,
+    job_text: &[u8],
+    out: &mut W,
+) -> Result<LintsVerdict, ServeFault>
+    requires countable { W.failed out.old < 18446744073709551615 }
+
+    // The bytes written tell of each warning, or are the refusal of the text.
+    ensures sent { IfOk result (IsSent job_text.now (W.contents out.old) (W.contents out.new)) }
+    ensures well { OnOk result (W.failed out.new ≡ W.failed out.old) }
+
+    // A writer that failed took the front of those bytes; after want of memory nothing was sent.
+    ensures fault { IfErr result (IsLintsFault job_text.now (W.contents out.old) (W.contents out.new)) }
+    ensures counted { IfErr result (CountsFailure (W.failed out.old) (W.failed out.new)) }
+{
+    let (verdict, bytes) = answer(alloc, job_text)?;
+    send(bytes.as_slice(), out)?;
+    Ok(verdict)
+}
+
+// The verdict and all its bytes.
+fn answer(alloc: Global, job_text: &[u8]) -> Result<(LintsVerdict, Vec<u8>), AllocError>
+    ensures { IfOk result (λ r. IsVerdict job_text.now r.0 r.1.items) }
+{
+    match lints(alloc, job_text) {
+        Ok(warnings) => {
+            let answer = answer_for_warnings(alloc, job_text, warnings.as_slice())?;
+            Ok(answer)
+        }
+        Err(fault) => {
+            let bytes = refusal(alloc, job_text, fault)?;
+            Ok((LintsVerdict::JobRefused(fault), bytes))
+        }
+    }
+}
+
+// The verdict on a text with these warnings, and all its bytes.
+#[tactic(auto, using(crate::proofs::Documents::of_none, crate::proofs::Documents::of_some))]
+fn answer_for_warnings(
+    alloc: Global,
+    job_text: &[u8],
+    warnings: &[Warning],
+) -> Result<(LintsVerdict, Vec<u8>), AllocError>
+    requires { AreWarnings job_text.now warnings.now }
+    ensures { IfOk result (λ r. IsVerdict job_text.now r.0 r.1.items) }
+{
+    let bytes = lints_document(alloc, job_text, warnings)?;
+    if warnings.is_empty() {
+        Ok((LintsVerdict::Clean, bytes))
+    } else {
+        Ok((LintsVerdict::Warned, bytes))
+    }
+}

@@ -1,0 +1,115 @@
+ghost use Rattle.std.specs.Prelude.{◌≡◌, ◌<◌, ◌≤◌, [], length, IfOk, IfErr, OnOk, map};
+ghost use Rattle.job_meaning.specs.declared.limits.TheConstants.{MOST_INPUT};
+ghost use Rattle.job_grammar.specs.Refusals.{Spells};
+ghost use Rattle.nursery_app.specs.Verdict.{CountsFailure};
+ghost use Rattle.race_text.specs.Views.{line_held};
+ghost use Rattle.json_tables_app.specs.Races.{IsDocumentOf, IsVerdict, IsJobVerdict, IsSent, IsRacesFault};
+
+use job_grammar::{Job, read_job};
+use job_report::{Out, send};
+use job_runner::Settings;
+use json_app::{past_limit, refusal};
+use json_tables::races_json as races_document;
+use nursery_app::{Gate, ServeFault};
+use race_app::{RaceAnswer, RaceLines, RacesVerdict, denied_if, race_lines};
+use std::alloc::{AllocError, Global};
+use std::thread::Threads;
+
+/// Writes what becomes of a job over an input where any one place of its text takes a hair more or less time, as one JSON document: each line of which
+/// something is to be told, with all differences, and the counts. It tells of the same lines as `races` does, and has the same verdict, with the
+/// denied lines as they stand in the text table where races are denied. Where the job does not end by the settings' limit, the limit is written; a job
+/// text that is refused has its refusal written, both as JSON documents too; where some number of ticks is too large to be made finer, nothing is
+/// written.
+///
+/// The settings' number of workers is the number of threads among which the hairs are split; the gate is called around each, with its place
+/// among them, by the thread that works on it. Neither changes a byte. All bytes are built before the first is sent, so after `NoMemory` nothing was
+/// sent; after `Send` the writer failed, and took the front of the bytes.
+pub fn races_json<R: Threads + Sync, G: Gate + Sync, W: Out>(
+    rt: &R,
+    alloc: Global,
+    job_text: &[u8],
+    input: &[u8],
+    settings: Settings,
+    deny: bool,
+    gate: &G,
+    out: &mut W,
+) -> Result<RacesVerdict, ServeFault>
+    requires input { length input.now ≤ MOST_INPUT }
+    requires countable { W.failed out.old < 18446744073709551615 }
+
+    // The bytes written tell of each hair, or are the refusal of the text or the limit, or are none.
+    ensures sent { IfOk result (IsSent job_text.now input.now settings.limit deny (W.contents out.old) (W.contents out.new)) }
+    ensures well { OnOk result (W.failed out.new ≡ W.failed out.old) }
+
+    // A writer that failed took the front of those bytes; after want of memory nothing was sent.
+    ensures fault { IfErr result (IsRacesFault job_text.now input.now settings.limit deny (W.contents out.old) (W.contents out.new)) }
+    ensures counted { IfErr result (CountsFailure (W.failed out.old) (W.failed out.new)) }
+{
+    let (verdict, bytes) = answer(rt, alloc, job_text, input, settings, deny, gate)?;
+    send(bytes.as_slice(), out)?;
+    Ok(verdict)
+}
+
+// The verdict and all its bytes.
+fn answer<R: Threads + Sync, G: Gate + Sync>(
+    rt: &R,
+    alloc: Global,
+    job_text: &[u8],
+    input: &[u8],
+    settings: Settings,
+    deny: bool,
+    gate: &G,
+) -> Result<(RacesVerdict, Vec<u8>), AllocError>
+    requires { length input.now ≤ MOST_INPUT }
+    ensures { IfOk result (λ r. IsVerdict job_text.now input.now settings.limit deny r.0 r.1.items) }
+{
+    match read_job(alloc, job_text) {
+        Ok(job) => {
+            let answer = answer_for_job(rt, alloc, job_text, &job, input, settings, deny, gate)?;
+            Ok(answer)
+        }
+        Err(fault) => {
+            let bytes = refusal(alloc, job_text, fault)?;
+            Ok((RacesVerdict::JobRefused(fault), bytes))
+        }
+    }
+}
+
+// The verdict on a text that spells a job, and all its bytes.
+fn answer_for_job<R: Threads + Sync, G: Gate + Sync>(
+    rt: &R,
+    alloc: Global,
+    job_text: &[u8],
+    job: &Job,
+    input: &[u8],
+    settings: Settings,
+    deny: bool,
+    gate: &G,
+) -> Result<(RacesVerdict, Vec<u8>), AllocError>
+    requires input { length input.now ≤ MOST_INPUT }
+    requires spells { Spells job_text.now job.now }
+    ensures { IfOk result (λ r. IsJobVerdict job_text.now job.now input.now settings.limit deny r.0 r.1.items) }
+{
+    match race_lines(rt, alloc, job_text, job, input, settings, gate)? {
+        RaceAnswer::Lines(told) => {
+            let (denied, bytes) = document_and_denied(alloc, deny, &told)?;
+            Ok((RacesVerdict::Told { denied }, bytes))
+        }
+        RaceAnswer::Limit => Ok((RacesVerdict::Limit, past_limit(alloc, settings.limit())?)),
+        RaceAnswer::NoFinerTicks => Ok((RacesVerdict::NoFinerTicks, Vec::new(alloc))),
+    }
+}
+
+// The lines that are denied, and the bytes of the document.
+#[tactic(auto, using(crate::proofs::Documents::of_races))]
+fn document_and_denied(
+    alloc: Global,
+    deny: bool,
+    told: &RaceLines,
+) -> Result<(Vec<u8>, Vec<u8>), AllocError>
+    ensures { IfOk result (λ r. IsDocumentOf deny told.now.hairs (map line_held told.now.lines.items) r.0.items r.1.items) }
+{
+    let bytes = races_document(alloc, told.hairs, told.lines.as_slice())?;
+    let denied = denied_if(alloc, deny, told.lines.as_slice())?;
+    Ok((denied, bytes))
+}

@@ -1,0 +1,108 @@
+ghost use Rattle.std.specs.Prelude.{◌≡◌, ◌<◌, ◌≤◌, length, IfOk, IfErr, OnOk};
+ghost use Rattle.job_meaning.specs.declared.limits.TheConstants.{MOST_INPUT};
+ghost use Rattle.job_grammar.specs.Refusals.{Spells};
+ghost use Rattle.nursery_app.specs.Verdict.{CountsFailure};
+ghost use Rattle.json_tables_app.specs.Sweeps.{IsVerdict, IsJobVerdict, IsSent, IsSweepFault};
+
+use job_edits::Target;
+use job_grammar::{Job, read_job};
+use job_report::{Out, send};
+use job_runner::Settings;
+use json_app::refusal;
+use json_tables::sweep_json as sweep_document;
+use nursery_app::{Gate, ServeFault};
+use std::alloc::{AllocError, Global};
+use std::thread::Threads;
+use sweep_app::{SweepAnswer, SweepVerdict, sweep_values};
+
+/// Writes what becomes of a job over an input as one JSON document: as it is, and for each of these values of one of its numbers, in their order; and
+/// how many values are of each kind. It tells of the same values as `sweep` does, each on a line of its own with its ticks, and has the same verdict.
+/// A value that the text cannot have there is told as refused. A job text that is refused has its refusal written, as a JSON document too. Where the
+/// text does not have the number that is meant, nothing is written.
+///
+/// The settings' number of workers is the number of threads among which the values are split; the gate is called around each value, with its
+/// place among them, by the thread that works on it. Neither changes a byte. All bytes are built before the first is sent, so after `NoMemory`
+/// nothing was sent; after `Send` the writer failed, and took the front of the bytes.
+pub fn sweep_json<R: Threads + Sync, G: Gate + Sync, W: Out>(
+    rt: &R,
+    alloc: Global,
+    job_text: &[u8],
+    input: &[u8],
+    settings: Settings,
+    target: Target,
+    values: &[u64],
+    gate: &G,
+    out: &mut W,
+) -> Result<SweepVerdict, ServeFault>
+    requires input { length input.now ≤ MOST_INPUT }
+    requires countable { W.failed out.old < 18446744073709551615 }
+
+    // The bytes written tell of each value, or are the refusal of the text, or are none.
+    ensures sent { IfOk result (IsSent job_text.now input.now settings.limit target values.now (W.contents out.old) (W.contents out.new)) }
+    ensures well { OnOk result (W.failed out.new ≡ W.failed out.old) }
+
+    // A writer that failed took the front of those bytes; after want of memory nothing was sent.
+    ensures fault { IfErr result (IsSweepFault job_text.now input.now settings.limit target values.now (W.contents out.old) (W.contents out.new)) }
+    ensures counted { IfErr result (CountsFailure (W.failed out.old) (W.failed out.new)) }
+{
+    let (verdict, bytes) = answer(rt, alloc, job_text, input, settings, target, values, gate)?;
+    send(bytes.as_slice(), out)?;
+    Ok(verdict)
+}
+
+// The verdict and all its bytes.
+fn answer<R: Threads + Sync, G: Gate + Sync>(
+    rt: &R,
+    alloc: Global,
+    job_text: &[u8],
+    input: &[u8],
+    settings: Settings,
+    target: Target,
+    values: &[u64],
+    gate: &G,
+) -> Result<(SweepVerdict, Vec<u8>), AllocError>
+    requires { length input.now ≤ MOST_INPUT }
+    ensures { IfOk result (λ r. IsVerdict job_text.now input.now settings.limit target values.now r.0 r.1.items) }
+{
+    match read_job(alloc, job_text) {
+        Ok(job) => {
+            let answer = answer_for_job(
+                rt, alloc, job_text, &job, input, settings, target, values, gate,
+            )?;
+            Ok(answer)
+        }
+        Err(fault) => {
+            let bytes = refusal(alloc, job_text, fault)?;
+            Ok((SweepVerdict::JobRefused(fault), bytes))
+        }
+    }
+}
+
+// The verdict on a text that spells a job, and all its bytes.
+#[tactic(auto, using(crate::proofs::Documents::of_values))]
+fn answer_for_job<R: Threads + Sync, G: Gate + Sync>(
+    rt: &R,
+    alloc: Global,
+    job_text: &[u8],
+    job: &Job,
+    input: &[u8],
+    settings: Settings,
+    target: Target,
+    values: &[u64],
+    gate: &G,
+) -> Result<(SweepVerdict, Vec<u8>), AllocError>
+    requires input { length input.now ≤ MOST_INPUT }
+    requires spells { Spells job_text.now job.now }
+    ensures { IfOk result (λ r. IsJobVerdict job_text.now job.now input.now settings.limit target values.now r.0 r.1.items) }
+{
+    match sweep_values(
+        rt, alloc, job_text, job, input, settings, target, values, gate,
+    )? {
+        SweepAnswer::Values(told) => {
+            let limit = settings.limit();
+            let bytes = sweep_document(alloc, limit, &told.first, told.values.as_slice())?;
+            Ok((SweepVerdict::Told, bytes))
+        }
+        SweepAnswer::NoTarget(missing) => Ok((SweepVerdict::NoTarget(missing), Vec::new(alloc))),
+    }
+}
