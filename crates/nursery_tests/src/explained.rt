@@ -27,7 +27,7 @@ pub(crate) const EXPECTED: &[Row] = &[
     ),
     (
         "trio-job 1\njob { }",
-        "f:2:5: expected a name\njob { }\n    ^\n",
+        "f:2:5: expected a name\njob { }\n    ^\neach job, scope, nursery and start has a name, as in `scope work after 5 { .. }`\n",
     ),
     (
         "trio-job 1\njob a { scope s; }",
@@ -103,7 +103,7 @@ pub(crate) const WRONG: &[Row] = &[
     ),
     (
         "trio-job 1\njob a { cancel b; }",
-        "f:2:16: no enclosing scope or nursery has this name\njob a { cancel b; }\n               ^\n",
+        "f:2:16: no enclosing scope or nursery has this name\njob a { cancel b; }\n               ^\nno scope or nursery is around this `cancel`\n",
     ),
     (
         "trio-job 1\njob a { raise sleep; }",
@@ -111,7 +111,7 @@ pub(crate) const WRONG: &[Row] = &[
     ),
     (
         "trio-job 1\njob a { nursery n { start b over 64 { nursery m { start c over 64 { nursery q { start d over 64 { } } } } } } }",
-        "f:1:1: the job has more than 100000 steps, in format 2 more than 1000000, the copies that `over` makes and the passes of `repeat` counted\ntrio-job 1\n^\n",
+        "f:1:1: the job has more than 100000 steps, in format 2 more than 1000000, the copies that `over` makes and the passes of `repeat` counted\ntrio-job 1\n^\nthe job has 270465 steps\n",
     ),
 ];
 
@@ -162,6 +162,14 @@ pub(crate) const HELPED: &[Row] = &[
     (
         "trio-job 1\njob a { nursery n shield { } }",
         "\nformat 2 has this: begin the job text with the line `trio-job 2`\n",
+    ),
+    (
+        "trio-job 1\njob a { scope b { nursery c { start d { cancel e; } } } }",
+        "\nwhat can be cancelled here: `c`, `b`\n",
+    ),
+    (
+        "trio-job 1\njob a { move_on_after(5) { } }",
+        "\nTrio's `move_on_after` is `scope NAME after N { .. }` here\n",
     ),
     (
         "trio-job 2\njob a { repaet 2 { } }",

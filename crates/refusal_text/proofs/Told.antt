@@ -11,15 +11,16 @@ use Rattle.job_tokens.specs.declared.token.Shape.{Shape}
 use Rattle.job_syntax.specs.declared.role.Role.{Role}
 use Rattle.job_syntax.specs.Syntax.{fault_at, roles_at, whole_job}
 use Rattle.job_syntax.specs.declared.symbol.Symbol.{Symbol}
-use Rattle.job_grammar.specs.Refusals.{format_of}
+use Rattle.job_grammar.specs.Refusals.{HasTokens, format_of}
 use Rattle.nursery_app.specs.Places.{column_of}
+use Rattle.refusal_text.specs.declared.advice.Advice.{Advice}
 use Rattle.refusal_text.specs.declared.hinting.Hint.{Hint}
 use Rattle.refusal_text.specs.Expecting.{expected_in, IsExpected}
-use Rattle.refusal_text.specs.Scanning.{shape_at}
-use Rattle.refusal_text.specs.Hinting.{syntax_hint, twice_hint, IsSyntaxHint, IsTwiceHint}
-use Rattle.refusal_text.specs.Explaining.{headed, shown_byte, is_newline, last_of, width_before, before, behind, most_before, most_behind}
+use Rattle.refusal_text.specs.Scanning.{shape_at, last_before}
+use Rattle.refusal_text.specs.Hinting.{advised, reserved_advice, syntax_hint, twice_hint, IsTwiceHint}
+use Rattle.refusal_text.specs.Explaining.{headed, shown_byte, is_newline, last_of, width_before, before, after, most_before, most_after}
 
--- what the grammar asks for behind the tokens is what it asks for in the text
+-- what the grammar asks for after the tokens is what it asks for in the text
 pub expects : (format : Format) (text body : List ℕ) (tokens given : List Token) (fault : Option ℕ)
     (r : Result (Option Symbol) AllocError) →
     format ≡ format_of text → body ≡ drop 11 text → Lexes (length text) body tokens fault → given ≡ tokens
@@ -32,11 +33,11 @@ expects format text body tokens given fault (Ok s) of is lexes same found = (
 )
 expects format text body tokens given fault (Err e) of is lexes same found = found
 
--- the first bytes, cut at a place that may lie behind the end
+-- the first bytes, cut at a place that may lie after the end
 pub cut_front : (bytes front : List ℕ) (n m : ℕ) → front ≡ take m bytes → m ≡ min n (length bytes) → front ≡ take n bytes
 cut_front bytes front n m is min_is = is ∙ ap (λ (x : ℕ). take x bytes) min_is ∙ take_min n bytes
 
--- the bytes from a place on, which may lie behind the end
+-- the bytes from a place on, which may lie after the end
 pub cut_back : (bytes back : List ℕ) (n m : ℕ) → back ≡ drop m bytes → m ≡ min n (length bytes) → back ≡ drop n bytes
 cut_back bytes back n m is min_is = is ∙ ap (λ (x : ℕ). drop x bytes) min_is ∙ drop_min n bytes
 
@@ -51,11 +52,11 @@ pub before_is : (text front last : List ℕ) (at shown : ℕ) → front ≡ take
 before_is text front last at shown front_is width is =
     ap (map shown_byte) (is ∙ ap (λ (x : ℕ). last_of x front) width ∙ ap (last_of (width_before text at)) front_is)
 
--- what is shown from a place on, cut from the bytes behind it
-pub behind_is : (text rest first line : List ℕ) (at : ℕ) → rest ≡ drop at text → first ≡ take most_behind rest →
-    line ≡ before_first is_newline first → map shown_byte line ≡ behind text at
-behind_is text rest first line at rest_is first_is is =
-    ap (map shown_byte) (is ∙ ap (before_first is_newline) (first_is ∙ ap (take most_behind) rest_is))
+-- what is shown from a place on, cut from the bytes after it
+pub after_is : (text rest first line : List ℕ) (at : ℕ) → rest ≡ drop at text → first ≡ take most_after rest →
+    line ≡ before_first is_newline first → map shown_byte line ≡ after text at
+after_is text rest first line at rest_is first_is is =
+    ap (map shown_byte) (is ∙ ap (before_first is_newline) (first_is ∙ ap (take most_after) rest_is))
 
 get_drop : (text : List ℕ) (at : ℕ) → slice_get (drop at text) 0 ≡ slice_get text at
 get_drop [] zero = refl
@@ -74,13 +75,19 @@ headed_same job sentence wanted line line' column column' line_is column_is is =
     ap (λ (x : ℕ). headed job x column sentence) line_is ∙ ap (λ (x : ℕ). headed job line' x sentence) column_is
     ∙ ap (headed job line' column') is
 
--- three pieces, one behind the other
+-- three pieces, one after the other
 pub three_pieces : (old a b c h1 h2 h3 : List ℕ) → h1 ≡ old ++ a → h2 ≡ h1 ++ b → h3 ≡ h2 ++ c → h3 ≡ old ++ ((a ++ b) ++ c)
 three_pieces old a b c h1 h2 h3 is1 is2 is3 =
     let two : h2 ≡ old ++ (a ++ b) = is2 ∙ ap (λ (x : List ℕ). x ++ b) is1 ∙ append_assoc old a b in
     is3 ∙ ap (λ (x : List ℕ). x ++ c) two ∙ append_assoc old (a ++ b) c
 
--- one piece behind the other
+-- four pieces, one after the other
+pub four_pieces : (old a b c d h1 h2 h3 h4 : List ℕ) → h1 ≡ old ++ a → h2 ≡ h1 ++ b → h3 ≡ h2 ++ c → h4 ≡ h3 ++ d
+    → h4 ≡ old ++ (((a ++ b) ++ c) ++ d)
+four_pieces old a b c d h1 h2 h3 h4 is1 is2 is3 is4 =
+    is4 ∙ ap (λ (x : List ℕ). x ++ d) (three_pieces old a b c h1 h2 h3 is1 is2 is3) ∙ append_assoc old ((a ++ b) ++ c) d
+
+-- six pieces, one after the other
 pub pieces : (head front back newline spaces caret h0 h1 h2 h3 h4 h5 : List ℕ) → h0 ≡ head → h1 ≡ h0 ++ front → h2 ≡ h1 ++ back →
     h3 ≡ h2 ++ newline → h4 ≡ h3 ++ spaces → h5 ≡ h4 ++ caret
     → h5 ≡ head ++ ((((front ++ back) ++ newline) ++ spaces) ++ caret)
@@ -93,18 +100,28 @@ pieces head front back newline spaces caret h0 h1 h2 h3 h4 h5 is0 is1 is2 is3 is
     is4 ∙ ap (λ (x : List ℕ). x ++ spaces) three ∙ append_assoc head ((front ++ back) ++ newline) spaces in
     is5 ∙ ap (λ (x : List ℕ). x ++ caret) four ∙ append_assoc head (((front ++ back) ++ newline) ++ spaces) caret
 
--- what helps where a text goes on wrongly, or gives a name twice
-pub helps : (format : Format) (text body : List ℕ) (tokens given : List Token) (fault : Option ℕ) (at : ℕ) (shape : Option Shape)
-    (h : Option Hint) →
-    format ≡ format_of text → body ≡ drop 11 text → Lexes (length text) body tokens fault
-    → given ≡ tokens → shape ≡ shape_at at given → h ≡ syntax_hint format given shape → IsSyntaxHint text at h
-helps format text body tokens given fault at shape h of is lexes same shape_is h_is = (
-  tokens,
-  fault,
-  subst (λ (b : List ℕ). Lexes (length text) b tokens fault) is lexes,
-  h_is ∙ ap (syntax_hint format given) shape_is ∙ ap (λ (ts : List Token). syntax_hint format ts (shape_at at ts)) same
-      ∙ ap (λ (f : Format). syntax_hint f tokens (shape_at at tokens)) of,
-)
+-- what is said of the tokens that `lex` gives is said of the tokens of the text
+pub of_tokens : (text body : List ℕ) (tokens given : List Token) (fault : Option ℕ) (Says : List Token → Type 0) → body ≡ drop 11 text
+    → Lexes (length text) body tokens fault → given ≡ tokens → Says given
+    → (ts : List Token) × (f : Option ℕ) × HasTokens text ts f × Says ts
+of_tokens text body tokens given fault Says is lexes same said =
+    (tokens, fault, subst (λ (b : List ℕ). Lexes (length text) b tokens fault) is lexes, subst Says same said)
+
+-- what helps where tokens leave the grammar
+pub helps : (format : Format) (text : List ℕ) (at : ℕ) (given : List Token) (before shape : Option Shape) (h : Option Hint) →
+    format ≡ format_of text → before ≡ last_before at None given → shape ≡ shape_at at given → h ≡ syntax_hint format given before shape
+    → h ≡ syntax_hint (format_of text) given (last_before at None given) (shape_at at given)
+helps format text at given before shape h of before_is shape_is is =
+    is ∙ ap (syntax_hint format given before) shape_is ∙ ap (λ (b : Option Shape). syntax_hint format given b (shape_at at given)) before_is
+    ∙ ap (λ (f : Format). syntax_hint f given (last_before at None given) (shape_at at given)) of
+
+-- what helps where a name is reserved
+pub helps_reserved : (at : ℕ) (given : List Token) (before shape : Option Shape) (a : Option Advice) (h : Option Hint) →
+    before ≡ last_before at None given → shape ≡ shape_at at given → a ≡ reserved_advice before shape → h ≡ advised a
+    → h ≡ advised (reserved_advice (last_before at None given) (shape_at at given))
+helps_reserved at given before shape a h before_is shape_is a_is is =
+    is ∙ ap advised (a_is ∙ ap (reserved_advice before) shape_is
+    ∙ ap (λ (b : Option Shape). reserved_advice b (shape_at at given)) before_is)
 
 -- what helps where a name is given twice, found by the tokens of the text and what they are for
 pub helps_twice : (format : Format) (text body : List ℕ) (tokens given : List Token) (roles shown : List Role) (fault stop : Option ℕ)

@@ -1,34 +1,94 @@
 -- What may help beside the sentence of a refusal.
-use Rattle.std.specs.Prelude.{◌≡◌, ℕ, Bool, false, is_some, ◌==◌, ◌||◌, if◌then◌else◌, List, [], length, take, Option, Some, None, codes, slice_get}
-use Rattle.std.specs.Str.{bytes_eq}
+use Rattle.std.specs.Prelude.{◌≡◌, ℕ, ◌-◌, Bool, true, false, is_some, ◌==◌, ◌&&◌, if◌then◌else◌, List, [], length, min, Option, Some, None, slice_get}
+use Rattle.job_tree.specs.Tree.{Tree}
+use Rattle.job_tree.specs.Names.{size_of}
 use Rattle.job_tree.specs.declared.format.Format.{Format}
 use Rattle.job_tree.specs.declared.format.Format.TheVariants.{One, Two}
 use Rattle.job_tokens.specs.declared.token.Shape.{Shape}
 use Rattle.job_tokens.specs.declared.token.Token.{Token}
-use Rattle.job_tokens.specs.Shapes.{word_in}
+use Rattle.job_tokens.specs.Shapes.{word_in, shapes_of}
+use Rattle.job_syntax.specs.declared.keyword.Keyword.{Keyword}
+use Rattle.job_syntax.specs.declared.keyword.Keyword.TheVariants as word
 use Rattle.job_syntax.specs.declared.symbol.Symbol.{Symbol}
+use Rattle.job_syntax.specs.declared.symbol.Symbol.TheVariants as symbol
 use Rattle.job_syntax.specs.declared.role.Role.{Role}
+use Rattle.job_syntax.specs.Keywords.{keyword_of}
+use Rattle.job_syntax.specs.Reading.{job_at}
 use Rattle.job_syntax.specs.Symbols.{◌>>=◌, Rest, next}
 use Rattle.job_syntax.specs.Syntax.{fault_at, roles_at, whole_job}
 use Rattle.job_grammar.specs.declared.fault.JobKind.{JobKind}
 use Rattle.job_grammar.specs.declared.fault.JobKind.TheVariants as kind
 use Rattle.job_grammar.specs.Refusals.{HasTokens, format_of}
+use Rattle.refusal_text.specs.declared.advice.Advice.{Advice}
+use Rattle.refusal_text.specs.declared.advice.Advice.TheVariants as advice
 use Rattle.refusal_text.specs.declared.hinting.Hint.{Hint}
 use Rattle.refusal_text.specs.declared.hinting.Hint.TheVariants as hint
+use Rattle.refusal_text.specs.Advice.{trio_advice}
+use Rattle.refusal_text.specs.ByBytes.{feed_advice, ascii_advice, version_advice, byte_advice}
 use Rattle.refusal_text.specs.Expecting.{expected_in}
 use Rattle.refusal_text.specs.Nearness.{words_for, first_near}
-use Rattle.refusal_text.specs.Scanning.{shape_at, open_in, first_given}
+use Rattle.refusal_text.specs.Scanning.{shape_at, last_before, open_in, first_given}
 
--- the first line, but with the line ends of another system
-abbrev pub version_hint : List ℕ → Option Hint
-version_hint text =
-    if bytes_eq (take 12 text) (codes "trio-job 1\r\n") || bytes_eq (take 12 text) (codes "trio-job 2\r\n") then Some hint.CarriageReturn
-    else None
+abbrev pub advised : Option Advice → Option Hint
+advised None = None
+advised (Some a) = Some (hint.Advice a)
 
--- `#` or `/`
-abbrev pub token_hint : Option ℕ → Option Hint
-token_hint None = None
-token_hint (Some b) = if b == 35 || b == 47 then Some hint.NoComments else None
+abbrev pub or_advice : Option Advice → Option Advice → Option Advice
+or_advice None other = other
+or_advice (Some a) other = Some a
+
+-- ---- words
+
+-- what stands in a job for a token that is a word of a program on Trio
+abbrev pub word_advice : Option Shape → Option Advice
+word_advice shape = shape >>= λ s. word_in s >>= λ w. trio_advice w
+
+abbrev pub keyword_in : Option Shape → Option Keyword
+keyword_in shape = shape >>= λ s. word_in s >>= λ w. keyword_of w
+
+-- the words that may follow a name: of a scope, a nursery or a start
+abbrev pub is_head : Keyword → Bool
+is_head word.After = true
+is_head word.At = true
+is_head word.Shield = true
+is_head word.Fail = true
+is_head word.Over = true
+is_head _ = false
+
+-- the words that a name follows
+abbrev pub is_named : Keyword → Bool
+is_named word.Job = true
+is_named word.Scope = true
+is_named word.Nursery = true
+is_named word.Start = true
+is_named _ = false
+
+abbrev pub if_keyword : (Keyword → Bool) → Option Keyword → Bool
+if_keyword test None = false
+if_keyword test (Some k) = test k
+
+abbrev pub is_head_word : Option Shape → Bool
+is_head_word shape = if_keyword is_head (keyword_in shape)
+
+abbrev pub gives_name : Option Shape → Bool
+gives_name shape = if_keyword is_named (keyword_in shape)
+
+-- ---- where no token begins
+
+-- by the token before the place, the byte before it and the byte there: a word of Trio's that is called, or else what the bytes say
+abbrev pub called_or_byte : Option Shape → Option ℕ → Option ℕ → Option Advice
+called_or_byte word before None = byte_advice before None
+called_or_byte word before (Some b) =
+    if b == 40 then or_advice (word_advice word) (byte_advice before (Some b)) else byte_advice before (Some b)
+
+abbrev pub token_advice : List ℕ → ℕ → Option Shape → Option Advice
+token_advice text at word = or_advice (feed_advice text at) (called_or_byte word (slice_get text (at - 1)) (slice_get text at))
+
+abbrev pub IsTokenHint : List ℕ → ℕ → Option Hint → Type 0
+IsTokenHint text at h = (tokens : List Token) × (fault : Option ℕ) × HasTokens text tokens fault
+    × (h ≡ advised (token_advice text at (last_before at None tokens)))
+
+-- ---- where tokens leave the grammar
 
 -- that a text is of format 1, and in format 2 something would follow
 abbrev pub is_newer : Format → Rest → Bool
@@ -39,18 +99,71 @@ is_newer Two rest = false
 abbrev pub nearly : Format → Symbol → Shape → Option Hint
 nearly format symbol shape = word_in shape >>= λ bytes. first_near (words_for format symbol) bytes >>= λ k. Some (hint.Meant k)
 
--- that in format 2 a token may stand for the symbol, or the keyword that it nearly is, of those that may stand for the symbol
-abbrev pub meant_by : Format → Option Symbol → Shape → Option Hint
-meant_by format symbol shape = symbol >>= λ s. if is_newer format (next Two s shape) then Some hint.NewerFormat else nearly format s shape
+-- after a name that is a word of a head, the name was left out
+abbrev pub unnamed_after : Option Shape → Option Advice
+unnamed_after before = if is_head_word before then Some advice.Unnamed else None
 
--- where tokens leave the grammar: with a token at that place the keyword meant, and with none the block that is open
-abbrev pub syntax_hint : Format → List Token → Option Shape → Option Hint
-syntax_hint format tokens None = slice_get (open_in [] tokens) 0 >>= λ at. Some (hint.OpenSince at)
-syntax_hint format tokens (Some shape) = meant_by format (expected_in format whole_job tokens) shape
+-- a word of a head stands too late in it
+abbrev pub order_advice : Shape → Option Advice
+order_advice shape = if is_head_word (Some shape) then Some advice.HeadOrder else None
+
+-- a sentence on a token where one for the symbol was to stand, after another token
+abbrev pub symbol_advice : Symbol → Option Shape → Shape → Option Advice
+symbol_advice symbol.Given before shape = Some advice.Unnamed
+symbol_advice symbol.Scope before shape = unnamed_after before
+symbol_advice symbol.Nursery before shape = unnamed_after before
+symbol_advice symbol.Over before shape = unnamed_after before
+symbol_advice symbol.Shield before shape = order_advice shape
+symbol_advice symbol.Fail before shape = order_advice shape
+symbol_advice symbol.NurseryShield before shape = order_advice shape
+symbol_advice symbol.Open before shape = order_advice shape
+symbol_advice symbol.Steps before shape = word_advice (Some shape)
+symbol_advice symbol.Items before shape = word_advice (Some shape)
+symbol_advice symbol.StepsCleanup before shape = word_advice (Some shape)
+symbol_advice symbol.ItemsCleanup before shape = word_advice (Some shape)
+symbol_advice _ before shape = None
+
+abbrev pub or_nearly : Option Advice → Format → Symbol → Shape → Option Hint
+or_nearly None format symbol shape = nearly format symbol shape
+or_nearly (Some a) format symbol shape = Some (hint.Advice a)
+
+-- that in format 2 a token may stand for the symbol, or a sentence, or the keyword that it nearly is, of those that may stand for the symbol
+abbrev pub meant_by : Format → Option Symbol → Option Shape → Shape → Option Hint
+meant_by format symbol before shape = symbol >>= λ s.
+    if is_newer format (next Two s shape) then Some (hint.Advice advice.NewerFormat)
+    else or_nearly (symbol_advice s before shape) format s shape
+
+-- where tokens leave the grammar: with a token at that place what was meant, and with none the block that is open
+abbrev pub syntax_hint : Format → List Token → Option Shape → Option Shape → Option Hint
+syntax_hint format tokens before None = slice_get (open_in [] tokens) 0 >>= λ at. Some (hint.OpenSince at)
+syntax_hint format tokens before (Some shape) = meant_by format (expected_in format whole_job tokens) before shape
 
 abbrev pub IsSyntaxHint : List ℕ → ℕ → Option Hint → Type 0
 IsSyntaxHint text at h = (tokens : List Token) × (fault : Option ℕ) × HasTokens text tokens fault
-    × (h ≡ syntax_hint (format_of text) tokens (shape_at at tokens))
+    × (h ≡ syntax_hint (format_of text) tokens (last_before at None tokens) (shape_at at tokens))
+
+-- ---- where a name is reserved
+
+-- a word of a head stands where a name is to be given
+abbrev pub reserved_advice : Option Shape → Option Shape → Option Advice
+reserved_advice before shape = if gives_name before && is_head_word shape then Some advice.Unnamed else None
+
+abbrev pub IsReservedHint : List ℕ → ℕ → Option Hint → Type 0
+IsReservedHint text at h = (tokens : List Token) × (fault : Option ℕ) × HasTokens text tokens fault
+    × (h ≡ advised (reserved_advice (last_before at None tokens) (shape_at at tokens)))
+
+-- ---- where a job is too large
+
+-- how many step instances it has, as far as 64 bits tell
+abbrev pub size_hint : Option Tree → Option Hint
+size_hint None = None
+size_hint (Some job) = Some (hint.Size (min (size_of job.steps) 18446744073709551615))
+
+abbrev pub IsSizeHint : List ℕ → Option Hint → Type 0
+IsSizeHint text h = (tokens : List Token) × (fault : Option ℕ) × HasTokens text tokens fault
+    × (h ≡ size_hint (job_at (format_of text) (shapes_of tokens)))
+
+-- ---- where a name is given twice
 
 -- the place at which the name at a place was first given
 abbrev pub twice_hint : List Token → List Role → Option Shape → Option Hint
@@ -64,15 +177,15 @@ IsTwiceHint text at h =
 
 -- what helps with a refusal of that kind at a place, where something does
 abbrev pub IsHint : JobKind → List ℕ → ℕ → Option Hint → Type 0
-IsHint kind.Version text at h = h ≡ version_hint text
-IsHint kind.Token text at h = h ≡ token_hint (slice_get text at)
+IsHint kind.TooLong text at h = h ≡ advised (feed_advice text at)
+IsHint kind.NotAscii text at h = h ≡ advised (ascii_advice text at)
+IsHint kind.Version text at h = h ≡ advised (version_advice text)
+IsHint kind.Token text at h = IsTokenHint text at h
 IsHint kind.Syntax text at h = IsSyntaxHint text at h
 IsHint kind.Twice text at h = IsTwiceHint text at h
-IsHint kind.TooLong text at h = h ≡ None
-IsHint kind.NotAscii text at h = h ≡ None
+IsHint kind.Reserved text at h = IsReservedHint text at h
+IsHint kind.TooLarge text at h = IsSizeHint text h
 IsHint kind.Number text at h = h ≡ None
 IsHint kind.Depth text at h = h ≡ None
 IsHint kind.NotEnclosing text at h = h ≡ None
-IsHint kind.Reserved text at h = h ≡ None
-IsHint kind.TooLarge text at h = h ≡ None
 IsHint kind.NoMemory text at h = h ≡ None

@@ -1,5 +1,5 @@
 -- What tokens have at a place, which blocks they leave open, and where they give a name.
-use Rattle.std.specs.Prelude.{ℕ, ◌==◌, Bool, false, if◌then◌else◌, List, [], ◌∷◌, drop, Option, Some, None}
+use Rattle.std.specs.Prelude.{ℕ, ◌==◌, nat_lt, Bool, false, if◌then◌else◌, List, [], ◌∷◌, drop, Option, Some, None}
 use Rattle.std.specs.Str.{bytes_eq}
 use Rattle.job_tokens.specs.declared.token.Mark.{Mark}
 use Rattle.job_tokens.specs.declared.token.Mark.TheVariants as mark
@@ -14,17 +14,22 @@ abbrev pub shape_at : ℕ → List Token → Option Shape
 shape_at at [] = None
 shape_at at (t ∷ ts) = if t.at == at then Some t.shape else shape_at at ts
 
--- the places of the open blocks, innermost first, behind a token at a place
-abbrev pub open_behind : List ℕ → ℕ → Option Mark → List ℕ
-open_behind places at None = places
-open_behind places at (Some mark.Open) = at ∷ places
-open_behind places at (Some mark.Close) = drop 1 places
-open_behind places at (Some mark.Semicolon) = places
+-- the last token before a place, or what is given where none is
+abbrev pub last_before : ℕ → Option Shape → List Token → Option Shape
+last_before at found [] = found
+last_before at found (t ∷ ts) = if nat_lt t.at at then last_before at (Some t.shape) ts else found
 
--- the same behind tokens
+-- the places of the open blocks, innermost first, after a token at a place
+abbrev pub open_after : List ℕ → ℕ → Option Mark → List ℕ
+open_after places at None = places
+open_after places at (Some mark.Open) = at ∷ places
+open_after places at (Some mark.Close) = drop 1 places
+open_after places at (Some mark.Semicolon) = places
+
+-- the same after tokens
 abbrev pub open_in : List ℕ → List Token → List ℕ
 open_in places [] = places
-open_in places (t ∷ ts) = open_in (open_behind places t.at (mark_in t.shape)) ts
+open_in places (t ∷ ts) = open_in (open_after places t.at (mark_in t.shape)) ts
 
 -- a token gives this name
 abbrev pub gives : Role → Option (List ℕ) → List ℕ → Bool

@@ -1,27 +1,30 @@
-ghost use Rattle.std.specs.Prelude.{◌≡◌, ◌++◌, ◌<◌, ◌≤◌, length, take, map, replicate, codes, decimal, IfOk, OnOk};
+ghost use Rattle.std.specs.Prelude.{◌≡◌, ◌∷◌, ◌++◌, ◌<◌, ◌≤◌, length, take, map, replicate, codes, decimal, IfOk, OnOk};
 ghost use Rattle.std.specs.List.{before_first};
 ghost use Rattle.std.specs.String.{string_bytes};
-ghost use Rattle.refusal_text.specs.Explaining.{Tells, pointed_message, headed, shown_byte, is_newline, last_of, most_behind, hint_of, hint_line, meant_line, place_line};
+ghost use Rattle.refusal_text.specs.Explaining.{Tells, pointed_message, headed, shown_byte, is_newline, last_of, most_after, hint_of, hint_line, meant_line, place_line, size_line, quoted, more_quoted, names_line, names_of};
 ghost use Rattle.job_syntax.specs.Keywords.{spelling};
+ghost use Rattle.refusal_text.specs.Scopes.{names_held};
 ghost use Rattle.nursery_app.specs.Places.{line_of, column_of};
 
 use crate::expecting::asked;
 use crate::hinting::{Hint, hint_for};
+use crate::scopes::listed_names;
 use crate::sentences::sentence_of;
 use itoa::Buffer;
 use job_grammar::JobFault;
 use job_syntax::Keyword;
+use job_tree::Name;
 use nursery_app::{column_of, line_of};
 use std::alloc::{AllocError, Global};
 
-// The most bytes of a line that are shown in front of a place, and from it on.
+// The most bytes of a line that are shown before a place, and from it on.
 const MOST_BEFORE: usize = 60;
 
-const MOST_BEHIND: usize = 40;
+const MOST_AFTER: usize = 40;
 
-/// Tells a refusal to the user, as `pointed_message` does. Where something may help, a line tells it: that format 2 has
-/// what stands there, a keyword that was nearly spelled, the block that is not closed, where a name was first given. `job` is
-/// the name that the user gave the text. Want of memory is the only error.
+/// The message that explains a refusal to the user: what `pointed_message` gives, with a sentence for the kind of the refusal. Where something may
+/// help, one more line says it, such as a keyword that was nearly spelled, the block that is not closed, what a word of Trio's is in a job, or
+/// which scopes and nurseries could be cancelled there. `job` is the name that the user gave the text. Want of memory is the only error.
 pub fn refusal_message(
     alloc: Global,
     job: &str,
@@ -35,6 +38,7 @@ pub fn refusal_message(
     let sentence = sentence_of(fault.kind, rest.first().copied(), asked);
     let mut message = pointed_message(alloc, job, text, fault.at, sentence)?;
     push_help(&mut message, job, text, hint_for(alloc, text, fault)?)?;
+    push_names(&mut message, &listed_names(alloc, text, fault.kind)?)?;
     Ok(message)
 }
 
@@ -103,13 +107,13 @@ fn last_bytes(bytes: &[u8], count: usize) -> &[u8]
 
 // The first bytes, as many as are shown.
 fn first_bytes(bytes: &[u8]) -> &[u8]
-    ensures { result.now ≡ take most_behind bytes.now }
+    ensures { result.now ≡ take most_after bytes.now }
 {
-    let (first, _) = bytes.split_at(MOST_BEHIND.min(bytes.len()));
+    let (first, _) = bytes.split_at(MOST_AFTER.min(bytes.len()));
     first
 }
 
-// The bytes in front of the first newline.
+// The bytes before the first newline.
 fn first_line(bytes: &[u8]) -> &[u8]
     ensures { result.now ≡ before_first is_newline bytes.now }
 {
@@ -173,13 +177,7 @@ fn push_hint(message: &mut String, job: &str, text: &[u8], hint: Hint) -> Result
     ensures { OnOk result (string_bytes message.new ≡ string_bytes message.old ++ hint_line job.now text.now hint) }
 {
     match hint {
-        Hint::CarriageReturn => message.push_str(
-            "its line ends are carriage returns and newlines: save it with newlines alone\n",
-        ),
-        Hint::NoComments => message.push_str("a job text has no comments\n"),
-        Hint::NewerFormat => message.push_str(
-            "format 2 has this: begin the job text with the line `trio-job 2`\n",
-        ),
+        Hint::Advice(advice) => message.push_str(advice.text()),
         Hint::Meant(keyword) => push_meant(message, keyword),
         Hint::OpenSince(at) => push_at(
             message,
@@ -189,7 +187,78 @@ fn push_hint(message: &mut String, job: &str, text: &[u8], hint: Hint) -> Result
             at,
         ),
         Hint::GivenAt(at) => push_at(message, "it was first given at ", job, text, at),
+        Hint::Size(size) => push_size(message, size),
     }
+}
+
+// Appends how many step instances a job has.
+fn push_size(message: &mut String, size: u64) -> Result<(), AllocError>
+    ensures { OnOk result (string_bytes message.new ≡ string_bytes message.old ++ size_line size) }
+{
+    message.push_str("the job has ")?;
+    push_number(message, size)?;
+    message.push_str(" steps\n")?;
+    Ok(())
+}
+
+// Appends a number in decimal digits.
+fn push_number(message: &mut String, n: u64) -> Result<(), AllocError>
+    ensures { OnOk result (string_bytes message.new ≡ string_bytes message.old ++ decimal n) }
+{
+    let mut buffer = Buffer::new();
+    message.push_str(buffer.format(n))
+}
+
+// Appends the line that lists what could be cancelled, where it is listed.
+fn push_names(message: &mut String, names: &Option<Vec<Name>>) -> Result<(), AllocError>
+    ensures { OnOk result (string_bytes message.new ≡ string_bytes message.old ++ names_of (names_held names.now)) }
+{
+    match names {
+        Some(names) => push_list(message, names.as_slice()),
+        None => Ok(()),
+    }
+}
+
+fn push_list(message: &mut String, names: &[Name]) -> Result<(), AllocError>
+    ensures { OnOk result (string_bytes message.new ≡ string_bytes message.old ++ names_line names.now) }
+{
+    let Some((first, others)) = names.split_first() else {
+        return message.push_str("no scope or nursery is around this `cancel`\n");
+    };
+    push_some(message, *first, others)?;
+    Ok(())
+}
+
+// The same of at least one name.
+fn push_some(message: &mut String, first: Name, others: &[Name]) -> Result<(), AllocError>
+    ensures { OnOk result (string_bytes message.new ≡ string_bytes message.old ++ names_line (first ∷ others.now)) }
+{
+    message.push_str("what can be cancelled here: ")?;
+    push_quoted(message, first)?;
+    push_more(message, others)?;
+    message.push_str("\n")?;
+    Ok(())
+}
+
+// Appends each of these names after a comma.
+fn push_more(message: &mut String, names: &[Name]) -> Result<(), AllocError>
+    ensures { OnOk result (string_bytes message.new ≡ string_bytes message.old ++ more_quoted names.now) }
+{
+    'names: for name in names {
+        message.push_str(", ")?;
+        push_quoted(message, *name)?;
+    }
+    Ok(())
+}
+
+// Appends a name between back quotes.
+fn push_quoted(message: &mut String, name: Name) -> Result<(), AllocError>
+    ensures { OnOk result (string_bytes message.new ≡ string_bytes message.old ++ quoted name) }
+{
+    message.push_str("`")?;
+    push_shown(message, name.bytes())?;
+    message.push_str("`")?;
+    Ok(())
 }
 
 fn push_meant(message: &mut String, keyword: Keyword) -> Result<(), AllocError>

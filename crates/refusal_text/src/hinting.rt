@@ -1,11 +1,14 @@
-ghost use Rattle.std.specs.Prelude.{◌≡◌, IfOk};
-ghost use Rattle.refusal_text.specs.Hinting.{IsHint, IsSyntaxHint, IsTwiceHint, version_hint, token_hint, nearly, meant_by, is_newer, syntax_hint, twice_hint};
+ghost use Rattle.std.specs.Prelude.{◌≡◌, ◌-◌, IfOk, slice_get};
+ghost use Rattle.refusal_text.specs.Hinting.{IsHint, IsTokenHint, IsSyntaxHint, IsTwiceHint, IsReservedHint, IsSizeHint, advised, token_advice, called_or_byte, nearly, meant_by, is_newer, or_nearly, symbol_advice, unnamed_after, order_advice, word_advice, keyword_in, is_head_word, is_head, is_named, gives_name, reserved_advice, syntax_hint, twice_hint};
 ghost use Rattle.job_tree.specs.declared.format.Format.TheVariants.{Two};
 ghost use Rattle.job_syntax.specs.Symbols.{next};
 
+use crate::advice::{Advice, trio_advice};
+use crate::by_bytes::{ascii_advice, byte_advice, feed_advice, version_advice};
 use crate::expecting::expected_at;
 use crate::nearness::meant;
-use crate::scanning::{first_given, innermost_open, shape_at};
+use crate::scanning::{first_given, innermost_open, last_before, shape_at};
+use crate::size::size_hint;
 use job_grammar::{FIRST_LINE_LENGTH, Format, JobFault, JobKind, format_of};
 use job_syntax::{Keyword, Role, Symbol, follow};
 use job_tokens::{Shape, Token, lex};
@@ -14,18 +17,16 @@ use std::alloc::{AllocError, Global};
 /// What may help beside the sentence of a refusal.
 #[derive(Clone, Copy)]
 pub(crate) enum Hint {
-    /// The first line ends with a carriage return in front of its newline.
-    CarriageReturn,
-    /// What stands there begins a comment in other languages.
-    NoComments,
-    /// What stands there may stand there in format 2.
-    NewerFormat,
+    /// A sentence.
+    Advice(Advice),
     /// A keyword that may stand there is spelled nearly so.
     Meant(Keyword),
     /// The innermost block that is not closed begins at this place.
     OpenSince(usize),
     /// The name was first given at this place.
     GivenAt(usize),
+    /// The job has so many step instances.
+    Size(u64),
 }
 
 // What helps with a refused text, where something does.
@@ -37,37 +38,73 @@ pub(crate) fn hint_for(
     ensures { IfOk result (IsHint fault.kind text.now fault.at) }
 {
     match fault.kind {
-        JobKind::Version => Ok(version_hint(text)),
-        JobKind::Token => Ok(token_hint(text.get(fault.at).copied())),
+        JobKind::TooLong => Ok(advised(feed_advice(text, fault.at))),
+        JobKind::NotAscii => Ok(advised(ascii_advice(text, fault.at))),
+        JobKind::Version => Ok(advised(version_advice(text))),
+        JobKind::Token => token_hint(alloc, text, fault.at),
         JobKind::Syntax => syntax_hint(alloc, text, fault.at),
         JobKind::Twice => twice_hint(alloc, text, fault.at),
-        JobKind::TooLong
-        | JobKind::NotAscii
-        | JobKind::Number
-        | JobKind::Depth
-        | JobKind::NotEnclosing
-        | JobKind::Reserved
-        | JobKind::TooLarge
-        | JobKind::NoMemory => Ok(None),
+        JobKind::Reserved => reserved_hint(alloc, text, fault.at),
+        JobKind::TooLarge => size_hint(alloc, text),
+        JobKind::Number | JobKind::Depth | JobKind::NotEnclosing | JobKind::NoMemory => Ok(None),
     }
 }
 
-fn version_hint(text: &[u8]) -> Option<Hint>
-    ensures { result ≡ version_hint text.now }
+// A sentence as a hint.
+fn advised(advice: Option<Advice>) -> Option<Hint>
+    ensures { result ≡ advised advice }
 {
-    if text.starts_with(b"trio-job 1\r\n") || text.starts_with(b"trio-job 2\r\n") {
-        return Some(Hint::CarriageReturn);
+    match advice {
+        Some(advice) => Some(Hint::Advice(advice)),
+        None => None,
     }
-    None
 }
 
-fn token_hint(byte: Option<u8>) -> Option<Hint>
-    ensures { result ≡ token_hint byte }
+// What helps where no token begins.
+fn token_hint(alloc: Global, text: &[u8], at: usize) -> Result<Option<Hint>, AllocError>
+    ensures { IfOk result (IsTokenHint text.now at) }
 {
-    match byte {
-        Some(b'#' | b'/') => Some(Hint::NoComments),
-        _ => None,
+    let (_, body) = text.split_at(FIRST_LINE_LENGTH.min(text.len()));
+    let lexed = lex(alloc, body, text.len())?;
+    let before = last_before(lexed.tokens.as_slice(), at);
+    Ok(advised(token_advice(text, at, before)))
+}
+
+// The same by the token before the place.
+fn token_advice(text: &[u8], at: usize, before: Option<Shape>) -> Option<Advice>
+    ensures { result ≡ token_advice text.now at before }
+{
+    if let Some(advice) = feed_advice(text, at) {
+        return Some(advice);
     }
+    called_or_byte(before, byte_before(text, at), text.get(at).copied())
+}
+
+// The byte before a place.
+fn byte_before(text: &[u8], at: usize) -> Option<u8>
+    ensures { result ≡ slice_get text.now (at - 1) }
+{
+    text.get(at.saturating_sub(1)).copied()
+}
+
+// What helps with a byte after another: a word of Trio's that is called, or else what the bytes say.
+fn called_or_byte(word: Option<Shape>, before: Option<u8>, byte: Option<u8>) -> Option<Advice>
+    ensures { result ≡ called_or_byte word before byte }
+{
+    if byte == Some(b'(') {
+        if let Some(advice) = word_advice(word) {
+            return Some(advice);
+        }
+    }
+    byte_advice(before, byte)
+}
+
+// What stands in a job for a token that is a word of a program on Trio.
+fn word_advice(shape: Option<Shape>) -> Option<Advice>
+    ensures { result ≡ word_advice shape }
+{
+    let word = shape?.word()?;
+    trio_advice(word)
 }
 
 // What may stand there in format 2, a word that is nearly one of those which may stand there, or at the text's end the block
@@ -78,34 +115,54 @@ fn syntax_hint(alloc: Global, text: &[u8], at: usize) -> Result<Option<Hint>, Al
     let (_, body) = text.split_at(FIRST_LINE_LENGTH.min(text.len()));
     let lexed = lex(alloc, body, text.len())?;
     let tokens = lexed.tokens.as_slice();
-    let hint = hint_at(alloc, format_of(text), tokens, shape_at(tokens, at))?;
+    let before = last_before(tokens, at);
+    let hint = hint_at(alloc, format_of(text), tokens, before, shape_at(tokens, at))?;
     Ok(hint)
 }
 
-// The same of tokens, with the one at the place where they leave the grammar.
+// The same of tokens, with the one at the place where they leave the grammar and the one before it.
 fn hint_at(
     alloc: Global,
     format: Format,
     tokens: &[Token],
+    before: Option<Shape>,
     shape: Option<Shape>,
 ) -> Result<Option<Hint>, AllocError>
-    ensures { IfOk result (λ hint. hint ≡ syntax_hint format tokens.now shape) }
+    ensures { IfOk result (λ hint. hint ≡ syntax_hint format tokens.now before shape) }
 {
     match shape {
-        Some(shape) => Ok(meant_by(format, expected_at(alloc, format, tokens)?, &shape)),
+        Some(shape) => {
+            let symbol = expected_at(alloc, format, tokens)?;
+            Ok(meant_by(format, symbol, before, &shape))
+        }
         None => Ok(innermost_open(alloc, tokens)?.map(Hint::OpenSince)),
     }
 }
 
 // What helps with a token where one for the symbol was to stand.
-fn meant_by(format: Format, symbol: Option<Symbol>, shape: &Shape) -> Option<Hint>
-    ensures { result ≡ meant_by format symbol shape.now }
+fn meant_by(
+    format: Format,
+    symbol: Option<Symbol>,
+    before: Option<Shape>,
+    shape: &Shape,
+) -> Option<Hint>
+    ensures { result ≡ meant_by format symbol before shape.now }
 {
     let symbol = symbol?;
     if is_newer(format, symbol, shape) {
-        return Some(Hint::NewerFormat);
+        return Some(Hint::Advice(Advice::NewerFormat));
     }
-    nearly(format, symbol, shape)
+    or_nearly(symbol_advice(symbol, before, shape), format, symbol, shape)
+}
+
+// A sentence, or else the keyword that a token nearly is.
+fn or_nearly(advice: Option<Advice>, format: Format, symbol: Symbol, shape: &Shape) -> Option<Hint>
+    ensures { result ≡ or_nearly advice format symbol shape.now }
+{
+    match advice {
+        Some(advice) => Some(Hint::Advice(advice)),
+        None => nearly(format, symbol, shape),
+    }
 }
 
 // Whether a text of format 1 has a token that may stand there in format 2.
@@ -125,6 +182,115 @@ fn nearly(format: Format, symbol: Symbol, shape: &Shape) -> Option<Hint>
     let word = shape.word()?;
     let keyword = meant(format, symbol, word.bytes())?;
     Some(Hint::Meant(keyword))
+}
+
+// The sentence that helps with a token where one for the symbol was to stand, after another token.
+fn symbol_advice(symbol: Symbol, before: Option<Shape>, shape: &Shape) -> Option<Advice>
+    ensures { result ≡ symbol_advice symbol before shape.now }
+{
+    match symbol {
+        Symbol::Given => Some(Advice::Unnamed),
+        Symbol::Scope | Symbol::Nursery | Symbol::Over => unnamed_after(before),
+        Symbol::Shield | Symbol::Fail | Symbol::NurseryShield | Symbol::Open => order_advice(shape),
+        Symbol::Steps | Symbol::Items | Symbol::StepsCleanup | Symbol::ItemsCleanup => {
+            word_advice(Some(*shape))
+        }
+        Symbol::Job
+        | Symbol::StepsTail
+        | Symbol::ItemsTail
+        | Symbol::Raised
+        | Symbol::Handled
+        | Symbol::Target
+        | Symbol::Number
+        | Symbol::Text
+        | Symbol::Semicolon => None,
+    }
+}
+
+// What helps after a name that is a word of a head: the name was left out.
+fn unnamed_after(before: Option<Shape>) -> Option<Advice>
+    ensures { result ≡ unnamed_after before }
+{
+    if is_head_word(before) {
+        return Some(Advice::Unnamed);
+    }
+    None
+}
+
+// What helps with a word of a head that stands too late in it.
+fn order_advice(shape: &Shape) -> Option<Advice>
+    ensures { result ≡ order_advice shape.now }
+{
+    if is_head_word(Some(*shape)) {
+        return Some(Advice::HeadOrder);
+    }
+    None
+}
+
+// Whether a token is one of the words that may follow the name of a scope, a nursery or a start.
+fn is_head_word(shape: Option<Shape>) -> bool
+    ensures { result ≡ is_head_word shape }
+{
+    match keyword_in(shape) {
+        Some(keyword) => is_head(keyword),
+        None => false,
+    }
+}
+
+// The keyword that a token is.
+fn keyword_in(shape: Option<Shape>) -> Option<Keyword>
+    ensures { result ≡ keyword_in shape }
+{
+    let word = shape?.word()?;
+    Keyword::of(word)
+}
+
+fn is_head(keyword: Keyword) -> bool
+    ensures { result ≡ is_head keyword }
+{
+    matches!(
+        keyword,
+        Keyword::After | Keyword::At | Keyword::Shield | Keyword::Fail | Keyword::Over
+    )
+}
+
+// Whether a token begins what has a name: a job, a scope, a nursery or a start.
+fn gives_name(shape: Option<Shape>) -> bool
+    ensures { result ≡ gives_name shape }
+{
+    match keyword_in(shape) {
+        Some(keyword) => is_named(keyword),
+        None => false,
+    }
+}
+
+fn is_named(keyword: Keyword) -> bool
+    ensures { result ≡ is_named keyword }
+{
+    matches!(
+        keyword,
+        Keyword::Job | Keyword::Scope | Keyword::Nursery | Keyword::Start
+    )
+}
+
+// What helps with a name that is reserved.
+fn reserved_hint(alloc: Global, text: &[u8], at: usize) -> Result<Option<Hint>, AllocError>
+    ensures { IfOk result (IsReservedHint text.now at) }
+{
+    let (_, body) = text.split_at(FIRST_LINE_LENGTH.min(text.len()));
+    let lexed = lex(alloc, body, text.len())?;
+    let tokens = lexed.tokens.as_slice();
+    Ok(advised(reserved_advice(last_before(tokens, at), shape_at(tokens, at))))
+}
+
+// A word of a head stands where a name is to be given.
+fn reserved_advice(before: Option<Shape>, shape: Option<Shape>) -> Option<Advice>
+    ensures { result ≡ reserved_advice before shape }
+{
+    if gives_name(before) && is_head_word(shape) {
+        return Some(Advice::Unnamed);
+    }
+    None
 }
 
 // Where the name at a place was first given.

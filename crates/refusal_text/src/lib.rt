@@ -5,11 +5,15 @@
 //! `job_tokens` and `job_syntax` for what a text's tokens are and where they leave the grammar.
 #![tactic(auto)]
 
+mod advice;
+mod by_bytes;
 mod expecting;
 mod explaining;
 mod hinting;
 mod nearness;
 mod scanning;
+mod scopes;
 mod sentences;
+mod size;
 
 pub use explaining::{pointed_message, refusal_message};

@@ -1,5 +1,5 @@
-ghost use Rattle.std.specs.Prelude.{◌≡◌, [], IfOk, slice_get};
-ghost use Rattle.refusal_text.specs.Scanning.{shape_at, open_in, gives, first_given};
+ghost use Rattle.std.specs.Prelude.{◌≡◌, [], None, IfOk, slice_get};
+ghost use Rattle.refusal_text.specs.Scanning.{shape_at, last_before, open_in, gives, first_given};
 
 use job_syntax::Role;
 use job_tokens::{Mark, Shape, Token};
@@ -16,6 +16,20 @@ pub(crate) fn shape_at(tokens: &[Token], at: usize) -> Option<Shape>
         }
     }
     None
+}
+
+// The last token before a place.
+pub(crate) fn last_before(tokens: &[Token], at: usize) -> Option<Shape>
+    ensures { result ≡ last_before at None tokens.now }
+{
+    let mut last = None;
+    'tokens: for token in tokens {
+        if token.at >= at {
+            return last;
+        }
+        last = Some(token.shape);
+    }
+    last
 }
 
 // The place of the innermost `{` that is not closed.
@@ -41,8 +55,8 @@ pub(crate) fn first_given(tokens: &[Token], roles: &[Role], name: Name) -> Optio
 {
     let mut left = roles;
     'tokens: for token in tokens {
-        let (role, behind) = left.split_first()?;
-        left = behind;
+        let (role, others) = left.split_first()?;
+        left = others;
         if gives(*role, token.shape.word(), name) {
             return Some(token.at);
         }

@@ -1,7 +1,8 @@
 use Rattle.std.proofs.Common.{◌∙◌, ◌++◌, ℕ, List, ap}
 use Rattle.std.specs.Prelude.{Option}
-use Rattle.refusal_text.specs.Explaining.{pointed_message, hint_of}
+use Rattle.refusal_text.specs.Explaining.{pointed_message, hint_of, names_of}
 use Rattle.refusal_text.specs.Sentences.{sentence_of}
+use Rattle.refusal_text.specs.Scopes.{names_held}
 use Rattle.refusal_text.proofs.Told.{cut_back, first_at}
 use Rattle.refusal_text.proofs.explaining.refusal_message.Goals as goal
 
@@ -12,10 +13,13 @@ returns c =
     let rest = cut_back text _ at _ c.split_at.ensures.back c.min.ensures in (
       c.in_ok-asked.asked,
       c.in_ok-hint_for.field-0,
+      names_held c.in_ok-listed_names.field-0,
       c.in_ok-asked.ensures,
       c.in_ok-hint_for.ensures,
-      c.in_ok-push_help.ensures ∙ ap (λ (x : List ℕ). x ++ hint_of c.args.job.now text c.in_ok-hint_for.field-0)
+      c.in_ok-listed_names.ensures,
+      c.in_ok-push_names.ensures ∙ ap (λ (x : List ℕ). x ++ names_of (names_held c.in_ok-listed_names.field-0))
+          (c.in_ok-push_help.ensures ∙ ap (λ (x : List ℕ). x ++ hint_of c.args.job.now text c.in_ok-hint_for.field-0)
           (c.in_ok-message.ensures ∙ ap (pointed_message c.args.job.now text at)
           (c.sentence_of-sentence.ensures ∙ ap (λ (x : Option ℕ). sentence_of c.args.fault.kind x c.in_ok-asked.asked)
-          (c.copied.ensures ∙ c.first.ensures.value ∙ first_at text _ at rest))),
+          (c.copied.ensures ∙ c.first.ensures.value ∙ first_at text _ at rest)))),
     )

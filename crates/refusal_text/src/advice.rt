@@ -1,0 +1,146 @@
+ghost use Rattle.std.specs.Prelude.{◌≡◌};
+ghost use Rattle.refusal_text.specs.Advice.{advice_text, trio_advice};
+
+use job_tree::Name;
+
+/// A hint that is the same sentence wherever it is given.
+#[derive(Clone, Copy)]
+pub(crate) enum Advice {
+    /// The first line ends with a carriage return and a newline.
+    CarriageReturn,
+    /// The first line ends with a blank.
+    BlankAfterVersion,
+    /// The text begins with a byte order mark.
+    ByteOrderMark,
+    /// The text is a feed: its input follows the job.
+    Feed,
+    /// What stands there begins a comment in other languages.
+    NoComments,
+    /// A fraction of a tick.
+    WholeTicks,
+    /// A dotted name, such as `trio.sleep`.
+    NoDots,
+    /// A string in single quotes.
+    DoubleQuotes,
+    /// A name with a hyphen.
+    NoHyphens,
+    /// Parentheses after a word.
+    NoParentheses,
+    /// The colon in front of a block of Python.
+    NoColons,
+    /// Several exceptions of one handler.
+    OneException,
+    /// The star of `except*`.
+    NoStars,
+    /// What stands there may stand there in format 2.
+    NewerFormat,
+    /// A scope, nursery, start or job without a name.
+    Unnamed,
+    /// The words in the head of a scope in another order.
+    HeadOrder,
+    /// Trio's `move_on_after` and `move_on_at`.
+    MoveOn,
+    /// Trio's `fail_after` and `fail_at`.
+    FailAfter,
+    /// Python's `await`.
+    NoAwait,
+    /// Python's `async`.
+    NoAsync,
+    /// Trio's `open_nursery`.
+    OpenNursery,
+    /// Trio's `start_soon`.
+    StartSoon,
+    /// Trio's `sleep_forever`.
+    SleepForever,
+}
+
+impl Advice {
+    // The sentence, with its newline.
+    pub fn text(self) -> &'static str
+        ensures { result.now ≡ advice_text self }
+    {
+        match self {
+            Advice::CarriageReturn => {
+                "its line ends are carriage returns and newlines: save it with newlines alone\n"
+            }
+            Advice::BlankAfterVersion => {
+                "a blank follows the number: the first line ends right after it\n"
+            }
+            Advice::ByteOrderMark => {
+                "the text begins with a byte order mark: save it as plain ASCII\n"
+            }
+            Advice::Feed => {
+                "this is a feed, which holds its input: write `nursery < FILE`, or put the job and the input into two files\n"
+            }
+            Advice::NoComments => "a job text has no comments\n",
+            Advice::WholeTicks => {
+                "times are whole ticks: choose a smaller tick, and multiply every number\n"
+            }
+            Advice::NoDots => {
+                "Trio's names stand here without `trio.`: `sleep 1;`, `scope NAME after 5 { .. }`, `nursery NAME { .. }`\n"
+            }
+            Advice::DoubleQuotes => "a string stands in double quotes, as in `find \"error\";`\n",
+            Advice::NoHyphens => {
+                "a name has letters, digits and `_`: `my_job`, and not `my-job`\n"
+            }
+            Advice::NoParentheses => {
+                "a step has no parentheses: `sleep 1;`, and not `sleep(1)`\n"
+            }
+            Advice::NoColons => {
+                "a block stands between braces, without a colon: `scope work after 5 { .. }`\n"
+            }
+            Advice::OneException => {
+                "a handler has one name: for another one, put a second `try` around this one\n"
+            }
+            Advice::NoStars => {
+                "`except NAME { .. }` is Python's `except*` already: leave out the star\n"
+            }
+            Advice::NewerFormat => {
+                "format 2 has this: begin the job text with the line `trio-job 2`\n"
+            }
+            Advice::Unnamed => {
+                "each job, scope, nursery and start has a name, as in `scope work after 5 { .. }`\n"
+            }
+            Advice::HeadOrder => {
+                "the head of a scope is `scope NAME after N shield fail`, in this order\n"
+            }
+            Advice::MoveOn => "Trio's `move_on_after` is `scope NAME after N { .. }` here\n",
+            Advice::FailAfter => "Trio's `fail_after` is `scope NAME after N fail { .. }` here\n",
+            Advice::NoAwait => {
+                "there is no `await` here: a step that waits is written as `sleep 1;`\n"
+            }
+            Advice::NoAsync => {
+                "there is no `async` here: a nursery is `nursery NAME { .. }`, a task `start NAME { .. }`\n"
+            }
+            Advice::OpenNursery => "Trio's `open_nursery` is `nursery NAME { .. }` here\n",
+            Advice::StartSoon => {
+                "Trio's `start_soon` is `start NAME { .. }` here, right inside a nursery\n"
+            }
+            Advice::SleepForever => "Trio's `sleep_forever` is `forever;` here\n",
+        }
+    }
+}
+
+// What stands in a job for a word of a program on Trio.
+pub(crate) fn trio_advice(word: Name) -> Option<Advice>
+    ensures { result ≡ trio_advice word }
+{
+    let word = word.bytes();
+    if word == b"move_on_after".as_slice() || word == b"move_on_at".as_slice() {
+        Some(Advice::MoveOn)
+    } else if word == b"fail_after".as_slice() || word == b"fail_at".as_slice() {
+        Some(Advice::FailAfter)
+    } else if word == b"await".as_slice() {
+        Some(Advice::NoAwait)
+    } else if word == b"async".as_slice() {
+        Some(Advice::NoAsync)
+    } else if word == b"open_nursery".as_slice() {
+        Some(Advice::OpenNursery)
+    } else if word == b"start_soon".as_slice() {
+        Some(Advice::StartSoon)
+    } else if word == b"sleep_forever".as_slice() {
+        Some(Advice::SleepForever)
+    } else {
+        None
+    }
+}

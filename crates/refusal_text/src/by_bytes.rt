@@ -1,0 +1,116 @@
+ghost use Rattle.std.specs.Prelude.{◌≡◌};
+ghost use Rattle.refusal_text.specs.ByBytes.{is_in_feed, feed_advice, has_order_mark, ascii_advice, has_returns, has_blank, version_advice, dot_advice, hyphen_advice, plain_advice, byte_advice};
+
+use crate::advice::Advice;
+use job_tree::{is_digit, is_word_byte};
+use nursery_app::split_feed;
+
+// What helps where the text goes on with its input.
+pub(crate) fn feed_advice(text: &[u8], at: usize) -> Option<Advice>
+    ensures { result ≡ feed_advice text.now at }
+{
+    if is_in_feed(text, at) {
+        return Some(Advice::Feed);
+    }
+    None
+}
+
+// Whether a line that is exactly `%input` begins at a place or before it.
+fn is_in_feed(text: &[u8], at: usize) -> bool
+    ensures { result ≡ is_in_feed text.now at }
+{
+    let (job, _) = split_feed(text);
+    job.len() < text.len() && job.len() <= at
+}
+
+// What helps where a byte is not ASCII.
+pub(crate) fn ascii_advice(text: &[u8], at: usize) -> Option<Advice>
+    ensures { result ≡ ascii_advice text.now at }
+{
+    if has_order_mark(text) {
+        return Some(Advice::ByteOrderMark);
+    }
+    feed_advice(text, at)
+}
+
+// Whether the text begins with the byte order mark of UTF-8 or of UTF-16.
+fn has_order_mark(text: &[u8]) -> bool
+    ensures { result ≡ has_order_mark text.now }
+{
+    text.starts_with(b"\xef\xbb\xbf")
+        || (text.starts_with(b"\xff\xfe") || text.starts_with(b"\xfe\xff"))
+}
+
+// What helps where the first line is none of those with which a job text begins.
+pub(crate) fn version_advice(text: &[u8]) -> Option<Advice>
+    ensures { result ≡ version_advice text.now }
+{
+    if has_returns(text) {
+        return Some(Advice::CarriageReturn);
+    }
+    if has_blank(text) {
+        return Some(Advice::BlankAfterVersion);
+    }
+    None
+}
+
+// Whether the first line ends with a carriage return and a newline.
+fn has_returns(text: &[u8]) -> bool
+    ensures { result ≡ has_returns text.now }
+{
+    text.starts_with(b"trio-job 1\r\n") || text.starts_with(b"trio-job 2\r\n")
+}
+
+// Whether a blank follows the number of the first line.
+fn has_blank(text: &[u8]) -> bool
+    ensures { result ≡ has_blank text.now }
+{
+    text.starts_with(b"trio-job 1 ") || text.starts_with(b"trio-job 2 ")
+}
+
+// What helps where no token begins with a byte, after another.
+pub(crate) fn byte_advice(before: Option<u8>, byte: Option<u8>) -> Option<Advice>
+    ensures { result ≡ byte_advice before byte }
+{
+    match byte {
+        Some(b'.') => Some(dot_advice(before)),
+        Some(b'-') => hyphen_advice(before),
+        Some(byte) => plain_advice(byte),
+        None => None,
+    }
+}
+
+// What helps with a `.`: a fraction, or a dotted name.
+fn dot_advice(before: Option<u8>) -> Advice
+    ensures { result ≡ dot_advice before }
+{
+    match before {
+        Some(before) if is_digit(before) || before == b' ' => Advice::WholeTicks,
+        _ => Advice::NoDots,
+    }
+}
+
+// What helps with a `-` in a name.
+fn hyphen_advice(before: Option<u8>) -> Option<Advice>
+    ensures { result ≡ hyphen_advice before }
+{
+    match before {
+        Some(before) if is_word_byte(before) => Some(Advice::NoHyphens),
+        _ => None,
+    }
+}
+
+// What helps with a byte that other languages use.
+fn plain_advice(byte: u8) -> Option<Advice>
+    ensures { result ≡ plain_advice byte }
+{
+    match byte {
+        b'#' | b'/' => Some(Advice::NoComments),
+        b'\'' => Some(Advice::DoubleQuotes),
+        b'(' | b')' => Some(Advice::NoParentheses),
+        b':' => Some(Advice::NoColons),
+        b'|' => Some(Advice::OneException),
+        b'*' => Some(Advice::NoStars),
+        _ => None,
+    }
+}

@@ -1,0 +1,22 @@
+ghost use Rattle.std.specs.Prelude.{IfOk};
+ghost use Rattle.refusal_text.specs.Hinting.{IsSizeHint};
+
+use crate::hinting::Hint;
+use job_checks::size_of;
+use job_grammar::FIRST_LINE_LENGTH;
+use job_syntax::job_at;
+use job_tokens::lex;
+use std::alloc::{AllocError, Global};
+
+// How many step instances the job of a text has, where its tokens spell one.
+pub(crate) fn size_hint(alloc: Global, text: &[u8]) -> Result<Option<Hint>, AllocError>
+    ensures { IfOk result (IsSizeHint text.now) }
+{
+    let (_, body) = text.split_at(FIRST_LINE_LENGTH.min(text.len()));
+    let lexed = lex(alloc, body, text.len())?;
+    let Some(job) = job_at(alloc, lexed.tokens.as_slice())? else {
+        return Ok(None);
+    };
+    let (_name, steps) = job;
+    Ok(Some(Hint::Size(size_of(steps.as_slice()))))
+}
