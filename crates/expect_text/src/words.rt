@@ -1,0 +1,37 @@
+ghost use Rattle.std.specs.Prelude.{◌≡◌};
+ghost use Rattle.expect_text.specs.Expectations.{after, from_word, is_word};
+ghost use Rattle.expect_text.specs.Patterns.{is_blank};
+ghost use Rattle.expect_text.specs.Views.{bytes_of};
+
+use crate::squeezing::is_blank;
+
+// A text from its first byte on that is no blank.
+pub(crate) fn from_word(text: &[u8]) -> &[u8]
+    ensures { result.now ≡ from_word text.now }
+{
+    let mut left = text;
+    'blanks: while let Some((first, rest)) = left.split_first() {
+        if !is_blank(*first) {
+            return left;
+        }
+        left = rest;
+    }
+    left
+}
+
+// What follows a word that a text begins with.
+pub(crate) fn after<'a>(word: &[u8], text: &'a [u8]) -> Option<&'a [u8]>
+    ensures { bytes_of result ≡ after word.now text.now }
+{
+    text.strip_prefix(word)
+}
+
+// Whether a text is a word, but for blanks around it.
+pub(crate) fn is_word(word: &[u8], text: &[u8]) -> bool
+    ensures { result ≡ is_word word.now text.now }
+{
+    match after(word, from_word(text)) {
+        Some(rest) => from_word(rest).is_empty(),
+        None => false,
+    }
+}

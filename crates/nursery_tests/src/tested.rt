@@ -1,0 +1,174 @@
+//! What `nursery test` compares: the outputs of a feed, texts that differ, and expectations. The expected values are worked out by hand.
+
+use crate::fixtures::LIMIT;
+use expect_text::{ExpectLine, Expectation, first_difference, first_match, read_expectation};
+use job_runner::Settings;
+use std::process::Abort;
+use std::test::Fail;
+use std::thread::Threads;
+use test_app::{Met, Output, meets, output_of};
+
+// Two texts, and the number of the first line that differs: 0 where none does.
+const TEXTS: &[(&[u8], &[u8], usize)] = &[
+    (b"", b"", 0),
+    (b"a\nb\n", b"a\nb\n", 0),
+    (b"a\nb\n", b"a\nc\n", 2),
+    (b"a\nb\n", b"a\nb", 3),
+    (b"a\n", b"a\nb\n", 2),
+    (b"", b"a", 1),
+];
+
+#[test]
+fn texts_differ_at_their_first_other_line(rt: HostRuntime) -> Result<(), Fail> {
+    for &(kept, now, wanted) in TEXTS {
+        let line = match first_difference(kept, now) {
+            Some(difference) => difference.line,
+            None => 0,
+        };
+        assert!(rt; line == wanted, "{line} for {wanted}");
+    }
+    Ok(())
+}
+
+// A pattern, a text, and the number of its first line that matches: 0 where none does.
+const PATTERNS: &[(&[u8], &[u8], usize)] = &[
+    (b"task m * done", b"job m 3\ntask m 0 3 done\n", 2),
+    (b"*", b"a\n", 1),
+    (b"*", b"", 0),
+    (b"m ends: done", b"tick 3\n  m      ends: done\n", 2),
+    (b"ends: done", b"  m  ends: done\n", 0),
+    (b"*ends*", b"  m  ends: done", 1),
+    (b"a*b*c", b"abbbc\n", 1),
+    (b"a*b*c", b"acbb\n", 0),
+];
+
+#[test]
+fn a_pattern_matches_a_whole_line(rt: HostRuntime) -> Result<(), Fail> {
+    for &(pattern, text, wanted) in PATTERNS {
+        let found = first_match(rt.alloc(), pattern, text)?;
+        assert!(rt; found.unwrap_or(0) == wanted);
+    }
+    Ok(())
+}
+
+// What a line of a file of expectations is.
+fn word_of(line: &[u8]) -> &'static str {
+    match read_expectation(line) {
+        ExpectLine::Nothing => "nothing",
+        ExpectLine::Unknown => "unknown",
+        ExpectLine::Expects(Expectation::Present(_)) => "present",
+        ExpectLine::Expects(Expectation::Absent(_)) => "absent",
+        ExpectLine::Expects(Expectation::NoRaces) => "races",
+        ExpectLine::Expects(Expectation::NoFaults(_)) => "faults",
+    }
+}
+
+const LINES: &[(&[u8], &str)] = &[
+    (b"", "nothing"),
+    (b"  # a comment", "nothing"),
+    (b"task m * done", "present"),
+    (b" ! * raised *", "absent"),
+    (b"races:none", "races"),
+    (b"races: some", "unknown"),
+    (b"faults: no stuck , no lost", "faults"),
+    (b"faults: none", "unknown"),
+];
+
+#[test]
+fn a_line_is_read_as_an_expectation(rt: HostRuntime) -> Result<(), Fail> {
+    for &(line, wanted) in LINES {
+        let word = word_of(line);
+        assert!(rt; word == wanted, "{word} for {wanted}");
+    }
+    Ok(())
+}
+
+const JOB: &[u8] = b"trio-job 1\njob m{sleep 3;}";
+
+// What is written for the job without an input, by the limit 100.
+const OUTPUTS: &[(Output, &[u8])] = &[
+    (Output::Report, b"job m 3\ntask m 0 3 done\n"),
+    (
+        Output::Story,
+        b"tick 0\n  m  starts\n  m  sleeps until 3\ntick 3\n  m  ends: done\n",
+    ),
+    (
+        Output::Faults,
+        b"              as it is    3 done\n2:7  sleep 3  fails       0 raised Fault(m@0)\n2:7  sleep 3  fails late  3 raised Fault(m@3)\n2:7  sleep 3  hangs       stuck at 100; sleeping forever: m\n2:7  sleep 3  cancelled   1 done\n4 faults: 1 stuck, 0 cut a cleanup, 0 lost, 0 not reached\n",
+    ),
+    (Output::Races, b"2 hairs: no race\n"),
+];
+
+#[test]
+fn an_output_is_what_the_command_writes(rt: HostRuntime) -> Result<(), Fail> {
+    let settings = Settings::new(3, LIMIT).ok_or("settings")?;
+    for &(kind, wanted) in OUTPUTS {
+        let bytes = output_of(&rt, rt.alloc(), JOB, b"", settings, kind)?;
+        assert!(rt; bytes.as_slice() == wanted, "{kind:?}");
+    }
+    Ok(())
+}
+
+#[test]
+fn a_chart_has_a_row_for_the_task(rt: HostRuntime) -> Result<(), Fail> {
+    let settings = Settings::new(1, LIMIT).ok_or("settings")?;
+    let bytes = output_of(&rt, rt.alloc(), JOB, b"", settings, Output::Chart)?;
+    let found = first_match(rt.alloc(), b"m |*| done", bytes.as_slice())?;
+    assert!(rt; found.is_some());
+    Ok(())
+}
+
+// Whether an expectation of the job is met, in a word.
+fn met_word<R: Abort + Threads + Sync + AllocGlobal>(
+    rt: &R,
+    line: &[u8],
+) -> Result<&'static str, Fail> {
+    let settings = Settings::new(2, LIMIT).ok_or("settings")?;
+    let ExpectLine::Expects(expectation) = read_expectation(line) else {
+        return Ok("no expectation");
+    };
+    let report = b"job m 3\ntask m 0 3 done\n";
+    let story = b"tick 0\n  m  starts\n";
+    let met = meets(
+        rt,
+        rt.alloc(),
+        JOB,
+        b"",
+        settings,
+        expectation,
+        report,
+        story,
+    )?;
+    match met {
+        Met::Yes => Ok("yes"),
+        Met::Missing => Ok("missing"),
+        Met::Found {
+            story: true,
+            line: 2,
+        } => Ok("story 2"),
+        Met::Found { .. } => Ok("found"),
+        Met::Denied(_) => Ok("denied"),
+        Met::Untold => Ok("untold"),
+    }
+}
+
+const MET: &[(&[u8], &str)] = &[
+    (b"task m * done", "yes"),
+    (b"m starts", "yes"),
+    (b"task m * raised *", "missing"),
+    (b"! *raised*", "yes"),
+    (b"! m starts", "story 2"),
+    (b"! *", "found"),
+    (b"races: none", "yes"),
+    (b"faults: no cut, no lost", "yes"),
+    (b"faults: no stuck", "denied"),
+];
+
+#[test]
+fn an_expectation_is_met_or_not(rt: HostRuntime) -> Result<(), Fail> {
+    for &(line, wanted) in MET {
+        let word = met_word(&rt, line)?;
+        assert!(rt; word == wanted, "{word} for {wanted}");
+    }
+    Ok(())
+}

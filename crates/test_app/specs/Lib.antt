@@ -1,0 +1,3 @@
+pub mod Kepts
+pub mod Outputs
+pub mod Mets

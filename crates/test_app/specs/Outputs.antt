@@ -1,0 +1,51 @@
+-- The outputs of a job text over an input that are kept beside a feed.
+use Rattle.std.specs.Prelude.{ℕ, false, None, List, codes}
+use Rattle.nursery_app.specs.Verdict as reports
+use Rattle.nursery_app.specs.declared.verdict.Verdict.{Verdict}
+use Rattle.story_app.specs.Stories as stories
+use Rattle.story_app.specs.declared.verdict.StoryVerdict.{StoryVerdict}
+use Rattle.chart_app.specs.Charts as charts
+use Rattle.chart_app.specs.declared.form.Form.TheVariants.{Text}
+use Rattle.fault_app.specs.Verdicts as faults
+use Rattle.fault_app.specs.declared.verdict.FaultsVerdict.{FaultsVerdict}
+use Rattle.race_app.specs.Verdicts as races
+use Rattle.race_app.specs.declared.verdict.RacesVerdict.{RacesVerdict}
+use Rattle.expect_text.specs.Expectations.{no_kind}
+use Rattle.test_app.specs.declared.outputs.Output.{Output}
+use Rattle.test_app.specs.declared.outputs.Output.TheVariants.{Report, Story, Chart, Faults, Races}
+
+-- the report of the job's meaning, or the refusal or the line of the limit that stands for it
+abbrev pub IsReport : (text input : List ℕ) → (limit : ℕ) → (bytes : List ℕ) → Type 0
+IsReport text input limit bytes = (verdict : Verdict) × reports.IsVerdict text input limit verdict bytes
+
+-- the story of all tasks
+abbrev pub IsStory : (text input : List ℕ) → (limit : ℕ) → (bytes : List ℕ) → Type 0
+IsStory text input limit bytes = (verdict : StoryVerdict) × stories.IsVerdict text input limit None verdict bytes
+
+-- the chart as a text of 80 columns
+abbrev pub IsChart : (text input : List ℕ) → (limit : ℕ) → (bytes : List ℕ) → Type 0
+IsChart text input limit bytes = (verdict : Verdict) × charts.IsVerdict (Text 80) text input limit verdict bytes
+
+-- what becomes of the job with each fault, where a step that fails raises `Fault`
+abbrev pub IsFaults : (text input : List ℕ) → (limit : ℕ) → (bytes : List ℕ) → Type 0
+IsFaults text input limit bytes = (verdict : FaultsVerdict) × faults.IsVerdict text input limit (codes "Fault") no_kind verdict bytes
+
+-- what the outcome hangs on by a hair
+abbrev pub IsRaces : (text input : List ℕ) → (limit : ℕ) → (bytes : List ℕ) → Type 0
+IsRaces text input limit bytes = (verdict : RacesVerdict) × races.IsVerdict text input limit false verdict bytes
+
+-- these bytes are an output of a job text over an input
+abbrev pub IsOutput : (text input : List ℕ) → (limit : ℕ) → Output → (bytes : List ℕ) → Type 0
+IsOutput text input limit Report bytes = IsReport text input limit bytes
+IsOutput text input limit Story bytes = IsStory text input limit bytes
+IsOutput text input limit Chart bytes = IsChart text input limit bytes
+IsOutput text input limit Faults bytes = IsFaults text input limit bytes
+IsOutput text input limit Races bytes = IsRaces text input limit bytes
+
+-- the extension of the file that keeps it
+abbrev pub extension_text : Output → List ℕ
+extension_text Report = codes "report"
+extension_text Story = codes "story"
+extension_text Chart = codes "chart"
+extension_text Faults = codes "faults"
+extension_text Races = codes "races"

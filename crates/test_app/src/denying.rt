@@ -1,0 +1,80 @@
+ghost use Rattle.std.specs.Prelude.{◌≡◌, ◌≤◌, List, ℕ, codes, length, true, IfOk};
+ghost use Rattle.job_meaning.specs.declared.limits.TheConstants.{MOST_INPUT};
+ghost use Rattle.test_app.specs.Mets.{IsFaultsMet, IsRacesMet, answer_of, denied_answer};
+
+use crate::kept::Kept;
+use crate::met::Met;
+use fault_app::{Deny, FaultsVerdict, faults};
+use job_grammar::Name;
+use job_runner::{NoGate, Settings};
+use nursery_app::ServeFault;
+use race_app::{RacesVerdict, races};
+use std::alloc::{AllocError, Global};
+use std::thread::Threads;
+
+// The name of the exception that a step raises which fails.
+pub(crate) fn fault_name() -> Name
+    ensures { result ≡ codes "Fault" }
+{
+    match Name::new(b"Fault") {
+        Some(name) => name,
+        None => unreachable!(),
+    }
+}
+
+// Whether `races` denies nothing.
+pub(crate) fn no_races<R: Threads + Sync>(
+    rt: &R,
+    alloc: Global,
+    job_text: &[u8],
+    input: &[u8],
+    settings: Settings,
+) -> Result<Met, AllocError>
+    requires { length input.now ≤ MOST_INPUT }
+    ensures { IfOk result (λ met. IsRacesMet job_text.now input.now settings.limit (answer_of met)) }
+{
+    let mut out = Kept::new(alloc);
+    match races(
+        rt, alloc, job_text, input, settings, true, &NoGate, &mut out,
+    ) {
+        Ok(RacesVerdict::Told { denied }) => Ok(denied_or_yes(denied)),
+        Ok(RacesVerdict::JobRefused(_) | RacesVerdict::Limit | RacesVerdict::NoFinerTicks) => {
+            Ok(Met::Untold)
+        }
+        Err(ServeFault::Send { .. } | ServeFault::NoMemory) => Err(AllocError),
+    }
+}
+
+// Whether `faults` denies nothing of these kinds.
+pub(crate) fn no_faults<R: Threads + Sync>(
+    rt: &R,
+    alloc: Global,
+    job_text: &[u8],
+    input: &[u8],
+    settings: Settings,
+    kinds: Deny,
+) -> Result<Met, AllocError>
+    requires { length input.now ≤ MOST_INPUT }
+    ensures { IfOk result (λ met. IsFaultsMet job_text.now input.now settings.limit kinds (answer_of met)) }
+{
+    let mut out = Kept::new(alloc);
+    let name = fault_name();
+    match faults(
+        rt, alloc, job_text, input, settings, name, kinds, &NoGate, &mut out,
+    ) {
+        Ok(FaultsVerdict::Told { denied }) => Ok(denied_or_yes(denied)),
+        Ok(FaultsVerdict::JobRefused(_)) => Ok(Met::Untold),
+        Err(ServeFault::Send { .. } | ServeFault::NoMemory) => Err(AllocError),
+    }
+}
+
+// The lines that are denied, if there are any.
+fn denied_or_yes(denied: Vec<u8>) -> Met
+    ensures { answer_of result ≡ denied_answer denied.items }
+{
+    if denied.is_empty() {
+        Met::Yes
+    } else {
+        Met::Denied(denied)
+    }
+}

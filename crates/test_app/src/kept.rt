@@ -1,0 +1,56 @@
+ghost use Rattle.std.specs.Prelude.{◌≡◌, []};
+
+use job_report::{Out, PutFault};
+use std::alloc::Global;
+
+// A writer that keeps what it is given, in memory that grows. It fails only where memory is refused.
+#[derive(Drop)]
+pub(crate) struct Kept {
+    bytes: Vec<u8>,
+    failed: u64,
+}
+
+impl Kept {
+    ghost use Rattle.test_app.specs.Kepts.{faults_of, held_by};
+
+    // A writer that holds nothing yet.
+    pub(crate) fn new(alloc: Global) -> Kept
+        ensures empty { held_by result ≡ [] }
+        ensures well { faults_of result ≡ 0 }
+    {
+        Kept {
+            bytes: Vec::new(alloc),
+            failed: 0,
+        }
+    }
+
+    // The bytes that were taken.
+    pub(crate) fn into_bytes(self) -> Vec<u8>
+        ensures { result.items ≡ held_by self }
+    {
+        self.bytes
+    }
+}
+
+impl Out for Kept {
+    ghost use Rattle.std.specs.Prelude.{Some};
+    ghost use Rattle.test_app.specs.Kepts.{faults_of, held_by};
+
+    ghost failed = { faults_of };
+
+    ghost contents = { λ out. Some (held_by out) };
+
+    fn put(&mut self, bytes: &[u8]) -> Result<usize, PutFault> {
+        match self.bytes.extend_from_slice(bytes) {
+            Ok(()) => Ok(bytes.len()),
+            Err(_refused) => {
+                self.failed += 1;
+                Err(PutFault)
+            }
+        }
+    }
+
+    fn failures(&self) -> u64 {
+        self.failed
+    }
+}

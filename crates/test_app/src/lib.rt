@@ -1,0 +1,20 @@
+//! What a feed that was kept with its outputs is tested by: the outputs of a job text over an input, and whether an expectation is met.
+//!
+//! The layer promises that `output_of` gives the bytes that the command in question writes, for every number of workers, as that command's
+//! own definitions have them; and that `meets` answers of an expectation what the lines of the report and the story, or the verdicts of
+//! `races` and `faults`, say of it (`specs/Mets.antt`). It stands on `nursery_app`, `story_app`, `chart_app`, `fault_app` and `race_app`
+//! for the outputs and on `expect_text` for patterns and expectations.
+#![tactic(auto)]
+
+mod denying;
+mod kept;
+mod matching;
+mod meeting;
+mod met;
+mod outputs;
+mod writing;
+
+pub use meeting::meets;
+pub use met::Met;
+pub use outputs::Output;
+pub use writing::output_of;

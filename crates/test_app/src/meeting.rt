@@ -1,0 +1,37 @@
+ghost use Rattle.std.specs.Prelude.{◌≤◌, length, IfOk};
+ghost use Rattle.job_meaning.specs.declared.limits.TheConstants.{MOST_INPUT};
+ghost use Rattle.expect_text.specs.Views.{expected_of};
+ghost use Rattle.test_app.specs.Mets.{IsMet, answer_of};
+
+use crate::denying::{no_faults, no_races};
+use crate::matching::{no_line, some_line};
+use crate::met::Met;
+use expect_text::Expectation;
+use job_runner::Settings;
+use std::alloc::{AllocError, Global};
+use std::thread::Threads;
+
+/// Whether an expectation of a job text over an input is met. Patterns are looked for in the lines of the report and the story that are
+/// given, as `output_of` makes them; races and faults are those that `races` and `faults` tell with these settings, where a step that fails
+/// raises `Fault`. The error is want of memory.
+pub fn meets<R: Threads + Sync>(
+    rt: &R,
+    alloc: Global,
+    job_text: &[u8],
+    input: &[u8],
+    settings: Settings,
+    expectation: Expectation<'_>,
+    report: &[u8],
+    story: &[u8],
+) -> Result<Met, AllocError>
+    requires { length input.now ≤ MOST_INPUT }
+    ensures { IfOk result (λ met. IsMet job_text.now input.now settings.limit (expected_of expectation.entry) report.now story.now
+        (answer_of met)) }
+{
+    match expectation {
+        Expectation::Present(pattern) => some_line(alloc, pattern, report, story),
+        Expectation::Absent(pattern) => no_line(alloc, pattern, report, story),
+        Expectation::NoRaces => no_races(rt, alloc, job_text, input, settings),
+        Expectation::NoFaults(kinds) => no_faults(rt, alloc, job_text, input, settings, kinds),
+    }
+}

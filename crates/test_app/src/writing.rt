@@ -1,0 +1,168 @@
+ghost use Rattle.std.specs.Prelude.{◌≤◌, length, IfOk};
+ghost use Rattle.job_meaning.specs.declared.limits.TheConstants.{MOST_INPUT};
+ghost use Rattle.test_app.specs.Outputs.{IsChart, IsFaults, IsOutput, IsRaces, IsReport, IsStory};
+
+use crate::denying::fault_name;
+use crate::kept::Kept;
+use crate::outputs::Output;
+use chart_app::{Form, chart};
+use fault_app::{Deny, faults};
+use job_runner::{Forward, NoGate, Settings};
+use nursery_app::{ServeFault, serve};
+use race_app::races;
+use std::alloc::{AllocError, Global};
+use std::thread::Threads;
+use story_app::explain;
+
+/// The bytes that a command writes for a job text over an input: the report, the story of all tasks, the chart as a text of 80 columns, what
+/// becomes of the job with each fault, where a step that fails raises `Fault`, or what hangs on a hair. A job text that is refused has its
+/// refusal written by each. The settings' number of workers changes no byte. The error is want of memory.
+pub fn output_of<R: Threads + Sync>(
+    rt: &R,
+    alloc: Global,
+    job_text: &[u8],
+    input: &[u8],
+    settings: Settings,
+    output: Output,
+) -> Result<Vec<u8>, AllocError>
+    requires { length input.now ≤ MOST_INPUT }
+    ensures { IfOk result (λ bytes. IsOutput job_text.now input.now settings.limit output bytes.items) }
+{
+    match output {
+        Output::Report => report_of(rt, alloc, job_text, input, settings),
+        Output::Story => story_of(rt, alloc, job_text, input, settings),
+        Output::Chart => chart_of(rt, alloc, job_text, input, settings),
+        Output::Faults => faults_of(rt, alloc, job_text, input, settings),
+        Output::Races => races_of(rt, alloc, job_text, input, settings),
+    }
+}
+
+// The bytes that `run` writes.
+fn report_of<R: Threads + Sync>(
+    rt: &R,
+    alloc: Global,
+    job_text: &[u8],
+    input: &[u8],
+    settings: Settings,
+) -> Result<Vec<u8>, AllocError>
+    requires { length input.now ≤ MOST_INPUT }
+    ensures { IfOk result (λ bytes. IsReport job_text.now input.now settings.limit bytes.items) }
+{
+    let mut out = Kept::new(alloc);
+    match serve(
+        rt,
+        alloc,
+        job_text,
+        input,
+        settings,
+        &mut Forward,
+        &NoGate,
+        &mut out,
+    ) {
+        Ok(_) => Ok(out.into_bytes()),
+        Err(ServeFault::Send { .. } | ServeFault::NoMemory) => Err(AllocError),
+    }
+}
+
+// The bytes that `explain` writes of all tasks.
+fn story_of<R: Threads + Sync>(
+    rt: &R,
+    alloc: Global,
+    job_text: &[u8],
+    input: &[u8],
+    settings: Settings,
+) -> Result<Vec<u8>, AllocError>
+    requires { length input.now ≤ MOST_INPUT }
+    ensures { IfOk result (λ bytes. IsStory job_text.now input.now settings.limit bytes.items) }
+{
+    let mut out = Kept::new(alloc);
+    match explain(
+        rt,
+        alloc,
+        job_text,
+        input,
+        settings,
+        None,
+        &mut Forward,
+        &NoGate,
+        &mut out,
+    ) {
+        Ok(_) => Ok(out.into_bytes()),
+        Err(ServeFault::Send { .. } | ServeFault::NoMemory) => Err(AllocError),
+    }
+}
+
+// The bytes that `chart` writes as a text of 80 columns.
+fn chart_of<R: Threads + Sync>(
+    rt: &R,
+    alloc: Global,
+    job_text: &[u8],
+    input: &[u8],
+    settings: Settings,
+) -> Result<Vec<u8>, AllocError>
+    requires { length input.now ≤ MOST_INPUT }
+    ensures { IfOk result (λ bytes. IsChart job_text.now input.now settings.limit bytes.items) }
+{
+    let mut out = Kept::new(alloc);
+    let form = Form::Text { width: 80 };
+    match chart(
+        rt,
+        alloc,
+        job_text,
+        input,
+        settings,
+        form,
+        &mut Forward,
+        &NoGate,
+        &mut out,
+    ) {
+        Ok(_) => Ok(out.into_bytes()),
+        Err(ServeFault::Send { .. } | ServeFault::NoMemory) => Err(AllocError),
+    }
+}
+
+// The bytes that `faults` writes where nothing is denied.
+fn faults_of<R: Threads + Sync>(
+    rt: &R,
+    alloc: Global,
+    job_text: &[u8],
+    input: &[u8],
+    settings: Settings,
+) -> Result<Vec<u8>, AllocError>
+    requires { length input.now ≤ MOST_INPUT }
+    ensures { IfOk result (λ bytes. IsFaults job_text.now input.now settings.limit bytes.items) }
+{
+    let mut out = Kept::new(alloc);
+    let name = fault_name();
+    let deny = Deny {
+        stuck: false,
+        cut: false,
+        lost: false,
+    };
+    match faults(
+        rt, alloc, job_text, input, settings, name, deny, &NoGate, &mut out,
+    ) {
+        Ok(_) => Ok(out.into_bytes()),
+        Err(ServeFault::Send { .. } | ServeFault::NoMemory) => Err(AllocError),
+    }
+}
+
+// The bytes that `races` writes where nothing is denied.
+fn races_of<R: Threads + Sync>(
+    rt: &R,
+    alloc: Global,
+    job_text: &[u8],
+    input: &[u8],
+    settings: Settings,
+) -> Result<Vec<u8>, AllocError>
+    requires { length input.now ≤ MOST_INPUT }
+    ensures { IfOk result (λ bytes. IsRaces job_text.now input.now settings.limit bytes.items) }
+{
+    let mut out = Kept::new(alloc);
+    match races(
+        rt, alloc, job_text, input, settings, false, &NoGate, &mut out,
+    ) {
+        Ok(_) => Ok(out.into_bytes()),
+        Err(ServeFault::Send { .. } | ServeFault::NoMemory) => Err(AllocError),
+    }
+}
