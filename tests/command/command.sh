@@ -135,7 +135,7 @@ cp raise.job mine.job
 chmod 640 mine.job
 ln -s mine.job link.job
 mkdir mine.job.nursery-new
-wants 4 '' 'cannot write the job file\n' fmt mine.job --write
+wants 4 '' "cannot write the job file\\n$PWD/mine.job.nursery-new: is a directory\\n" fmt mine.job --write
 cmp -s raise.job mine.job || fail 'the job file is not as it was'
 rmdir mine.job.nursery-new
 wants 0 '' '' fmt link.job --write
@@ -164,8 +164,8 @@ for mode in '' --check --write; do
     wants 2 '' 'error: the formatted text would have 70830 bytes: a job text has at most 65536\n' fmt deep.job $mode
 done
 cmp -s kept.job deep.job || fail 'a job with a text that is too long was written'
-wants 4 '' 'cannot read the job file\n' fmt none.job --write
-wants 4 '' 'cannot read the job file\n' fmt a_folder
+wants 4 '' 'cannot read the job file\nnone.job: no such file\n' fmt none.job --write
+wants 4 '' 'cannot read the job file\na_folder: is a directory\n' fmt a_folder
 helps fmt 'job hedge { nursery both { start fast { sleep 2; cancel both; } start slow { sleep 9; } } }\n'
 printf 'trio-job 1\njob hedge { nursery both { start fast { sleep 2; cancel both; } start slow { sleep 9; } } }\n' > hedge_in_a_line.job
 wants 0 'trio-job 1\njob hedge {\n  nursery both {\n    start fast {\n      sleep 2;\n      cancel both;\n    }\n    start slow { sleep 9; }\n  }\n}\n' '' fmt hedge_in_a_line.job
@@ -179,7 +179,7 @@ wants 1 "$late" '' lint late.job
 helps lint "$late"
 wants 0 '' '' lint raise.job
 wants 2 'refused J6 Syntax at 28\n' "$wrong" lint wrong.job
-wants 4 '' 'cannot read the job file\n' lint none.job
+wants 4 '' 'cannot read the job file\nnone.job: no such file\n' lint none.job
 words='trio raise.job'
 holds 0 out 'as a program on plain Trio' 'import trio' 'await trio.sleep(2)' 'raise Boom'
 wants 2 'refused J6 Syntax at 28\n' "$wrong" trio wrong.job
@@ -338,11 +338,11 @@ refuses 'trio-job 1\njob main { slep 1; }\n' 'refused J6 Syntax at 22' \
 refuses 'trio-job 1\njob main { repeat 2 { } }\n' 'refused J6 Syntax at 22' \
     '2:12: expected a step, as `sleep 1;`, or `}` (a `start` stands only right inside a nursery)\njob main { repeat 2 { } }\n           ^\nformat 2 has this: begin the job text with the line `trio-job 2`'
 refuses 'trio-job 2\njob main { repeat 1000 { repeat 1000 { } } }\n' 'refused J11 TooLarge at 0' \
-    '1:1: the job has more than 100000 steps, in format 2 more than 1000000, the copies that `over` makes and the passes of `repeat` counted\ntrio-job 2\n^'
+    '1:1: the job has more than 100000 steps, in format 2 more than 1000000, the copies that `over` makes and the passes of `repeat` counted\ntrio-job 2\n^\nthe job has 1002001 steps'
 refuses 'trio-job 1\njob main {\n  scope s {\n    sleep 1;\n}\n' 'refused J6 Syntax at 49' \
     '6:1: expected a step, as `sleep 1;`, or `}` (a `start` stands only right inside a nursery)\n\n^\nthe innermost block that is not closed begins at bad.job:2:10'
 refuses 'trio-job 1\njob main { cancel x; }\n' 'refused J9 NotEnclosing at 29' \
-    '2:19: no enclosing scope or nursery has this name\njob main { cancel x; }\n                  ^'
+    '2:19: no enclosing scope or nursery has this name\njob main { cancel x; }\n                  ^\nno scope or nursery is around this `cancel`'
 refuses 'trio-job 1\njob main { raise Cancelled; }\n' 'refused J10 Reserved at 28' \
     '2:18: this name is reserved: no keyword, not `Cancelled`, and `TooSlow` only after `except`\njob main { raise Cancelled; }\n                 ^'
 nest=$(printf 'scope s%d { ' 1 2 3 4 5 6 7 8 9 10 11 12 13 14 15 16 17 18 19 20 21 22 23 24 25 26 27 28 29 30 31 32)
@@ -438,20 +438,20 @@ wants 3 'limit 4294967295\n' 'these tasks have not ended:\n  main  sleeping fore
 
 # ---- 4 and 5: files that cannot be read, an input too long, little memory, an output that cannot be written
 
-wants 4 '' 'cannot read the job file\n' run no.job log.txt
-wants 4 '' 'cannot read the job file\n' check no.job
-wants 4 '' 'cannot read the job file\n' upgrade no.job
-wants 4 '' 'cannot read the job file\n' explain no.job
-wants 4 '' 'cannot read the input file\n' explain find.job no.txt
-wants 4 '' 'cannot read the job file\n' faults no.job
-wants 4 '' 'cannot read the job file\n' sweep no.job --of s --values 1..2
-wants 4 '' 'cannot read the input file\n' sweep fetch.job no.txt --of limit --values 1..2
-wants 4 '' 'cannot read the input file\n' run find.job no.txt
-wants 4 '' 'cannot read the job file\n' run no.job no.txt
-wants 4 '' 'cannot read the job file\n' run a_folder log.txt
-wants 4 '' 'cannot read the job file\n' check a_folder
-wants 4 '' 'cannot read the input file\n' run find.job a_folder
-wants 4 '' 'cannot read the input file\n' run find.job ''
+wants 4 '' 'cannot read the job file\nno.job: no such file\n' run no.job log.txt
+wants 4 '' 'cannot read the job file\nno.job: no such file\n' check no.job
+wants 4 '' 'cannot read the job file\nno.job: no such file\n' upgrade no.job
+wants 4 '' 'cannot read the job file\nno.job: no such file\n' explain no.job
+wants 4 '' 'cannot read the input file\nno.txt: no such file\n' explain find.job no.txt
+wants 4 '' 'cannot read the job file\nno.job: no such file\n' faults no.job
+wants 4 '' 'cannot read the job file\nno.job: no such file\n' sweep no.job --of s --values 1..2
+wants 4 '' 'cannot read the input file\nno.txt: no such file\n' sweep fetch.job no.txt --of limit --values 1..2
+wants 4 '' 'cannot read the input file\nno.txt: no such file\n' run find.job no.txt
+wants 4 '' 'cannot read the job file\nno.job: no such file\n' run no.job no.txt
+wants 4 '' 'cannot read the job file\na_folder: is a directory\n' run a_folder log.txt
+wants 4 '' 'cannot read the job file\na_folder: is a directory\n' check a_folder
+wants 4 '' 'cannot read the input file\na_folder: is a directory\n' run find.job a_folder
+wants 4 '' 'cannot read the input file\n"": no such file\n' run find.job ''
 cp find.job shut.job
 chmod 000 shut.job
 if ! cat shut.job > /dev/null 2>&1; then
@@ -460,13 +460,13 @@ if ! cat shut.job > /dev/null 2>&1; then
 fi
 # A file that opens and cannot be read, whoever runs this.
 if [ -e /proc/self/mem ]; then
-    wants 4 '' 'cannot read the job file\n' check /proc/self/mem
-    wants 4 '' 'cannot read the input file\n' run find.job /proc/self/mem
+    wants 4 '' 'cannot read the job file\n/proc/self/mem: a read failed\n' check /proc/self/mem
+    wants 4 '' 'cannot read the input file\n/proc/self/mem: a read failed\n' run find.job /proc/self/mem
 fi
 name='nursery from a folder'
 got=0
 "$nursery" < a_folder > out 2> err || got=$?
-compare "$got" 4 '' 'cannot read the input file\n'
+compare "$got" 4 '' 'cannot read the input file\nstandard input: a read failed\n'
 
 head -c 16777216 /dev/zero > most.txt
 { cat most.txt; printf x; } > over.txt

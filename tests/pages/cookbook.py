@@ -1,5 +1,5 @@
 #!/usr/bin/env python3
-"""Compares the jobs, reports, charts, faults, races and sweeps that docs/COOKBOOK.md and README.md show with examples/ and tests/faults/.
+"""Compares the jobs, reports, charts, faults, races and sweeps that docs/COOKBOOK.md and README.md show with examples/, tests/faults/ and tests/limits/.
 
     python3 tests/pages/cookbook.py
 
@@ -17,7 +17,7 @@ import sys
 
 ROOT = os.path.join(os.path.dirname(os.path.abspath(__file__)), "..", "..")
 FIRST_LINES = ("trio-job 1\n", "trio-job 2\n")
-NAMED = re.compile(r"\(`(examples|tests/faults)/(\w+)\.(feed|chart|races|sweep)`")
+NAMED = re.compile(r"\(`(examples|tests/faults|tests/limits/again)/(\w+)\.(feed|chart|races|sweep)`")
 
 
 class Wrong(Exception):

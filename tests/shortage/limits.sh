@@ -173,7 +173,8 @@ unreadable() {
     cases=$((cases + 1))
 }
 
-unreadable . 'cannot read the input file'
+unreadable . 'cannot read the input file
+.: is a directory'
 unreadable /dev/zero 'input too long'
 unreadable /dev/full 'input too long'
 

@@ -34,6 +34,14 @@ use Rattle.job_edits.specs.declared.number.Target.{Target}
 use Rattle.sweep_app.specs.declared.verdict.SweepVerdict.{SweepVerdict}
 use Rattle.sweep_app.specs.Verdicts as sweeps
 use Rattle.sweep_app.specs.Statuses.{sweep_status_of}
+use Rattle.json_tables_app.specs.declared.verdict.LintsVerdict.{LintsVerdict}
+use Rattle.json_tables_app.specs.Faults as json_fates
+use Rattle.json_tables_app.specs.Races as json_races
+use Rattle.json_tables_app.specs.Sweeps as json_sweeps
+use Rattle.json_tables_app.specs.Lints as json_lints
+use Rattle.json_tables_app.specs.Statuses.{lints_status_of}
+use Rattle.feed_tests.specs.declared.stop.TestStop.{TestStop}
+use Rattle.feed_tests.specs.declared.stop.TestStop.TheVariants as tests
 use Rattle.nursery.specs.declared.stop.Stop.{Stop}
 use Rattle.nursery.specs.declared.stop.Stop.TheVariants.{Words, NoText, JobFile, InputFile, TooLong, JobFileKept, Write, NoMemory}
 
@@ -41,10 +49,10 @@ use Rattle.nursery.specs.declared.stop.Stop.TheVariants.{Words, NoText, JobFile,
 abbrev pub status_of : Stop → ℕ
 status_of (Words text) = 2
 status_of NoText = 2
-status_of JobFile = 4
-status_of InputFile = 4
+status_of (JobFile reason) = 4
+status_of (InputFile reason) = 4
 status_of TooLong = 4
-status_of JobFileKept = 4
+status_of (JobFileKept reason) = 4
 status_of Write = 4
 status_of NoMemory = 5
 
@@ -52,6 +60,11 @@ status_of NoMemory = 5
 abbrev pub stop_of : ServeFault → Stop
 stop_of (faults.Send sent) = Write
 stop_of faults.NoMemory = NoMemory
+
+-- the same where tests stopped
+abbrev pub test_stop_of : TestStop → Stop
+test_stop_of tests.Write = Write
+test_stop_of tests.NoMemory = NoMemory
 
 -- the status is that of the verdict which the job's meaning has over the input
 abbrev pub TellsVerdict : List ℕ → List ℕ → ℕ → ℕ → Type 0
@@ -119,3 +132,27 @@ abbrev pub TellsLints : List ℕ → ℕ → Type 0
 TellsLints text status =
     ((warnings : List Warning) × AreWarnings text warnings × (status ≡ lint_status warnings))
     ⊎ ((fault : JobFault) × IsRefused text fault.kind fault.at × (status ≡ 2))
+
+-- ---- tables as JSON documents
+
+-- the status is that of the verdict on the job with each fault
+abbrev pub TellsJsonFaults : List ℕ → List ℕ → ℕ → List ℕ → Deny → ℕ → Type 0
+TellsJsonFaults text input limit name deny status =
+    (verdict : FaultsVerdict) × (bytes : List ℕ) × json_fates.IsVerdict text input limit name deny verdict bytes
+    × (status ≡ faults_status_of verdict)
+
+-- the status is that of the verdict on the job with each of its places moved by a hair
+abbrev pub TellsJsonRaces : List ℕ → List ℕ → ℕ → Bool → ℕ → Type 0
+TellsJsonRaces text input limit deny status =
+    (verdict : RacesVerdict) × (bytes : List ℕ) × json_races.IsVerdict text input limit deny verdict bytes × (status ≡ races_status_of verdict)
+
+-- the status is that of the verdict on the job for each value of a number
+abbrev pub TellsJsonSweep : List ℕ → List ℕ → ℕ → Target → List ℕ → ℕ → Type 0
+TellsJsonSweep text input limit target values status =
+    (verdict : SweepVerdict) × (bytes : List ℕ) × json_sweeps.IsVerdict text input limit target values verdict bytes
+    × (status ≡ sweep_status_of verdict)
+
+-- the status is that of the verdict on the warnings of the job
+abbrev pub TellsJsonLints : List ℕ → ℕ → Type 0
+TellsJsonLints text status =
+    (verdict : LintsVerdict) × (bytes : List ℕ) × json_lints.IsVerdict text verdict bytes × (status ≡ lints_status_of verdict)

@@ -8,6 +8,7 @@ ghost use Rattle.nursery.specs.Statuses.{TellsVerdict, TellsStory, TellsAnswer};
 use crate::documents::{explain_as_json, run_as_json};
 use crate::sources::{read_feed, read_input, read_job_text};
 use crate::stop::Stop;
+use job_files::shown_name;
 use job_grammar::JobFault;
 use nursery_app::{
     CheckVerdict, Forward, MOST_INPUT, NoGate, Pick, Reverse, Settings, Turn, Verdict, WriteOut,
@@ -27,7 +28,7 @@ const AWAITED: &str =
 
 /// Serves standard input with the defaults, and gives the status. Where that is a terminal, standard error says first
 /// what is waited for.
-pub(crate) fn run_feed<R: Input + Print + Eprint + Threads + Sync + AllocGlobal>(
+pub(crate) fn run_feed<R: Files + Input + Print + Eprint + Threads + Sync + AllocGlobal>(
     rt: &R,
 ) -> Result<u8, Stop>
 where
@@ -287,14 +288,6 @@ pub(crate) fn tell_refusal<R: Eprint + AllocGlobal>(
     if let Ok(message) = refusal_message(rt.alloc(), name.as_str(), text, fault) {
         let _ = rt.eprint(message.as_str());
     }
-}
-
-// A file's name as it is told: with a control character in it, it stands between quotes and is escaped.
-pub(crate) fn shown_name(alloc: Global, name: &str) -> Result<String, AllocError> {
-    if name.chars().any(|c| c.is_control()) {
-        return format!(in alloc; "{name:?}");
-    }
-    String::from_str(alloc, name)
 }
 
 /// Writes a text that was asked for, and gives the status.

@@ -5,6 +5,7 @@ ghost use Rattle.nursery.specs.Statuses.{TellsFaults};
 use crate::answers::{read_both, tell_refusal};
 use crate::progress::Progress;
 use crate::stop::Stop;
+use crate::tables::faults_as_json;
 use fault_app::{Deny, FaultsVerdict, faults};
 use job_grammar::Name;
 use nursery_app::{Settings, WriteOut};
@@ -22,11 +23,15 @@ pub(crate) fn faults_job<R: Files + Input + Print + Eprint + Clock + Threads + S
     name: Name,
     deny: Deny,
     settings: Settings,
+    json: bool,
     at_terminal: bool,
 ) -> Result<u8, Stop> {
     let given = read_both(rt, job, input)?;
     let progress = Progress::new(rt, at_terminal);
     let (text, input) = (given.text.as_slice(), given.input.as_slice());
+    if json {
+        return faults_as_json(rt, job, text, input, settings, name, deny, &progress);
+    }
     faults_text(rt, job, text, input, settings, name, deny, &progress)
 }
 
@@ -59,11 +64,21 @@ fn faults_text<R: Print + Eprint + Clock + Threads + Sync + AllocGlobal>(
     progress.clear();
     let verdict = told?;
     let status = verdict.status();
+    conclude_faults(rt, job, text, verdict);
+    Ok(status)
+}
+
+// Says on standard error why the job text is refused, or which lines are denied.
+pub(crate) fn conclude_faults<R: Eprint + AllocGlobal>(
+    rt: &R,
+    job: &str,
+    text: &[u8],
+    verdict: FaultsVerdict,
+) {
     match verdict {
         FaultsVerdict::JobRefused(fault) => tell_refusal(rt, job, text, fault),
         FaultsVerdict::Told { denied } => tell_denied(rt, denied),
     }
-    Ok(status)
 }
 
 // Tells on standard error the lines that are denied, if there are any. They are on standard output already, so where a write fails here

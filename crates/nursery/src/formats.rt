@@ -1,11 +1,11 @@
 ghost use Rattle.std.specs.Prelude.{◌≡◌, IfOk};
 ghost use Rattle.nursery.specs.Statuses.{TellsFormat, TellsFormatCheck};
 
-use crate::answers::{shown_name, tell_refusal};
-use crate::replacing::replace;
+use crate::answers::tell_refusal;
 use crate::sources::read_job_text;
 use crate::stop::Stop;
 use format_app::{FormatCheck, FormatFault, FormatVerdict, check_format, format, format_text};
+use job_files::{ReplaceFault, replace, shown_name};
 use nursery_app::WriteOut;
 use nursery_cli::FormatMode;
 use refusal_text::pointed_message;
@@ -75,7 +75,7 @@ fn write_formatted<R: Files + Eprint + AllocGlobal>(
     match format_text(rt.alloc(), text) {
         Ok(formatted) => {
             if formatted.as_slice() != text {
-                replace(rt, job, formatted.as_slice())?;
+                replace_job_file(rt, job, formatted.as_slice())?;
             }
             Ok(0)
         }
@@ -88,6 +88,15 @@ fn write_formatted<R: Files + Eprint + AllocGlobal>(
             Ok(2)
         }
         Err(FormatFault::NoMemory) => Err(Stop::NoMemory),
+    }
+}
+
+// Puts bytes in the place of a job file.
+fn replace_job_file<R: Files + AllocGlobal>(rt: &R, job: &str, bytes: &[u8]) -> Result<(), Stop> {
+    match replace(rt, job, bytes) {
+        Ok(()) => Ok(()),
+        Err(ReplaceFault::System { reason }) => Err(Stop::JobFileKept { reason }),
+        Err(ReplaceFault::NoMemory) => Err(Stop::NoMemory),
     }
 }
 

@@ -1,9 +1,11 @@
 ghost use Rattle.std.specs.Prelude.{IfOk};
 ghost use Rattle.nursery.specs.Statuses.{TellsLints};
 
-use crate::answers::{shown_name, tell_refusal};
+use crate::answers::tell_refusal;
 use crate::sources::read_job_text;
 use crate::stop::Stop;
+use crate::tables::lints_as_json;
+use job_files::shown_name;
 use job_grammar::{JobFault, JobKind};
 use job_lint::{Warning, lints, sentence};
 use nursery_app::{WriteOut, refusal, send};
@@ -16,8 +18,12 @@ use std::rt::Files;
 pub(crate) fn lint_job<R: Files + Input + Print + Eprint + AllocGlobal>(
     rt: &R,
     job: &str,
+    json: bool,
 ) -> Result<u8, Stop> {
     let text = read_job_text(rt, job)?;
+    if json {
+        return lints_as_json(rt, job, text.as_slice());
+    }
     lint_text(rt, job, text.as_slice())
 }
 

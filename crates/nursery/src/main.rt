@@ -14,10 +14,10 @@ mod formats;
 mod lints;
 mod progress;
 mod races;
-mod replacing;
 mod sources;
 mod stop;
 mod sweep;
+mod tables;
 mod texts;
 
 use crate::answers::{check_job, explain_job, run_feed, run_job, show_help, upgrade_job};
@@ -30,6 +30,7 @@ use crate::races::races_job;
 use crate::stop::Stop;
 use crate::sweep::sweep_job;
 use crate::texts::{show_completions, show_man_page};
+use feed_tests::test_paths;
 use nursery_cli::{Command, CommandFault, read_command};
 use std::env;
 use std::io::{self, IsTerminal};
@@ -53,10 +54,9 @@ fn words<R: Env + AllocGlobal>(rt: &R) -> Result<Vec<String>, Stop> {
 }
 
 // Does what the words ask for, and gives the status. Commands that may take long show their progress where standard error is a terminal.
-fn obey<R: Files + Env + Input + Print + Eprint + Clock + Threads + Sync + AllocGlobal>(
-    rt: &R,
-    at_terminal: bool,
-) -> Result<u8, Stop>
+fn obey<
+    R: Files + Env + Input + Print + Eprint + Clock + Threads + Sync + AllocGlobal + Clone + Drop,
+>(rt: &R, at_terminal: bool) -> Result<u8, Stop>
 where
     R::Reader: IsTerminal,
 {
@@ -105,10 +105,20 @@ where
                 name,
                 deny,
                 settings,
+                json,
             },
         ) => {
             let input = input.as_ref().map(|name| name.as_str());
-            faults_job(rt, job.as_str(), input, name, deny, settings, at_terminal)
+            faults_job(
+                rt,
+                job.as_str(),
+                input,
+                name,
+                deny,
+                settings,
+                json,
+                at_terminal,
+            )
         }
         Ok(
             Command::Races {
@@ -116,10 +126,11 @@ where
                 input,
                 deny,
                 settings,
+                json,
             },
         ) => {
             let input = input.as_ref().map(|name| name.as_str());
-            races_job(rt, job.as_str(), input, deny, settings, at_terminal)
+            races_job(rt, job.as_str(), input, deny, settings, json, at_terminal)
         }
         Ok(
             Command::Sweep {
@@ -128,6 +139,7 @@ where
                 target,
                 values,
                 settings,
+                json,
             },
         ) => {
             let input = input.as_ref().map(|name| name.as_str());
@@ -138,11 +150,19 @@ where
                 target,
                 values.as_slice(),
                 settings,
+                json,
                 at_terminal,
             )
         }
         Ok(Command::Fmt { job, mode }) => format_job_file(rt, job.as_str(), mode),
-        Ok(Command::Lint { job }) => lint_job(rt, job.as_str()),
+        Ok(Command::Lint { job, json }) => lint_job(rt, job.as_str(), json),
+        Ok(
+            Command::Test {
+                paths,
+                accept,
+                settings,
+            },
+        ) => Ok(test_paths(rt, paths.as_slice(), accept, settings)?),
         Ok(Command::Trio { job }) => trio_job(rt, job.as_str()),
         Ok(Command::Check { job }) => check_job(rt, job.as_str()),
         Ok(Command::Upgrade { job }) => upgrade_job(rt, job.as_str()),

@@ -6,6 +6,7 @@ use crate::answers::{read_both, tell_refusal, tell_running};
 use crate::faults::tell_denied;
 use crate::progress::Progress;
 use crate::stop::Stop;
+use crate::tables::races_as_json;
 use nursery_app::{Forward, Settings, WriteOut};
 use race_app::{RacesVerdict, races};
 use std::io;
@@ -25,11 +26,15 @@ pub(crate) fn races_job<R: Files + Input + Print + Eprint + Clock + Threads + Sy
     input: Option<&str>,
     deny: bool,
     settings: Settings,
+    json: bool,
     at_terminal: bool,
 ) -> Result<u8, Stop> {
     let given = read_both(rt, job, input)?;
     let progress = Progress::new(rt, at_terminal);
     let (text, input) = (given.text.as_slice(), given.input.as_slice());
+    if json {
+        return races_as_json(rt, job, text, input, deny, settings, &progress);
+    }
     races_text(rt, job, text, input, deny, settings, &progress)
 }
 
@@ -60,6 +65,21 @@ fn races_text<R: Print + Eprint + Clock + Threads + Sync + AllocGlobal>(
     progress.clear();
     let verdict = told?;
     let status = verdict.status();
+    conclude_races(rt, job, text, input, settings, verdict);
+    Ok(status)
+}
+
+// Says on standard error why the job text is refused, which lines are denied, which tasks have not ended, or that there are no finer ticks.
+pub(crate) fn conclude_races<R: Eprint + Threads + Sync + AllocGlobal>(
+    rt: &R,
+    job: &str,
+    text: &[u8],
+    input: &[u8],
+    settings: Settings,
+    verdict: RacesVerdict,
+)
+    requires { length input.now ≤ MOST_INPUT }
+{
     match verdict {
         RacesVerdict::JobRefused(fault) => tell_refusal(rt, job, text, fault),
         RacesVerdict::Told { denied } => tell_denied(rt, denied),
@@ -68,5 +88,4 @@ fn races_text<R: Print + Eprint + Clock + Threads + Sync + AllocGlobal>(
             let _ = rt.eprint(NO_FINER_TICKS);
         }
     }
-    Ok(status)
 }

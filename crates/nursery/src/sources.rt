@@ -2,6 +2,7 @@ ghost use Rattle.std.specs.Prelude.{◌≤◌, IfOk, vec_len};
 ghost use Rattle.job_meaning.specs.declared.limits.TheConstants.{MOST_INPUT};
 
 use crate::stop::Stop;
+use job_files::{read_reason, reason_line};
 use nursery_app::{MOST_INPUT, ReadFault, read_whole};
 use std::alloc::Global;
 use std::fs;
@@ -26,35 +27,40 @@ pub(crate) fn read_input<R: Files + Input + AllocGlobal>(
     } else {
         match fs::open(rt, name) {
             Ok(mut file) => read_whole(rt.alloc(), &mut file, MOST_INPUT),
-            Err(_) => Err(ReadFault::Device),
+            Err(error) => {
+                let reason = reason_line(rt.alloc(), name, error.kind());
+                return Err(Stop::InputFile { reason });
+            }
         }
     };
     match read {
         Ok(bytes) => Ok(bytes),
-        Err(fault) => Err(input_stop(fault)),
+        Err(fault) => Err(input_stop(rt, name, fault)),
     }
 }
 
 /// The feed on standard input.
-pub(crate) fn read_feed<R: Input + AllocGlobal>(rt: &R) -> Result<Vec<u8>, Stop>
+pub(crate) fn read_feed<R: Files + Input + AllocGlobal>(rt: &R) -> Result<Vec<u8>, Stop>
     ensures { IfOk result (λ bytes. vec_len bytes ≤ 16842759) }
 {
     match read_whole(rt.alloc(), &mut rt.reader(), MOST_FEED) {
         Ok(bytes) => Ok(bytes),
-        Err(fault) => Err(input_stop(fault)),
+        Err(fault) => Err(input_stop(rt, "-", fault)),
     }
 }
 
-// How a fault in reading the input is told.
-fn input_stop(fault: ReadFault) -> Stop {
+// Why the input of that name has no bytes.
+fn input_stop<R: Files + AllocGlobal>(rt: &R, name: &str, fault: ReadFault) -> Stop {
     match fault {
         ReadFault::TooLong => Stop::TooLong,
-        ReadFault::Device => Stop::InputFile,
+        ReadFault::Device => Stop::InputFile {
+            reason: read_reason(rt, name),
+        },
         ReadFault::NoMemory => Stop::NoMemory,
     }
 }
 
-/// The job text of that name, or of standard input where the name is `-`, cut behind the first byte too many.
+/// The job text of that name, or of standard input where the name is `-`, cut after the first byte too many.
 pub(crate) fn read_job_text<R: Files + Input + AllocGlobal>(
     rt: &R,
     name: &str,
@@ -66,13 +72,18 @@ pub(crate) fn read_job_text<R: Files + Input + AllocGlobal>(
     } else {
         match fs::open(rt, name) {
             Ok(file) => read_front(rt.alloc(), file),
-            Err(_) => Err(ReadFault::Device),
+            Err(error) => {
+                let reason = reason_line(rt.alloc(), name, error.kind());
+                return Err(Stop::JobFile { reason });
+            }
         }
     };
     match read {
         Ok(bytes) => Ok(bytes),
         Err(ReadFault::NoMemory) => Err(Stop::NoMemory),
-        Err(_) => Err(Stop::JobFile),
+        Err(ReadFault::TooLong | ReadFault::Device) => Err(Stop::JobFile {
+            reason: read_reason(rt, name),
+        }),
     }
 }
 

@@ -1,6 +1,7 @@
 ghost use Rattle.std.specs.Prelude.{◌≡◌};
 ghost use Rattle.nursery.specs.Statuses.{status_of};
 
+use feed_tests::TestStop;
 use nursery_app::ServeFault;
 use thiserror::Error;
 
@@ -9,22 +10,33 @@ use thiserror::Error;
 pub enum Stop {
     /// The command line was refused.
     #[error("{text}")]
-    Words { text: String },
+    Words {
+        text: String,
+    },
     /// An argument is no text.
     #[error("error: an argument is not UTF-8 text\n")]
     NoText,
     /// The job file cannot be opened or read.
-    #[error("cannot read the job file\n")]
-    JobFile,
+    #[error("cannot read the job file\n{reason}")]
+    JobFile {
+        /// A line that names the file and says why: empty where memory was refused for it.
+        reason: String,
+    },
     /// The input file, or standard input, cannot be opened or read.
-    #[error("cannot read the input file\n")]
-    InputFile,
+    #[error("cannot read the input file\n{reason}")]
+    InputFile {
+        /// A line that names the file and says why: empty where memory was refused for it.
+        reason: String,
+    },
     /// The input has more bytes than it may have.
     #[error("input too long\n")]
     TooLong,
     /// The job file cannot be replaced: it is as it was.
-    #[error("cannot write the job file\n")]
-    JobFileKept,
+    #[error("cannot write the job file\n{reason}")]
+    JobFileKept {
+        /// A line that names the file and says why: empty where memory was refused for it.
+        reason: String,
+    },
     /// Standard output took not all bytes.
     #[error("cannot write\n")]
     Write,
@@ -40,7 +52,11 @@ impl Stop {
     {
         match self {
             Stop::Words { .. } | Stop::NoText => 2,
-            Stop::JobFile | Stop::InputFile | Stop::TooLong | Stop::JobFileKept | Stop::Write => 4,
+            Stop::JobFile { .. }
+            | Stop::InputFile { .. }
+            | Stop::TooLong
+            | Stop::JobFileKept { .. }
+            | Stop::Write => 4,
             Stop::NoMemory => 5,
         }
     }
@@ -55,6 +71,19 @@ impl From<ServeFault> for Stop {
         match fault {
             ServeFault::Send { .. } => Stop::Write,
             ServeFault::NoMemory => Stop::NoMemory,
+        }
+    }
+}
+
+impl From<TestStop> for Stop {
+    ghost use Rattle.nursery.specs.Statuses.{test_stop_of};
+
+    ghost from_gives = { λ stopped stop. stop ≡ test_stop_of stopped };
+
+    fn from(stopped: TestStop) -> Stop {
+        match stopped {
+            TestStop::Write => Stop::Write,
+            TestStop::NoMemory => Stop::NoMemory,
         }
     }
 }

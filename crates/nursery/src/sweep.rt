@@ -2,10 +2,12 @@ ghost use Rattle.std.specs.Prelude.{◌≤◌, length, IfOk};
 ghost use Rattle.job_meaning.specs.declared.limits.TheConstants.{MOST_INPUT};
 ghost use Rattle.nursery.specs.Statuses.{TellsSweep};
 
-use crate::answers::{read_both, shown_name, tell_refusal};
+use crate::answers::{read_both, tell_refusal};
 use crate::progress::Progress;
 use crate::stop::Stop;
+use crate::tables::sweep_as_json;
 use job_edits::Target;
+use job_files::shown_name;
 use job_tree::Name;
 use nursery_app::{Settings, WriteOut};
 use refusal_text::pointed_message;
@@ -25,11 +27,15 @@ pub(crate) fn sweep_job<R: Files + Input + Print + Eprint + Clock + Threads + Sy
     target: Target,
     values: &[u64],
     settings: Settings,
+    json: bool,
     at_terminal: bool,
 ) -> Result<u8, Stop> {
     let given = read_both(rt, job, input)?;
     let progress = Progress::new(rt, at_terminal);
     let (text, input) = (given.text.as_slice(), given.input.as_slice());
+    if json {
+        return sweep_as_json(rt, job, text, input, settings, target, values, &progress);
+    }
     sweep_text(rt, job, text, input, settings, target, values, &progress)
 }
 
@@ -62,12 +68,23 @@ fn sweep_text<R: Print + Eprint + Clock + Threads + Sync + AllocGlobal>(
     progress.clear();
     let verdict = told?;
     let status = verdict.status();
+    conclude_sweep(rt, job, text, &target, verdict);
+    Ok(status)
+}
+
+// Says on standard error why the job text is refused, or why it does not have the number that is meant.
+pub(crate) fn conclude_sweep<R: Eprint + AllocGlobal>(
+    rt: &R,
+    job: &str,
+    text: &[u8],
+    target: &Target,
+    verdict: SweepVerdict,
+) {
     match verdict {
         SweepVerdict::JobRefused(fault) => tell_refusal(rt, job, text, fault),
-        SweepVerdict::NoTarget(missing) => tell_missing(rt, job, text, &target, &missing),
+        SweepVerdict::NoTarget(missing) => tell_missing(rt, job, text, target, &missing),
         SweepVerdict::Told => {}
     }
-    Ok(status)
 }
 
 // Tells on standard error why the text does not have the number that is meant. Where memory or a write fails here nothing more is told.

@@ -1,9 +1,9 @@
 -- What the words of a command line may ask for.
-use Rattle.std.specs.Prelude.{◌≡◌, ℕ, ◌≤◌, Bool, not, ◌||◌, Option, Some, None, List, IsTrue, is_some, codes}
+use Rattle.std.specs.Prelude.{◌≡◌, ℕ, ◌≤◌, Bool, not, ◌||◌, Option, Some, None, List, length, IsTrue, is_some, codes}
 use Rattle.std.specs.Str.{bytes_eq}
 use Rattle.job_syntax.specs.Keywords.{keyword_of}
 use Rattle.nursery_cli.specs.declared.command.Command.{Command}
-use Rattle.nursery_cli.specs.declared.command.Command.TheVariants.{Feed, Run, Explain, Chart, Faults, Races, Sweep, Fmt, Lint, Trio, Check, Upgrade, Completions, Man, Help}
+use Rattle.nursery_cli.specs.declared.command.Command.TheVariants.{Feed, Run, Explain, Chart, Faults, Races, Sweep, Fmt, Lint, Test, Trio, Check, Upgrade, Completions, Man, Help}
 use Rattle.std.specs.String.{string_bytes}
 use Rattle.nursery_cli.specs.declared.command.FormatMode.{FormatMode}
 use Rattle.nursery_cli.specs.declared.command.FormatMode.TheVariants as modes
@@ -30,17 +30,19 @@ IsWritten job modes.Print = Unit {0}
 IsWritten job modes.Write = IsTrue (not (bytes_eq job (codes "-")))
 IsWritten job modes.Check = Unit {0}
 
--- a chart is not too wide, a faulty step can raise the exception, a sweep has values, and what is formatted in place is a file
+-- A chart is not too wide, a faulty step can raise the exception, a sweep has values, what is formatted in place is a file, and something is
+-- tested.
 abbrev pub IsFit : Command → Type 0
 IsFit Feed = Unit {0}
 IsFit (Run job input settings order json) = Unit {0}
 IsFit (Explain job input task settings order json) = Unit {0}
 IsFit (Chart job input width svg settings) = IsWidth width
-IsFit (Faults job input name deny settings) = IsTrue (may_be_raised name)
-IsFit (Races job input deny settings) = Unit {0}
-IsFit (Sweep job input target values settings) = AreValues values.items
+IsFit (Faults job input name deny settings json) = IsTrue (may_be_raised name)
+IsFit (Races job input deny settings json) = Unit {0}
+IsFit (Sweep job input target values settings json) = AreValues values.items
 IsFit (Fmt job mode) = IsWritten (string_bytes job) mode
-IsFit (Lint job) = Unit {0}
+IsFit (Lint job json) = Unit {0}
+IsFit (Test paths accept settings) = 1 ≤ length paths.items
 IsFit (Trio job) = Unit {0}
 IsFit (Check job) = Unit {0}
 IsFit (Upgrade job) = Unit {0}

@@ -99,6 +99,8 @@ pub enum Command {
         deny: Deny,
         /// The number of threads, and the last tick at which a job may end.
         settings: Settings,
+        /// Whether the answer is to be one JSON document.
+        json: bool,
     },
     /// Which places of a job its outcome over an input hangs on by a hair.
     Races {
@@ -110,6 +112,8 @@ pub enum Command {
         deny: bool,
         /// The number of threads, and the last tick at which a job may end.
         settings: Settings,
+        /// Whether the answer is to be one JSON document.
+        json: bool,
     },
     /// What becomes of a job over an input for each value of one of its numbers.
     Sweep {
@@ -123,6 +127,8 @@ pub enum Command {
         values: Vec<u64>,
         /// The number of threads, and the last tick at which a job may end.
         settings: Settings,
+        /// Whether the answer is to be one JSON document.
+        json: bool,
     },
     /// The formatted text of a job: two spaces for each level, and one step in a line.
     Fmt {
@@ -135,6 +141,17 @@ pub enum Command {
     Lint {
         /// The job file, or `-` for standard input.
         job: String,
+        /// Whether the answer is to be one JSON document.
+        json: bool,
+    },
+    /// The feeds of some files and folders, compared with what is kept beside them.
+    Test {
+        /// The files and folders, at least one.
+        paths: Vec<String>,
+        /// Whether what differs is kept instead.
+        accept: bool,
+        /// The number of threads, and the last tick at which a job may end.
+        settings: Settings,
     },
     /// A job as a Python program on Trio.
     Trio {

@@ -208,6 +208,27 @@ Example:
 
 Exit status: 0; 1 where there is a warning; the others are those of `check`.";
 
+pub(crate) const TEST_EXAMPLE: &str =
+    "A feed is a job text, a line `%input` and the input, in a file NAME.feed. NAME.report, NAME.story,
+NAME.chart, NAME.faults and NAME.races beside it are compared with what `nursery`, `explain`, `chart`,
+`faults` and `races` write for it. Each line of NAME.expect is a pattern, in which `*` matches anything:
+some line of the report or the story must match it, or with `! ` in front none may. `races: none` and
+`faults: no stuck, no cut, no lost` demand that of the whole job.
+
+Example:
+
+    $ nursery test --accept close.feed
+    close.report: accepted
+    0 passed, 1 accepted, 0 failed
+    $ printf '! * cancelled *\\nfaults: no stuck\\n' > close.expect
+    $ nursery test close.feed
+    close.report: passed
+    close.expect: passed
+    2 passed, 0 failed
+
+Exit status: 0; 1 where something differs or is not as expected; 4 where a file could not be read or written,
+or there is nothing to compare with.";
+
 pub(crate) const TRIO_EXAMPLE: &str =
     "The program is plain Trio, to start real code from: its first lines say how it is run.
 

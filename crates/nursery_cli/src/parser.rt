@@ -1,7 +1,7 @@
 use crate::examples::{
     CHART_EXAMPLE, CHECK_EXAMPLE, COMPLETIONS_EXAMPLE, EXAMPLE, EXPLAIN_EXAMPLE, FAULTS_EXAMPLE,
     FMT_EXAMPLE, LINT_EXAMPLE, MAN_EXAMPLE, RACES_EXAMPLE, RUN_EXAMPLE, SWEEP_EXAMPLE,
-    TRIO_EXAMPLE, UPGRADE_EXAMPLE,
+    TEST_EXAMPLE, TRIO_EXAMPLE, UPGRADE_EXAMPLE,
 };
 use clap::{Arg, ArgAction, ArgGroup, Command, value_parser};
 use job_runner::{GREATEST_LIMIT, MOST_WORKERS};
@@ -45,6 +45,7 @@ pub fn command_line<'a>(alloc: Global) -> Result<Command<'a>, AllocError> {
         .subcommand(sweep_parser(alloc)?)?
         .subcommand(fmt_parser(alloc)?)?
         .subcommand(lint_parser(alloc)?)?
+        .subcommand(test_parser(alloc)?)?
         .subcommand(trio_parser(alloc)?)?
         .subcommand(check_parser(alloc)?)?
         .subcommand(upgrade_parser(alloc)?)?
@@ -136,7 +137,8 @@ fn faults_parser<'a>(alloc: Global) -> Result<Command<'a>, AllocError> {
         .arg(name)?
         .arg(deny)?
         .arg(workers_option(alloc))?
-        .arg(limit_option(alloc))
+        .arg(limit_option(alloc))?
+        .arg(json_option(alloc))
 }
 
 // What reads the words after `races`.
@@ -154,7 +156,8 @@ fn races_parser<'a>(alloc: Global) -> Result<Command<'a>, AllocError> {
         .arg(optional_input(alloc))?
         .arg(deny)?
         .arg(workers_option(alloc))?
-        .arg(limit_option(alloc))
+        .arg(limit_option(alloc))?
+        .arg(json_option(alloc))
 }
 
 // What reads the words after `sweep`.
@@ -187,7 +190,8 @@ fn sweep_parser<'a>(alloc: Global) -> Result<Command<'a>, AllocError> {
         .arg(values)?
         .group(target)?
         .arg(workers_option(alloc))?
-        .arg(limit_option(alloc))
+        .arg(limit_option(alloc))?
+        .arg(json_option(alloc))
 }
 
 // What reads the words after `fmt`.
@@ -215,7 +219,28 @@ fn lint_parser<'a>(alloc: Global) -> Result<Command<'a>, AllocError> {
     Command::new(alloc, "lint")
         .about("Tells what is probably a mistake in a job, with its place")
         .after_help(LINT_EXAMPLE)
-        .arg(job_argument(alloc))
+        .arg(job_argument(alloc))?
+        .arg(json_option(alloc))
+}
+
+// What reads the words after `test`.
+fn test_parser<'a>(alloc: Global) -> Result<Command<'a>, AllocError> {
+    let paths = Arg::new(alloc, "paths")
+        .value_name("PATH")
+        .help("A feed, or a folder whose feeds are tested, those of its folders too")
+        .num_args(1..)
+        .required(true);
+    let accept = Arg::new(alloc, "accept")
+        .long("accept")
+        .help("Keeps the new outputs in the place of those that differ")
+        .action(ArgAction::SetTrue);
+    Command::new(alloc, "test")
+        .about("Runs feeds and compares what comes of them with what is kept beside them")
+        .after_help(TEST_EXAMPLE)
+        .arg(paths)?
+        .arg(accept)?
+        .arg(workers_option(alloc))?
+        .arg(limit_option(alloc))
 }
 
 // What reads the words after `trio`.

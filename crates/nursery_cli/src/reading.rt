@@ -26,7 +26,34 @@ pub fn read_command(alloc: Global, words: &[String]) -> Result<Command, CommandF
     if words.is_empty() {
         return Ok(Command::Feed);
     }
+    if let Some(word) = words.first() {
+        if is_path(word.as_str()) {
+            return Err(path_refusal(alloc, word.as_str()));
+        }
+    }
     asked(alloc, words)
+}
+
+// Whether a word is a file's name rather than a command or an option.
+fn is_path(word: &str) -> bool {
+    !word.starts_with('-') && (word.contains('.') || word.contains('/'))
+}
+
+// The refusal of a file's name where a command was to stand: what runs the file.
+fn path_refusal(alloc: Global, path: &str) -> CommandFault {
+    let text = if path.ends_with(".feed") {
+        format!(in alloc;
+            "error: `{path}` is no command: a feed is read from standard input, with `nursery < {path}`\n"
+        )
+    } else {
+        format!(in alloc;
+            "error: `{path}` is no command: to run a job file, write `nursery run {path} INPUT`\n"
+        )
+    };
+    match text {
+        Ok(text) => CommandFault::Refused { text },
+        Err(_) => CommandFault::NoMemory,
+    }
 }
 
 /// The text that `--help` shows after the name of a command, or with no name that of the program. Empty where no command has the name. Want of
@@ -95,6 +122,7 @@ fn chosen(alloc: Global, matches: &ArgMatches<'_>) -> Result<Command, CommandFau
             shell: shell_named(inner.get_str("shell")),
         }),
         "man" => Ok(Command::Man),
+        "test" => test_command(alloc, inner),
         _ => job_command(alloc, name, inner),
     }
 }
@@ -116,6 +144,7 @@ fn job_command(alloc: Global, name: &str, inner: &ArgMatches<'_>) -> Result<Comm
         "fmt" => fmt_command(alloc, job, inner),
         "lint" => Ok(Command::Lint {
             job: String::from_str(alloc, job)?,
+            json: inner.get_flag("json"),
         }),
         "trio" => Ok(Command::Trio {
             job: String::from_str(alloc, job)?,
@@ -217,6 +246,7 @@ fn faults_command(
         name,
         deny,
         settings,
+        json: matches.get_flag("json"),
     })
 }
 
@@ -235,6 +265,7 @@ fn races_command(
         input: owned(alloc, input)?,
         deny: matches.get_flag("deny"),
         settings,
+        json: matches.get_flag("json"),
     })
 }
 
@@ -255,6 +286,26 @@ fn sweep_command(
         input: owned(alloc, input)?,
         target,
         values,
+        settings,
+        json: matches.get_flag("json"),
+    })
+}
+
+// The command `test` with its settings.
+fn test_command(alloc: Global, matches: &ArgMatches<'_>) -> Result<Command, CommandFault>
+    ensures { IfOk result IsAsked }
+{
+    let settings = settings_of(alloc, "", None, matches)?;
+    let mut paths = Vec::new(alloc);
+    'paths: for path in matches.get_strs("paths").unwrap_or(&[]) {
+        push_word(alloc, &mut paths, path)?;
+    }
+    if paths.is_empty() {
+        return Err(refusal(alloc, "error: name a feed or a folder\n"));
+    }
+    Ok(Command::Test {
+        paths,
+        accept: matches.get_flag("accept"),
         settings,
     })
 }

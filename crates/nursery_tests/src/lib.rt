@@ -1,5 +1,5 @@
 //! The tests of the crates `job_runner`, `job_report`, `job_lint`, `nursery_app`, `format_app`, `story_app`, `chart_app`, `fault_app`, `race_app`,
-//! `sweep_app` and `nursery_cli`, through what these make public.
+//! `sweep_app`, `json_tables_app`, `expect_text`, `test_app`, `refusal_text` and `nursery_cli`, through what these make public.
 //!
 //! They show what no clause says: that the reports of worked jobs, worked out by hand, are what the definitions give; how words and
 //! refused texts are answered; what becomes of readers and writers that fail; and, of the layers below too, that a call which was
@@ -20,6 +20,8 @@ mod faulty;
 mod fixtures;
 #[cfg(test)]
 mod formatted;
+#[cfg(test)]
+mod jsons;
 #[cfg(test)]
 mod linted;
 #[cfg(test)]
@@ -42,6 +44,8 @@ mod stories;
 mod streams;
 #[cfg(test)]
 mod swept;
+#[cfg(test)]
+mod tested;
 #[cfg(test)]
 mod upgraded;
 #[cfg(test)]

@@ -56,6 +56,7 @@ fn word_of(command: &Command) -> &'static str {
         Command::Sweep { .. } => "sweep",
         Command::Fmt { .. } => "fmt",
         Command::Lint { .. } => "lint",
+        Command::Test { .. } => "test",
         Command::Trio { .. } => "trio",
         Command::Completions { .. } => "completions",
         Command::Man => "man",
@@ -76,13 +77,22 @@ fn text_of(command: &Command) -> &str {
         Command::Races { job, .. } => job.as_str(),
         Command::Sweep { job, .. } => job.as_str(),
         Command::Fmt { job, .. } => job.as_str(),
-        Command::Lint { job } => job.as_str(),
+        Command::Lint { job, .. } => job.as_str(),
+        Command::Test { paths, .. } => first_of(paths.as_slice()),
         Command::Trio { job } => job.as_str(),
         Command::Completions { .. } => "",
         Command::Man => "",
         Command::Check { job } => job.as_str(),
         Command::Upgrade { job } => job.as_str(),
         Command::Help { text } => text.as_str(),
+    }
+}
+
+// The first of some words.
+fn first_of(words: &[String]) -> &str {
+    match words.first() {
+        Some(word) => word.as_str(),
+        None => "",
     }
 }
 
@@ -93,6 +103,12 @@ const NAMED: &[(&str, &str, &str)] = &[
     ("check -", "check", "-"),
     ("upgrade j", "upgrade", "j"),
     ("lint j", "lint", "j"),
+    ("lint j --json", "lint", "j"),
+    ("test a.feed b", "test", "a.feed"),
+    ("test b --accept --workers 3 --limit 9", "test", "b"),
+    ("faults j i --json", "faults", "j"),
+    ("races j --json --deny", "races", "j"),
+    ("sweep j --of s --values 1..2 --json", "sweep", "j"),
     ("trio -", "trio", "-"),
     ("completions zsh", "completions", ""),
     ("man", "man", ""),

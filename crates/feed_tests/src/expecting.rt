@@ -1,0 +1,183 @@
+ghost use Rattle.std.specs.Prelude.{◌≤◌, length};
+ghost use Rattle.job_meaning.specs.declared.limits.TheConstants.{MOST_INPUT};
+
+use crate::kept::{Unread, name_beside, read_kept, shown_line};
+use crate::stop::TestStop;
+use crate::tally::Tally;
+use crate::testing::{Feed, complain, show_lines};
+use expect_text::{ExpectLine, read_expectation};
+use std::alloc::{AllocError, Global};
+use std::rt::Files;
+use std::thread::Threads;
+use test_app::{Met, Output, meets, output_of};
+
+/// Tests a feed by the expectations that are kept beside it, and says whether there are any.
+pub(crate) fn test_expectations<R: Files + Print + Eprint + Threads + Sync + AllocGlobal>(
+    rt: &R,
+    feed: &Feed<'_>,
+    tally: &mut Tally,
+) -> Result<bool, TestStop>
+    requires { length feed.now.input.now ≤ MOST_INPUT }
+{
+    let name = name_beside(rt.alloc(), feed.stem, "expect")?;
+    let bytes = match read_kept(rt, name.as_str()) {
+        Ok(bytes) => bytes,
+        Err(Unread::Missing) => return Ok(false),
+        Err(Unread::NoMemory) => return Err(TestStop::NoMemory),
+        Err(Unread::Fault(line)) => {
+            complain(rt, tally, line.as_str());
+            return Ok(true);
+        }
+    };
+    let alloc = rt.alloc();
+    let told = Told {
+        report: output_of(
+            rt,
+            alloc,
+            feed.text,
+            feed.input,
+            feed.settings,
+            Output::Report,
+        )?,
+        story: output_of(
+            rt,
+            alloc,
+            feed.text,
+            feed.input,
+            feed.settings,
+            Output::Story,
+        )?,
+    };
+    let lines = unmet_lines(rt, feed, name.as_str(), &told, bytes.as_slice())?;
+    if lines.is_empty() {
+        tally.count_passed();
+        let line = format!(in alloc; "{name}: passed\n")?;
+        show_lines(rt, line.as_str())?;
+    } else {
+        tally.count_failed();
+        show_lines(rt, lines.as_str())?;
+    }
+    Ok(true)
+}
+
+// What patterns are looked for in.
+#[derive(Drop)]
+struct Told {
+    report: Vec<u8>,
+    story: Vec<u8>,
+}
+
+// The lines on what is not as expected: none where all is.
+fn unmet_lines<R: Threads + Sync + AllocGlobal>(
+    rt: &R,
+    feed: &Feed<'_>,
+    name: &str,
+    told: &Told,
+    expectations: &[u8],
+) -> Result<String, TestStop>
+    requires { length feed.now.input.now ≤ MOST_INPUT }
+{
+    let mut lines = String::new(rt.alloc());
+    'lines: for (i, line) in expectations.split(|b| *b == b'\n').enumerate() {
+        push_unmet(rt, feed, &mut lines, name, told, i.saturating_add(1), line)?;
+    }
+    Ok(lines)
+}
+
+// Appends the lines on a line of a file of expectations, where it is not met.
+fn push_unmet<R: Threads + Sync + AllocGlobal>(
+    rt: &R,
+    feed: &Feed<'_>,
+    lines: &mut String,
+    name: &str,
+    told: &Told,
+    number: usize,
+    line: &[u8],
+) -> Result<(), TestStop>
+    requires { length feed.now.input.now ≤ MOST_INPUT }
+{
+    let alloc = rt.alloc();
+    let said = shown_line(alloc, line)?;
+    match read_expectation(line) {
+        ExpectLine::Nothing => Ok(()),
+        ExpectLine::Unknown => {
+            let text = format!(in alloc;
+                "{name}:{number}: failed: `{said}` is neither `races: none` nor `faults:` with `no stuck`, `no cut` and `no lost`\n"
+            )?;
+            lines.push_str(text.as_str())?;
+            Ok(())
+        }
+        ExpectLine::Expects(expectation) => {
+            let met = meets(
+                rt,
+                alloc,
+                feed.text,
+                feed.input,
+                feed.settings,
+                expectation,
+                told.report.as_slice(),
+                told.story.as_slice(),
+            )?;
+            let text = met_text(alloc, name, number, said.as_str(), told, met)?;
+            lines.push_str(text.as_str())?;
+            Ok(())
+        }
+    }
+}
+
+// What is said of an expectation: nothing where it is met.
+fn met_text(
+    alloc: Global,
+    name: &str,
+    number: usize,
+    said: &str,
+    told: &Told,
+    met: Met,
+) -> Result<String, AllocError> {
+    match met {
+        Met::Yes => Ok(String::new(alloc)),
+        Met::Missing => format!(in alloc;
+            "{name}:{number}: failed: no line of the report or the story matches `{said}`\n"
+        ),
+        Met::Found { story, line } => {
+            let (text, bytes) = if story {
+                ("story", told.story.as_slice())
+            } else {
+                ("report", told.report.as_slice())
+            };
+            let found = shown_line(alloc, nth_line(bytes, line))?;
+            format!(in alloc;
+                "{name}:{number}: failed: `{said}`: line {line} of the {text} matches\n  {found}\n"
+            )
+        }
+        Met::Denied(denied) => {
+            let mut text = format!(in alloc; "{name}:{number}: failed: `{said}`\n")?;
+            'lines: for line in denied.as_slice().split(|b| *b == b'\n') {
+                push_indented(alloc, &mut text, line)?;
+            }
+            Ok(text)
+        }
+        Met::Untold => format!(in alloc;
+            "{name}:{number}: failed: `{said}`: the job is refused, does not end by the limit, or has too large a number of ticks\n"
+        ),
+    }
+}
+
+// Appends a line after two blanks, where it has bytes.
+fn push_indented(alloc: Global, text: &mut String, line: &[u8]) -> Result<(), AllocError> {
+    if line.is_empty() {
+        return Ok(());
+    }
+    text.push_str("  ")?;
+    text.push_str(shown_line(alloc, line)?.as_str())?;
+    text.push_str("\n")?;
+    Ok(())
+}
+
+// The line of a number, counted from 1: empty where there is none.
+fn nth_line(text: &[u8], number: usize) -> &[u8] {
+    match text.split(|b| *b == b'\n').nth(number.saturating_sub(1)) {
+        Some(line) => line,
+        None => text.split_at(0).0,
+    }
+}

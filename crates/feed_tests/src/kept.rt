@@ -1,0 +1,80 @@
+use job_files::{read_reason, reason_line};
+use nursery_app::{ReadFault, read_whole};
+use std::alloc::{AllocError, Global};
+use std::fs;
+use std::io::ErrorKind;
+use std::rt::Files;
+
+/// The most bytes of a feed, and of a file that is kept beside one.
+const MOST_KEPT: usize = 268_435_456;
+
+/// Why a file was not read.
+#[derive(Drop)]
+pub(crate) enum Unread {
+    /// There is no such file.
+    Missing,
+    /// It cannot be opened or read, or is too long: a line that names it and says why.
+    Fault(String),
+    /// Memory was refused.
+    NoMemory,
+}
+
+impl From<AllocError> for Unread {
+    fn from(_error: AllocError) -> Unread {
+        Unread::NoMemory
+    }
+}
+
+/// The bytes of a file.
+pub(crate) fn read_kept<R: Files + AllocGlobal>(rt: &R, name: &str) -> Result<Vec<u8>, Unread> {
+    let alloc = rt.alloc();
+    let mut file = match fs::open(rt, name) {
+        Ok(file) => file,
+        Err(error) if error.kind() == ErrorKind::NotFound => return Err(Unread::Missing),
+        Err(error) => return Err(Unread::Fault(reason_line(alloc, name, error.kind()))),
+    };
+    match read_whole(alloc, &mut file, MOST_KEPT) {
+        Ok(bytes) => Ok(bytes),
+        Err(ReadFault::Device) => Err(Unread::Fault(read_reason(rt, name))),
+        Err(ReadFault::TooLong) => Err(Unread::Fault(too_long(alloc, name)?)),
+        Err(ReadFault::NoMemory) => Err(Unread::NoMemory),
+    }
+}
+
+// The line for a file with too many bytes.
+fn too_long(alloc: Global, name: &str) -> Result<String, AllocError> {
+    format!(in alloc; "{name}: more than {MOST_KEPT} bytes\n")
+}
+
+/// The name of the file of this extension beside a feed, whose name without its own extension is given.
+pub(crate) fn name_beside(
+    alloc: Global,
+    stem: &str,
+    extension: &str,
+) -> Result<String, AllocError> {
+    format!(in alloc; "{stem}.{extension}")
+}
+
+/// A line of a file as it is shown: at most 200 bytes of it, and `?` for each byte that is no printable ASCII.
+pub(crate) fn shown_line(alloc: Global, line: &[u8]) -> Result<String, AllocError> {
+    let mut shown = String::new(alloc);
+    let (front, rest) = line.split_at(line.len().min(MOST_SHOWN));
+    'bytes: for byte in front {
+        shown.push(shown_byte(*byte))?;
+    }
+    if !rest.is_empty() {
+        shown.push_str("..")?;
+    }
+    Ok(shown)
+}
+
+/// The most bytes of a line that are shown.
+const MOST_SHOWN: usize = 200;
+
+fn shown_byte(byte: u8) -> char {
+    match byte {
+        b' '..=b'~' => byte as char,
+        b'\t' | b'\r' => ' ',
+        _ => '?',
+    }
+}

@@ -1,0 +1,24 @@
+ghost use Rattle.std.specs.Prelude.{◌≡◌};
+ghost use Rattle.feed_tests.specs.declared.stop.TestStop.TheVariants.{NoMemory};
+
+use std::alloc::AllocError;
+use thiserror::Error;
+
+/// Why the tests stopped.
+#[derive(Clone, Copy, Debug, PartialEq, Eq, Error)]
+pub enum TestStop {
+    /// Standard output took not all bytes.
+    #[error("cannot write")]
+    Write,
+    /// Memory was refused.
+    #[error("no memory")]
+    NoMemory,
+}
+
+impl From<AllocError> for TestStop {
+    ghost from_gives = { λ _ stop. stop ≡ NoMemory };
+
+    fn from(_error: AllocError) -> TestStop {
+        TestStop::NoMemory
+    }
+}
