@@ -7,8 +7,9 @@
 PROGRAM is the built executable. It wants Python 3.11 and Trio 0.22, and is no part of the gate. Each job is run as a Trio program, as
 against_trio.py does, but with Trio's own cancellation: a `cancel`, or a member that fails, cancels at once. Eight seeds of Trio's scheduler
 give up to eight outcomes: how each task ends, its lines and its exits, without ticks. Counted are the jobs with several outcomes, which all
-should have a race; and those without a race, whose only outcome should be that of `nursery run`. The second form tells the outcomes of one
-job, given as this script makes jobs, by its number.
+should have a race; and those without a race, whose only outcome should be that of `nursery run`. The program that `nursery trio` writes for
+the job is run under the same seeds (trio_export.py), and where both have one outcome these have to be the same. The second form shows the
+outcomes of one job, given as this script makes jobs, by its number.
 """
 
 import collections
@@ -72,7 +73,9 @@ def call(program, command, text, *words):
 
 
 def compared(given):
-    """Of a job: whether Trio has several outcomes, whether there is a race, and whether an only outcome is ours."""
+    """Of a job: whether Trio has several outcomes, whether there is a race, whether an only outcome is ours, and what is wrong with its program."""
+    from trio_export import compared_with
+
     program, number = given
     steps, text = random_job(number)
     status, told = call(program, "races", text)
@@ -83,7 +86,8 @@ def compared(given):
         return number, None
     race = not told.splitlines()[-1].split(",")[0].endswith("no race")
     ours = outcome(call(program, "run", text)[1])
-    return number, (len(found) > 1, race, len(found) == 1 and ours in found)
+    _, fault = compared_with(program, text.encode(), found)
+    return number, (len(found) > 1, race, len(found) == 1 and ours in found, fault)
 
 
 def main():
@@ -99,14 +103,16 @@ def main():
     with ProcessPoolExecutor(os.cpu_count()) as pool:
         all_of_them = list(pool.map(compared, [(sys.argv[1], seed * 1_000_000 + n) for n in range(jobs)], chunksize=20))
     found = [(number, of) for number, of in all_of_them if of]
-    several = [(number, race) for number, (many, race, _) in found if many]
-    calm = [(number, many, ours) for number, (many, race, ours) in found if not race]
+    several = [(number, race) for number, (many, race, _, _) in found if many]
+    calm = [(number, many, ours) for number, (many, race, ours, _) in found if not race]
     missed = [number for number, race in several if not race]
     other = [number for number, many, ours in calm if not many and not ours]
     print(f"{jobs} jobs, {jobs - len(found)} do not end by the limit")
     print(f"{len(several)} have several outcomes in Trio, of which {len(several) - len(missed)} have a race; without one: {missed}")
     print(f"{len(calm)} have no race; in Trio {len(calm) - len(missed)} of them have one outcome, but for {len(other)} ours; these: {other}")
-    return 1 if missed else 0
+    wrong = [f"{number} {fault}" for number, (_, _, _, fault) in found if fault]
+    print(f"{len(found) - len(wrong)} programs of `nursery trio` do what the job does in Trio; not these: {wrong}")
+    return 1 if missed or wrong else 0
 
 
 if __name__ == "__main__":

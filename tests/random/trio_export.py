@@ -305,21 +305,29 @@ def fault_of_words(text, input_, several):
 # ---- random jobs ----
 
 
+def compared_with(exporter, text, theirs):
+    """The outcomes of the program of a random job, and what is wrong with it beside those that races_in_trio.py sees in Trio."""
+    found = Exported(exporter, text).outcomes(INPUT)
+    theirs = {"\n".join(of_trio(rows)) for rows in theirs}
+    for stranger in strangers(text, found):
+        return found, f"raises {stranger}"
+    ends = not any("limit" in told for told in [*found, *theirs])
+    if ends and len(found) == 1 and len(theirs) == 1 and theirs != set(found):
+        return found, "has another outcome than in Trio"
+    return found, None
+
+
 def tried(given):
     """Of a random job: what is wrong with its program, whether it has several outcomes, whether the job has a race, and whether an only
     outcome is that of `nursery run`."""
     program, exporter, number = given
     steps, text = random_job(number)
     text = text.encode()
-    found = Exported(exporter, text).outcomes(INPUT)
-    theirs = {"\n".join(of_trio(rows)) for rows in in_trio(steps)}
+    theirs = in_trio(steps)
+    found, fault = compared_with(exporter, text, theirs)
     several = len(found) > 1
-    for stranger in strangers(text, found):
-        return number, f"raises {stranger}", several, None, False
-    if any("limit" in told for told in [*found, *theirs]):
-        return number, None, several, None, False
-    if not several and len(theirs) == 1 and theirs != set(found):
-        return number, "has another outcome than in Trio", several, None, False
+    if fault is not None or any("limit" in told for told in [*found, *theirs]):
+        return number, fault, several, None, False
     status, told = call(program, "races", text, INPUT, "--limit", str(LIMIT))
     if status != 0:
         return number, None, several, None, False
