@@ -237,7 +237,29 @@ def content_of(path):
         return file.read()
 
 
-def runs_of_program(folder):
+def own_answer(program, words):
+    """What the program answers with ample memory: its status and its bytes."""
+    done = subprocess.run([program, *words], stdin=subprocess.DEVNULL, capture_output=True)
+    return done.returncode, done.stdout
+
+
+def documents_of(program, name, job, data):
+    """The runs that write JSON documents, warnings and Python programs, whose bytes are those with ample memory: they are compared with others elsewhere."""
+    options = ["--limit", "100"]
+    words = [["run", job, data, *options, "--json"], ["explain", job, data, *options, "--json"]]
+    if name in FAULTS:
+        words += [["faults", job, data, *options, "--json"], ["races", job, data, *options, "--json"]]
+    if name in SWEEPS:
+        words.append(["sweep", job, data, "--at", SWEEPS[name][0], "--values", "99..101", *options, "--json"])
+    if name in CHECKS:
+        words += [["lint", job], ["lint", job, "--json"], ["trio", job]]
+    for run in words:
+        wanted, right = own_answer(program, run)
+        shown = run[0] + (" --json" if "--json" in run else "")
+        yield f"{name}, {shown}", run, wanted, right, wanted == 2 or (wanted == 3 and run[0] != "explain")
+
+
+def runs_of_program(program, folder):
     """The runs of the program: what is shown of each, its words, its status, its bytes, and whether it tells something."""
     for number, (name, steps, buffer, status, right) in enumerate(ROWS):
         job = written(folder, f"job_{number}", b"trio-job 1\njob main { " + steps + b" }")
@@ -266,11 +288,12 @@ def runs_of_program(folder):
             yield f"{name}, check", ["check", job], status, CHECKS[name], status == 2
             text = formatted(content_of(job))
             yield f"{name}, fmt", ["fmt", job], status, CHECKS[name] if status == 2 else text.encode(), status == 2
+        yield from documents_of(program, name, job, data)
 
 
 def refuse_in_program(shim, program, pool):
     """Refuses each growth of all runs of the program, several at a time."""
-    runs = list(runs_of_program(shim.folder))
+    runs = list(runs_of_program(program, shim.folder))
     found = [pool.submit(refuse_each, shim, [program, *words], *answer) for _, words, *answer in runs]
     for (shown, *_), counts in zip(runs, found):
         try:
