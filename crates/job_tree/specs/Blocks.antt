@@ -1,4 +1,4 @@
--- The steps that the code holds, as the tree of a job.
+-- The steps in the code's types, as the tree of a job.
 use Rattle.std.specs.Prelude.{Option, Some, None, List, [], ◌∷◌}
 use Rattle.job_tree.specs.declared.step.Step.{Step}
 use Rattle.job_tree.specs.declared.step.Handler.{Handler}

@@ -1,4 +1,4 @@
--- The numbers of a job that was read.
+-- The ranges of the numbers of a job.
 use Rattle.std.specs.Prelude.{ℕ, ◌≤◌, Option, Some, None}
 use Rattle.job_tree.specs.declared.limits.TheConstants.{GREATEST_NUMBER, GREATEST_PACE, MOST_COPIES, MOST_PASSES, MOST_STEPS, MOST_STEPS_OF_FORMAT_1}
 use Rattle.job_tree.specs.declared.deadline.Deadline.{Deadline}
@@ -8,13 +8,13 @@ use Rattle.job_tree.specs.declared.deadline.Deadline.TheVariants.{Never, After, 
 use Rattle.job_tree.specs.Tree.{Step, sleep, checkpoint, forever, pace, find, head, longest, need, raise, cancel, scope, nursery, start, repeat, attempt, Steps, stop, step, Handled, unhandled, except, Cleaned, uncleaned, finally, Tree}
 use Rattle.job_tree.specs.Names.{size_of}
 
--- a deadline's number is at most the greatest
+-- the number of a deadline is at most the maximum
 abbrev pub IsModestDeadline : Deadline → Type 0
 IsModestDeadline Never = Unit {0}
 IsModestDeadline (After n) = n ≤ GREATEST_NUMBER
 IsModestDeadline (At n) = n ≤ GREATEST_NUMBER
 
--- how many copies a `start .. over` makes: at least one
+-- the number of copies that a `start .. over` makes is in its range: at least one
 abbrev pub IsModestOver : Option ℕ → Type 0
 IsModestOver None = Unit {0}
 IsModestOver (Some k) = (1 ≤ k) × (k ≤ MOST_COPIES)
@@ -50,12 +50,12 @@ abbrev mutual
   IsModestCleanup uncleaned = Unit {0}
   IsModestCleanup (finally body) = AreModest body
 
--- the number in the first line of a text of a format
+-- the number in the first line of a text of this format
 abbrev pub number_of : Format → ℕ
 number_of One = 1
 number_of Two = 2
 
--- how many step instances a job of a format may have
+-- the maximum number of step instances of a job of this format
 abbrev pub most_steps : Format → ℕ
 most_steps One = MOST_STEPS_OF_FORMAT_1
 most_steps Two = MOST_STEPS

@@ -1,10 +1,10 @@
--- The names that a job gives, and its size.
+-- The names that a job defines, and its size.
 use Rattle.std.specs.Prelude.{ℕ, ◌+◌, ◌*◌, Option, Some, None, List, [], ◌∷◌, ◌++◌}
 use Rattle.std.specs.List.{IsDistinct}
 use Rattle.std.specs.Str.{bytes_eq}
 use Rattle.job_tree.specs.Tree.{Step, sleep, checkpoint, forever, pace, find, head, longest, need, raise, cancel, scope, nursery, start, repeat, attempt, Steps, stop, step, Handled, unhandled, except, Cleaned, uncleaned, finally, Tree}
 
--- the names given to scopes, nurseries and started tasks, in the order of the text
+-- the names of scopes, nurseries and started tasks, in the order of the text
 abbrev mutual
   pub names_of : Steps → List (List ℕ)
   names_of stop = []
@@ -35,17 +35,17 @@ abbrev mutual
   cleaned_names uncleaned = []
   cleaned_names (finally body) = names_of body
 
--- no name is given twice, the job's own included
+-- no name is given twice, including the job's own
 abbrev pub GivesNamesOnce : Tree → Type 0
 GivesNamesOnce job = IsDistinct bytes_eq (job.name ∷ names_of job.steps)
 
--- how often a `start` runs its body
+-- how many times a `start` runs its body
 abbrev pub copies_of : Option ℕ → ℕ
 copies_of None = 1
 copies_of (Some k) = k
 
--- how many step instances a block has: each step counts, a `start .. over K` and its body K times, and a `repeat N` once, and
--- then N passes, each of which counts beside its body
+-- How many step instances a block has. Each step counts once; a `start .. over K` counts K times together with its body; a
+-- `repeat N` counts once, and for each of its N passes once more with its body.
 abbrev mutual
   pub size_of : Steps → ℕ
   size_of stop = 0

@@ -1,8 +1,9 @@
--- Where a `start` may stand: directly in the body of a nursery.
+-- Where a `start` may occur: directly in the body of a nursery.
 use Rattle.std.specs.Prelude.{Bool, true, false, IsTrue}
 use Rattle.job_tree.specs.Tree.{Step, sleep, checkpoint, forever, pace, find, head, longest, need, raise, cancel, scope, nursery, start, repeat, attempt, Steps, stop, step, Handled, unhandled, except, Cleaned, uncleaned, finally, Tree}
 
--- each `start` of a block stands directly in a nursery's body: whether the block is one is said first
+-- each `start` of a block is directly in the body of a nursery; `nursery_body` says whether the block itself is
+-- such a body
 abbrev mutual
   pub StartsIn : (nursery_body : Bool) → Steps → Type 0
   StartsIn body stop = Unit {0}
@@ -33,6 +34,6 @@ abbrev mutual
   CleanupStarts uncleaned = Unit {0}
   CleanupStarts (finally ss) = StartsIn false ss
 
--- a job's own block is no nursery's body
+-- the block of a job is not the body of a nursery
 abbrev pub StartsInNurseries : Tree → Type 0
 StartsInNurseries job = StartsIn false job.steps

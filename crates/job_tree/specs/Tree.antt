@@ -1,4 +1,4 @@
--- The tree of a job: what its text says, step by step. Names and strings are their bytes.
+-- The tree of a job, step by step. Names and strings are lists of bytes.
 use Rattle.std.specs.Prelude.{ℕ, Bool, Option, List}
 use Rattle.job_tree.specs.declared.deadline.Deadline.{Deadline}
 use Rattle.job_tree.specs.declared.format.Format.{Format}
@@ -27,7 +27,7 @@ mutual
     stop : Steps
     step : (first : Step) → (rest : Steps) → Steps
 
-  -- a `try` without a handler, or with one for exceptions of a name
+  -- a `try` without a handler, or with a handler for exceptions of one name
   pub data Handled : Type 0 where
     unhandled : Handled
     except : (name : List ℕ) → (body : Steps) → Handled
@@ -37,7 +37,7 @@ mutual
     uncleaned : Cleaned
     finally : (body : Steps) → Cleaned
 
--- a job: the format of its text, its name, which is also its root task's, and its steps
+-- a job: the format of its text, its name, which is also the name of its root task, and its steps
 pub record Tree : Type 0 where
   pub format : Format
   pub name : List ℕ

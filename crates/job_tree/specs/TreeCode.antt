@@ -1,4 +1,4 @@
--- A code of blocks of steps as lists of marks, by which a contract tells two blocks apart.
+-- Encodes blocks of steps as lists of marks, so that a contract can decide whether two blocks are equal.
 use Rattle.std.specs.Prelude.{◌≡◌, ℕ, zero, suc, Bool, true, false, Option, None, List, [], ◌∷◌, refl}
 use Rattle.std.specs.Coded.{Coded, code_by, coded×, coded_ℕ, coded_bool, coded_list, coded_option}
 use Rattle.std.proofs.Common.{ap, ◌∙◌}
@@ -26,7 +26,7 @@ from_to_pair (At n) = refl
 abbrev pub deadline_code : Coded Deadline
 deadline_code = code_by (ℕ × ℕ) (coded× coded_ℕ coded_ℕ) to_pair from_pair from_to_pair
 
--- A mark: which kind of step, a number, two strings, a deadline, two flags and a count.
+-- A mark: the kind of step, a number, two strings, a deadline, two flags and a count.
 pub record Mark : Type 0 where
   pub kind : ℕ
   pub number : ℕ
@@ -74,7 +74,7 @@ abbrev has_cleanup : Cleaned → Bool
 has_cleanup uncleaned = false
 has_cleanup (finally body) = true
 
--- a block as marks, each in front of what it takes
+-- a block as marks; the mark of a step comes before the marks of its blocks
 abbrev mutual
   marks_of : Steps → List Mark → List Mark
   marks_of stop rest = plain 0 0 [] [] ∷ rest
@@ -123,16 +123,16 @@ abbrev mutual
   cleanup_marks uncleaned rest = rest
   cleanup_marks (finally body) rest = marks_of body rest
 
--- blocks that were read back, the innermost in front
+-- blocks that were decoded, the innermost first
 abbrev Blocks : Type 0
 Blocks = List Steps
 
--- a step in front of the first block
+-- adds a step at the start of the first block
 abbrev put : Step → Blocks → Blocks
 put s [] = []
 put s (ss ∷ others) = step s ss ∷ others
 
--- the first block becomes part of a step
+-- makes the first block part of a step
 abbrev put_block : (Steps → Step) → Blocks → Blocks
 put_block make [] = []
 put_block make (body ∷ others) = put (make body) others
@@ -174,7 +174,7 @@ abbrev read_marks : List Mark → Blocks
 read_marks [] = []
 read_marks (m ∷ ms) = read_kind m.kind m (read_marks ms)
 
--- what was written as marks is read back
+-- decoding the marks of a block returns the block
 mutual
   pub read_block : (ss : Steps) (rest : List Mark) → read_marks (marks_of ss rest) ≡ ss ∷ read_marks rest
   read_block stop rest = refl

@@ -1,4 +1,4 @@
--- How deep and long a block is: more than each block inside it.
+-- The weight of a block: it is more than the weight of each block inside it.
 use Rattle.std.specs.Prelude.{ℕ, ◌+◌}
 use Rattle.job_tree.specs.Tree.{Step, sleep, checkpoint, forever, pace, find, head, longest, need, raise, cancel, scope, nursery, start, repeat, attempt, Steps, stop, step, Handled, unhandled, except, Cleaned, uncleaned, finally}
 

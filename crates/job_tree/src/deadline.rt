@@ -1,10 +1,11 @@
-/// When a cancel scope is cancelled by itself (Trio reference, `CancelScope.deadline`), in whole ticks.
+/// When a cancel scope or nursery is cancelled by itself, in whole ticks, as the `deadline` of a Trio
+/// `CancelScope`.
 #[derive(Clone, Copy, Debug, PartialEq, Eq)]
 pub enum Deadline {
-    /// Never: the scope is cancelled by a `cancel` alone.
+    /// Never. Only a `cancel` step can cancel the scope.
     Never,
-    /// So many ticks after the scope was entered.
+    /// The given number of ticks after the scope was entered.
     After(u64),
-    /// At a tick counted from the job's start, which may lie in the past.
+    /// At this tick of the job, which may already be in the past. The job starts at tick 0.
     At(u64),
 }

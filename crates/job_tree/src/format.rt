@@ -3,17 +3,18 @@ ghost use Rattle.job_tree.specs.Modest.{most_steps, number_of};
 
 use crate::limits::{MOST_STEPS, MOST_STEPS_OF_FORMAT_1};
 
-/// Which first line a job text has. Each job of format 1 is one of format 2 too, with the same meaning.
+/// The format of a job text, as its first line says. Each job of format 1 is also a job of format 2, with the same
+/// meaning.
 #[derive(Clone, Copy, Debug, PartialEq, Eq)]
 pub enum Format {
     /// `trio-job 1`
     One,
-    /// `trio-job 2`: it has `repeat`, nurseries with a deadline and a shield, and larger jobs.
+    /// `trio-job 2`. It adds `repeat`, nurseries with a deadline and a shield, and larger jobs.
     Two,
 }
 
 impl Format {
-    /// The number in the first line.
+    /// Returns the number in the first line: 1 or 2.
     pub fn number(self) -> u64
         ensures { result ≡ number_of self }
     {
@@ -23,7 +24,7 @@ impl Format {
         }
     }
 
-    /// How many step instances a job of the format may have.
+    /// Returns the maximum number of step instances of a job of this format.
     pub fn most_steps(self) -> u64
         ensures { result ≡ most_steps self }
     {

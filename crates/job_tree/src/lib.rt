@@ -1,7 +1,7 @@
 //! The tree of a job, as `job_grammar` reads it from a text: names, strings, deadlines and steps.
 //!
-//! The layer promises that contracts of the layers above see these types as plain values: a name or a string as
-//! its bytes, a block as the list of its steps (`specs/Tree.antt`). It stands on no other crate of the product.
+//! In contracts, these types are plain values: a name or a string is the list of its bytes, and a block is the list
+//! of its steps (`specs/Tree.antt`). The crate uses no other crate of the product.
 #![tactic(auto)]
 
 mod deadline;

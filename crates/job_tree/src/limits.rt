@@ -1,17 +1,18 @@
-/// The greatest number of a job text, but for those of `pace` and `over`.
+/// The maximum of each number in a job text. The numbers after `pace`, `over` and (in format 2) `repeat` have lower
+/// maximums.
 pub const GREATEST_NUMBER: u64 = 1_000_000_000;
 
-/// The greatest number of lines that a `pace` takes in a tick.
+/// The maximum number of lines that a `pace` reads in one tick.
 pub const GREATEST_PACE: u64 = 1_000_000;
 
-/// The greatest number of passes of a `repeat`.
+/// The maximum number of passes of a `repeat`.
 pub const MOST_PASSES: u64 = 1_000;
 
-/// The most step instances that a job may have.
+/// The maximum number of step instances of a job.
 pub const MOST_STEPS: u64 = 1_000_000;
 
-/// The most step instances that a job of format 1 may have.
+/// The maximum number of step instances of a job of format 1.
 pub const MOST_STEPS_OF_FORMAT_1: u64 = 100_000;
 
-/// The greatest number of copies of a `start .. over`.
+/// The maximum number of copies of a `start .. over`.
 pub const MOST_COPIES: u64 = 64;

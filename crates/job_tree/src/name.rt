@@ -13,8 +13,8 @@ use crate::word::{is_letter, is_word_byte};
 use std::hash::{Hash, Hasher};
 use std::marker::Model;
 
-/// A word of a job text, as the name of a job, task, scope, nursery or exception: a letter, then letters, digits and
-/// `_`, 1 to 32 bytes in all. A contract sees it as its bytes.
+/// A word of a job text, used as the name of a job, task, scope, nursery or exception: a letter, then letters,
+/// digits and `_`, 1 to 32 bytes in all. In contracts, it is the list of its bytes. A name may be a keyword here.
 #[derive(Clone, Copy)]
 pub struct Name {
     room: [u8; 32],
@@ -37,7 +37,7 @@ impl Model for Name {
 }
 
 impl Name {
-    /// The name of these bytes: none where they are no word.
+    /// Returns the name with these bytes, or `None` if they are not a word.
     pub fn new(text: &[u8]) -> Option<Name>
         ensures word { IsSome result ↔ IsTrue (is_word text.now) }
         ensures value { IfSome result (λ name. name ≡ text.now) }
@@ -51,7 +51,7 @@ impl Name {
         })
     }
 
-    /// The name's bytes.
+    /// Returns the bytes of the name.
     pub fn bytes(&self) -> &[u8]
         ensures { result.now ≡ self.now }
     {
@@ -83,7 +83,7 @@ impl Hash for Name {
     }
 }
 
-// Whether these bytes are a word.
+// Returns whether these bytes are a word.
 fn is_word_text(text: &[u8]) -> bool
     ensures { result ≡ is_word text.now }
 {

@@ -1,7 +1,7 @@
 ghost use Rattle.std.specs.Prelude.{◌≡◌, ◌≤◌, length};
 ghost use Rattle.job_tree.specs.Words.{in_room};
 
-// The text with zeros behind it.
+// Returns the text followed by zeros, `N` bytes in all.
 pub fn padded<const N: usize>(text: &[u8]) -> [u8; N]
     requires { length text.now ≤ N }
     ensures { result ≡ in_room N text.now }

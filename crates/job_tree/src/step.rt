@@ -5,44 +5,46 @@ use crate::name::Name;
 use crate::text::Text;
 use std::marker::Model;
 
-/// What runs where a `try` raised an exception that its name matches (PEP 654, `except*`).
+/// The `except` part of a `try`. It runs if the block of the `try` raised an exception with its name (as `except*` of Python
+/// does).
 #[derive(Drop)]
 #[cycle(step)]
 pub struct Handler {
     /// The name of the exceptions that it handles.
     pub name: Name,
-    /// What it runs.
+    /// The block that it runs.
     pub body: Body,
 }
 
-/// One step of a block (Trio reference, with the kernels of this profile). Kernels take no tick.
+/// One step of a block. Steps that read lines (`Find`, `Head`, `Longest` and `Need`) take no ticks.
 #[derive(Drop)]
 #[cycle(step)]
 pub enum Step {
-    /// Sleeps so many ticks: a checkpoint.
+    /// Sleeps for the given number of ticks. This is a checkpoint.
     Sleep(u64),
-    /// A checkpoint: a sleep of no ticks.
+    /// A checkpoint: a sleep of zero ticks.
     Checkpoint,
-    /// Sleeps to tick 1,099,511,627,776, or is a checkpoint from there on.
+    /// Sleeps until tick 1,099,511,627,776. From that tick on, it is only a checkpoint.
     Forever,
-    /// Sleeps the number of lines of the task's part divided by this, rounded up.
+    /// Sleeps one tick for every `n` lines of the task's part of the input, where `n` is the given number: the number of
+    /// lines divided by `n`, rounded up.
     Pace(u64),
-    /// Shows the lines of the task's part that contain the string.
+    /// Reports the lines of the task's part that contain the string.
     Find(Text),
-    /// Shows the first so many lines of the task's part.
+    /// Reports the given number of lines from the start of the task's part.
     Head(u64),
-    /// Shows the first of the longest lines of the task's part, if it has a line.
+    /// Reports the first of the longest lines of the task's part, if the part has a line.
     Longest,
-    /// Shows the first line that contains the string, or raises an exception of that name where there is none.
+    /// Reports the first line that contains the string, or raises an exception with the given name if no line contains it.
     Need {
         /// The string.
         text: Text,
-        /// The exception's name.
+        /// The name of the exception.
         name: Name,
     },
-    /// Raises an exception of that name.
+    /// Raises an exception with this name.
     Raise(Name),
-    /// Cancels the scope or nursery of that name round it, from the next tick on. It is no checkpoint.
+    /// Cancels the enclosing scope or nursery with this name, from the next tick on. This is not a checkpoint.
     Cancel(Name),
     /// A cancel scope.
     Scope {
@@ -50,53 +52,53 @@ pub enum Step {
         name: Name,
         /// When it is cancelled by itself.
         deadline: Deadline,
-        /// Whether it hides cancellations of the scopes round it.
+        /// Whether it is a shield: whether it hides cancellations of the enclosing scopes.
         shield: bool,
-        /// Whether it raises `TooSlow` where it caught a cancellation and nothing else is left.
+        /// Whether it raises `TooSlow` if it caught a cancellation and no other exception is left.
         fail: bool,
-        /// What runs in it.
+        /// The block that runs in it.
         body: Body,
     },
-    /// A nursery: it ends when its body and all children have ended.
+    /// A nursery. It ends when its body and all of its children have ended.
     Nursery {
         /// Its name.
         name: Name,
-        /// When it is cancelled by itself: never, in a job of format 1.
+        /// When it is cancelled by itself. In a job of format 1: never.
         deadline: Deadline,
-        /// Whether it hides cancellations of the scopes round it: not in a job of format 1.
+        /// Whether it is a shield: whether it hides cancellations of the enclosing scopes. In a job of format 1 it is not.
         shield: bool,
-        /// What runs in it; its own `start` steps start the children.
+        /// The block that runs in it. The `start` steps directly in this block start the children.
         body: Body,
     },
-    /// Starts a child of the nursery in whose body it stands, or one for each cut of the task's part.
+    /// Starts a child in the nursery in whose body this step is, or one child for each cut of the task's part of the input.
     Start {
-        /// The child's name.
+        /// The name of the child.
         name: Name,
-        /// How many cuts of the part, each for a child; none for one child with the whole part.
+        /// Into how many cuts the part is divided, with one child for each. `None`: a single child gets the whole part.
         over: Option<u64>,
-        /// What the child runs.
+        /// The block that the child runs.
         body: Body,
     },
-    /// Runs its block so many times, one pass behind the other, and stops at the first exception. It takes no tick and is no
-    /// checkpoint.
+    /// Runs its block the given number of times, one pass after the other, and stops at the first exception. It takes no
+    /// ticks and is not a checkpoint.
     Repeat {
-        /// How many passes.
+        /// The number of passes.
         count: u64,
-        /// What runs in each pass.
+        /// The block that runs in each pass.
         body: Body,
     },
     /// A `try` with a handler, a cleanup, or both.
     Try {
-        /// What is tried.
+        /// The block that is tried.
         body: Body,
-        /// What runs where it raised a match.
+        /// What runs if the block raised a matching exception.
         handler: Option<Handler>,
-        /// What always runs at the end.
+        /// The block that always runs at the end.
         cleanup: Option<Body>,
     },
 }
 
-/// The steps of a block, in order. A contract sees it as the block of the job's tree.
+/// The steps of a block, in order. In contracts, it is a block of the job's tree.
 #[derive(Drop)]
 #[cycle(step)]
 pub struct Body {
@@ -126,21 +128,21 @@ impl Model for Body {
 impl Body {
     ghost use Rattle.job_tree.specs.Blocks.{steps_of};
 
-    /// The block of these steps. Takes no memory.
+    /// Makes a block of these steps. Does not allocate.
     pub fn new(steps: Vec<Step>) -> Body
         ensures { result ≡ steps_of steps.items }
     {
         Body { steps }
     }
 
-    /// The block's steps, in order.
+    /// Returns the steps of the block, in order.
     pub fn as_slice(&self) -> &[Step]
         ensures { steps_of result.now ≡ self.now }
     {
         self.steps.as_slice()
     }
 
-    /// The block's steps, as the list that the block was made of. Takes no memory.
+    /// Returns the steps of the block as the vector that the block was made of. Does not allocate.
     pub fn into_vec(self) -> Vec<Step>
         ensures { steps_of result.items ≡ self }
     {

@@ -4,7 +4,8 @@ ghost use Rattle.job_tree.specs.Words.{is_text};
 use crate::room::padded;
 use std::marker::Model;
 
-/// A string of a job text, without its quotes and escapes: 1 to 64 bytes of any kind. A contract sees it as its bytes.
+/// A string of a job text, without its quotes and escapes: 1 to 64 bytes of any kind. In contracts, it is the list of
+/// its bytes.
 #[derive(Clone, Copy)]
 pub struct Text {
     room: [u8; 64],
@@ -27,7 +28,7 @@ impl Model for Text {
 }
 
 impl Text {
-    /// The string of these bytes: none where there are none, or more than 64.
+    /// Returns the string with these bytes, or `None` if there are no bytes or more than 64.
     pub fn new(bytes: &[u8]) -> Option<Text>
         ensures fits { IsSome result ↔ IsTrue (is_text bytes.now) }
         ensures value { IfSome result (λ text. text ≡ bytes.now) }
@@ -41,7 +42,7 @@ impl Text {
         })
     }
 
-    /// The string's bytes.
+    /// Returns the bytes of the string.
     pub fn bytes(&self) -> &[u8]
         ensures { result.now ≡ self.now }
     {
