@@ -1,18 +1,18 @@
--- Lexing goes on from left to right, and gives one answer.
+-- Lexing continues from left to right, and its result is unique.
 use Rattle.std.proofs.Common.{◌≡◌, ℕ, ◌+◌, ◌-◌, ◌<◌, ◌≤◌, List, [], ◌∷◌, ◌++◌, length, Option, Some, None, refl, sym, ap, subst, ◌∙◌, arith}
 use Rattle.std.proofs.lemmas.List.{append-nil, nil_from_length}
 use Rattle.job_tokens.specs.declared.token.Shape.{Shape}
 use Rattle.job_tokens.specs.declared.token.Token.{Token}
 use Rattle.job_tokens.specs.Lexing.{behind_blanks, token_at, Lexes}
 
--- the bytes from the first that is no blank, and the tokens from there on
+-- the tokens of bytes whose first byte is not a blank
 abbrev pub LexesFrom : ℕ → List ℕ → List Token → Option ℕ → Type 0
 LexesFrom end bytes [] None = bytes ≡ []
 LexesFrom end bytes [] (Some at) = (token_at bytes ≡ None) × (0 < length bytes) × (at + length bytes ≡ end)
 LexesFrom end bytes (t ∷ ts) fault = (rest : List ℕ) × (token_at bytes ≡ Some (t.shape, rest)) × (t.at + length bytes ≡ end)
     × Lexes end rest ts fault
 
--- the tokens read from the first byte that is no blank are those of all the bytes
+-- the tokens read from the first byte that is not a blank are those of all the bytes
 pub from_blanks : (end : ℕ) (bytes rest : List ℕ) (ts : List Token) (fault : Option ℕ) → rest ≡ behind_blanks bytes →
     LexesFrom end rest ts fault → Lexes end bytes ts fault
 from_blanks end bytes rest [] None e h = sym e ∙ h
@@ -20,33 +20,33 @@ from_blanks end bytes rest [] (Some at) e h = subst (λ (r : List ℕ). (token_a
 from_blanks end bytes rest (t ∷ ts) fault e h =
     subst (λ (r : List ℕ). (after : List ℕ) × (token_at r ≡ Some (t.shape, after)) × (t.at + length r ≡ end) × Lexes end after ts fault) e h
 
--- what is left to read, behind the blanks, completes the tokens so far
+-- what is left to read, after the blanks, completes the tokens read so far
 pub record LexesOn (end : ℕ) (bytes : List ℕ) (front : List Token) (rest : List ℕ) : Type 0 where
   pub on : (ts : List Token) (fault : Option ℕ) → LexesFrom end rest ts fault → Lexes end bytes (front ++ ts) fault
 
--- where no token can be read
+-- the case in which no token can be read
 pub stops : (end : ℕ) (bytes : List ℕ) (front : List Token) (rest : List ℕ) → token_at rest ≡ None → 0 < length rest → length rest ≤ end →
     LexesOn end bytes front rest → Lexes end bytes front (Some (end - length rest))
 stops end bytes front rest none some within before =
     subst (λ (all : List Token). Lexes end bytes all (Some (end - length rest))) (append-nil front)
     (before.on [] (Some (end - length rest)) (none, some, omega arith))
 
--- where nothing is left
+-- the case in which nothing is left
 pub is_done : (end : ℕ) (bytes : List ℕ) (front : List Token) (rest : List ℕ) → length rest ≡ 0 → LexesOn end bytes front rest →
     Lexes end bytes front None
 is_done end bytes front rest empty before =
     subst (λ (all : List Token). Lexes end bytes all None) (append-nil front) (before.on [] None (nil_from_length rest empty))
 
--- ---- one answer
+-- ---- uniqueness
 
--- two tokens of one reading
+-- two results of the same reading are equal
 some_is : {A : Type 0} (o : Option A) (x y : A) → o ≡ Some x → o ≡ Some y → x ≡ y
 some_is o x y p q = cc
 
 not_both : {A : Type 0} (o : Option A) (x : A) → o ≡ Some x → o ≡ None → ⊥
 not_both o x p q = cc
 
--- nothing is no token
+-- no bytes, no token
 nothing_there : (bytes : List ℕ) (x : Shape × List ℕ) → bytes ≡ [] → token_at bytes ≡ Some x → ⊥
 nothing_there bytes x e found = let none : token_at bytes ≡ None = ap token_at e in not_both (token_at bytes) x found none
 

@@ -1,4 +1,4 @@
--- The number of digits that are read one after the other.
+-- The value of digits that are read one after the other.
 use Rattle.std.proofs.Common.{◌≡◌, ℕ, ◌+◌, ◌-◌, ◌*◌, ◌<◌, ◌≤◌, true, false, leb, List, [], ◌∷◌, length, get_or, drop, Some, None, refl, sym, ap, ◌∙◌, add-one, drop-cons, arith}
 use Rattle.std.proofs.lemmas.Bool.{le-leb}
 use Rattle.job_tree.specs.declared.limits.TheConstants.{GREATEST_NUMBER}
@@ -12,13 +12,13 @@ value_step value digits i d lt digit =
     let e : drop i digits ≡ get_or digits i 0 ∷ drop (i + 1) digits = rw (add-one, drop-cons digits i 0) refl in
     rw (digit, e) refl
 
--- further digits make a number no less
+-- more digits never make a value smaller
 pub value_after-ge : (value : ℕ) (digits : List ℕ) → value ≤ value_after value digits
 unfolding value_after
 value_after-ge value [] = omega arith
 value_after-ge value (d ∷ ds) = omega (arith, value_after-ge (10 * value + (d - 48)) ds)
 
--- above the greatest, whatever follows
+-- the case in which the value is above the maximum, whatever follows
 pub is_above : (value : ℕ) (digits rest : List ℕ) → value_after value rest ≡ value_after 0 digits → GREATEST_NUMBER < value →
     value_within digits ≡ None
 is_above value digits rest so_far above =
@@ -28,7 +28,7 @@ is_above value digits rest so_far above =
     le-leb-false : (a b : ℕ) → b < a → leb a b ≡ false
     le-leb-false a b lt = grind arith
 
--- at the last digit
+-- the case of the last digit
 pub is_whole : (value : ℕ) (digits rest : List ℕ) → rest ≡ [] → value_after value rest ≡ value_after 0 digits → value ≤ GREATEST_NUMBER →
     value_within digits ≡ Some value
 unfolding value_after

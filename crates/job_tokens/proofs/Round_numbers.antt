@@ -1,4 +1,4 @@
--- A number is read again from its digits.
+-- A number is read back from its digits.
 use Rattle.std.proofs.Common.{◌≡◌, ℕ, zero, suc, ◌+◌, ◌-◌, ◌*◌, ◌/◌, ◌%◌, ◌^◌, ◌<◌, ◌≤◌, Bool, true, false, cond, eqb, ◌&&◌, ◌||◌, leb, ltb, List, [], ◌∷◌, ◌++◌, length, get_or, Some, ◌⊎◌, inl, inr, refl, sym, ap, ◌∙◌, arith}
 use Rattle.std.specs.List.{prefix_len, list_all}
 use Rattle.std.specs.Fmt.{decimal}
@@ -22,7 +22,7 @@ unfolding value_after
 value_after-append n [] ys = refl
 value_after-append n (x ∷ xs) ys = value_after-append (10 * n + (x - 48)) xs ys
 
--- digits that stand for a number
+-- digits with the value of a number
 pub record AreDigitsOf (n : ℕ) (ds : List ℕ) : Type 0 where
   pub all : list_all is_digit ds ≡ true
   pub value : value_after 0 ds ≡ n
@@ -39,7 +39,7 @@ one_more_digit n ds ge are = record {
   value = value_after-append 0 ds ((48 + n % 10) ∷ []) ∙ omega (arith, are.value);
 }
 
--- the decimal digits of a number stand for that number
+-- the decimal digits of a number have its value
 pub digits_of_number : (n : ℕ) → n < 2 ^ 64 → AreDigitsOf n (decimal n)
 digits_of_number n lt = decimal_by_steps AreDigitsOf one_digit one_more_digit n lt
 
@@ -86,7 +86,7 @@ or_first false false c is = absurd cc
 pub digit_in_word : (b : ℕ) → is_digit b ≡ true → is_word_byte b ≡ true
 digit_in_word b is = or_first (is_letter b) (is_digit b) (eqb b 95) is
 
--- the digits of a number with no byte of a word behind them are read as that number
+-- the digits of a number, followed by no byte of a word, are read as that number
 pub number_at-again : (n : ℕ) (rest : List ℕ) → n ≤ GREATEST_NUMBER → prefix_len is_word_byte rest ≡ 0 →
     number_at (decimal n ++ rest) ≡ Some (shape.Number (Some n), rest)
 number_at-again n rest le stops =

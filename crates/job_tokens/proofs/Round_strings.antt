@@ -1,4 +1,4 @@
--- A string is read again from its canonical bytes.
+-- A string is read back from its canonical bytes.
 use Rattle.std.proofs.Common.{◌≡◌, ℕ, zero, suc, ◌+◌, ◌-◌, ◌*◌, ◌/◌, ◌%◌, ◌<◌, ◌≤◌, Bool, true, false, eqb, ◌&&◌, ◌||◌, leb, ltb, List, [], ◌∷◌, ◌++◌, length, Some, None, ◌⊎◌, inl, inr, refl, ap, ◌∙◌, append_assoc, arith}
 use Rattle.std.specs.List.{flat_map, AllByRecursion}
 use Rattle.std.proofs.lemmas.Bool.{le-leb, le-ltb, cases_lt}
@@ -36,7 +36,7 @@ hex_value-digit d small = elim (cases_lt d 10) [ inl lt ↦ low lt | inr ge ↦ 
         and_false true = refl
         and_false false = refl
 
--- one unit and what is behind it
+-- one unit and the bytes after it
 record ReadsAgain (b : ℕ) (rest : List ℕ) : Type 0 where
   unquoted : behind_quote (unit b ++ rest) ≡ None
   again : unit_at (unit b ++ rest) ≡ Some (b, rest)
@@ -79,7 +79,7 @@ unit_again b rest small = by_escape (either_way (eqb b 34 || eqb b 92))
         }
     by_escape (inr escaped) = by_plain escaped (either_way (is_plain b))
 
--- bytes that a string can hold
+-- bytes that a string can have
 abbrev pub AreBytes : List ℕ → Type 0
 AreBytes bytes = AllByRecursion (λ b. b < 256) bytes
 
@@ -98,7 +98,7 @@ units_again (suc n) (b ∷ text) rest le bytes =
     ap (units (suc n)) (append_assoc (unit b) (flat_map unit text) (34 ∷ rest))
     ∙ units_step n b text rest more (unit_again b more bytes.0) (units_again n text rest (omega arith) bytes.1)
 
--- the canonical bytes of a string are read as that string, whatever stands behind them
+-- the canonical bytes of a string are read as that string, whatever follows them
 pub string_again : (text rest : List ℕ) → is_text text ≡ true → length text ≤ 64 → AreBytes text →
     token_at ((34 ∷ (flat_map unit text ++ 34 ∷ [])) ++ rest) ≡ Some (shape.Text text, rest)
 string_again text rest is le bytes =

@@ -1,4 +1,4 @@
--- Tokens are read again from their canonical bytes.
+-- Tokens are read back from their canonical bytes.
 use Rattle.std.proofs.Common.{◌≡◌, ℕ, ◌+◌, ◌-◌, ◌<◌, ◌≤◌, Bool, true, false, cond, eqb, ◌&&◌, ◌||◌, leb, List, [], ◌∷◌, ◌++◌, length, drop, Some, None, ◌⊎◌, inl, inr, refl, sym, ap, subst, ◌∙◌, append_assoc, arith}
 use Rattle.std.specs.List.{prefix_len, list_all}
 use Rattle.std.specs.Fmt.{decimal}
@@ -20,7 +20,7 @@ use Rattle.job_tokens.proofs.Round_words.{word_again, token_unless_word, token_u
 use Rattle.job_tokens.proofs.Round_numbers.{number_at-again, digits_of_number, digit_in_word}
 use Rattle.job_tokens.proofs.Round_strings.{AreBytes, string_again}
 
--- what has a canonical text that is read again
+-- the tokens that have a canonical text which is read back
 abbrev pub IsWritable : Shape → Type 0
 IsWritable (shape.Word word) = is_word word ≡ true
 IsWritable (shape.Number None) = ⊥
@@ -71,7 +71,7 @@ letter_in_word b is = or_left (is_letter b) (is_digit b) (eqb b 95) is
     or_left true y z e = refl
     or_left false y z e = absurd cc
 
--- bytes whose first is no blank
+-- the first byte is not a blank
 abbrev BeginsAToken : List ℕ → Type 0
 BeginsAToken [] = ⊥
 BeginsAToken (b ∷ bytes) = is_blank b ≡ false
@@ -96,7 +96,7 @@ mark_begins mark.Open = refl
 mark_begins mark.Close = refl
 mark_begins mark.Semicolon = refl
 
--- digits that begin so
+-- digits that begin in this way
 digits_begin : (ds rest : List ℕ) → 0 < length ds → list_all is_digit ds ≡ true → (b : ℕ) × (others : List ℕ) × (ds ≡ b ∷ others)
     × (is_digit b ≡ true)
 digits_begin [] rest some all = absurd (omega arith)

@@ -1,4 +1,4 @@
--- A word is read again from its bytes.
+-- A word is read back from its bytes.
 use Rattle.std.proofs.Common.{◌≡◌, ℕ, true, cond, eqb, ◌&&◌, leb, List, [], ◌∷◌, ◌++◌, length, Some, None, refl, ◌∙◌}
 use Rattle.std.specs.List.{prefix_len, list_all}
 use Rattle.std.proofs.lemmas.List.{take_at, drop_at}
@@ -17,20 +17,20 @@ word_at-again word rest is stops =
     let n : prefix_len is_word_byte (word ++ rest) ≡ length word = prefix_len-run is_word_byte word rest all.1 stops in
     rw (n, take_at word rest (length word) refl, drop_at word rest (length word) refl, is) refl
 
--- what a token is that begins with no letter and no digit
+-- the token of bytes that begin with neither a letter nor a digit
 abbrev pub token_unless_number : ℕ → List ℕ → Read
 token_unless_number b rest =
     cond (eqb b 34) (string_at rest) (cond (eqb b 123) (Some (shape.Mark mark.Open, rest))
     (cond (eqb b 125) (Some (shape.Mark mark.Close, rest)) (cond (eqb b 59) (Some (shape.Mark mark.Semicolon, rest)) None)))
 
--- what a token is that begins with no letter
+-- the token of bytes that do not begin with a letter
 abbrev pub token_unless_word : ℕ → List ℕ → Read
 token_unless_word b rest = cond (is_digit b) (number_at (b ∷ rest)) (token_unless_number b rest)
 
 begins_word : (b : ℕ) (rest : List ℕ) → is_letter b ≡ true → token_at (b ∷ rest) ≡ word_at (b ∷ rest)
 begins_word b rest letter = cond-true (is_letter b) (word_at (b ∷ rest)) (token_unless_word b rest) letter
 
--- the bytes of a word with no byte of a word behind them are read as that word
+-- the bytes of a word, followed by no byte of a word, are read as that word
 pub word_again : (word rest : List ℕ) → is_word word ≡ true → prefix_len is_word_byte rest ≡ 0 →
     token_at (word ++ rest) ≡ Some (shape.Word word, rest)
 word_again [] rest is stops = absurd cc

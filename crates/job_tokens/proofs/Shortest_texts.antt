@@ -1,4 +1,4 @@
--- What a token is that was read, and that no text of the same tokens is shorter than the canonical one.
+-- What a unit of a string is that was read, and that its canonical spelling is no longer.
 use Rattle.std.proofs.Common.{◌≡◌, ℕ, ◌+◌, ◌-◌, ◌*◌, ◌<◌, ◌≤◌, Bool, true, false, cond, eqb, ◌&&◌, ◌||◌, leb, List, [], ◌∷◌, length, Option, Some, None, ◌⊎◌, inl, inr, refl, sym, ap, subst, ◌∙◌, arith}
 use Rattle.std.proofs.lemmas.Bool.{leb-true, eqb-true}
 use Rattle.job_tree.specs.Words.{is_digit}

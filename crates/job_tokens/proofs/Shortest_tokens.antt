@@ -25,7 +25,7 @@ use Rattle.job_tokens.proofs.Shortest_texts.{IsUnit, read_unit}
 
 -- ---- a string
 
--- a string, no longer in its canonical form than in the text, but for the first quote
+-- a string, no longer in its canonical form than in the text; the opening quote is not counted
 record IsString (bytes text rest : List ℕ) : Type 0 where
   small : AreBytes text
   shorter : length (flat_map unit text) + 1 + length rest ≤ length bytes
@@ -90,7 +90,7 @@ read_string (suc n) bytes p e = by_quote (λ rest x. read_string n rest x) (behi
 mul_up : (a b c : ℕ) → a ≤ b → a * c ≤ b * c
 mul_up a b c le = grind (arith, mul-le-mul_right)
 
--- digits stand for no more than their number allows
+-- the value of digits is below a bound that depends on their number
 value_after-lt : (n : ℕ) (ds : List ℕ) → list_all is_digit ds ≡ true → value_after n ds < (n + 1) * 10 ^ length ds
 unfolding value_after
 value_after-lt n [] all = omega arith
@@ -130,7 +130,7 @@ digits_shorter ds n some all e = by_zero (chosen (has_leading_zero ds) None (val
 
 -- ---- any token
 
--- what a token that was read has: a number that the number rule refuses has no canonical text
+-- what holds of a token that was read: a number without a value has no canonical text
 abbrev pub IsSpelled : Shape → Type 0
 IsSpelled (shape.Word word) = is_word word ≡ true
 IsSpelled (shape.Number None) = Unit {0}
@@ -138,12 +138,12 @@ IsSpelled (shape.Number (Some n)) = n ≤ GREATEST_NUMBER
 IsSpelled (shape.Text text) = (is_text text ≡ true) × AreBytes text
 IsSpelled (shape.Mark mark) = Unit {0}
 
--- behind a word or number stands no byte of a word, and its own first byte is one
+-- no byte of a word follows a word or a number, and a word or a number begins with a byte of a word
 abbrev pub IsApart : Bool → List ℕ → List ℕ → Type 0
 IsApart true bytes rest = (prefix_len is_word_byte rest ≡ 0) × (0 < prefix_len is_word_byte bytes)
 IsApart false bytes rest = Unit {0}
 
--- what holds of a token that was read, and of the bytes behind it
+-- what holds of a token that was read, and of the bytes after it
 pub record IsToken (bytes : List ℕ) (s : Shape) (rest : List ℕ) : Type 0 where
   pub spelled : IsSpelled s
   pub shorter : length (token s) + length rest ≤ length bytes
@@ -306,12 +306,12 @@ read_token (b ∷ bytes) p e = by_letter (chosen (is_letter b) (word_at (b ∷ b
 
 -- ---- all tokens
 
--- behind a word or number stands no byte of a word
+-- no byte of a word follows a word or a number
 abbrev pub IsFree : Bool → List ℕ → Type 0
 IsFree true bytes = prefix_len is_word_byte bytes ≡ 0
 IsFree false bytes = Unit {0}
 
--- between two words or numbers stands a blank
+-- there is a blank between two words or numbers
 blank_between : (before : Bool) (s : Shape) (bytes rest : List ℕ) → IsFree before bytes →
     IsApart (is_wordlike s) (behind_blanks bytes) rest → length (gap before (is_wordlike s)) + length (behind_blanks bytes) ≤ length bytes
 blank_between before s bytes rest free apart = by_gap before (is_wordlike s) free apart
@@ -358,7 +358,8 @@ abbrev pub AreSpelled : List Token → Type 0
 AreSpelled [] = Unit {0}
 AreSpelled (t ∷ ts) = IsSpelled t.shape × AreSpelled ts
 
--- tokens that were read are words, strings of bytes, marks, and numbers that are refused or at most the greatest
+-- tokens that were read are words, strings of bytes, marks, and numbers that have no value or are at most the
+-- maximum
 pub tokens_spelled : (end : ℕ) (bytes : List ℕ) (ts : List Token) (fault : Option ℕ) → Lexes end bytes ts fault → AreSpelled ts
 tokens_spelled end bytes [] fault lexed = tt
 tokens_spelled end bytes (t ∷ ts) fault (rest, found, place, others) =

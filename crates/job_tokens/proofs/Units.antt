@@ -4,7 +4,7 @@ use Rattle.std.specs.Prelude.{Some, None}
 use Rattle.std.proofs.lemmas.List.{append-nil}
 use Rattle.job_tokens.specs.Lexing.{Units_read, units, unit_at, behind_quote, with_unit}
 
--- the bytes of a string that were read before, and what is read behind them
+-- the bytes of a string that were read before, and what is read after them
 abbrev pub with_front : List ℕ → Units_read → Units_read
 with_front front None = None
 with_front front (Some read) = Some (front ++ read.0, read.1)
@@ -13,7 +13,7 @@ regroup : (front : List ℕ) (b : ℕ) (read : Units_read) → with_front front 
 regroup front b None = refl
 regroup front b (Some read) = ap (λ (bytes : List ℕ). Some (bytes, read.1)) (simp append_assoc)
 
--- at the closing quote
+-- the case of the closing quote
 pub ends : (front : List ℕ) (n : ℕ) (rest after : List ℕ) (total : Units_read) → behind_quote rest ≡ Some after →
     with_front front (units n rest) ≡ total → total ≡ Some (front, after)
 unfolding units
@@ -26,7 +26,7 @@ ends front (suc n) rest after total quote so_far =
     rw quote (ap (λ (bytes : List ℕ). Some (bytes, after)) (append-nil front)) in
     sym so_far ∙ one
 
--- at what is no unit
+-- the case of bytes that are no unit
 pub fails : (front : List ℕ) (n : ℕ) (rest : List ℕ) (total : Units_read) → behind_quote rest ≡ None → unit_at rest ≡ None →
     with_front front (units n rest) ≡ total → total ≡ None
 unfolding units
@@ -37,7 +37,7 @@ fails front (suc n) rest total unquoted none so_far =
     let one : with_front front (units (suc n) rest) ≡ None = rw (unquoted, none) refl in
     sym so_far ∙ one
 
--- where no further unit may come
+-- the case in which no further unit may come
 pub is_full : (front : List ℕ) (n : ℕ) (rest : List ℕ) (total : Units_read) → n ≡ 0 → behind_quote rest ≡ None →
     with_front front (units n rest) ≡ total → total ≡ None
 unfolding units
@@ -45,7 +45,7 @@ is_full front n rest total zero_left unquoted so_far =
     let one : with_front front (units n rest) ≡ None = rw (zero_left, unquoted) refl in
     sym so_far ∙ one
 
--- at a unit
+-- the case of a unit
 pub goes_on : (front : List ℕ) (most i : ℕ) (rest : List ℕ) (b : ℕ) (after : List ℕ) (total : Units_read) → i < most →
     behind_quote rest ≡ None → unit_at rest ≡ Some (b, after)
     → with_front front (units (most - i) rest) ≡ total → with_front (front ++ b ∷ []) (units (most - (i + 1)) after) ≡ total

@@ -1,4 +1,4 @@
--- The one canonical text of tokens.
+-- The canonical text of tokens.
 use Rattle.std.specs.Prelude.{ℕ, ◌+◌, ◌/◌, ◌%◌, List, [], ◌∷◌, ◌++◌, Bool, true, false, ◌&&◌, ◌||◌, ◌==◌, nat_lt, Option, Some, None, if◌then◌else◌}
 use Rattle.std.specs.List.{flat_map}
 use Rattle.std.specs.Fmt.{decimal}
@@ -12,7 +12,7 @@ use Rattle.job_tokens.specs.Lexing.{is_plain}
 abbrev pub hex_digit : ℕ → ℕ
 hex_digit d = if nat_lt d 10 then 48 + d else 87 + d
 
--- one byte of a string
+-- the canonical spelling of one byte of a string
 abbrev pub unit : ℕ → List ℕ
 unit b =
     if (b == 34) || (b == 92) then 92 ∷ b ∷ []
@@ -23,7 +23,7 @@ mark_byte Open = 123
 mark_byte Close = 125
 mark_byte Semicolon = 59
 
--- digits without leading zeros
+-- the digits of a number, without leading zeros
 abbrev pub number : Option ℕ → List ℕ
 number None = []
 number (Some n) = decimal n
@@ -35,7 +35,7 @@ token (shape.Number n) = number n
 token (shape.Text text) = 34 ∷ (flat_map unit text ++ 34 ∷ [])
 token (shape.Mark mark) = mark_byte mark ∷ []
 
--- a word or a number
+-- whether the token is a word or a number
 abbrev pub is_wordlike : Shape → Bool
 is_wordlike (shape.Word word) = true
 is_wordlike (shape.Number n) = true
@@ -46,7 +46,7 @@ is_wordlike (shape.Mark mark) = false
 abbrev pub gap : Bool → Bool → List ℕ
 gap before behind = if before && behind then 32 ∷ [] else []
 
--- tokens behind a word or number, or behind another token or none
+-- the canonical text of tokens; `before` says whether they come directly after a word or a number
 abbrev pub canon_behind : Bool → List Shape → List ℕ
 canon_behind before [] = []
 canon_behind before (s ∷ ss) = (gap before (is_wordlike s) ++ token s) ++ canon_behind (is_wordlike s) ss

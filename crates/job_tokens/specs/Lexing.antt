@@ -1,4 +1,4 @@
--- How the tokens of a text are read, from left to right, each as long as possible.
+-- How the tokens of a text are read: from left to right, each as long as possible.
 use Rattle.std.specs.Prelude.{◌≡◌, ℕ, zero, suc, ◌+◌, ◌*◌, ◌-◌, ◌<◌, List, [], ◌∷◌, Bool, false, ◌&&◌, ◌||◌, ◌==◌, nat_le, nat_lt, length, take, drop, Option, Some, None, if◌then◌else◌}
 use Rattle.std.specs.List.{prefix_len}
 use Rattle.job_tree.specs.declared.limits.TheConstants.{GREATEST_NUMBER}
@@ -10,26 +10,26 @@ use Rattle.job_tokens.specs.declared.token.Token.{Token}
 
 -- ---- blanks
 
--- the bytes that may stand between tokens: space, tab, newline and carriage return
+-- the bytes that may separate tokens: space, tab, newline and carriage return
 abbrev pub is_blank : ℕ → Bool
 is_blank b = ((b == 32) || (b == 9)) || ((b == 10) || (b == 13))
 
--- the bytes from the first that is no blank
+-- the bytes from the first that is not a blank
 abbrev pub behind_blanks : List ℕ → List ℕ
 behind_blanks bytes = drop (prefix_len is_blank bytes) bytes
 
 -- ---- words
 
--- a token and the bytes behind it
+-- a token and the bytes after it
 abbrev pub Read : Type 0
 Read = Option (Shape × List ℕ)
 
--- what the code answers, seen by a view, is what is read
+-- the answer of the code, seen through a view, is what the definition reads
 abbrev pub Gives : {X Y : Type 0} → (X → Y) → Option X → Option Y → Type 0
 Gives view None read = read ≡ None
 Gives view (Some found) read = read ≡ Some (view found)
 
--- the longest run of word bytes, where it is a word
+-- the longest run of word bytes, if it is a word
 abbrev pub word_at : List ℕ → Read
 word_at bytes =
     let n = prefix_len is_word_byte bytes in
@@ -37,30 +37,30 @@ word_at bytes =
 
 -- ---- numbers
 
--- the number of the digits read so far and of these behind them
+-- the value of the digits read so far, `n`, followed by these digits
 unfoldable pub value_after : ℕ → List ℕ → ℕ
 value_after n [] = n
 value_after n (d ∷ ds) = value_after (10 * n + (d - 48)) ds
 
--- a zero with digits behind it
+-- a zero with more digits after it
 abbrev pub has_leading_zero : List ℕ → Bool
 has_leading_zero [] = false
 has_leading_zero (d ∷ ds) = (d == 48) && nat_lt 0 (length ds)
 
--- the number of these digits: none where it is above the greatest
+-- the value of these digits, or `None` if it is above the maximum
 abbrev pub value_within : List ℕ → Option ℕ
 value_within digits = if nat_le (value_after 0 digits) GREATEST_NUMBER then Some (value_after 0 digits) else None
 
--- the same, and none with a leading zero
+-- the same, but `None` with a leading zero
 abbrev pub number_of : List ℕ → Option ℕ
 number_of digits = if has_leading_zero digits then None else value_within digits
 
--- bytes that begin with a byte of a word
+-- whether the bytes begin with a byte of a word
 abbrev pub goes_on : List ℕ → Bool
 goes_on [] = false
 goes_on (b ∷ bs) = is_word_byte b
 
--- the longest run of digits, where no letter or `_` follows it
+-- the longest run of digits, if no letter or `_` follows it
 abbrev pub number_at : List ℕ → Read
 number_at bytes =
     let n = prefix_len is_digit bytes in
@@ -68,17 +68,17 @@ number_at bytes =
 
 -- ---- strings
 
--- a byte that stands for itself in a string, where it is neither a quote nor a backslash
+-- a byte that spells itself in a string, if it is neither a quote nor a backslash
 abbrev pub is_plain : ℕ → Bool
 is_plain b = nat_le 32 b && nat_le b 126
 
--- what a hexadecimal digit, `0` to `9` and `a` to `f`, is worth
+-- the value of a hexadecimal digit, `0` to `9` and `a` to `f`
 abbrev pub hex_value : ℕ → Option ℕ
 hex_value b =
     if is_digit b then Some (b - 48)
     else (if nat_le 97 b && nat_le b 102 then Some (b - 87) else None)
 
--- one byte of a string, and what is behind its spelling
+-- one byte of a string, and the bytes after its spelling
 abbrev pub Unit_read : Type 0
 Unit_read = Option (ℕ × List ℕ)
 
@@ -93,7 +93,7 @@ hex_at [] = None
 hex_at (h ∷ []) = None
 hex_at (h ∷ l ∷ rest) = byte_of (hex_value h) (hex_value l) rest
 
--- what stands behind a backslash
+-- the bytes after a backslash
 abbrev pub escape_at : List ℕ → Unit_read
 escape_at [] = None
 escape_at (b ∷ rest) =
@@ -105,12 +105,12 @@ unit_at [] = None
 unit_at (b ∷ rest) =
     if b == 92 then escape_at rest else (if is_plain b then Some (b, rest) else None)
 
--- what is behind a quote, where one comes first
+-- the bytes after a quote, if the first byte is a quote
 abbrev pub behind_quote : List ℕ → Option (List ℕ)
 behind_quote [] = None
 behind_quote (b ∷ rest) = if b == 34 then Some rest else None
 
--- the bytes of a string so far, and those that are read behind them
+-- the bytes of a string, and the bytes after its closing quote
 abbrev pub Units_read : Type 0
 Units_read = Option (List ℕ × List ℕ)
 
@@ -126,12 +126,12 @@ abbrev pub unless_ended : Option (List ℕ) → Units_read → Units_read
 unless_ended (Some rest) read = Some ([], rest)
 unless_ended None read = read
 
--- the units up to a quote, so many at most, and the bytes behind that quote
+-- at most the given number of units, up to a quote, and the bytes after that quote
 unfoldable pub units : ℕ → List ℕ → Units_read
 units zero bytes = unless_ended (behind_quote bytes) None
 units (suc n) bytes = unless_ended (behind_quote bytes) (unit_then (unit_at bytes) (units n))
 
--- a string of 1 to 64 units, behind its first quote
+-- a string of 1 to 64 units, read after its opening quote
 abbrev pub string_of : Units_read → Read
 string_of None = None
 string_of (Some read) = if is_text read.0 then Some (Text read.0, read.1) else None
@@ -141,7 +141,7 @@ string_at bytes = string_of (units 64 bytes)
 
 -- ---- tokens
 
--- the token that bytes begin with, and the bytes behind it: none where they begin no token
+-- the token at the start of the bytes and the bytes after it, or `None` if the bytes begin with no token
 abbrev pub token_at : List ℕ → Read
 token_at [] = None
 token_at (b ∷ rest) =
@@ -153,8 +153,8 @@ token_at (b ∷ rest) =
     else (if b == 59 then Some (Mark Semicolon, rest)
     else None)))))
 
--- The bytes, which reach to the end, are these tokens with blanks before, between and behind them; or they are these
--- tokens up to a place from which no token can be read.
+-- The bytes, the last of a text of `end` bytes, are these tokens with blanks before, between and after them; or they
+-- are these tokens up to a place from which no token can be read.
 abbrev pub Lexes : ℕ → List ℕ → List Token → Option ℕ → Type 0
 Lexes end bytes [] None = behind_blanks bytes ≡ []
 Lexes end bytes [] (Some at) =

@@ -6,7 +6,8 @@ ghost use Rattle.job_tokens.specs.Canon.{hex_digit, unit, mark_byte, number as c
 use crate::token::{Mark, Shape};
 use std::alloc::{AllocError, Global};
 
-/// Writes the canonical text of the tokens at the end.
+/// Appends the canonical text of the tokens to `out`: the only text of minimum length in which these tokens can be
+/// read. The only error is that memory was refused; `out` may then hold a part of the text.
 pub fn push_canon(alloc: Global, out: &mut Vec<u8>, shapes: &[Shape]) -> Result<(), AllocError>
     ensures { OnOk result (out.new.items ≡ out.old.items ++ canon_of shapes.now) }
 {
@@ -22,7 +23,7 @@ pub fn push_canon(alloc: Global, out: &mut Vec<u8>, shapes: &[Shape]) -> Result<
     Ok(())
 }
 
-// A word or a number.
+// Returns whether the token is a word or a number. Two of these need a space between them.
 fn is_wordlike(shape: Shape) -> bool
     ensures { result ≡ is_wordlike shape }
 {

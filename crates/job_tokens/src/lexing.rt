@@ -11,11 +11,13 @@ use std::alloc::{AllocError, Global};
 pub struct Lexed {
     /// The tokens, in order.
     pub tokens: Vec<Token>,
-    /// The place from which no token can be read, where there is one.
+    /// The place of the first byte from which no token can be read, or `None` if the whole text was read.
     pub fault: Option<usize>,
 }
 
-/// Reads the tokens of the bytes with which a text of `end` bytes ends.
+/// Reads the tokens of `bytes`, which are the last bytes of a text of `end` bytes. Places are counted in bytes from
+/// the start of that text. The caller must ensure that `bytes` has at most `end` bytes. The only error is that
+/// memory was refused; bytes that are no token are reported in `Lexed::fault`.
 pub fn lex(alloc: Global, bytes: &[u8], end: usize) -> Result<Lexed, AllocError>
     requires { length bytes.now ≤ end }
     ensures { IfOk result (λ found. Lexes end bytes.now found.tokens.items found.fault) }
@@ -39,7 +41,7 @@ pub fn lex(alloc: Global, bytes: &[u8], end: usize) -> Result<Lexed, AllocError>
     })
 }
 
-// The bytes from the first that is no blank.
+// Returns the bytes from the first that is not a blank.
 fn skip_blanks(bytes: &[u8]) -> &[u8]
     ensures value { result.now ≡ behind_blanks bytes.now }
     ensures shorter { length result.now ≤ length bytes.now }
@@ -47,7 +49,7 @@ fn skip_blanks(bytes: &[u8]) -> &[u8]
     bytes.split_at(run::count_blanks(bytes)).1
 }
 
-// The token that the bytes begin with, and what is behind it.
+// Returns the token at the start of the bytes, and the bytes after it.
 fn token_at(bytes: &[u8]) -> Option<(Shape, &[u8])>
     ensures value { Gives (λ x. (x.0, x.1.now)) result (token_at bytes.now) }
     ensures shorter { IfSome result (λ x. length x.1.now < length bytes.now) }

@@ -1,7 +1,7 @@
-//! The tokens of a job text: words, numbers, strings and marks, each with its place, and their one canonical text.
+//! The tokens of a job text: words, numbers, strings and marks, each with its place, and their canonical text.
 //!
-//! The layer promises that `lex` gives the tokens of a text exactly as `specs/Lexing.antt` says, and the place of the
-//! first byte from which no token can be read. It stands on `job_tree` for names and strings.
+//! `lex` returns the tokens of a text exactly as `specs/Lexing.antt` defines them, and the place of the first byte
+//! from which no token can be read. The crate uses `job_tree` for names and strings.
 #![tactic(auto)]
 
 mod canon;

@@ -5,7 +5,8 @@ use crate::run;
 use crate::token::Shape;
 use job_tree::{GREATEST_NUMBER, is_word_byte};
 
-/// The number that the bytes, which begin with a digit, begin with.
+/// Returns the number at the start of the bytes, and the bytes after it, or `None` if a letter or `_` follows the
+/// digits. The bytes must begin with a digit.
 pub fn number_at(bytes: &[u8]) -> Option<(Shape, &[u8])>
     ensures { Gives (λ x. (x.0, x.1.now)) result (number_at bytes.now) }
 {
@@ -16,7 +17,7 @@ pub fn number_at(bytes: &[u8]) -> Option<(Shape, &[u8])>
     Some((Shape::Number(number_of(front)), rest))
 }
 
-// Whether a byte of a word comes first.
+// Returns whether the first byte is a byte of a word.
 fn goes_on(bytes: &[u8]) -> bool
     ensures { result ≡ goes_on bytes.now }
 {
@@ -35,7 +36,7 @@ fn has_leading_zero(digits: &[u8]) -> bool
     }
 }
 
-// The number of these digits, where the number rule allows it.
+// Returns the number with these digits, or `None` if it has a leading zero or is above the maximum.
 fn number_of(digits: &[u8]) -> Option<u64>
     ensures { result ≡ number_of digits.now }
 {

@@ -5,14 +5,14 @@ ghost use Rattle.job_tokens.specs.Lexing.{is_blank};
 
 use job_tree::{is_digit, is_word_byte};
 
-/// A byte that may stand between tokens.
+/// Returns whether the byte is a blank: a byte that may separate tokens.
 pub fn is_blank(b: u8) -> bool
     ensures { result ≡ is_blank b }
 {
     (b == b' ' || b == b'\t') || (b == b'\n' || b == b'\r')
 }
 
-/// How many blanks the bytes begin with.
+/// Returns the number of blanks at the start of the bytes.
 pub fn count_blanks(bytes: &[u8]) -> usize
     ensures within { result ≤ length bytes.now }
     ensures count { result ≡ prefix_len is_blank bytes.now }
@@ -25,7 +25,7 @@ pub fn count_blanks(bytes: &[u8]) -> usize
     bytes.len()
 }
 
-/// How many bytes of a word the bytes begin with.
+/// Returns the number of word bytes at the start of the bytes.
 pub fn count_word_bytes(bytes: &[u8]) -> usize
     ensures within { result ≤ length bytes.now }
     ensures count { result ≡ prefix_len is_word_byte bytes.now }
@@ -38,7 +38,7 @@ pub fn count_word_bytes(bytes: &[u8]) -> usize
     bytes.len()
 }
 
-/// How many digits the bytes begin with.
+/// Returns the number of digits at the start of the bytes.
 pub fn count_digits(bytes: &[u8]) -> usize
     ensures within { result ≤ length bytes.now }
     ensures count { result ≡ prefix_len is_digit bytes.now }

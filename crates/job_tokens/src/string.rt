@@ -4,7 +4,8 @@ ghost use Rattle.job_tokens.specs.Lexing.{Gives, hex_value, hex_at, escape_at, u
 use crate::token::Shape;
 use job_tree::{Text, is_digit};
 
-/// The string that the bytes behind a quote begin with.
+/// Returns the string at the start of the bytes, which begin after its opening quote, and the bytes after its
+/// closing quote. Returns `None` if the bytes do not begin with 1 to 64 units and a quote.
 pub fn string_at(bytes: &[u8]) -> Option<(Shape, &[u8])>
     ensures value { Gives (λ x. (x.0, x.1.now)) result (string_at bytes.now) }
     ensures shorter { IfSome result (λ x. length x.1.now ≤ length bytes.now) }
@@ -15,7 +16,7 @@ pub fn string_at(bytes: &[u8]) -> Option<(Shape, &[u8])>
     Some((Shape::Text(text), rest))
 }
 
-// Reads the units up to the closing quote into the room.
+// Reads the units up to the closing quote into `room`. Returns their number and the bytes after the quote.
 fn read_units<'a>(bytes: &'a [u8], room: &mut [u8; 64]) -> Option<(usize, &'a [u8])>
     ensures within { IfSome result (λ x. x.0 ≤ 64) }
     ensures shorter { IfSome result (λ x. length x.1.now ≤ length bytes.now) }
@@ -34,7 +35,7 @@ fn read_units<'a>(bytes: &'a [u8], room: &mut [u8; 64]) -> Option<(usize, &'a [u
     Some((64, after))
 }
 
-// What is behind a quote, where one comes first.
+// Returns the bytes after a quote, if the first byte is a quote.
 fn behind_quote(bytes: &[u8]) -> Option<&[u8]>
     ensures value { Gives (λ x. x.now) result (behind_quote bytes.now) }
     ensures shorter { IfSome result (λ x. length x.now ≤ length bytes.now) }
@@ -46,7 +47,7 @@ fn behind_quote(bytes: &[u8]) -> Option<&[u8]>
     None
 }
 
-// The byte that the first unit stands for, and what is behind it.
+// Returns the byte that the first unit spells, and the bytes after the unit.
 fn unit_at(bytes: &[u8]) -> Option<(u8, &[u8])>
     ensures value { Gives (λ x. (x.0, x.1.now)) result (unit_at bytes.now) }
     ensures shorter { IfSome result (λ x. length x.1.now ≤ length bytes.now) }

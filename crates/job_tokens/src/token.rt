@@ -18,7 +18,7 @@ pub enum Mark {
 pub enum Shape {
     /// A letter, then letters, digits and `_`: a keyword or a name.
     Word(Name),
-    /// A run of digits: none where it has a leading zero or is above 1,000,000,000.
+    /// The value of a run of digits. `None` if it has a leading zero or is above 1,000,000,000.
     Number(Option<u64>),
     /// A string between quotes.
     Text(Text),
@@ -29,16 +29,16 @@ pub enum Shape {
 /// A token of a job text.
 #[derive(Clone, Copy)]
 pub struct Token {
-    /// The place of its first byte, counted from the start of the text.
+    /// The place of its first byte, in bytes from the start of the text.
     pub at: usize,
-    /// What it is.
+    /// What the token is.
     pub shape: Shape,
 }
 
 impl Shape {
     ghost use Rattle.job_tokens.specs.Shapes.{word_in, number_in, text_in, mark_in};
 
-    /// The word, where it is one.
+    /// Returns the word, or `None` if the token is not a word.
     pub fn word(self) -> Option<Name>
         ensures { result ≡ word_in self }
     {
@@ -50,7 +50,8 @@ impl Shape {
         }
     }
 
-    /// The number, where it is one that the number rule allows.
+    /// Returns the value of the number. Returns `None` if the token is not a number, and for a number without a
+    /// value (see `Shape::Number`).
     pub fn number(self) -> Option<u64>
         ensures { result ≡ number_in self }
     {
@@ -62,7 +63,7 @@ impl Shape {
         }
     }
 
-    /// The string, where it is one.
+    /// Returns the string, or `None` if the token is not a string.
     pub fn text(self) -> Option<Text>
         ensures { result ≡ text_in self }
     {
@@ -74,7 +75,7 @@ impl Shape {
         }
     }
 
-    /// The mark, where it is one.
+    /// Returns the mark, or `None` if the token is not a mark.
     pub fn mark(self) -> Option<Mark>
         ensures { result ≡ mark_in self }
     {

@@ -4,7 +4,8 @@ use crate::run;
 use crate::token::Shape;
 use job_tree::Name;
 
-/// The word that the bytes, which begin with a letter, begin with.
+/// Returns the word at the start of the bytes, and the bytes after it. Returns `None` if the word has more than 32
+/// bytes. The bytes must begin with a letter.
 pub fn word_at(bytes: &[u8]) -> Option<(Shape, &[u8])>
     ensures { Gives (λ x. (x.0, x.1.now)) result (word_at bytes.now) }
 {
