@@ -8,12 +8,12 @@ use Rattle.cancel_scopes.specs.Tree.{Stack, Tree, stack_of, after_cancel, level_
 use Rattle.cancel_scopes.specs.Kept.{Outline, Slots, Find, level_of, onto, full, upward, stack_at, find_in, tree_of, IsUnder, IsTree}
 use Rattle.cancel_scopes.proofs.StackLemmas.{stack_of-tree_of}
 
--- what is kept under a key once the scope of an id is cancelled in a tick
+-- the tick from which a scope is cancelled, after it or another scope is cancelled in a tick
 abbrev pub from_cancelled : Bool → ℕ → Tick → Tick
 from_cancelled true tick from = earlier from (Some (tick + 1))
 from_cancelled false tick from = from
 
--- what is kept under a key, once the scope of this id is cancelled
+-- the outline under a key, after the scope of this id is cancelled
 abbrev pub scope_cancelled : ℕ → ℕ → ℕ → Outline → Outline
 scope_cancelled id tick key s = record s { from = from_cancelled (key == id) tick s.from }
 

@@ -1,4 +1,4 @@
--- Which scope catches, as scopes are kept.
+-- Which scope catches, as scopes are stored.
 use Rattle.std.proofs.Common.{◌≡◌, ℕ, Bool, true, false, not, [], Some, None, refl, sym, ap, subst, ◌∙◌}
 use Rattle.std.specs.Prelude.{◌||◌}
 use Rattle.cancel_scopes.specs.Sight.{reached, seen}
@@ -6,13 +6,13 @@ use Rattle.cancel_scopes.specs.Tree.{Stack, Tree, stack_of, catches}
 use Rattle.cancel_scopes.specs.Kept.{Outline, Slots, Find, full, round, upward, find_in, tree_of, IsUnder, IsTree}
 use Rattle.cancel_scopes.proofs.StackLemmas.{stack_seen, stack_at-kept, kept_stack, upward-under}
 
--- an open scope's stack, as it is kept
+-- an open scope's stack, as it is stored
 pub stack_is : (tree : Tree) (slots : Slots) (key id : ℕ) (s : Outline) (stack : Stack) → tree_of slots ≡ tree → key ≡ id →
     find_in slots key ≡ Some s → stack_of tree id ≡ Some stack → stack ≡ full (find_in slots) key s
 stack_is tree slots key id s stack is same kept seen =
     kept_stack (find_in slots) key s stack kept (sym (stack_seen tree slots key id is same) ∙ seen)
 
--- the parent's stack is what stands round a scope
+-- the parent's stack is the stack of the scopes that enclose a scope
 pub stack_round : (tree : Tree) (slots : Slots) (key parent : ℕ) (s : Outline) → tree_of slots ≡ tree → IsTree (find_in slots) →
     find_in slots key ≡ Some s → s.parent ≡ Some parent → stack_of tree parent ≡ Some (round (find_in slots) s)
 stack_round tree slots key parent s is root kept up =

@@ -1,4 +1,4 @@
--- Each scope in a stack has for its own stack the rest of that one from it on.
+-- The stack of each scope in a stack is the rest of that stack, from the scope on.
 use Rattle.std.proofs.Common.{◌≡◌, ◌≢◌, ℕ, zero, suc, ◌+◌, [], ◌∷◌, ◌++◌, length, Option, Some, None, refl, sym, ap, subst, ◌∙◌, arith}
 use Rattle.std.specs.List.{All}
 use Rattle.std.proofs.lemmas.List.{length-append}
@@ -18,7 +18,7 @@ chains-none : (find : Find) → Chains find []
 chains-none find [] l behind is = absurd (let e : [] ≡ l ∷ behind = is in cc)
 chains-none find (b ∷ bs) l behind is = absurd (let e : [] ≡ b ∷ bs ++ l ∷ behind = is in cc)
 
--- of a kept scope, where what is round it has the law
+-- the law holds of an open scope if it holds of the scopes that enclose it
 chains-full : (find : Find) (key : ℕ) (s : Outline) → find key ≡ Some s → Chains find (round find s) → Chains find (full find key s)
 chains-full find key s kept outer [] l behind is =
     let first : level_of key s ≡ l = cc in
@@ -44,7 +44,7 @@ chains-at find tree key stack (Some s) is seen =
     subst (Chains find) (sym (kept_stack find key s stack is seen))
     (chains-full find key s is (chains-upward find tree s.depth s.parent (tree.placed key s is)))
 
--- the rest of a stack is the stack of the scope that it begins with
+-- the rest of a stack is the stack of its first scope
 pub is_chain : (slots : Slots) → IsTree (find_in slots) → IsChain (tree_of slots)
 is_chain slots tree key stack seen before l behind is =
     stack_of-tree_of slots l.label ∙ chains-at (find_in slots) tree key stack (find_in slots key) refl
@@ -55,11 +55,11 @@ own_at : (find : Find) (key : ℕ) (o : Option Outline) → find key ≡ o → (
 own_at find key None is stack seen = absurd (let e : stack_at find key ≡ None = rw is refl in cc)
 own_at find key (Some s) is stack seen = ap own_label (kept_stack find key s stack is seen)
 
--- each stack begins with the scope whose stack it is
+-- each stack begins with the scope that it belongs to
 pub is_own : (slots : Slots) → IsOwn (tree_of slots)
 is_own slots key stack seen = own_at (find_in slots) key (find_in slots key) refl stack (sym (stack_of-tree_of slots key) ∙ seen)
 
--- what stands nowhere in a list
+-- what does not occur in a list
 lacks : (id : ℕ) (ls : Stack) → ((before : Stack) (m : Level ℕ) (behind : Stack) → ls ≡ before ++ m ∷ behind → m.label ≢ id) →
     All (λ m. m.label ≢ id) ls
 lacks id [] h = All-nil (λ m. m.label ≢ id)
@@ -67,7 +67,7 @@ lacks id (m ∷ ms) h =
     All-cons (λ m. m.label ≢ id) m ms (h [] m ms refl) (lacks id ms
     (λ before n behind is. h (m ∷ before) n behind (ap (λ (rest : Stack). m ∷ rest) is)))
 
--- a scope that stood in its stack a second time would have a shorter one
+-- a scope that occurred twice in its stack would have a shorter stack
 pub is_apart : (tree : Tree) → IsChain tree → IsApart tree
 is_apart tree chain key stack seen before l behind is =
     lacks l.label behind (λ between m rest inside same.
@@ -80,12 +80,12 @@ is_apart tree chain key stack seen before l behind is =
     let short : length behind ≡ length rest = ap length shorter in
     absurd (omega (arith, long, short)))
 
--- the parent of a scope that is kept
+-- the parent of an open scope
 pub parent_open : (tree : Tree) (slots : Slots) (key parent : ℕ) (s : Outline) → tree_of slots ≡ tree → IsTree (find_in slots) →
     find_in slots key ≡ Some s → s.parent ≡ Some parent → IsOpen tree parent
 parent_open tree slots key parent s is root kept up = rw (stack_round tree slots key parent s is root kept up) refl
 
--- round a scope stands its parent's stack
+-- the scopes that enclose a scope are its parent's stack
 pub parent_round : (tree : Tree) (slots : Slots) (key id : ℕ) (s : Outline) (stack : Stack) → tree_of slots ≡ tree → key ≡ id →
     IsTree (find_in slots) → find_in slots key ≡ Some s → stack_of tree id ≡ Some stack → outer_of tree s.parent ≡ behind_own stack
 parent_round tree slots key id s stack is same root kept seen =

@@ -1,4 +1,4 @@
--- A scope comes among its parent's children.
+-- A scope is added to its parent's children.
 use Rattle.std.proofs.Common.{◌≡◌, ◌≢◌, ◌⊎◌, ℕ, ◌+◌, ◌<◌, ◌≤◌, Bool, true, false, List, [], ◌∷◌, ◌++◌, length, slice_set, Option, Some, None, is_some, IsSome, vec_len, vec_capacity, refl, sym, ap, subst, ◌∙◌, arith, inl, inr}
 use Rattle.std.specs.Prelude.{◌==◌, if◌then◌else◌}
 use Rattle.std.proofs.Math.Path.{fun_ext}
@@ -37,7 +37,7 @@ other_parent p q differs = elim (cases_Bool (q == p)) [ inl equal ↦ absurd (di
 pub outlines-none : (slots : Slots) → SameOutlines slots slots
 outlines-none slots = record { long = refl; finds = λ k. refl; sights = λ k. refl; marks = λ k. refl }
 
--- two changes that keep outlines
+-- two changes in a row that keep outlines
 pub outlines-then : (a b c : Slots) → SameOutlines a b → SameOutlines b c → SameOutlines a c
 outlines-then a b c h g = record {
   long = g.long ∙ h.long;
@@ -47,7 +47,7 @@ outlines-then a b c h g = record {
   marks = λ k. g.marks k ∙ h.marks k;
 }
 
--- an outermost scope is nobody's child
+-- an outermost scope is no scope's child
 pub added-none : (slots : Slots) (key : ℕ) → Orphaned slots key None → Family slots
 added-none slots key h = record {
   children = λ p. placed-same (places_but slots key None p) (λ k. place_under p (scope_in slots k)) (children_at (scope_in slots p))
@@ -60,9 +60,9 @@ added-none slots key h = record {
         ∙ ap (places_but slots key None p) (sym same)
     by_key p k (inr differs) = sym (but_other slots key None p k differs)
 
--- a scope comes last among the children of its parent
+-- a scope is appended to the children of its parent
 module _ (slots : Slots) (key parent : ℕ) (s t : Scope) where
-  -- the slots with the parent as it is then
+  -- the slots after the write to the parent
   abbrev pub adopted : Slots
   adopted = slice_set slots parent (Some t)
 
@@ -76,7 +76,7 @@ module _ (slots : Slots) (key parent : ℕ) (s t : Scope) where
     marks = same_by place_of slots parent s (Some t) kept listed;
   }
 
-  -- then each scope has its children
+  -- after that each scope has its children
   pub added : scope_in slots parent ≡ Some s → t.parent ≡ s.parent → t.place ≡ s.place → t.children.items ≡ s.children.items ++ key ∷ [] →
       Orphaned slots key (Some parent) → Family adopted
   added kept up place children h = record { children = λ p. by_parent p (cases_eq p parent) }

@@ -20,7 +20,7 @@ first_lacks id l outer lacks = All-head (λ l. l.label ≢ id) l outer lacks
 rest_lacks : (id : ℕ) (l : Level ℕ) (outer : Stack) → Lacks id (l ∷ outer) → Lacks id outer
 rest_lacks id l outer lacks = All-tail (λ l. l.label ≢ id) l outer lacks
 
--- nothing is kept under the id any more
+-- nothing is stored under the id any more
 pub record Closes (old new : Find) (id : ℕ) (s : Outline) : Type 0 where
   pub was : old id ≡ Some s
   pub free : new id ≡ None
@@ -74,7 +74,7 @@ IsTree-closes {old} {new} {id} {s} h tree = record { placed = λ key other kept.
         let lacks = h.innermost key (full old key other) differs (stack_at-kept old key other was) in
         by_parent other.depth other.parent (tree.placed key other was) (rest_lacks id (level_of key other) (round old other) lacks)
 
--- the same as it is kept, once other marks stand there
+-- the same of the stored scopes, after other marks are written
 pub innermost_kept : (tree : Tree) (slots unmarked : Slots) (key id : ℕ) → tree_of slots ≡ tree → key ≡ id →
     find_in unmarked ≡ find_in slots → IsInnermost tree id → (other : ℕ) (stack : Stack) → other ≢ key →
     stack_at (find_in unmarked) other ≡ Some stack → Lacks key stack
@@ -83,7 +83,7 @@ innermost_kept tree slots unmarked key id is same finds innermost other stack di
     (innermost other stack (λ e. differs (e ∙ sym same)) (stack_seen tree slots other other is refl
     ∙ ap (λ (find : Find). stack_at find other) (sym finds) ∙ seen))
 
--- what the store says of a scope that is taken out
+-- what the contract of the store says of a scope that is removed
 pub closes : (tree : Tree) (slots new : Slots) (key id : ℕ) (s : Outline) → tree_of slots ≡ tree → key ≡ id → find_in slots key ≡ Some s →
     find_in new key ≡ None → ((other : ℕ) → other ≢ key → find_in new other ≡ find_in slots other) → IsInnermost tree id →
     Closes (find_in slots) (find_in new) key s
@@ -94,7 +94,7 @@ closes tree slots new key id s is same was free others innermost = record {
   innermost = innermost_kept tree slots slots key id is same refl innermost;
 }
 
--- no scope is inside one that no other has round it
+-- no scope is inside one that encloses no other
 pub no_child : (find : Find) (key : ℕ) → IsTree find → ((other : ℕ) (stack : Stack) → other ≢ key → stack_at find other ≡ Some stack →
     Lacks key stack) → (k : ℕ) (s : Outline) → find k ≡ Some s → s.parent ≡ Some key → ⊥
 no_child find key tree innermost k s kept up =

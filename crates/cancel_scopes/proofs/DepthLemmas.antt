@@ -1,4 +1,4 @@
--- A scope has fewer scopes round it than are kept.
+-- A scope has fewer enclosing scopes than there are open scopes.
 use Rattle.std.proofs.Common.{◌≡◌, ℕ, zero, suc, ◌+◌, ◌<◌, ◌≤◌, Bool, true, false, cond, [], ◌∷◌, Option, Some, None, is_some, refl, ap, subst, arith, count_by, slice_index_or}
 use Rattle.std.proofs.lemmas.Bool.{lt-ltb, le-ltb, ltb-true}
 use Rattle.std.proofs.lemmas.List.Sums.{sum_by-cons}
@@ -7,7 +7,7 @@ use Rattle.cancel_scopes.specs.Kept.{Outline, Slots, scope_in, find_in, outline_
 use Rattle.cancel_scopes.proofs.StackLemmas.{scope_at, found_at}
 use Rattle.cancel_scopes.specs.declared.store.Scope.{Scope}
 
--- a scope is kept, with fewer than so many round it
+-- a scope is open, with fewer than the given number of enclosing scopes
 abbrev pub is_above : ℕ → Option Scope → Bool
 is_above n None = false
 is_above n (Some s) = nat_lt s.depth n
@@ -76,7 +76,7 @@ counted slots tree (suc d) key s kept deep =
         before parent above.0 above.1 (let e : above.0.depth ≡ under.0.depth = ap (λ (o : Outline). o.depth) above.2 in
         omega (arith, under.2))
 
--- a scope has fewer round it than are kept
+-- a scope has fewer enclosing scopes than there are open scopes
 pub depth_fits : (slots : Slots) (key : ℕ) (s : Scope) → IsTree (find_in slots) → scope_in slots key ≡ Some s →
     s.depth < count_by is_some slots
 depth_fits slots key s tree kept =

@@ -1,4 +1,4 @@
--- Each scope has its new sight, and each whose sight came earlier is marked.
+-- Each scope has its new effective deadline, and each for which it became earlier is marked.
 use Rattle.std.proofs.Common.{◌≡◌, ℕ, Bool, true, false, Some, None, refl, sym, ap, ◌∙◌, arith, inl, inr}
 use Rattle.std.specs.Prelude.{◌||◌}
 use Rattle.std.proofs.lemmas.Bool.{le-ltb}
@@ -21,13 +21,13 @@ or_true : (b : Bool) → (b || true) ≡ true
 or_true true = refl
 or_true false = refl
 
--- a mark stays where the sight does
+-- a mark stays where the effective deadline stays
 pub stays_marked : (a b : Bool) (t u : Tick) → a ≡ b → t ≡ u → a ≡ (b || before t u)
 stays_marked a b t u same e =
     let f : before t u ≡ false = ap (λ (v : Tick). before v u) e ∙ not_before u in
     rw f (same ∙ sym (or_false b))
 
--- where each scope is right, the moves say which came earlier
+-- where the rule holds for each scope, the moves say which effective deadlines became earlier
 pub fresh-along : (tick : ℕ) (old new : Slots) → Along tick old new → IsTree (find_in old) → AllRight new → AllFresh old new
 fresh-along tick old new h tree all = record {
   long = h.long;

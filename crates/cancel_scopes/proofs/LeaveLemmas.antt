@@ -18,7 +18,7 @@ no_place slots key free p k (inl same) =
     ∙ ap (places_but slots key None p) (sym same)
 no_place slots key free p k (inr differs) = sym (but_other slots key None p k differs)
 
--- an outermost scope was nobody's child
+-- an outermost scope was no scope's child
 pub left-none : (slots : Slots) (place : ℕ) → Lost slots None place → Family slots
 left-none slots place h = record {
   children = λ p. placed-same (places_but slots h.key None p) (λ k. place_under p (scope_in slots k)) (children_at (scope_in slots p))
@@ -26,7 +26,7 @@ left-none slots place h = record {
       (λ k. no_place slots h.key h.free p k (cases_eq k h.key)) refl (h.others p);
 }
 
--- the last of its parent's children comes into its place
+-- the last of its parent's children moves to its place
 module _ (slots : Slots) (parent place : ℕ) (s : Scope) (rest : List ℕ) where
   among : (h : Lost slots (Some parent) place) → scope_in slots parent ≡ Some s →
       IsPlaced (places_but slots h.key (Some place) parent) s.children.items
@@ -36,7 +36,7 @@ module _ (slots : Slots) (parent place : ℕ) (s : Scope) (rest : List ℕ) wher
       subst (λ (l : List ℕ). IsPlaced (places_but slots h.key (Some place) parent) l) (ap children_at kept)
       (subst P (eq-eqb parent parent refl) (h.others parent))
 
-  -- the place of the scope that is gone is in the list
+  -- the place of the removed scope is in the list
   pub place_within : Lost slots (Some parent) place → scope_in slots parent ≡ Some s → place < length s.children.items
   place_within h kept = ((among h kept).stands h.key place (but_here slots h.key (Some place) parent)).0
 
@@ -92,7 +92,7 @@ module _ (slots : Slots) (parent place : ℕ) (s : Scope) (rest : List ℕ) wher
           (λ k. others_same p k away ∙ no_place slots h.key h.free p k (cases_eq k h.key)) (lists_same p away) (theirs p away)
 
   module _ (t : Scope) where
-    -- the slots with the parent as it is then
+    -- the slots after the write to the parent
     abbrev pub parted : Slots
     parted = slice_set slots parent (Some t)
 
@@ -103,7 +103,7 @@ module _ (slots : Slots) (parent place : ℕ) (s : Scope) (rest : List ℕ) wher
         (ap (λ (o : Option ℕ). if parent_is p o then Some t.place else None) up
         ∙ ap (λ (n : ℕ). if parent_is p s.parent then Some n else None) at)
 
-    -- the one that is gone stood last
+    -- the removed scope was last
     pub left-last : Lost slots (Some parent) place → scope_in slots parent ≡ Some s → Removed s.children.items rest place →
         t.parent ≡ s.parent → t.place ≡ s.place → t.children.items ≡ rest → length rest ≤ place → Family parted
     left-last h kept r up at children out =
@@ -120,7 +120,7 @@ module _ (slots : Slots) (parent place : ℕ) (s : Scope) (rest : List ℕ) wher
         under_at parent (length s.children.items - 1) (scope_in parted moved)
         (under_parted kept up at parent moved ∙ ap (λ (n : ℕ). place_under parent (scope_in slots n)) is ∙ last_under h kept r inside)
 
-    -- the one that comes into the place is kept
+    -- the scope that moves to the place is open
     pub moved_kept : (moved : ℕ) → Lost slots (Some parent) place → scope_in slots parent ≡ Some s → Removed s.children.items rest place →
         t.parent ≡ s.parent → t.place ≡ s.place → place < length rest → moved ≡ get_or rest place 0 → IsSome (scope_in parted moved)
     moved_kept moved h kept r up at inside is = ap is_some (moved_under moved h kept r up at inside is).1
@@ -138,7 +138,7 @@ module _ (slots : Slots) (parent place : ℕ) (s : Scope) (rest : List ℕ) wher
           (added-outlines slots 0 parent s t kept outline sight listed)
           (added-outlines parted 0 moved m (record m { place = place }) stays refl refl refl)
 
-      -- the last one comes into the place
+      -- the last scope moves to the place
       pub left-moved : Lost slots (Some parent) place → scope_in slots parent ≡ Some s → Removed s.children.items rest place →
           t.parent ≡ s.parent → t.place ≡ s.place → t.children.items ≡ rest → place < length rest → moved ≡ get_or rest place 0 →
           scope_in parted moved ≡ Some m → Family settled_in
@@ -172,7 +172,7 @@ module _ (slots : Slots) (parent place : ℕ) (s : Scope) (rest : List ℕ) wher
               let test : parent_is parent m.parent ≡ true = ap (parent_is parent) child ∙ eq-eqb parent parent refl in
               ap (λ (b : Bool). if b then Some place else None) test
 
--- a scope without children is gone, and stands among its parent's still
+-- a scope without children was removed, and is still among its parent's children
 pub lost : (slots gone : Slots) (key : ℕ) (s : Scope) → IsTree (find_in slots) → Family slots → scope_in slots key ≡ Some s →
     scope_in gone key ≡ None → ((other : ℕ) → other ≢ key → scope_in gone other ≡ scope_in slots other) → s.children.items ≡ [] →
     Lost gone s.parent s.place

@@ -1,4 +1,4 @@
--- Sights that are lowered from a scope down, by local rules.
+-- Effective deadlines that are lowered from a scope inwards, by local rules.
 use Rattle.std.proofs.Common.{◌≡◌, ◌≢◌, ◌⊎◌, ℕ, zero, suc, Bool, true, false, slice_set, Option, Some, None, refl, sym, ap, subst, ◌∙◌, arith, inl, inr}
 use Rattle.std.specs.Prelude.{nat_lt, if◌then◌else◌}
 use Rattle.std.proofs.lemmas.Bool.{cases_eq}
@@ -10,7 +10,7 @@ use Rattle.cancel_scopes.proofs.StackLemmas.{scope_at, found_at, stack_at-kept, 
 use Rattle.cancel_scopes.proofs.SlotLemmas.{written, unwritten}
 use Rattle.cancel_scopes.specs.declared.store.Scope.{Scope}
 
--- the local rule gives the sight of each stack
+-- the local rule determines the effective deadline of each stack
 upward-sight : (slots : Slots) → IsTree (find_in slots) → AllRight slots → (n : ℕ) (o : Option ℕ) → IsUnder (find_in slots) n o →
     sight (upward (find_in slots) n o) ≡ outer_sight slots o
 upward-sight slots tree all zero None under = refl
@@ -29,7 +29,7 @@ upward-sight slots tree all (suc n) (Some parent) under =
     all.right parent s at.1 ∙ ap (λ (o : Outline). sight_by o.shield o.from (outer_sight slots o.parent)) at.2 in
     rw under.1 (ap (sight_by above.shield above.from) rest ∙ sym rule ∙ sym (ap own_sight at.1))
 
--- so each scope keeps the sight of its stack
+-- so each scope keeps the effective deadline of its stack
 pub sights_of : (slots : Slots) → IsTree (find_in slots) → AllRight slots → HasSights slots
 sights_of slots tree all key = by_kept (scope_in slots key) refl
   where
@@ -62,7 +62,7 @@ rights_of slots tree sights = record { right = λ key s kept. by_scope key s kep
         sym (ap own_sight kept) ∙ sights key ∙ ap sight_of (stack_at-kept (find_in slots) key (outline_of s) found)
         ∙ ap (sight_by s.shield s.from) (by_parent s.depth s.parent (tree.placed key (outline_of s) found))
 
--- a scope that saw by an outer sight later than this tick, and now stands inside one of this tick
+-- a scope whose outer effective deadline was later than this tick and now is this tick
 low_ticks : (t f o : ℕ) → nat_lt t o ≡ true → nat_lt t (if nat_lt o f then o else f) ≡ true → t ≡ (if nat_lt t f then t else f)
 low_ticks t f o a b = grind (arith, nat_tests)
 
@@ -70,27 +70,27 @@ high_ticks : (t f o : ℕ) → nat_lt t o ≡ true → nat_lt t (if nat_lt o f t
     (if nat_lt o f then o else f) ≡ (if nat_lt t f then t else f)
 high_ticks t f o a b = grind (arith, nat_tests)
 
--- a sight that is later than the tick becomes the tick
+-- an effective deadline that is later than the tick becomes the tick
 pub settles_low : (t : ℕ) (from outer : Tick) → before (Some t) outer ≡ true → before (Some t) (earlier from outer) ≡ true →
     Some t ≡ earlier from (Some t)
 settles_low t None outer a b = refl
 settles_low t (Some f) None a b = rw b refl
 settles_low t (Some f) (Some o) a b = ap Some (low_ticks t f o a b)
 
--- one that is not stays
+-- one that is not later stays
 pub settles_high : (t : ℕ) (from outer : Tick) → before (Some t) outer ≡ true → before (Some t) (earlier from outer) ≡ false →
     earlier from outer ≡ earlier from (Some t)
 settles_high t None outer a b = absurd (let e : true ≡ false = sym a ∙ b in cc)
 settles_high t (Some f) None a b = rw b refl
 settles_high t (Some f) (Some o) a b = ap Some (high_ticks t f o a b)
 
--- a scope is lowered to the tick: those right inside it wait
+-- a scope is lowered to the tick: its children wait
 module _ (slots : Slots) (tick key : ℕ) (s : Scope) (listed : Option ℕ) (waits after : ℕ → Scope → Type 0) where
   -- the slots with the scope lowered
   abbrev pub lowered : Slots
   lowered = slice_set slots key (Some (record s { sight = Some tick; listed = listed }))
 
-  -- then every scope is right or waits
+  -- after that the rule holds for every scope that does not wait
   pub near-lowered : scope_in slots key ≡ Some s → before (Some tick) s.sight ≡ true →
       ((k : ℕ) (t : Scope) → k ≢ key → scope_in slots k ≡ Some t → IsNear slots tick waits k t) →
       ((k : ℕ) (t : Scope) → k ≢ key → scope_in slots k ≡ Some t → waits k t → after k t) →
@@ -138,7 +138,7 @@ module _ (slots : Slots) (tick key : ℕ) (s : Scope) (listed : Option ℕ) (wai
           ∙ found in
           by_near k t differs was (near k t differs was)
 
--- a scope that waits inside one of the tick is right, if it is shielded or sees no later
+-- the rule holds for a waiting child of a scope of the tick, if the child is shielded or its effective deadline is not later
 pub settled : (slots : Slots) (tick parent : ℕ) (waits : ℕ → Scope → Type 0) (key : ℕ) (s : Scope) → s.parent ≡ Some parent →
     own_sight (scope_in slots parent) ≡ Some tick → IsNear slots tick waits key s → (s.shield ≡ true)
     ⊎ (before (Some tick) s.sight ≡ false) → IsRight slots s

@@ -19,7 +19,7 @@ same_find old new h = fun_ext h
 pub same-tree : (old new : Slots) → ((key : ℕ) → find_in new key ≡ find_in old key) → IsTree (find_in old) → IsTree (find_in new)
 same-tree old new h tree = subst IsTree (sym (same_find old new h)) tree
 
--- sights stay right where outlines and sights stay
+-- effective deadlines stay right where outlines and effective deadlines stay
 pub same-sights : (old new : Slots) → ((key : ℕ) → find_in new key ≡ find_in old key) →
     ((key : ℕ) → own_sight (scope_in new key) ≡ own_sight (scope_in old key)) → HasSights old → HasSights new
 same-sights old new finds same sights key =
@@ -35,7 +35,7 @@ family-same old new places children family = record {
       subst P (sym (fun_ext (places parent))) (subst Q (sym (children parent)) (family.children parent));
 }
 
--- a list of places serves where all places stay
+-- a list stays right where all places stay
 pub listed-same : (old new : Slots) (changed : List ℕ) → ((key : ℕ) → places_in new key ≡ places_in old key) → IsListed old changed →
     IsListed new changed
 listed-same old new changed h listed = record {
@@ -68,7 +68,7 @@ unlisted_fits slots changed key s kept none listed =
     implied None h = h
     implied (Some s) h = refl
 
--- a scope that was not listed comes last
+-- a scope that was not in the list is appended
 pub marked : (slots : Slots) (changed : List ℕ) (key place : ℕ) (s t : Scope) → scope_in slots key ≡ Some s → places_in slots key ≡ None →
     place ≡ length changed → t.listed ≡ Some place → IsListed slots changed → IsListed (slice_set slots key (Some t)) (changed ++ key ∷ [])
 marked slots changed key place s t kept none long now listed =
@@ -84,7 +84,7 @@ marked slots changed key place s t kept none long now listed =
       counted = omega (arith, count, unmarked, one, listed.counted, length-append changed (key ∷ []));
     }
 
--- a scope that gets this place among the changed ones
+-- a scope that gets this place in the list of changed scopes
 pub lists-listed : (slots : Slots) (changed now : List ℕ) (key place : ℕ) (s t : Scope) → scope_in slots key ≡ Some s →
     lists key (scope_in slots key) changed now place → t.listed ≡ Some place → IsListed slots changed →
     IsListed (slice_set slots key (Some t)) now
@@ -113,7 +113,7 @@ module _ (slots : Slots) (changed rest : List ℕ) (key place : ℕ) (s : Scope)
       let one : weight s.listed ≡ weight (Some place) = ap weight (was_listed kept at) in
       omega (arith, count, one, h.long, listed.counted)
 
-  -- a scope that stands last is taken out
+  -- a scope that is last is removed
   pub unmarked-last : scope_in slots key ≡ Some s → places_in slots key ≡ Some place → Removed changed rest place → length rest ≤ place →
       IsListed slots changed → IsListed after_one rest
   unmarked-last kept at h out listed = record {
@@ -131,7 +131,7 @@ module _ (slots : Slots) (changed rest : List ℕ) (key place : ℕ) (s : Scope)
       ap (places_in slots) (h.seam (omega (arith, inside, h.long)))
       ∙ listed.places.placed (length changed - 1) (omega (arith, inside, h.long))
 
-  -- the last one is another
+  -- the last one is another scope
   pub moved_differs : places_in slots key ≡ Some place → Removed changed rest place → IsListed slots changed → place < length rest →
       get_or rest place 0 ≢ key
   moved_differs at h listed inside same =
@@ -146,7 +146,7 @@ module _ (slots : Slots) (changed rest : List ℕ) (key place : ℕ) (s : Scope)
     kept_before : moved ≢ key → scope_in after_one moved ≡ Some m → scope_in slots moved ≡ Some m
     kept_before differs stays = sym (unwritten slots key moved (Some (record s { listed = None })) differs) ∙ stays
 
-    -- a scope is taken out, and the last one comes into its place
+    -- a scope is removed, and the last one moves to its place
     pub unmarked-moved : scope_in slots key ≡ Some s → places_in slots key ≡ Some place → Removed changed rest place → place < length rest →
         moved ≡ get_or rest place 0 → scope_in after_one moved ≡ Some m → IsListed slots changed → IsListed after_two rest
     unmarked-moved kept at h inside is stays listed =
@@ -166,7 +166,7 @@ module _ (slots : Slots) (changed rest : List ℕ) (key place : ℕ) (s : Scope)
           counted = omega (arith, count, one, counted_one kept at h listed);
         }
 
-    -- that scope alone loses its mark
+    -- only that scope loses its mark
     pub unmarks-moved : scope_in slots key ≡ Some s → places_in slots key ≡ Some place → Removed changed rest place → place < length rest →
         moved ≡ get_or rest place 0 → scope_in after_one moved ≡ Some m → IsListed slots changed → Marks slots after_two key false
     unmarks-moved kept at h inside is stays listed =

@@ -10,7 +10,7 @@ use Rattle.cancel_scopes.specs.Children.{SameOutlines}
 use Rattle.cancel_scopes.proofs.MarkLemmas.{same-tree, same-sights, listed-same}
 use Rattle.cancel_scopes.specs.declared.store.Scope.{Scope}
 
--- what was kept still is
+-- what was stored still is
 abbrev pub Keeps : Find → Find → Type 0
 Keeps old new = (key : ℕ) (s : Outline) → old key ≡ Some s → new key ≡ Some s
 
@@ -25,7 +25,7 @@ upward-keeps old new h tree (suc n) (Some key) under =
     let at : IsUnder old n above.parent = subst (λ (d : ℕ). IsUnder old d above.parent) deep (tree.placed key above kept) in
     rw (kept, later) (ap (λ (outer : Stack). level_of key above ∷ outer) (upward-keeps old new h tree n above.parent at))
 
--- stacks that were kept still are
+-- stacks that were there still are
 pub stack_at-keeps : (old new : Find) → Keeps old new → IsTree old → (key : ℕ) → new key ≡ old key → stack_at new key ≡ stack_at old key
 stack_at-keeps old new h tree key same = ap (option_map (full new key)) same ∙ by_kept (old key) refl
   where
@@ -34,7 +34,7 @@ stack_at-keeps old new h tree key same = ap (option_map (full new key)) same ∙
     by_kept (Some s) is = ap (λ (outer : Stack). Some (level_of key s ∷ outer))
         (upward-keeps old new h tree s.depth s.parent (tree.placed key s is))
 
--- the new scope stands at a key that was free
+-- the new scope is at a key that was free
 pub record Opens (old new : Find) (key : ℕ) (s : Outline) : Type 0 where
   pub free : old key ≡ None
   pub kept : new key ≡ Some s
@@ -46,7 +46,7 @@ pub opens-keeps : {old new : Find} {key : ℕ} {s : Outline} → Opens old new k
 opens-keeps {old} h at before was =
     h.others at (λ same. (let e = h.free in let f = ap old same in cc)) ∙ was
 
--- the parent's stack, as it is kept
+-- the parent's stack, as it is stored
 outer_of-kept : (slots : Slots) (depth : ℕ) (parent : Option ℕ) → IsUnder (find_in slots) depth parent →
     upward (find_in slots) depth parent ≡ outer_of (tree_of slots) parent
 outer_of-kept slots depth None under = rw under refl
@@ -94,7 +94,7 @@ opened-others tree slots new key s is h root other differs =
     ∙ stack_at-keeps (find_in slots) (find_in new) (opens-keeps h) root other (h.others other differs)
     ∙ sym (stack_seen tree slots other other is refl)
 
--- the parents that were kept still are
+-- the parents that were open still are
 under_keeps : (old new : Find) → Keeps old new → (depth : ℕ) (parent : Option ℕ) → IsUnder old depth parent → IsUnder new depth parent
 under_keeps old new h depth None under = under
 under_keeps old new h depth (Some parent) under = (under.0, h parent under.0 under.1, under.2)
@@ -111,7 +111,7 @@ IsTree-opens old new key s h tree = record { placed = λ k o found. by_key k o f
     by_key k o found (inr differs) =
         under_keeps old new (opens-keeps h) o.depth o.parent (tree.placed k o (sym (h.others k differs) ∙ found))
 
--- a scope is opened that sees what its stack says, and comes among its parent's children
+-- a scope is opened with the effective deadline of its stack, and is appended to its parent's children
 module _ (slots inserted : Slots) (key : ℕ) (s : Scope) where
   -- so the tree is ready again
   pub opened-ready : (new : Slots) (was changed : List ℕ) (had lowered_was lowered_had room lowered lowered_room : ℕ) (parent : Option ℕ)

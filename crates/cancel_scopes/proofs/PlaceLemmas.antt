@@ -13,7 +13,7 @@ some_same a b e = cc
 pub none_some : {X : Type 0} (o : Option ℕ) (a : ℕ) → o ≡ None → o ≡ Some a → X
 none_some o a none some = absurd (let e : None ≡ Some a = sym none ∙ some in cc)
 
--- a key that had no place comes last
+-- a key that had no place is appended
 pub placed-push : (old new : ℕ → Option ℕ) (list : List ℕ) (key : ℕ) → IsPlaced old list → old key ≡ None → new key ≡ Some (length list) →
     ((other : ℕ) → other ≢ key → new other ≡ old other) → IsPlaced new (list ++ key ∷ [])
 placed-push old new list key h free here others =
@@ -39,7 +39,7 @@ placed-push old new list key h free here others =
       ];
     }
 
--- what is left of a list when one is taken out of its place, and the last one comes there
+-- the rest of a list when one element is removed and the last one moves to its place
 pub record Removed (list rest : List ℕ) (place : ℕ) : Type 0 where
   pub long : length rest + 1 ≡ length list
   pub seam : place + 1 < length list → get_or rest place 0 ≡ get_or list (length list - 1) 0
@@ -55,7 +55,7 @@ removed list rest place n m long short less seam keeps = record {
   keeps = λ k differs inside. keeps k 0 differs (omega (arith, inside, long));
 }
 
--- a key is taken out, and the last one comes into its place
+-- a key is removed, and the last one moves to its place
 pub placed-removed : (old new : ℕ → Option ℕ) (list rest : List ℕ) (key place : ℕ) → IsPlaced old list → old key ≡ Some place →
     length rest + 1 ≡ length list → (place + 1 < length list → get_or rest place 0 ≡ get_or list (length list - 1) 0) →
     ((k : ℕ) → k ≢ place → k + 1 < length list → get_or rest k 0 ≡ get_or list k 0) → new key ≡ None →

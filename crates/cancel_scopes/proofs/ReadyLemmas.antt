@@ -1,4 +1,4 @@
--- What calls leave of the tree that contracts see.
+-- How calls change the tree that contracts see.
 use Rattle.std.proofs.Common.{◌≡◌, ◌≢◌, ◌⊎◌, ℕ, ◌+◌, ◌-◌, ◌<◌, ◌≤◌, Bool, true, false, List, length, get_or, slice_set, Option, Some, None, is_some, refl, sym, ap, ◌∙◌, arith, inl, inr, subst}
 use Rattle.std.specs.Prelude.{◌||◌}
 use Rattle.std.proofs.lemmas.Bool.{cases_eq}
@@ -17,7 +17,7 @@ use Rattle.cancel_scopes.proofs.CancelLemmas.{Cancels, cancels, IsTree-cancelled
 use Rattle.cancel_scopes.proofs.CloseLemmas.{Closes, IsTree-closes, stack_at-closes}
 use Rattle.cancel_scopes.specs.declared.store.Scope.{Scope}
 
--- a scope is cancelled, and the sights below it are lowered
+-- a scope is cancelled, and the effective deadlines inside it are lowered
 module _ (slots : Slots) (key tick : ℕ) (s : Scope) (from : Tick) where
   -- the slots with the earlier tick
   abbrev pub set_from : Slots
@@ -38,12 +38,12 @@ module _ (slots : Slots) (key tick : ℕ) (s : Scope) (from : Tick) where
       IsTree (find_in set_from)
   cancelled-tree kept is tree = IsTree-cancelled (find_in slots) (find_in set_from) key tick (cancels-slots kept is) tree
 
-  -- the list of changed scopes stays good
+  -- the list of changed scopes stays right
   pub cancelled-listed : (changed : List ℕ) → scope_in slots key ≡ Some s → IsListed slots changed → IsListed set_from changed
   cancelled-listed changed kept listed =
       listed-same slots set_from changed (same_by place_of slots key s (Some (record s { from = from })) kept refl) listed
 
-  -- only its own sight may be wrong then
+  -- after that only its own effective deadline may be wrong
   pub cancelled-starts : (changed : List ℕ) → scope_in slots key ≡ Some s → from ≡ earlier s.from (Some (tick + 1)) →
       IsTree (find_in slots) → Family slots → HasSights slots → IsListed slots changed → Starts (tick + 1) key set_from changed
   cancelled-starts changed kept is tree family sights listed =
@@ -68,7 +68,7 @@ module _ (slots : Slots) (key tick : ℕ) (s : Scope) (from : Tick) where
       outer_same kept None = refl
       outer_same kept (Some p) = sym (same_by own_sight slots key s (Some (record s { from = from })) kept refl p)
 
-  -- once sights are lowered the tree is ready again
+  -- once the effective deadlines are lowered the tree is ready again
   pub cancelled-ready : (new : Slots) (changed : List ℕ) (changed_room lowered lowered_room : ℕ) → scope_in slots key ≡ Some s →
       from ≡ earlier s.from (Some (tick + 1)) → IsTree (find_in slots) → Family slots → Along (tick + 1) set_from new → AllRight new →
       IsListed new changed → length slots ≤ changed_room → lowered ≡ 0 → length slots ≤ lowered_room →
@@ -92,7 +92,7 @@ module _ (slots : Slots) (key tick : ℕ) (s : Scope) (from : Tick) where
   cancelled-stacks tree new id kept is seen same h =
       tree_cancelled tree slots new key id tick seen same (λ k. h.finds k ∙ cancels-slots kept is k)
 
-  -- and a mark where a sight came earlier
+  -- and a mark where an effective deadline became earlier
   pub cancelled-marks : (tree : Tree) (new : Slots) → scope_in slots key ≡ Some s → from ≡ earlier s.from (Some (tick + 1)) →
       tree_of slots ≡ tree → HasSights slots → AllFresh set_from new → (at : ℕ) (stack : Stack) → stack_of tree at ≡ Some stack →
       is_changed (tree_of new) at ≡ (is_changed tree at || before (sight (after_cancel key tick stack)) (sight stack))
@@ -176,7 +176,7 @@ none_marked tree slots changed is listed empty key = mark_seen tree slots key is
     by_place None e = ap is_some e
     by_place (Some place) e = absurd (omega (arith, (listed.places.stands key place e).0, empty))
 
--- what stands last is marked
+-- the last scope in the list is marked
 pub last_marked : (tree : Tree) (slots : Slots) (changed : List ℕ) (key : ℕ) → tree_of slots ≡ tree → IsListed slots changed →
     0 < length changed → key ≡ get_or changed (length changed - 1) 0 → is_changed tree key ≡ true
 last_marked tree slots changed key is listed some last =
@@ -239,6 +239,6 @@ module _ (slots unmarked gone new : Slots) (key : ℕ) (s : Scope) where
       ∙ marks.others other away
       ∙ sym (mark_seen tree slots other is)
 
-  -- the scope that was closed is marked no more
+  -- the scope that was closed is no longer marked
   pub closed-unmarked : (id : ℕ) → key ≡ id → scope_in gone key ≡ None → SameOutlines gone new → is_changed (tree_of new) id ≡ false
   closed-unmarked id at free same = rw (← at) (is_changed-tree_of new key ∙ ap is_some (same.marks key ∙ ap place_of free))

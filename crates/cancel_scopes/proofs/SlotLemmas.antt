@@ -35,7 +35,7 @@ same_by f slots key s o kept e k =
       | inr differs ↦ ap f (unwritten slots key k o differs)
     ]
 
--- how many pass a test after a write
+-- how many elements pass a test after a write
 pub count_set : (p : Option Scope → Bool) (slots : Slots) (key : ℕ) (s : Scope) (o : Option Scope) → scope_in slots key ≡ Some s →
     count_by p (slice_set slots key o) + cond (p (Some s)) 1 0 ≡ count_by p slots + cond (p o) 1 0
 count_set p slots key s o kept =
@@ -44,7 +44,7 @@ count_set p slots key s o kept =
     let here : f (scope_in slots key) ≡ f (Some s) = ap f kept in
     omega (arith, e, here)
 
--- as many pass a test where each key gives the same
+-- equally many pass a test where it has the same result for each key
 pub count_same : (p : Option Scope → Bool) → p None ≡ false → (xs ys : Slots) → ((k : ℕ) → p (scope_in xs k) ≡ p (scope_in ys k)) →
     count_by p xs ≡ count_by p ys
 count_same p none [] [] h = refl

@@ -1,4 +1,4 @@
--- The stacks that contracts see, as they are kept.
+-- The stacks that contracts see, as they are stored.
 use Rattle.std.proofs.Common.{◌≡◌, ℕ, suc, List, Bool, false, map, length, Option, Some, None, is_some, IsSome, refl, sym, ap, subst, ◌∙◌, arith, inl, inr}
 use Rattle.std.proofs.Math.Path.{fun_ext}
 use Rattle.std.proofs.lemmas.Bool.{cases_lt}
@@ -23,7 +23,7 @@ stack_of-tree_of slots key =
           (ap (λ (o : Option Scope). option_map (full (find_in slots) key) (option_map outline_of o)) none)
     ]
 
--- a key is marked where its scope stands among the changed ones
+-- a key is marked where its scope is in the list of changed scopes
 pub is_changed-tree_of : (slots : Slots) (key : ℕ) → is_changed (tree_of slots) key ≡ is_listed (scope_in slots key)
 is_changed-tree_of slots key =
     let marked : ℕ → Bool = λ k. is_listed (scope_in slots k) in
@@ -72,7 +72,7 @@ scope_at slots key o found = by_kept (scope_in slots key) refl found
 pub found_at : (slots : Slots) (key : ℕ) (s : Scope) → scope_in slots key ≡ Some s → find_in slots key ≡ Some (outline_of s)
 found_at slots key s kept = ap (option_map outline_of) kept
 
--- the scope right round one that is kept
+-- the scope that directly encloses an open one
 pub parent_at : (slots : Slots) (key parent : ℕ) (s : Scope) → IsTree (find_in slots) → scope_in slots key ≡ Some s →
     s.parent ≡ Some parent → (above : Scope) × (scope_in slots parent ≡ Some above) × (s.depth ≡ suc above.depth)
 parent_at slots key parent s tree kept up =
@@ -120,7 +120,7 @@ kept_stack find key s stack kept seen =
     let e : stack_at find key ≡ Some (full find key s) = stack_at-kept find key s kept in
     cc
 
--- round a scope under a parent stands the parent's stack
+-- the scopes that enclose a scope under a parent are the parent's stack
 pub upward-under : (find : Find) (depth parent : ℕ) (above : Outline) → IsUnder find depth (Some parent) → find parent ≡ Some above →
     upward find depth (Some parent) ≡ full find parent above
 upward-under find depth parent above under kept =

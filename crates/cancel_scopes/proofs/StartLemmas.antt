@@ -1,4 +1,4 @@
--- A `cancel` begins at a scope whose own tick came earlier.
+-- A `cancel` begins at a scope whose own tick became earlier.
 use Rattle.std.proofs.Common.{◌≡◌, ◌≢◌, ◌⊎◌, ℕ, Bool, true, false, List, [], ◌∷◌, ◌++◌, slice_set, Option, Some, None, refl, sym, ap, subst, ◌∙◌, arith, inl, inr, Contains}
 use Rattle.std.specs.Prelude.{nat_lt, if◌then◌else◌}
 use Rattle.std.proofs.lemmas.Bool.{cases_eq}
@@ -62,7 +62,7 @@ none_in : {X : Type 0} (k : ℕ) → Contains [] k → X
 none_in k c = absurd (omega (arith, c.1))
 
 module _ (tick key : ℕ) (slots : Slots) (changed : List ℕ) where
-  -- the scope saw later, and is lowered: those inside it wait
+  -- the scope's effective deadline was later, and is lowered: its children wait
   pub starts-lowered : (new : Slots) (now : List ℕ) → Starts tick key slots changed → (h : Lowers tick slots new key) →
       before (Some tick) h.scope.sight ≡ true → IsListed new now → Lowering tick (below ([] ++ key ∷ [])) new now ([] ++ key ∷ [])
   starts-lowered new now state h late listed =
@@ -132,7 +132,7 @@ module _ (tick key : ℕ) (slots : Slots) (changed : List ℕ) where
               ∙ outer_case s.parent (outer_late tick own.0 (outer_sight slots s.parent)
               (ap (λ (b : Bool). before (Some tick) (sight_by b own.0 (outer_sight slots s.parent))) (sym is) ∙ late_by)))
 
-  -- the scope saw no later, and nothing waits
+  -- the scope's effective deadline was not later, and nothing waits
   pub starts-stays : (s : Scope) → Starts tick key slots changed → scope_in slots key ≡ Some s → before (Some tick) s.sight ≡ false →
       Lowering tick (below []) slots changed []
   starts-stays s state kept early = record {

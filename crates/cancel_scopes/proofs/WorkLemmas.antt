@@ -79,7 +79,7 @@ along-then tick a b c h g = record {
   moves = λ k. moves-then tick (scope_in a k) (scope_in b k) (scope_in c k) (h.moves k) (g.moves k);
 }
 
--- children stay on the way
+-- children stay the same during the steps
 pub family-along : (tick : ℕ) (old new : Slots) → Along tick old new → Family old → Family new
 family-along tick old new h family = record {
   children = λ parent.
@@ -88,7 +88,7 @@ family-along tick old new h family = record {
       subst P (sym (fun_ext (h.places parent))) (subst Q (sym (h.children parent)) (family.children parent));
 }
 
--- what is low stays so
+-- what was lowered to the tick stays there
 pub low_stays : (tick : ℕ) (old new : Slots) (key : ℕ) → Along tick old new → own_sight (scope_in old key) ≡ Some tick →
     own_sight (scope_in new key) ≡ Some tick
 low_stays tick old new key h low = by_move (h.moves key)
@@ -104,7 +104,7 @@ module _ (tick : ℕ) (slots : Slots) (key : ℕ) (s : Scope) (place : ℕ) wher
   abbrev after : Slots
   after = slice_set slots key (Some (record s { sight = Some tick; listed = Some place }))
 
-  -- a scope that is lowered from a later sight is on the way
+  -- a scope that is lowered from a later effective deadline is a `Moves` step
   pub along-set : scope_in slots key ≡ Some s → before (Some tick) s.sight ≡ true → Along tick slots after
   along-set kept late = record {
     long = length-set slots key (Some fallen);
@@ -169,7 +169,7 @@ module _ (tick parent place : ℕ) (slots : Slots) (changed lowered : List ℕ) 
       settles_low tick s.from w.1 w.2 (ap (before (Some tick)) (sym own) ∙ late)
       ∙ sym (ap (λ (b : Bool). sight_by b s.from (Some tick)) bare)
 
-  -- a child that saw later is lowered, and those inside it wait
+  -- a child whose effective deadline was later is lowered, and its children wait
   pub child-lowered : (new : Slots) (now : List ℕ) → Lowering tick (or_child parent place lowered) slots changed lowered →
       own_sight (scope_in slots parent) ≡ Some tick → place_under parent (scope_in slots key) ≡ Some place →
       (h : Lowers tick slots new key) → h.scope.shield ≡ false → before (Some tick) h.scope.sight ≡ true → IsListed new now →
@@ -289,12 +289,12 @@ popped tick parent slots changed rest state =
     by_place k t w (inl inside) = inl (w.0, w.1, inside)
     by_place k t w (inr same) = inr (w.1 ∙ ap Some (sym same), omega arith)
 
--- and it has the sight of the tick
+-- and its effective deadline is the tick
 pub popped_low : (tick parent : ℕ) (slots : Slots) (changed rest : List ℕ) →
     Lowering tick (below (rest ++ parent ∷ [])) slots changed (rest ++ parent ∷ []) → own_sight (scope_in slots parent) ≡ Some tick
 popped_low tick parent slots changed rest state = state.low parent (Contains-push rest parent)
 
--- no child stands behind the last
+-- there is no child after the last one
 pub all_children : (tick parent count : ℕ) (slots : Slots) (changed lowered : List ℕ) →
     length (children_at (scope_in slots parent)) ≤ count → Lowering tick (or_child parent count lowered) slots changed lowered →
     Lowering tick (below lowered) slots changed lowered
@@ -339,7 +339,7 @@ scope_same slots key a b h g =
     let e : Some a ≡ Some b = sym h ∙ g in
     cc
 
--- one that sees later is counted
+-- a scope whose effective deadline is later is counted
 pub later_count : (tick : ℕ) (slots : Slots) (key : ℕ) (s : Scope) → scope_in slots key ≡ Some s → before (Some tick) s.sight ≡ true →
     1 ≤ count_by (is_later tick) slots
 later_count tick slots key s kept late = (let e = count-fallen tick slots key s 0 kept late in omega (arith, e))

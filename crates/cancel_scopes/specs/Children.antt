@@ -1,32 +1,32 @@
--- How a scope comes among its parent's children, and leaves them. No public clause cites this module.
+-- How a scope is added to its parent's children, and removed from them. No public clause cites this module.
 use Rattle.std.specs.Prelude.{◌≡◌, ℕ, ◌<◌, ◌==◌, length, Option, Some, None, if◌then◌else◌, vec_len, vec_capacity}
 use Rattle.std.specs.Option.{ForSome}
 use Rattle.cancel_scopes.specs.Kept.{Slots, scope_in, find_in, own_sight, places_in, IsPlaced, parent_is, place_under, children_at}
 use Rattle.cancel_scopes.specs.declared.store.Scope.{Scope}
 
--- the parent has room for one more child
+-- the parent, if there is one, is open and has room for one more child
 abbrev pub HasPlace : Slots → Option ℕ → Type 0
 HasPlace slots parent =
     ForSome parent (λ p. (s : Scope) × (scope_in slots p ≡ Some s) × (vec_len s.children < vec_capacity s.children))
 
--- all stays but who is whose child
+-- everything stays the same except the lists of children
 pub record SameOutlines (old new : Slots) : Type 0 where
   pub long : length new ≡ length old
   pub finds : (key : ℕ) → find_in new key ≡ find_in old key
   pub sights : (key : ℕ) → own_sight (scope_in new key) ≡ own_sight (scope_in old key)
   pub marks : (key : ℕ) → places_in new key ≡ places_in old key
 
--- where each scope stands among the children of this parent, but for one key
+-- the place of each scope among the children of this parent, except that one key has the place given here
 abbrev pub places_but : Slots → ℕ → Option ℕ → ℕ → ℕ → Option ℕ
 places_but slots key place parent k = if k == key then place else place_under parent (scope_in slots k)
 
--- this scope alone does not stand among its parent's children yet, where its place is the next
+-- only this scope is not among its parent's children yet, and its place there is the next one
 pub record Orphaned (slots : Slots) (key : ℕ) (parent : Option ℕ) : Type 0 where
   pub others : (p : ℕ) → IsPlaced (places_but slots key None p) (children_at (scope_in slots p))
   pub under : (p : ℕ) → place_under p (scope_in slots key) ≡ (if parent_is p parent then Some (length (children_at (scope_in slots p))) else
       None)
 
--- a scope that is gone stands among its parent's children still
+-- a scope that was removed is still among its parent's children
 pub record Lost (slots : Slots) (parent : Option ℕ) (place : ℕ) : Type 0 where
   pub key : ℕ
   pub free : scope_in slots key ≡ None

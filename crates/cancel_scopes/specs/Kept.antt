@@ -1,4 +1,4 @@
--- How a tree of cancel scopes is kept. No public clause cites this module.
+-- How a tree of cancel scopes is stored. No public clause cites this module.
 use Rattle.std.specs.Prelude.{◌≡◌, ◌≢◌, ℕ, zero, suc, ◌<◌, ◌≤◌, Bool, false, ◌||◌, ◌==◌, if◌then◌else◌, List, [], ◌∷◌, map, length, count_by, Option, Some, None, is_some, slice_index_or, slice_index}
 use Rattle.std.specs.Option.{option_map}
 use Rattle.std.specs.List.{range_with_len}
@@ -6,7 +6,7 @@ use Rattle.cancel_scopes.specs.Sight.{Level, Tick, before, sight}
 use Rattle.cancel_scopes.specs.Tree.{Stack, Tree}
 use Rattle.cancel_scopes.specs.declared.store.Scope.{Scope}
 
--- what of a scope its stack is made of
+-- the fields of a scope from which its stack is computed
 pub record Outline : Type 0 where
   pub parent : Option ℕ
   pub shield : Bool
@@ -16,25 +16,25 @@ pub record Outline : Type 0 where
 abbrev pub outline_of : Scope → Outline
 outline_of s = record { parent = s.parent; shield = s.shield; from = s.from; depth = s.depth }
 
--- what is kept under each key
+-- the outline under each key
 abbrev pub Find : Type 0
 Find = ℕ → Option Outline
 
 abbrev pub level_of : ℕ → Outline → Level ℕ
 level_of key s = record { label = key; shield = s.shield; from = s.from }
 
--- the level of what is kept under a key, in front of what is above it
+-- the level of the scope under a key, followed by the levels above it
 abbrev pub onto : ℕ → Option Outline → (Outline → Stack) → Stack
 onto key None above = []
 onto key (Some s) above = level_of key s ∷ above s
 
--- the stack from a parent on, of at most so many scopes
+-- the stack from a parent on, of at most the given number of scopes
 abbrev pub upward : Find → ℕ → Option ℕ → Stack
 upward find zero at = []
 upward find (suc n) None = []
 upward find (suc n) (Some key) = onto key (find key) (λ s. upward find n s.parent)
 
--- the scopes round a scope
+-- the scopes that enclose a scope
 abbrev pub round : Find → Outline → Stack
 round find s = upward find s.depth s.parent
 
@@ -45,12 +45,12 @@ full find key s = level_of key s ∷ round find s
 abbrev pub stack_at : Find → ℕ → Option Stack
 stack_at find key = option_map (full find key) (find key)
 
--- the parent, if there is one, is kept and one scope nearer the outermost
+-- the parent, if there is one, is open and its depth is less by one; without a parent the depth is 0
 abbrev pub IsUnder : Find → ℕ → Option ℕ → Type 0
 IsUnder find depth None = depth ≡ 0
 IsUnder find depth (Some parent) = (above : Outline) × (find parent ≡ Some above) × (depth ≡ suc above.depth)
 
--- so going up ends
+-- every open scope has such a parent, so going up from parent to parent ends
 pub record IsTree (find : Find) : Type 0 where
   pub placed : (key : ℕ) (s : Outline) → find key ≡ Some s → IsUnder find s.depth s.parent
 
@@ -64,7 +64,7 @@ scope_in slots key = slice_index_or slots key None
 abbrev pub find_in : Slots → Find
 find_in slots key = option_map outline_of (scope_in slots key)
 
--- its place among the changed scopes, if it stands there
+-- its place in the list of changed scopes, if it is there
 abbrev pub place_of : Option Scope → Option ℕ
 place_of None = None
 place_of (Some s) = s.listed
@@ -88,15 +88,15 @@ abbrev pub sight_of : Option Stack → Tick
 sight_of None = None
 sight_of (Some stack) = sight stack
 
--- the sight of what is kept under a key
+-- the effective deadline (`sight`) of the scope under a key
 abbrev pub seen_at : Find → ℕ → Tick
 seen_at find key = sight_of (stack_at find key)
 
--- each scope keeps the sight of its stack
+-- each scope keeps the effective deadline of its stack
 abbrev pub HasSights : Slots → Type 0
 HasSights slots = (key : ℕ) → own_sight (scope_in slots key) ≡ seen_at (find_in slots) key
 
--- each key that has a place stands there in the list, and each in the list has its place
+-- each key that has a place is at that place in the list, and each key in the list has its place
 pub record IsPlaced (places : ℕ → Option ℕ) (list : List ℕ) : Type 0 where
   pub stands : (key place : ℕ) → places key ≡ Some place → (place < length list) × (slice_index list place ≡ key)
   pub placed : (place : ℕ) → place < length list → places (slice_index list place) ≡ Some place
@@ -104,12 +104,12 @@ pub record IsPlaced (places : ℕ → Option ℕ) (list : List ℕ) : Type 0 whe
 abbrev pub places_in : Slots → ℕ → Option ℕ
 places_in slots key = place_of (scope_in slots key)
 
--- the changed scopes are those with a place there
+-- the list of changed scopes contains exactly the scopes that have a place in it
 pub record IsListed (slots : Slots) (changed : List ℕ) : Type 0 where
   pub places : IsPlaced (places_in slots) changed
   pub counted : length changed ≡ count_by is_listed slots
 
--- the place of a scope among the children of this parent, if it is its own
+-- whether a scope's parent is this one
 abbrev pub parent_is : ℕ → Option ℕ → Bool
 parent_is parent None = false
 parent_is parent (Some other) = other == parent
@@ -122,11 +122,11 @@ abbrev pub children_at : Option Scope → List ℕ
 children_at None = []
 children_at (Some s) = s.children.items
 
--- the children of each scope are those with a place there
+-- the children of each scope are exactly the scopes that have a place under it
 pub record Family (slots : Slots) : Type 0 where
   pub children : (parent : ℕ) → IsPlaced (λ key. place_under parent (scope_in slots key)) (children_at (scope_in slots parent))
 
--- all stays but which scopes are marked
+-- everything stays the same except which scopes are marked
 pub record SameScopes (old new : Slots) : Type 0 where
   pub long : length new ≡ length old
   pub finds : (key : ℕ) → find_in new key ≡ find_in old key
@@ -134,26 +134,26 @@ pub record SameScopes (old new : Slots) : Type 0 where
   pub places : (parent key : ℕ) → place_under parent (scope_in new key) ≡ place_under parent (scope_in old key)
   pub children : (key : ℕ) → children_at (scope_in new key) ≡ children_at (scope_in old key)
 
--- the scope of this key is marked now or not, and every other keeps its mark
+-- the scope of this key now has this mark, and every other scope keeps its mark
 pub record Marks (old new : Slots) (key : ℕ) (mark : Bool) : Type 0 where
   pub same : SameScopes old new
   pub here : is_listed (scope_in new key) ≡ mark
   pub others : (other : ℕ) → other ≢ key → is_listed (scope_in new other) ≡ is_listed (scope_in old other)
 
--- a key has the sight of its stack now, and is marked where that came earlier
+-- the scope of a key now has the effective deadline of its stack, and is marked if it was before or if that became earlier
 abbrev pub IsFresh : Slots → Slots → ℕ → Type 0
 IsFresh old new key =
     (own_sight (scope_in new key) ≡ seen_at (find_in old) key)
     × (is_listed (scope_in new key) ≡ (is_listed (scope_in old key) || before (own_sight (scope_in new key))
     (own_sight (scope_in old key))))
 
--- each scope has the sight of its stack now, and each whose sight came earlier is marked
+-- each scope now has the effective deadline of its stack, and each whose effective deadline became earlier is marked
 pub record AllFresh (old new : Slots) : Type 0 where
   pub long : length new ≡ length old
   pub finds : (key : ℕ) → find_in new key ≡ find_in old key
   pub fresh : (key : ℕ) → IsFresh old new key
 
--- between calls, with room for so many keys in both lists
+-- between calls: nothing is left to lower, and both lists have room for the key of each slot
 pub record IsReady (slots : Slots) (changed : List ℕ) (changed_room lowered lowered_room : ℕ) : Type 0 where
   pub tree : IsTree (find_in slots)
   pub family : Family slots

@@ -1,27 +1,27 @@
--- How a `cancel` lowers the sights that are kept. No public clause cites this module.
+-- How a `cancel` lowers the stored effective deadlines (`sight`). No public clause cites this module.
 use Rattle.std.specs.Prelude.{◌≡◌, ◌≢◌, ℕ, ◌+◌, ◌*◌, ◌≤◌, ◌⊎◌, Bool, true, if◌then◌else◌, List, [], ◌∷◌, ◌++◌, length, count_by, Option, Some, None, slice_set}
 use Rattle.std.specs.List.{Contains}
 use Rattle.cancel_scopes.specs.Sight.{Tick, earlier, before}
 use Rattle.cancel_scopes.specs.Kept.{Slots, IsTree, scope_in, find_in, own_sight, place_of, is_listed, IsListed, place_under, children_at, Family}
 use Rattle.cancel_scopes.specs.declared.store.Scope.{Scope}
 
--- the sight of a scope inside one of that sight
+-- the effective deadline of a scope, from its own tick and the effective deadline of the scope that encloses it
 abbrev pub sight_by : Bool → Tick → Tick → Tick
 sight_by shield from outer = if shield then from else earlier from outer
 
--- what is seen right round a scope of this parent
+-- the effective deadline of the parent, or never if there is none
 abbrev pub outer_sight : Slots → Option ℕ → Tick
 outer_sight slots None = None
 outer_sight slots (Some parent) = own_sight (scope_in slots parent)
 
--- a scope's sight follows from its own tick and its parent's sight
+-- a scope's effective deadline follows from its own tick and its parent's effective deadline
 abbrev pub IsRight : Slots → Scope → Type 0
 IsRight slots s = s.sight ≡ sight_by s.shield s.from (outer_sight slots s.parent)
 
 pub record AllRight (slots : Slots) : Type 0 where
   pub right : (key : ℕ) (s : Scope) → scope_in slots key ≡ Some s → IsRight slots s
 
--- the rule holds, or the scope waits and saw by an outer sight that was later than the tick
+-- the rule holds, or the scope waits and its effective deadline comes from an outer one that was later than the tick
 abbrev pub IsNear : Slots → ℕ → (ℕ → Scope → Type 0) → ℕ → Scope → Type 0
 IsNear slots tick waits key s =
     IsRight slots s ⊎ (waits key s × (outer : Tick) × (before (Some tick) outer ≡ true) × (s.sight ≡ sight_by s.shield s.from outer))
@@ -29,22 +29,22 @@ IsNear slots tick waits key s =
 pub record AllNear (slots : Slots) (tick : ℕ) (waits : ℕ → Scope → Type 0) : Type 0 where
   pub near : (key : ℕ) (s : Scope) → scope_in slots key ≡ Some s → IsNear slots tick waits key s
 
--- a scope waits whose parent stands in the list
+-- a scope waits if its parent is in the list
 abbrev pub below : List ℕ → ℕ → Scope → Type 0
 below lowered key s = (parent : ℕ) × (s.parent ≡ Some parent) × Contains lowered parent
 
--- so does a child of this parent from this place on
+-- or if it is a child of this parent, from this place on
 abbrev pub or_child : ℕ → ℕ → List ℕ → ℕ → Scope → Type 0
 or_child parent place lowered key s = below lowered key s ⊎ ((s.parent ≡ Some parent) × (place ≤ s.place))
 
 abbrev pub is_later : ℕ → Option Scope → Bool
 is_later tick o = before (Some tick) (own_sight o)
 
--- what is left to do
+-- a measure of the steps that are left
 abbrev pub work : ℕ → Slots → List ℕ → ℕ
 work tick slots lowered = 2 * count_by (is_later tick) slots + length lowered
 
--- in the midst of a `cancel`
+-- what holds during a `cancel`
 pub record Lowering (tick : ℕ) (waits : ℕ → Scope → Type 0) (slots : Slots) (changed lowered : List ℕ) : Type 0 where
   pub tree : IsTree (find_in slots)
   pub family : Family slots
@@ -60,7 +60,7 @@ pub record Lowers (tick : ℕ) (old new : Slots) (key : ℕ) : Type 0 where
   pub kept : scope_in old key ≡ Some scope
   pub written : new ≡ slice_set old key (Some (record scope { sight = Some tick; listed = Some place }))
 
--- a scope keeps its sight and its mark, or is lowered from a later sight and marked
+-- a scope keeps its effective deadline and its mark, or is lowered from a later effective deadline and marked
 abbrev pub Moves : ℕ → Option Scope → Option Scope → Type 0
 Moves tick old new =
     ((own_sight new ≡ own_sight old) × (is_listed new ≡ is_listed old))
@@ -73,7 +73,7 @@ pub record Along (tick : ℕ) (old new : Slots) : Type 0 where
   pub children : (key : ℕ) → children_at (scope_in new key) ≡ children_at (scope_in old key)
   pub moves : (key : ℕ) → Moves tick (scope_in old key) (scope_in new key)
 
--- right after a scope's own tick came earlier
+-- what holds directly after a scope's own tick became earlier
 pub record Starts (tick key : ℕ) (slots : Slots) (changed : List ℕ) : Type 0 where
   pub tree : IsTree (find_in slots)
   pub family : Family slots
@@ -82,7 +82,7 @@ pub record Starts (tick key : ℕ) (slots : Slots) (changed : List ℕ) : Type 0
   pub own : (s : Scope) → scope_in slots key ≡ Some s → (from : Tick) × (s.from ≡ earlier from (Some tick))
       × (s.sight ≡ sight_by s.shield from (outer_sight slots s.parent))
 
--- the place of a key among the changed ones, which it gets where it has none
+-- the place of a key in the list of changed scopes, to which it is appended if it has none
 abbrev pub lists_at : Option ℕ → ℕ → List ℕ → List ℕ → ℕ → Type 0
 lists_at (Some at) key old new place = (place ≡ at) × (new ≡ old)
 lists_at None key old new place = (place ≡ length old) × (new ≡ old ++ key ∷ [])

@@ -2,7 +2,8 @@ ghost use Rattle.std.specs.Prelude.{◌≡◌};
 
 use std::marker::Model;
 
-/// An open scope of a tree, as `ScopeTree::open` gives it. Once the scope is closed, the tree may use the id again.
+/// The id of an open scope of a tree, as `ScopeTree::open` returns it. Once the scope is closed, the tree may use the id
+/// again.
 #[derive(Clone, Copy, Debug, PartialEq, Eq)]
 pub struct ScopeId {
     pub(crate) key: usize,
@@ -19,7 +20,7 @@ impl Model for ScopeId {
 }
 
 impl ScopeId {
-    /// The number of the scope, which another may have once it is closed.
+    /// Returns the number of the scope. Another scope may get the same number once this one is closed.
     pub fn key(self) -> usize
         ensures { result ≡ self }
     {
@@ -27,7 +28,7 @@ impl ScopeId {
     }
 }
 
-// The number of a scope, if there is one.
+// Returns the number of the scope, if there is a scope.
 pub(crate) fn key_of(id: Option<ScopeId>) -> Option<usize>
     ensures { result ≡ id }
 {

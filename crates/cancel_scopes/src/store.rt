@@ -10,22 +10,22 @@ use crate::ticks::before;
 use slab::Slab;
 use std::alloc::AllocError;
 
-// What is kept of a scope.
+// What the store keeps for a scope.
 #[derive(Drop)]
 pub(crate) struct Scope {
     pub(crate) parent: Option<ScopeId>,
     pub(crate) shield: bool,
     // The tick from which it is cancelled.
     pub(crate) from: Option<u64>,
-    // How many scopes are round it.
+    // How many scopes enclose it.
     pub(crate) depth: usize,
-    // The tick from which a task in it sees a cancellation.
+    // The effective deadline (`sight`): the tick from which a task in the scope sees a cancellation.
     pub(crate) sight: Option<u64>,
-    // Its place among the changed scopes, if it stands there.
+    // Its place in the list of changed scopes, if it is there.
     pub(crate) listed: Option<usize>,
-    // The keys of the scopes right inside it.
+    // The keys of the scopes directly inside it.
     pub(crate) children: Vec<usize>,
-    // Its own place among its parent's.
+    // Its own place among its parent's children.
     pub(crate) place: usize,
 }
 
@@ -33,14 +33,14 @@ pub(crate) struct Scope {
 #[derive(Drop)]
 pub(crate) struct Store {
     pub(crate) scopes: Slab<Scope>,
-    // The scopes whose sight was lowered since they were last handed out.
+    // The scopes whose effective deadline was lowered since `take_changed` last returned them.
     pub(crate) changed: Vec<usize>,
-    // Scopes that this call of `cancel` lowered, and inside which it has not looked yet.
+    // Scopes that this call of `cancel` lowered, and whose children it has not visited yet.
     pub(crate) lowered: Vec<usize>,
 }
 
 impl Store {
-    // Lowers a scope's sight to a tick, if it is later, and the sights below it as far as shields let it.
+    // Lowers a scope's effective deadline to `tick`, if it is later, and those of the scopes inside it that no shield hides.
     pub(crate) fn lower_from(&mut self, key: usize, tick: u64)
         requires kept { ContainsKey self.old.scopes key }
         requires starts { Starts tick key self.old.scopes.slots self.old.changed.items }
@@ -61,7 +61,7 @@ impl Store {
         self.lower_below(tick);
     }
 
-    // Lowers the sights below the scopes that were lowered.
+    // Lowers the effective deadlines of the scopes inside those that were lowered.
     fn lower_below(&mut self, tick: u64)
         requires state { Lowering tick (below self.old.lowered.items) self.old.scopes.slots self.old.changed.items self.old.lowered.items }
         requires changed_room { length self.old.scopes.slots ≤ vec_capacity self.old.changed }
@@ -78,7 +78,7 @@ impl Store {
         }
     }
 
-    // Lowers the sights of the scopes right inside one that was lowered.
+    // Lowers the effective deadlines of the children of a scope that was lowered.
     fn lower_children(&mut self, parent: usize, tick: u64)
         requires state { Lowering tick (or_child parent 0 self.old.lowered.items) self.old.scopes.slots self.old.changed.items
             self.old.lowered.items }
@@ -96,7 +96,7 @@ impl Store {
         }
     }
 
-    // Lowers the sight of the child at this place, if it has no shield and sees later.
+    // Lowers the effective deadline of the child at this place, if it has no shield and its effective deadline is later.
     fn lower_child(&mut self, parent: usize, place: usize, tick: u64)
         requires state { Lowering tick (or_child parent place self.old.lowered.items) self.old.scopes.slots self.old.changed.items
             self.old.lowered.items }
@@ -121,7 +121,7 @@ impl Store {
         }
     }
 
-    // Lowers the sight of a scope to a tick, and marks it.
+    // Lowers the effective deadline of a scope to `tick`, and marks it as changed.
     fn lower(&mut self, key: usize, tick: u64)
         requires kept { ContainsKey self.old.scopes key }
         requires listed { IsListed self.old.scopes.slots self.old.changed.items }
@@ -140,7 +140,7 @@ impl Store {
         self.lowered.push_reserved(key);
     }
 
-    // The place of a scope among the changed ones, where it comes last if it does not stand there.
+    // Returns the place of a scope in the list of changed scopes. Appends the scope if it is not in the list.
     fn listing(&mut self, key: usize) -> usize
         requires kept { ContainsKey self.old.scopes key }
         requires listed { IsListed self.old.scopes.slots self.old.changed.items }
@@ -158,7 +158,7 @@ impl Store {
         place
     }
 
-    // Takes a scope out of the changed ones, if it stands there.
+    // Removes a scope from the list of changed scopes, if it is there.
     pub(crate) fn unmark(&mut self, key: usize)
         requires kept { ContainsKey self.old.scopes key }
         requires listed { IsListed self.old.scopes.slots self.old.changed.items }
@@ -182,7 +182,7 @@ impl Store {
 }
 
 impl Store {
-    // Makes room for one more scope, and for it among its parent's children.
+    // Reserves memory for one more scope, and for its key among its parent's children.
     pub(crate) fn make_room(&mut self, parent: Option<usize>) -> Result<(), AllocError>
         requires parent { ForSome parent (ContainsKey self.old.scopes) }
         ensures same { SameScopes self.old.scopes.slots self.new.scopes.slots }
@@ -209,14 +209,14 @@ impl Store {
         Ok(())
     }
 
-    // The children of a new scope.
+    // Returns the empty list of children of a new scope.
     pub(crate) fn no_children(&self) -> Vec<usize>
         ensures { result.items ≡ [] }
     {
         Vec::new(*self.changed.allocator())
     }
 
-    // Puts a child last among its parent's, where there is room.
+    // Appends a scope to its parent's children, where memory is reserved for it.
     pub(crate) fn add_child(&mut self, parent: Option<usize>, key: usize)
         requires parent { HasPlace self.old.scopes.slots parent }
         requires orphan { Orphaned self.old.scopes.slots key parent }
@@ -233,7 +233,7 @@ impl Store {
         scope.children.push_reserved(key);
     }
 
-    // Takes a child out of its parent's, where the last of them comes into its place.
+    // Removes a child from its parent's children. The last child moves to its place.
     pub(crate) fn remove_child(&mut self, parent: Option<usize>, place: usize)
         requires lost { Lost self.old.scopes.slots parent place }
         ensures same { SameOutlines self.old.scopes.slots self.new.scopes.slots }

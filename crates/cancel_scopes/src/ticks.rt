@@ -1,7 +1,7 @@
 ghost use Rattle.std.specs.Prelude.{◌≡◌};
 ghost use Rattle.cancel_scopes.specs.Sight.{before as comes_before, earlier as lesser, reached as has_come};
 
-/// The earlier of two ticks, each of which may never come (`None`).
+/// Returns the earlier of two ticks. `None` means never, so the result is `None` only if both are.
 pub fn earlier(first: Option<u64>, second: Option<u64>) -> Option<u64>
     ensures { result ≡ lesser first second }
 {
@@ -12,7 +12,7 @@ pub fn earlier(first: Option<u64>, second: Option<u64>) -> Option<u64>
     }
 }
 
-// Whether a tick comes before another, each of which may never come.
+// Returns whether the first tick is earlier than the second. `None` means never.
 pub(crate) fn before(first: Option<u64>, second: Option<u64>) -> bool
     ensures { result ≡ comes_before first second }
 {
@@ -23,8 +23,8 @@ pub(crate) fn before(first: Option<u64>, second: Option<u64>) -> bool
     }
 }
 
-/// Whether a tick, if it ever comes, has come at another: a scope that is cancelled from the first one on is cancelled
-/// then.
+/// Returns whether `from` is at or before `tick`, so whether a scope that is cancelled from `from` on is cancelled at
+/// `tick`. Returns `false` if `from` is `None`, which means never.
 pub fn reached(from: Option<u64>, tick: u64) -> bool
     ensures { result ≡ has_come from tick }
 {

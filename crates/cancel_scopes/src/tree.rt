@@ -12,11 +12,13 @@ use slab::Slab;
 use std::alloc::{AllocError, Global};
 use std::marker::Model;
 
-/// The cancel scopes that are open, each under its parent. A contract sees the stack of each: the scope itself, its
-/// parent, and so on to the outermost; and whether its sight was lowered since it was last handed out.
+/// The open cancel scopes, each under its parent.
 ///
-/// The caller sees to it that ids are open, that a scope is closed after those in it, and that deadlines and ticks (of
-/// `cancel` the tick after) are below 2 to the 63.
+/// A contract sees the stack of each scope, which is the scope itself, its parent, and so on to the outermost one. It
+/// also sees whether the effective deadline (`sight`) of the scope was lowered since `take_changed` last returned it.
+///
+/// The caller must ensure that each id passed is that of an open scope, that a scope is closed after the scopes inside
+/// it, that deadlines are below 2 to the 63, and that the tick after the one passed to `cancel` is below 2 to the 63.
 #[derive(Drop)]
 pub struct ScopeTree {
     store: Store,
@@ -37,7 +39,7 @@ impl Model for ScopeTree {
 }
 
 impl ScopeTree {
-    /// A tree with no scope. Takes no memory.
+    /// Creates a tree with no scope. Does not allocate.
     pub fn new(alloc: Global) -> ScopeTree
         ensures empty { (key : ℕ) → stack_of result key ≡ None }
         ensures unchanged { (key : ℕ) → is_changed result key ≡ false }
@@ -51,8 +53,11 @@ impl ScopeTree {
         }
     }
 
-    /// Opens a scope inside a parent, or as an outermost one. With a shield it hides the cancellations from outside,
-    /// and with a deadline it is cancelled from that tick on. Where there is no memory for it, the tree stays as it is.
+    /// Opens a scope inside `parent`, or as an outermost scope if `parent` is `None`, and returns its id. With `shield`
+    /// the scope hides cancellations from outside. With a `deadline` it is cancelled from that tick on. `parent` must be
+    /// open, and `deadline` must be below 2 to the 63.
+    ///
+    /// Returns `AllocError` if memory is refused. Every scope then keeps its stack and its mark.
     pub fn open(
         &mut self,
         parent: Option<ScopeId>,
@@ -78,14 +83,14 @@ impl ScopeTree {
         Ok(ScopeId { key })
     }
 
-    /// Whether the scope is open.
+    /// Returns whether the scope is open.
     pub fn is_open(&self, id: ScopeId) -> bool
         ensures { result ≡ is_some (stack_of self.now id) }
     {
         self.store.scopes.contains(id.key)
     }
 
-    /// The scope right round this one, if there is one.
+    /// Returns the scope that directly encloses this one, or `None` if this one is outermost.
     pub fn parent(&self, id: ScopeId) -> Option<ScopeId>
         requires { IsOpen self.now id }
         ensures parent_open { ForSome result (IsOpen self.now) }
@@ -94,8 +99,9 @@ impl ScopeTree {
         self.store.scopes[id.key].parent
     }
 
-    /// Cancels a scope in a tick: it is cancelled from the next tick on, or from when it already was, if that is
-    /// earlier. Each scope whose sight this lowers is changed until it is handed out or closed. Takes no memory.
+    /// Cancels a scope in a tick. The scope is then cancelled from `tick + 1` on, unless it was already cancelled from an
+    /// earlier tick. Each scope whose effective deadline this lowers is marked as changed until `take_changed` returns it
+    /// or it is closed. `tick + 1` must be below 2 to the 63. Does not allocate.
     pub fn cancel(&mut self, id: ScopeId, tick: u64)
         requires id { IsOpen self.old id }
         requires tick { tick + 1 < 2 ^ 63 }
@@ -109,8 +115,9 @@ impl ScopeTree {
         self.store.lower_from(id.key, tick + 1);
     }
 
-    /// The tick from which a task in this scope sees a cancellation: none is never. It is the earliest from which the
-    /// scope or one round it is cancelled, up to and including the first with a shield.
+    /// Returns the tick from which a task in this scope sees a cancellation, or `None` if it never will. It is the
+    /// earliest tick from which this scope or an enclosing one is cancelled, up to and including the first scope with a
+    /// shield.
     pub fn seen_from(&self, id: ScopeId) -> Option<u64>
         requires { IsOpen self.now id }
         ensures { ForSome (stack_of self.now id) (λ stack. result ≡ sight stack) }
@@ -118,7 +125,7 @@ impl ScopeTree {
         self.store.scopes[id.key].sight
     }
 
-    /// Whether a task in this scope sees a cancellation at a tick.
+    /// Returns whether a task in this scope sees a cancellation at `tick`.
     pub fn seen(&self, id: ScopeId, tick: u64) -> bool
         requires { IsOpen self.now id }
         ensures { ForSome (stack_of self.now id) (λ stack. result ≡ is_seen stack tick) }
@@ -126,8 +133,8 @@ impl ScopeTree {
         reached(self.seen_from(id), tick)
     }
 
-    /// Whether this scope catches a cancellation that leaves it at a tick: it is itself cancelled by then, and sees
-    /// none from outside.
+    /// Returns whether this scope catches a `Cancelled` that leaves it at `tick`. It does if it is itself cancelled by
+    /// then, and either it has a shield or no cancellation is seen at that tick in the scope that encloses it.
     pub fn may_catch(&self, id: ScopeId, tick: u64) -> bool
         requires { IsOpen self.now id }
         ensures { ForSome (stack_of self.now id) (λ stack. result ≡ catches stack tick) }
@@ -142,8 +149,9 @@ impl ScopeTree {
         }
     }
 
-    /// Closes a scope that is around no other, and tells from when it was cancelled: none is never. It is changed no more, so
-    /// `take_changed` does not hand it out, nor another scope that is opened under its id later.
+    /// Closes a scope that encloses no other open scope. Returns the tick from which it was cancelled, or `None` if it
+    /// never was. The scope is no longer marked as changed, so `take_changed` returns neither it nor a scope that is
+    /// opened later under the same id, unless a `cancel` marks that one.
     pub fn close(&mut self, id: ScopeId) -> Option<u64>
         requires id { IsOpen self.old id }
         requires innermost { IsInnermost self.old id }
@@ -159,8 +167,8 @@ impl ScopeTree {
         scope.from
     }
 
-    /// Hands out a scope whose sight a `cancel` lowered since it was last handed out, each once, in no order that is
-    /// promised: none where no such scope is left. Takes no memory, and changes no stack.
+    /// Returns a scope whose effective deadline a `cancel` lowered since this call last returned it, or `None` if no such
+    /// scope is left. Each is returned once, in no particular order. Does not allocate, and changes no stack.
     pub fn take_changed(&mut self) -> Option<ScopeId>
         ensures stacks { self.new ≡ record self.old { changed = self.new.changed } }
         ensures taken { MatchOption result ((key : ℕ) → is_changed self.old key ≡ false) (TakesChanged self.old self.new) }
@@ -175,18 +183,18 @@ impl ScopeTree {
     }
 }
 
-/// A law, which does nothing at run time: each stack begins with the scope whose stack it is, each scope in a stack is open
-/// and has for its own stack the rest of that one from it on, and no scope stands twice in a stack.
+/// A law, which does nothing at run time. Each stack begins with the scope that it belongs to. Each scope in a stack is
+/// open, and its own stack is the rest of that stack, from the scope on. No scope occurs twice in a stack.
 pub fn stacks_are_chains(tree: &ScopeTree)
     ensures own { IsOwn tree.now }
     ensures chain { IsChain tree.now }
     ensures apart { IsApart tree.now }
 {
-    // The law is read off what the tree keeps.
+    // The law follows from the invariant of the tree.
     let _scopes = &tree.store;
 }
 
-// What is kept of a scope that is opened under this parent.
+// Returns what the store keeps for a scope that is opened under this parent.
 fn scope_under(store: &Store, parent: Option<usize>, shield: bool, from: Option<u64>) -> Scope
     requires tree { IsTree (find_in store.now.scopes.slots) }
     requires sights { HasSights store.now.scopes.slots }
@@ -231,14 +239,14 @@ fn scope_under(store: &Store, parent: Option<usize>, shield: bool, from: Option<
     }
 }
 
-// How many scopes are round one that is opened under this parent.
+// Returns how many scopes enclose one that is opened under this parent.
 fn depth_under(scopes: &Slab<Scope>, parent: usize) -> usize
     requires tree { IsTree (find_in scopes.now.slots) }
     requires parent { ContainsKey scopes.now parent }
     ensures { IsUnder (find_in scopes.now.slots) result (Some parent) }
 {
     let depth = scopes[parent].depth;
-    // Each scope round it is another one that is kept.
+    // Each scope that encloses it is a different open scope.
     prove!(depth < scopes.len());
     depth + 1
 }
