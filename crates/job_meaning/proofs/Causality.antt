@@ -1,4 +1,4 @@
--- A tick from which a scope is cancelled tells nothing of earlier ticks.
+-- A cancellation from tick c on changes nothing before tick c.
 use Rattle.std.proofs.Common.{◌≡◌, ℕ, zero, suc, ◌+◌, ◌<◌, ◌≤◌, min, Bool, true, false, ◌&&◌, ◌||◌, not, Option, Some, None, List, [], ◌∷◌, refl, ap, sym, ◌∙◌, subst, ◌⊎◌, inl, inr, arith, nat_le, nat_lt, if◌then◌else◌}
 use Rattle.std.proofs.lemmas.Bool.{true≢false, le-ltb, cases_lt}
 use Rattle.std.proofs.lemmas.Bool.Decides.{nat_tests}
@@ -30,7 +30,7 @@ agree_joined c r r' q q' (soon b e x m l) (later f s l₂) le le' = later f s (b
 agree_joined c r r' q q' (later f s l) (soon b₂ e₂ x₂ m₂ l₂) le le' = absurd (omega arith)
 agree_joined c r r' q q' (later f s l) (later f₂ s₂ l₂) le le' = later f₂ s₂ (both_clipped c r.log q.log r'.log q'.log l l₂)
 
--- x goes on from r, which ended at c or later: before c it tells the same
+-- x continues from r, which ended at c or later: before c it has the same log
 record Past (c : ℕ) (r x : Result) : Type 0 where
   ends : c ≤ x.end
   logs : clipped c x.log ≡ clipped c r.log
@@ -54,7 +54,8 @@ past_then c r go h le (Some e) = past_same c r le
 agree_from : (c : ℕ) (go go' : ℕ → Result) → ((u : ℕ) → Agree c (go u) (go' u)) → (u v : ℕ) → u ≡ v → Agree c (go u) (go' v)
 agree_from c go go' h u v e = subst (λ (w : ℕ). Agree c (go u) (go' w)) e (h u)
 
--- walks that agree before c, and go on in walks that agree before c from each tick on, agree as a whole
+-- if walks agree before c, and what continues them agrees before c from each tick on, the whole walks
+-- agree
 pub agree_and_then : (c : ℕ) (r r' : Result) (go go' : ℕ → Result) → Agree c r r' → ((u : ℕ) → Agree c (go u) (go' u)) →
     ((u : ℕ) → Late u (go u)) → ((u : ℕ) → Late u (go' u)) → Agree c (and_then r go) (and_then r' go')
 unfolding and_then
@@ -134,7 +135,7 @@ agree_cancelling c name st su t near =
     subst (λ (o : Option Label). Agree c (cancelling (label_on name st) t) (cancelling o t)) (label_near c name st su near)
     (agree_same c (cancelling (label_on name st) t))
 
--- whether a block catches in a tick before c is told by stacks and froms before c
+-- whether a block catches in a tick before c depends only on stacks and froms before c
 catches_near : (c : ℕ) (f g : Tick) (shield : Bool) (st su : Stack) (u v : ℕ) → upto c f ≡ upto c g → Near c st su → u < c → u ≡ v →
     catches f shield st u ≡ catches g shield su v
 catches_near c f g shield st su u v e near lt same =
@@ -201,7 +202,7 @@ module _ (c : ℕ) (kind : Kind) (label : Label) (t : ℕ) (d : Tick) where
         let e = block_near m inside inside' h h' k in
         agree_left _ _ _ _ e (k _ _ e)
 
--- near stacks stay near within a block whose two froms are the same cut at c
+-- near stacks stay near inside a block whose two froms are the same when cut at c
 pub near_within : (c : ℕ) (label : Label) (shield : Bool) (f g : Tick) (st su : Stack) → upto c f ≡ upto c g → Near c st su →
     Near c (within label shield f st) (within label shield g su)
 near_within c label shield f g st su e near = (refl, refl, e, near)
@@ -224,7 +225,7 @@ agree_signed c st su r q near (later p s l) =
     timed_sign (Some e) None u = tt
     timed_sign (Some e) (Some x) u = (omega arith, tt)
 
--- a nursery's end before c, and its group, are told by what is known of its members
+-- a nursery's end before c, and its group, are determined by what is known of its members
 pub agree_gathered : (c : ℕ) (label : Label) (r q : Result) → Agree c r q → Agree c (gathered label r) (gathered label q)
 unfolding gathered
 agree_gathered c label r q (soon b e x m l) = by_order (cases_lt (latest r.end r.members) c)
@@ -415,14 +416,14 @@ mutual
   agree_step c m (attempt body handler cleanup) here st su t near =
       agree_cleanup c m cleanup here st su _ _ near (agree_handler c m handler here st su _ _ near (agree c m body here st su t near))
 
-  -- the same of a handler, where what it stands behind agrees
+  -- the same for a handler, if what it follows agrees
   pub agree_handler : (c : ℕ) (m : Mode) (x : Handled) (here : Here) (st su : Stack) (r q : Result) → Near c st su → Agree c r q →
       Agree c (walk_handler m x here st r) (walk_handler m x here su q)
   agree_handler c m unhandled here st su r q near h = h
   agree_handler c m (except name body) here st su r q near h =
       agree_handled c _ r q _ _ h (λ u. agree c m body here st su u near) (λ u. late m body here st u) (λ u. late m body here su u)
 
-  -- the same of a cleanup, where what it stands behind agrees
+  -- the same for a cleanup, if what it follows agrees
   pub agree_cleanup : (c : ℕ) (m : Mode) (x : Cleaned) (here : Here) (st su : Stack) (r q : Result) → Near c st su → Agree c r q →
       Agree c (walk_cleanup m x here st r) (walk_cleanup m x here su q)
   agree_cleanup c m uncleaned here st su r q near h = h

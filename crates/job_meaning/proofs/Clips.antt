@@ -37,7 +37,7 @@ upto_next c None (Some u) e = omega arith
 upto_next c (Some t) None e = omega arith
 upto_next c (Some t) (Some u) e = omega arith
 
--- what has come before c is told by the ticks cut at c
+-- which ticks before c have come is determined by the ticks cut at c
 pub reached_near : (c : ℕ) (a b : Tick) (u : ℕ) → upto c a ≡ upto c b → u < c → reached a u ≡ reached b u
 reached_near c None None u e lt = refl
 reached_near c None (Some y) u e lt = sym (le_false (omega arith))
@@ -50,7 +50,7 @@ reached_near c (Some x) None u e lt = le_false (omega arith)
     le_false h = grind (arith, nat_tests)
 reached_near c (Some x) (Some y) u e lt = grind (arith, nat_tests)
 
--- near stacks have near sights
+-- near stacks have near effective deadlines (`sight`)
 pub sight_near : (c : ℕ) (st su : Stack) → Near c st su → upto c (sight st) ≡ upto c (sight su)
 sight_near c [] [] n = refl
 sight_near c [] (k ∷ ks) n = absurd n
@@ -123,7 +123,7 @@ pub both_clipped : (c : ℕ) (a b x y : Log) → clipped c a ≡ clipped c x →
     clipped c (followed_by a b) ≡ clipped c (followed_by x y)
 both_clipped c a b x y e f = cc (clipped_followed c a b, clipped_followed c x y)
 
--- a log with nothing behind it is the log itself
+-- a log followed by nothing is the log itself
 pub followed_nil : (a : Log) → followed_by a nil ≡ a
 followed_nil nil = refl
 followed_nil (entry t e rest) = ap (λ (x : Log). entry t e x) (followed_nil rest)
@@ -202,7 +202,7 @@ least_late c t l (task m u v e own rest) le h =
     past : t ≤ u → c ≤ u
     past k = omega arith
 
--- the first sign before c is told by the log cut at c
+-- the first sign before c is determined by the log cut at c
 pub least_clipped : (c t : ℕ) (l : Label) (a : Log) → Timed t a → upto c (least_sign l a) ≡ upto c (least_sign l (clipped c a))
 least_clipped c t l nil h = refl
 least_clipped c t l (entry u e rest) h = by_kept (nat_lt u c) (least_clipped c t l rest h.1)
@@ -265,12 +265,13 @@ pub known_append : (c : ℕ) (a b : List Member) → known_members c (a ++ b) �
 known_append c [] b = refl
 known_append c (m ∷ ms) b = ap (λ (x : List Member). known_member c m ∷ x) (known_append c ms b)
 
--- lists of members of which the same is known before c are so one behind another too
+-- if the same is known before c of the parts of two lists of members, the same is known of the
+-- lists
 pub both_known : (c : ℕ) (a b x y : List Member) → known_members c a ≡ known_members c x → known_members c b ≡ known_members c y →
     known_members c (a ++ b) ≡ known_members c (x ++ y)
 both_known c a b x y e f = cc (known_append c a b, known_append c x y)
 
--- the last end before c is told by what is known of the members
+-- the last end before c is determined by what is known of the members
 pub latest_known : (c t : ℕ) (ms : List Member) → min c (latest t ms) ≡ latest (min c t) (known_members c ms)
 latest_known c t [] = refl
 latest_known c t (m ∷ ms) = latest_known c (max t m.end) ms ∙ ap (λ (u : ℕ). latest u (known_members c ms)) min_max

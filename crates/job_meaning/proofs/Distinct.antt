@@ -8,12 +8,12 @@ use Rattle.exc_groups.specs.Exceptions.{Label}
 use Rattle.job_meaning.specs.Log.{same_label}
 use Rattle.job_meaning.specs.Walk.{Stack}
 
--- a name stands in a list
+-- a name is in a list
 abbrev pub Among : List ℕ → List (List ℕ) → Type 0
 Among n [] = ⊥
 Among n (m ∷ ms) = (n ≡ m) ⊎ Among n ms
 
--- a name of the first list stands in both together
+-- a name of the first list is in both together
 pub among_left : (n : List ℕ) (a b : List (List ℕ)) → Among n a → Among n (a ++ b)
 among_left n [] b h = absurd h
 among_left n (m ∷ ms) b (inl e) = inl e
@@ -24,7 +24,7 @@ pub among_right : (n : List ℕ) (a b : List (List ℕ)) → Among n b → Among
 among_right n [] b h = h
 among_right n (m ∷ ms) b h = inr (among_right n ms b h)
 
--- no name stands there twice
+-- no name is in the list twice
 abbrev pub Distinct : List (List ℕ) → Type 0
 Distinct [] = Unit {0}
 Distinct (n ∷ ns) = (Among n ns → ⊥) × Distinct ns
@@ -33,7 +33,7 @@ Distinct (n ∷ ns) = (Among n ns → ⊥) × Distinct ns
 abbrev pub NoneIn : List (List ℕ) → List (List ℕ) → Type 0
 NoneIn a b = (n : List ℕ) → Among n a → Among n b → ⊥
 
--- where no name stands twice in two lists together, none does in the first
+-- if no name is twice in two lists together, none is twice in the first
 pub distinct_left : (a b : List (List ℕ)) → Distinct (a ++ b) → Distinct a
 distinct_left [] b h = tt
 distinct_left (n ∷ ns) b h = (λ i. h.0 (among_left n ns b i), distinct_left ns b h.1)
@@ -75,13 +75,13 @@ pub same_label_itself : (l : Label) → same_label l l ≡ true
 same_label_itself l = and_from (bytes_eq l.name l.name) (bytes_eq l.indices l.indices) ((bytes_eq-Decides l.name l.name).1 refl)
     ((bytes_eq-Decides l.indices l.indices).1 refl)
 
--- a label that a block with these names may enter, where the block stands behind this path of indices
+-- a label that a block with these names may enter, where the block has this path of indices
 pub record Belongs (names : List (List ℕ)) (path : List ℕ) (l : Label) : Type 0 where
   pub named : Among l.name names
   pub beyond : List ℕ
   pub extends : l.indices ≡ path ++ beyond
 
--- a label that belongs to some names belongs to any more of them, behind the same path
+-- a label that belongs to some names belongs to any larger set of names, with the same path
 pub belongs_in : (a b : List (List ℕ)) (path : List ℕ) → ((n : List ℕ) → Among n a → Among n b) → (l : Label) → Belongs a path l →
     Belongs b path l
 belongs_in a b path f l h = record { named = f l.name h.named; beyond = h.beyond; extends = h.extends }
@@ -90,19 +90,19 @@ belongs_in a b path f l h = record { named = f l.name h.named; beyond = h.beyond
 pub belongs_behind : (a : List (List ℕ)) (path : List ℕ) (i : ℕ) (l : Label) → Belongs a (path ++ i ∷ []) l → Belongs a path l
 belongs_behind a path i l h = record { named = h.named; beyond = i ∷ h.beyond; extends = h.extends ∙ append_assoc path (i ∷ []) h.beyond }
 
--- no label stands behind two indices of one place
+-- no path continues two different indices of one path
 pub behind_one : (path : List ℕ) (i j : ℕ) (x y : List ℕ) → (path ++ i ∷ []) ++ x ≡ (path ++ j ∷ []) ++ y → i ≡ j
 behind_one [] i j x y e = cc
 behind_one (p ∷ path) i j x y e = behind_one path i j x y (cc)
 
--- no label belongs behind an index of a place and behind a later one too
+-- no label belongs to a path with an index and also to the same path with a later index
 pub behind_other : (a b : List (List ℕ)) (path : List ℕ) (i j : ℕ) (l : Label) → i < j → Belongs a (path ++ i ∷ []) l →
     Belongs b (path ++ j ∷ []) l → ⊥
 behind_other a b path i j l lt h k =
     let e = behind_one path i j h.beyond k.beyond (sym h.extends ∙ k.extends) in
     absurd (omega arith)
 
--- a label stands on a stack
+-- a label is on a stack
 abbrev pub OnStack : Label → Stack → Type 0
 OnStack l [] = ⊥
 OnStack l (k ∷ ks) = (l ≡ k.label) ⊎ OnStack l ks

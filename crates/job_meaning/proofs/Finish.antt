@@ -1,4 +1,4 @@
--- What a task comes to that has frames left: no frame reads what was made before, and what each step makes of the frames.
+-- The result of a task that has frames left: no frame reads what was done before, and what each step does to the frames.
 use Rattle.std.proofs.Common.{◌≡◌, ℕ, zero, suc, ◌+◌, Bool, Option, Some, None, List, [], ◌∷◌, ◌++◌, refl, ap, sym, ◌∙◌, append_assoc, ◌<◌, arith}
 use Rattle.std.proofs.lemmas.List.{append-nil}
 use Rattle.job_tree.specs.declared.deadline.Deadline.{Deadline}
@@ -12,7 +12,7 @@ use Rattle.job_meaning.specs.Log.{Log, nil, entry, sign, entered, task, followed
 use Rattle.job_meaning.specs.Walk.{in_pass, passes, Stack, Mode, by_table, Here, walk, walk_step, walk_handler, walk_cleanup, done_at, joined, and_then, then_if, block, due, within, Kind, signed, gathered, child, handled, handled_exc, handled_if, cleaned, with_outcome, handler_exc, outcome_after, sign_if, a_scope, a_nursery, label_here, label_over, each, here_in}
 use Rattle.job_meaning.specs.Rest.{Event, noted, signs, enters, starts, fill, numbered, starts_over, Telling, told_members, Frame, steps_left, in_scope, in_nursery, in_repeat, in_try, in_handler, in_cleanup, inside, block_left, with_children, waited, finish, rest_comes_to, rest_at_start}
 
--- three logs one after another are the same, whichever two come together first
+-- three logs one after another are the same, whichever two are joined first
 pub followed_assoc : (a b c : Log) → followed_by (followed_by a b) c ≡ followed_by a (followed_by b c)
 followed_assoc nil b c = refl
 followed_assoc (entry t e rest) b c = ap (λ (x : Log). entry t e x) (followed_assoc rest b c)
@@ -105,7 +105,7 @@ finish_after (in_handler rest cleanup ∷ fs) a m told here st r =
     ∙ finish_after fs a m told here st _
 finish_after (in_cleanup outcome ∷ fs) a m told here st r = finish_after fs a m told here st _
 
--- a task that was started comes to what its block does
+-- the result of a task that was just started is that of its block
 pub finish_begin : (m : Mode) (told : Telling) (b : Steps) (here : Here) (st : Stack) (t : ℕ) →
     rest_comes_to m told (rest_at_start b) here st t ≡ signed st (walk m b here st t)
 unfolding finish and_then
@@ -124,7 +124,7 @@ pub finish_step : (fs : List Frame) (m : Mode) (told : Telling) (s : Step) (ss :
 unfolding finish and_then walk
 finish_step fs m told s ss here st t = refl
 
--- steps behind an exception are not begun
+-- steps after an exception are not begun
 pub finish_raised : (fs : List Frame) (m : Mode) (told : Telling) (ss : Steps) (here : Here) (st : Stack) (r : Result) (e : Exc) →
     finish m told (steps_left ss ∷ fs) here st (record r { exc = Some e }) ≡ finish m told fs here st (record r { exc = Some e })
 unfolding finish and_then
@@ -220,7 +220,7 @@ pub finish_last_pass : (fs : List Frame) (m : Mode) (told : Telling) (pass : ℕ
 unfolding finish and_then
 finish_last_pass fs m told pass body here st t = refl
 
--- no pass comes behind an exception
+-- no pass follows an exception
 pub finish_raised_pass : (fs : List Frame) (m : Mode) (told : Telling) (pass left : ℕ) (body : Steps) (here : Here) (st : Stack)
     (r : Result) (e : Exc) →
     finish m told (in_repeat pass left body ∷ fs) here st (record r { exc = Some e }) ≡ finish m told fs here st (record r { exc = Some e })
@@ -282,7 +282,7 @@ told_append : (told : Telling) (is js : List ℕ) → told_members told (is ++ j
 told_append told [] js = refl
 told_append told (i ∷ is) js = ap (λ (ms : List Member). record { end = (told i).end; exc = (told i).exc } ∷ ms) (told_append told is js)
 
--- children of a nursery count by number as they did by what they come to
+-- children of a nursery count by number as they did by their results
 pub finish_children : (fs : List Frame) (m : Mode) (told : Telling) (children more : List ℕ) (here : Here) (l : Level Label) (outer : Stack)
     (r : Result) →
     finish m told (in_nursery (children ++ more) ∷ fs) here (l ∷ outer) r
@@ -300,11 +300,11 @@ finish_children fs m told children more here l outer r =
     (ap (λ (ms : List Member). ms ++ r.members) (told_append told children more)
     ∙ append_assoc (told_members told children) (told_members told more) r.members)
 
--- what stands for children that were just started: the starter goes on in the same tick
+-- the result of starting children: the starter continues in the same tick
 abbrev pub just_started : Telling → List ℕ → Log → ℕ → Result
 just_started told more a t = record { end = t; exc = None; members = told_members told more; log = a }
 
--- after children were just started, the body's steps go on with these among the nursery's, behind the log so far
+-- after children were started, the body's steps continue with these among the nursery's, after the log so far
 pub finish_started : (fs : List Frame) (m : Mode) (told : Telling) (ss : Steps) (children more : List ℕ) (here : Here) (l : Level Label)
     (outer : Stack) (t : ℕ) (a : Log) →
     finish m told (steps_left ss ∷ in_nursery children ∷ fs) here (l ∷ outer) (just_started told more a t)

@@ -62,7 +62,7 @@ fits_second table a b h f = record { each_label = own }
         signs_same : least_sign l (followed_by a b) ≡ least_sign l b
         signs_same = least_followed l a b ∙ ap (λ (s : Tick). earlier s (least_sign l b)) quiet
 
--- walks on one stack, whose labels differ and do not stand on the stack, have logs apart
+-- walks on one stack, whose labels differ and are not on the stack, have logs apart
 pub apart_tidy : (st : Stack) (P Q : Label → Type 0) (r q : Result) → Tidy st P r → Tidy st Q q →
     ((l : Label) → P l → Q l → ⊥) → ((l : Label) → OnStack l st → P l → ⊥) → ((l : Label) → OnStack l st → Q l → ⊥) → Apart r.log q.log
 apart_tidy st P Q r q h k differ first second =

@@ -9,7 +9,7 @@ use Rattle.cancel_scopes.specs.Sight.{Tick, sight}
 use Rattle.job_meaning.specs.Log.{Log, nil, entry, sign, entered, task, followed_by, Member, Result}
 use Rattle.job_meaning.specs.Walk.{Stack, Mode, Here, walk, walk_step, walk_handler, walk_cleanup, done_at, raised_at, joined, and_then, then_if, slept, sleeping, log_of_lines, showing, needing, cancelling, Kind, from_of, block, signed, sign_if, home_of, latest, gathered, child, each, passes, handled, handled_exc, handled_if, cleaned}
 
--- all that a log tells of is at tick t or later
+-- all that is in a log is at tick t or later
 abbrev pub Timed : ℕ → Log → Type 0
 Timed t nil = Unit {0}
 Timed t (entry u e rest) = (t ≤ u) × Timed t rest
@@ -60,7 +60,7 @@ late_joined t r q h k =
       timed = timed_followed t r.log q.log h.timed (timed_earlier t r.end q.log h.ends k.timed);
     }
 
--- a late walk that goes on in late ones is late as a whole
+-- a late walk that continues with late ones is late as a whole
 pub late_and_then : (t : ℕ) (r : Result) (go : ℕ → Result) → Late t r → ((u : ℕ) → Late u (go u)) → Late t (and_then r go)
 unfolding and_then
 late_and_then t r go h k = by_exc r.exc
@@ -164,12 +164,12 @@ pub late_child : (label : Label) (t : ℕ) (r : Result) → Late t r → Late t 
 unfolding child
 late_child label t r h = record { ends = omega arith; timed = (omega arith, h.ends, h.timed, tt) }
 
--- the starter goes on in the same tick
+-- the starter continues in the same tick
 pub child_ends : (label : Label) (t : ℕ) (r : Result) → (child label t r).end ≡ t
 unfolding child
 child_ends label t r = refl
 
--- the starter of a `start .. over` goes on in the same tick
+-- the starter of a `start .. over` continues in the same tick
 pub each_ends : (k : ℕ) (go : ℕ → Result) (t : ℕ) → ((i : ℕ) → (go i).end ≡ t) → (each k go t).end ≡ t
 each_ends zero go t h = refl
 each_ends (suc k) go t h = h k
@@ -241,13 +241,13 @@ mutual
   late_step m (attempt body handler cleanup) here st t =
       late_cleanup m cleanup here st _ t (late_handler m handler here st _ t (late m body here st t))
 
-  -- the same of a handler, where what it stands behind is late
+  -- the same for a handler, if what it follows is late
   pub late_handler : (m : Mode) (x : Handled) (here : Here) (st : Stack) (r : Result) (t : ℕ) → Late t r →
       Late t (walk_handler m x here st r)
   late_handler m unhandled here st r t h = h
   late_handler m (except name body) here st r t h = late_handled t _ r _ h (λ u. late m body here st u)
 
-  -- the same of a cleanup, where what it stands behind is late
+  -- the same for a cleanup, if what it follows is late
   pub late_cleanup : (m : Mode) (x : Cleaned) (here : Here) (st : Stack) (r : Result) (t : ℕ) → Late t r →
       Late t (walk_cleanup m x here st r)
   late_cleanup m uncleaned here st r t h = h

@@ -19,7 +19,7 @@ late_left t kind l outer r h =
 late_with_outcome : (t : ℕ) (o : Option Exc) (r : Result) → Late t r → Late t (with_outcome o r)
 late_with_outcome t o r h = record { ends = h.ends; timed = h.timed }
 
--- what a task comes to is as late as what it has come to so far
+-- what a task results in is as late as its result so far
 pub late_finish : (fs : List Frame) (t : ℕ) (m : Mode) (told : Telling) (here : Here) (st : Stack) (r : Result) → Late t r →
     Late t (finish m told fs here st r)
 unfolding finish gathered
@@ -47,7 +47,7 @@ late_finish (in_handler rest cleanup ∷ fs) t m told here st r h =
 late_finish (in_cleanup outcome ∷ fs) t m told here st r h =
     late_finish fs t m told here st _ (late_with_outcome t (outcome_after outcome r.exc) r h)
 
--- who waits for children that end at tick t or later is as late
+-- a task that waits for children that end at tick t or later is as late
 pub late_waited : (t : ℕ) (ms : List Member) (u : ℕ) (exc : Option Exc) (l : Level Label) (outer : Stack) → t ≤ latest u ms →
     Late t (waited ms u exc l outer)
 unfolding gathered

@@ -24,7 +24,7 @@ GivesOnce (entered l t d rest) = (Gives l rest → ⊥) × GivesOnce rest
 GivesOnce (task m s u e own rest) =
     (Gives m own ⊎ Gives m rest → ⊥) × GivesOnce own × GivesOnce rest × ((l : Label) → Gives l own → Gives l rest → ⊥)
 
--- logs that each give no label twice, and no label that the other gives, give none twice one after another
+-- if two logs each give no label twice and have no label in common, one after the other gives none twice
 pub once_followed : (a b : Log) → GivesOnce a → GivesOnce b → ((l : Label) → Gives l a → Gives l b → ⊥) → GivesOnce (followed_by a b)
 once_followed nil b h k differ = k
 once_followed (entry t e rest) b h k differ = once_followed rest b h k differ
@@ -165,7 +165,7 @@ unique_each st names path (suc n) go t h k = unique_joined (each n go t) (go n) 
         apart : Before l → Belongs names (path ++ n ∷ []) l → ⊥
         apart b c = behind_other names names path b.0 n l b.1 b.2 c
 
--- labels given in a pass, and in those behind it
+-- labels given in a pass, and in the later ones
 unique_passes : (st : Stack) (names : List (List ℕ)) (path : List ℕ) (k first : ℕ) (go : ℕ → ℕ → Result) (t : ℕ) →
     ((i u : ℕ) → Tidy st (Belongs names (path ++ i ∷ [])) (go i u)) → ((i u : ℕ) → Unique (go i u)) → Unique (passes first k go t)
 unique_passes st names path zero first go t h k = unique_done t

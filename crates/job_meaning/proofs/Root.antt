@@ -34,7 +34,7 @@ members_append st (m ∷ ms) ns h k = (h.0, members_append st ms ns h.1 k)
 pub root_joined : (st : Stack) (r q : Result) → Rooted st r → Rooted st q → Rooted st (joined r q)
 root_joined st r q h k = record { exc = k.exc; members = members_append st r.members q.members h.members k.members }
 
--- a rooted walk that goes on in rooted ones is rooted as a whole
+-- a rooted walk that continues with rooted ones is rooted as a whole
 pub root_and_then : (st : Stack) (r : Result) (go : ℕ → Result) → Rooted st r → ((u : ℕ) → Rooted st (go u)) → Rooted st (and_then r go)
 unfolding and_then
 root_and_then st r go h k = by_exc r.exc
@@ -243,12 +243,12 @@ mutual
   root_step m (attempt body handler cleanup) here st t =
       root_cleanup m cleanup here st _ (root_handler m handler here st _ (root m body here st t))
 
-  -- the same of a handler, where what it stands behind is rooted
+  -- the same for a handler, if what it follows is rooted
   pub root_handler : (m : Mode) (x : Handled) (here : Here) (st : Stack) (r : Result) → Rooted st r → Rooted st (walk_handler m x here st r)
   root_handler m unhandled here st r h = h
   root_handler m (except name body) here st r h = root_handled st _ r _ h (λ u. root m body here st u) (λ u. late m body here st u)
 
-  -- the same of a cleanup, where what it stands behind is rooted
+  -- the same for a cleanup, if what it follows is rooted
   pub root_cleanup : (m : Mode) (x : Cleaned) (here : Here) (st : Stack) (r : Result) → Rooted st r → Rooted st (walk_cleanup m x here st r)
   root_cleanup m uncleaned here st r h = h
   root_cleanup m (finally body) here st r h = root_cleaned st r _ h (λ u. root m body here st u) (λ u. late m body here st u)

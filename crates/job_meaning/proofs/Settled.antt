@@ -39,15 +39,15 @@ unfolding and_then
 settled_and_then table r q go go' h k apart f =
     ap (λ (x : Result). then_if x.exc x go') (h (fits_then table r go apart r.exc f)) ∙ same_then table r go go' apart k r.exc f
 
--- What is inside a block that is entered in a tick, walked at each from: nothing is earlier than that tick, and a from tells nothing
--- of the ticks before it.
+-- What is inside a block that is entered in a tick, walked at each from: nothing is earlier than that tick, and a from changes
+-- nothing before its tick.
 record Inside (t : ℕ) (inside : Tick → Result) : Type 0 where
   later : (f : Tick) → Late t (inside f)
   causal : (c : ℕ) (f g : Tick) → upto c f ≡ upto c g → clipped c (inside f).log ≡ clipped c (inside g).log
 
 module _ (table : Table) (kind : Kind) (label : Label) (t : ℕ) (d : Tick) (shield : Bool) (st : Stack) (inside inside' : Tick → Result)
     (own : (f : Tick) → Gives label (inside f).log → ⊥) where
-  -- the log of a block behind the entering of its label
+  -- the log of a block after the entering of its label
   abbrev inner_log : Tick → Log
   inner_log f = followed_by (inside f).log (entry (inside f).end
       (left_as kind label (left_with (catches f shield st (inside f).end) (inside f).exc).caught) nil)
@@ -111,7 +111,7 @@ module _ (table : Table) (kind : Kind) (label : Label) (t : ℕ) (d : Tick) (shi
       ap (λ (f : Tick). left_from kind label t d shield st f (inside' f)) found
       ∙ ap (λ (r : Result). left_from kind label t d shield st from r) inner
 
--- A block comes to the same by two modes, where the table fits it by the first and its inside comes to the same.
+-- A block has the same result in two modes, if the table fits it in the first and its inside has the same result.
 abbrev SameBlocks : Table → Mode → Mode → Type 0
 SameBlocks table m other =
     (kind : Kind) (label : Label) (t : ℕ) (d : Tick) (shield : Bool) (st : Stack) (inside inside' : Tick → Result) →
@@ -148,7 +148,7 @@ settled_gathered : (table : Table) (label : Label) (r q : Result) → (Fits tabl
 unfolding gathered
 settled_gathered table label r q same f = ap (λ (x : Result). gathered label x) (same f)
 
--- a child's log stands alone in what it leaves
+-- a child's log is separate in what the child adds
 settled_child : (table : Table) (label : Label) (t : ℕ) (r q : Result) → (Fits table r.log → q ≡ r) → Fits table (child label t r).log →
     child label t q ≡ child label t r
 unfolding child
@@ -210,7 +210,7 @@ settled_passes table st names path (suc k) first go go' t fresh h same f =
         (λ l o b. fresh.none l o b.named)
         (λ l o b. fresh.none l o b.2.named)
 
--- a handler or a cleanup behind a body that is the same
+-- a handler or a cleanup after a body that is the same
 fits_handled : (table : Table) (wanted : Wanted) (r : Result) (go : ℕ → Result) → ((u : ℕ) → Apart r.log (go u).log) → (o : Option Exc) →
     Fits table (handled_exc o wanted r go).log → Fits table r.log
 fits_handled table wanted r go apart None f = f
@@ -262,7 +262,7 @@ fresh_left st a b h = fresh_in st a (a ++ b) (λ n i. among_left n a b i) h
 fresh_right : (st : Stack) (a b : List (List ℕ)) → Fresh st (a ++ b) → Fresh st b
 fresh_right st a b h = fresh_in st b (a ++ b) (λ n i. among_right n a b i) h
 
--- inside a block its own name stands on the stack, and is not given again
+-- inside a block its own name is on the stack, and is not given again
 fresh_within : (name : List ℕ) (names : List (List ℕ)) (here : Here) (shield : Bool) (f : Tick) (st : Stack) → Distinct (name ∷ names) →
     Fresh st (name ∷ names) → Fresh (within (label_here name here) shield f st) names
 fresh_within name names here shield f st distinct fresh = record { none = none }
@@ -317,7 +317,7 @@ nursery_is_inside m body label here shield st t =
 mutual
   unfolding walk
 
-  -- a walk by one mode is that by another, where a table fits the first and blocks come to the same
+  -- a walk in one mode is that in another, if a table fits the first and blocks have the same results
   settled : (table : Table) (m other : Mode) → SameBlocks table m other → (b : Steps) (here : Here) (st : Stack) (t : ℕ) → Distinct (names_of b) → Fresh st (names_of b) →
       Fits table (walk m b here st t).log → walk other b here st t ≡ walk m b here st t
   settled table m other blocks stop here st t distinct fresh f = refl
@@ -400,7 +400,7 @@ mutual
       ap (λ (r : Result). walk_cleanup other cleanup here st (walk_handler other handler here st r)) body_same
       ∙ (ap (λ (r : Result). walk_cleanup other cleanup here st r) handler_same.1 ∙ cleanup_same.1)
 
-  -- a handler behind a body that is the same
+  -- a handler after a body that is the same
   settled_handler : (table : Table) (m other : Mode) → SameBlocks table m other → (x : Handled) (here : Here) (st : Stack) (r : Result) (names : List (List ℕ)) →
       Tidy st (Belongs names here.path) r →
       Distinct (names ++ handled_names x) → Fresh st (names ++ handled_names x) → Fits table (walk_handler m x here st r).log →
@@ -413,7 +413,7 @@ mutual
       (λ u g. settled table m other blocks body here st u (distinct_right names (names_of body) distinct) (fresh_right st names (names_of body) fresh) g)
       f
 
-  -- a cleanup behind what is the same
+  -- a cleanup after what is the same
   settled_cleanup : (table : Table) (m other : Mode) → SameBlocks table m other → (x : Cleaned) (here : Here) (st : Stack) (r : Result) (names : List (List ℕ)) →
       Tidy st (Belongs names here.path) r →
       Distinct (names ++ cleaned_names x) → Fresh st (names ++ cleaned_names x) → Fits table (walk_cleanup m x here st r).log →
@@ -447,7 +447,7 @@ fits_settled table job input h =
       each_label = λ l d e. h l ∙ ap (λ (o : Option Tick). entered_from o (least_sign l (follow table job input).log)) e;
     }
 
--- and following whichever settled table is the meaning
+-- and following any settled table is the meaning
 pub settled_is_meaning : FollowingSettledIsMeaning
 unfolding follow meaning
 settled_is_meaning table job input once h =

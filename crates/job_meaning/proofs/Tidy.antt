@@ -1,4 +1,4 @@
--- A walk enters only labels of its own block, and signs only labels that it entered or that stand on its stack. It
+-- A walk enters only labels of its own block, and signs only labels that it entered or that are on its stack. It
 -- holds in both modes.
 use Rattle.std.proofs.Common.{◌≡◌, ℕ, zero, suc, ◌+◌, ◌<◌, ◌≤◌, Bool, true, false, Option, Some, None, List, [], ◌∷◌, ◌++◌, refl, sym, subst, ◌⊎◌, inl, inr, arith, nat_le, if◌then◌else◌}
 use Rattle.std.proofs.lemmas.List.{append-nil}
@@ -58,7 +58,7 @@ tidy_joined st P r q h k =
     seen_to l (inl e) = first l (h.signs l e)
     seen_to l (inr e) = second l (k.signs l e)
 
--- a tidy walk that goes on in tidy ones is tidy as a whole
+-- a tidy walk that continues with tidy ones is tidy as a whole
 pub tidy_and_then : (st : Stack) (P : Label → Type 0) (r : Result) (go : ℕ → Result) → Tidy st P r → ((u : ℕ) → Tidy st P (go u)) →
     Tidy st P (and_then r go)
 unfolding and_then
@@ -112,7 +112,7 @@ unfolding needing
 tidy_needing st P (Some l) name label t = tidy_showing st P (l ∷ []) t
 tidy_needing st P None name label t = tidy_plain st P (needing None name label t) plain_nil
 
--- a label that was found on a stack stands there
+-- a label that was found on a stack is on it
 abbrev OnStackIf : Option Label → Stack → Type 0
 OnStackIf None st = Unit {0}
 OnStackIf (Some l) st = OnStack l st
@@ -126,7 +126,7 @@ found_on name (k ∷ ks) = by_test (bytes_eq name k.label.name) (label_on name k
     by_test false None h = tt
     by_test false (Some l) h = inr h
 
--- the innermost label of a stack stands on it, if there is one
+-- the innermost label of a stack is on it, if there is one
 pub home_on : (st : Stack) → OnStackIf (home_of st) st
 home_on [] = tt
 home_on (k ∷ ks) = inl refl
@@ -285,7 +285,7 @@ tidy_cleaned st P r go h k =
 pub belongs_here : (name : List ℕ) (names : List (List ℕ)) (here : Here) → Belongs (name ∷ names) here.path (label_here name here)
 belongs_here name names here = record { named = inl refl; beyond = []; extends = sym (append-nil here.path) }
 
--- so does that of a child of a `start .. over`, behind its index
+-- so does that of a child of a `start .. over`, with its index
 pub belongs_over : (name : List ℕ) (names : List (List ℕ)) (here : Here) (i : ℕ) →
     Belongs (name ∷ names) (here.path ++ i ∷ []) (label_over name here i)
 belongs_over name names here i = record { named = inl refl; beyond = []; extends = sym (append-nil (here.path ++ i ∷ [])) }
@@ -294,7 +294,7 @@ belongs_over name names here i = record { named = inl refl; beyond = []; extends
 pub in_left : (a b : List (List ℕ)) (path : List ℕ) (l : Label) → Belongs a path l → Belongs (a ++ b) path l
 in_left a b path l h = belongs_in a (a ++ b) path (λ n i. among_left n a b i) l h
 
--- and so does what belongs to the part behind it
+-- and so does what belongs to the part after it
 pub in_right : (a b : List (List ℕ)) (path : List ℕ) (l : Label) → Belongs b path l → Belongs (a ++ b) path l
 in_right a b path l h = belongs_in b (a ++ b) path (λ n i. among_right n a b i) l h
 
@@ -362,7 +362,7 @@ mutual
       tidy_cleaned st _ r _ (tidy_in st _ _ _ (in_left names (names_of body) here.path) h)
       (λ u. tidy_in st _ _ _ (in_right names (names_of body) here.path) (tidy m body here st u))
 
--- a child of a `start .. over` gives only labels behind its index
+-- a child of a `start .. over` gives only labels with its index
 pub tidy_over : (m : Mode) (name : List ℕ) (body : Steps) (here : Here) (lent : Range) (i : ℕ) (st : Stack) (t : ℕ) →
     Tidy st (Belongs (name ∷ names_of body) (here.path ++ i ∷ []))
     (child (label_over name here i) t (signed st (walk m body (here_in (label_over name here i) lent here) st t)))

@@ -78,7 +78,7 @@ signs_followed l (task m s u e own rest) b (inr h) = behind (signs_followed l re
     behind (inl k) = inl (inr k)
     behind (inr k) = inr k
 
--- a deadline or none, with none behind it, stays what it is
+-- a deadline or none, followed by none, is unchanged
 pub either_nothing : (o : Option Tick) → either o None ≡ o
 either_nothing None = refl
 either_nothing (Some d) = refl

@@ -1,4 +1,4 @@
--- What a task asks of the lines of its part, what it is answered, and what it does with the answer.
+-- What a task requests from the lines of its part, the answer, and what the task does with it.
 use Rattle.std.specs.Prelude.{ℕ, Option, Some, None, List, [], ◌∷◌}
 use Rattle.buffer_parts.specs.Lines.{Span}
 use Rattle.line_kernels.specs.Kernels.{found_in, head_of, longest_in, needed_in, count_in}
@@ -14,7 +14,7 @@ pub data Kernel : Type 0 where
   need : (text : List ℕ) → Kernel
   count : Kernel
 
--- what a kernel answers: lines, that there is no such line, or how many lines there are
+-- what a kernel answers: lines, that there is no such line, or a number of lines
 pub data Answer : Type 0 where
   lines : (shown : List Span) → Answer
   missing : Answer
@@ -32,7 +32,7 @@ answer_of longest here = lines (longest_in here.input here.part)
 answer_of (need text) here = one_line (needed_in here.input text here.part)
 answer_of count here = counted (count_in here.input here.part)
 
--- what a task does with the answer: it shows the lines; it raises where there is none; it sleeps by the count
+-- what a task does with the answer: it shows the lines; it raises if there is none; it sleeps by the count
 pub data Purpose : Type 0 where
   shows : Purpose
   needs : (name : List ℕ) → Purpose
@@ -47,7 +47,7 @@ Suits (need text) (needs name) = Unit {0}
 Suits count (paces k) = Unit {0}
 Suits _ _ = ⊥
 
--- what comes of an answer in tick t
+-- the result of an answer in tick t
 abbrev pub answered : Answer → Purpose → Here → Stack → ℕ → Result
 answered (lines ls) purpose here st t = showing ls t
 answered missing (needs name) here st t = raised_at (raised name here.task t) t

@@ -1,4 +1,4 @@
--- What a walk tells of the ticks before a tick c, and when two stacks or two walks agree in those ticks.
+-- What is known of a walk before a tick c, and when two stacks or two walks agree in those ticks.
 use Rattle.std.specs.Prelude.{◌≡◌, ℕ, ◌<◌, ◌≤◌, Bool, true, false, Option, Some, None, List, [], ◌∷◌, min, nat_lt}
 use Rattle.exc_groups.specs.Exceptions.{Label, Exc}
 use Rattle.cancel_scopes.specs.Sight.{Tick}
@@ -10,7 +10,7 @@ abbrev pub upto : ℕ → Tick → ℕ
 upto c None = c
 upto c (Some t) = min c t
 
--- two stacks agree except where both froms are at least c
+-- two stacks agree, except where both froms are at least c
 abbrev pub Near : ℕ → Stack → Stack → Type 0
 Near c [] [] = Unit {0}
 Near c (l ∷ ls) (k ∷ ks) = (l.label ≡ k.label) × (l.shield ≡ k.shield) × (upto c l.from ≡ upto c k.from) × Near c ls ks
@@ -56,8 +56,8 @@ clipped c (entered l t d rest) = entered_if (nat_lt t c) l t d (clipped c rest)
 clipped c (task l s u e own rest) =
     task_if (nat_lt s c) l s (min c u) (exc_if (nat_lt u c) e) (clipped c own) (clipped c rest)
 
--- Two walks agree before c: starts, entries, entered labels, signs and ends. Either both end in one tick before c and
--- alike, or both end at c or later.
+-- Two walks agree before c: starts, entries, entered labels, signs and ends. Either both end in the same tick before
+-- c with the same exception, or both end at c or later.
 pub data Agree (c : ℕ) (r q : Result) : Type 0 where
   soon :
       (before : r.end < c) → (ends : r.end ≡ q.end) → (excs : r.exc ≡ q.exc) →

@@ -79,7 +79,7 @@ group_by name es = group (by_nursery (label_named name)) (parts_of es)
 abbrev pub handler_group : List Exc → Exc
 handler_group es = group by_handler (parts_of es)
 
--- a line of so many bytes at a place
+-- a line of the given number of bytes at a place in the input
 abbrev pub line_at : ℕ → ℕ → ℕ → Noted
 line_at tick at len = record { tick = tick; entry = line (record { at = at; len = len }) }
 
@@ -103,17 +103,18 @@ ran label from to exc entries = record { label = label; start = from; end = to; 
 abbrev pub main_ran : ℕ → ℕ → Option Exc → List Noted → Record
 main_ran from to exc entries = ran (label_named (codes "main")) from to exc entries
 
--- what the steps of a job come to over an input; an example that names it computes with the whole meaning
+-- the records of the steps of a job over an input; an example that names it computes with the whole
+-- meaning
 unfoldable pub run_of : List Step → List ℕ → List Record
 unfolding meaning walk and_then sleeping showing needing cancelling block signed gathered child handled cleaned
 run_of ss input = meaning_records (job_of ss) input
 
--- at which tick they end
+-- the tick at which they end
 unfoldable pub end_of : List Step → List ℕ → ℕ
 unfolding meaning walk and_then sleeping showing needing cancelling block signed gathered child handled cleaned
 end_of ss input = meaning_end (job_of ss) input
 
--- and at which tick the walk ends that follows the table of their meaning
+-- the tick at which the walk that follows the table of their meaning ends
 unfoldable pub followed_end_of : List Step → List ℕ → ℕ
 unfolding follow meaning walk and_then sleeping showing needing cancelling block signed gathered child handled cleaned
 followed_end_of ss input = (follow (meaning_table (job_of ss) input) (job_of ss) input).end

@@ -116,7 +116,8 @@ pub second_scope_of_a_name_is_not_cancelled :
 unfolding end_of
 second_scope_of_a_name_is_not_cancelled = refl
 
--- .. but by its table, which has one tick for both, at tick 1. So that a table is settled needs names given once.
+-- .. but by its table, which has one tick for both, at tick 1. So a table is settled only if names are given
+-- once.
 pub table_needs_names_given_once :
     followed_end_of (scope_of (codes "s") (cancel (codes "s") ∷ sleep 1 ∷ []) ∷ scope_of (codes "s") (sleep 3 ∷ []) ∷ []) [] ≡ 1
 unfolding followed_end_of

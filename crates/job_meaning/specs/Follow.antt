@@ -10,6 +10,6 @@ use Rattle.job_meaning.specs.Meaning.{root_walk}
 unfoldable pub follow : Table → Tree → List ℕ → Result
 follow table job input = root_walk (by_table table) job input
 
--- a table is settled where it is the table of following it
+-- a table is settled if it is the table of following it
 abbrev pub IsSettled : Table → Tree → List ℕ → Type 0
 IsSettled table job input = (l : Label) → table l ≡ table_of (follow table job input).log l

@@ -46,12 +46,12 @@ CancelledIsSeen =
     let r = walk mode steps here stack t in
     IsTrue (some_cancelled r.exc) → IsTrue (seen stack r.end)
 
--- so no `Cancelled` comes out of a job
+-- so no `Cancelled` leaves a job
 abbrev pub NoneReachesTheRoot : Type 0
 NoneReachesTheRoot = (mode : Mode) (job : Tree) (input : List ℕ) → some_cancelled (root_walk mode job input).exc ≡ false
 
--- A tick from which a scope is cancelled tells nothing of earlier ticks: on two stacks that agree except where both
--- froms are at least c, a walk does the same in all ticks before c.
+-- A cancellation from tick c on changes nothing before c: on two stacks that agree except where both froms are at least
+-- c, a walk does the same in all ticks before c.
 abbrev pub NothingBeforeItsCause : Type 0
 NothingBeforeItsCause =
     (c : ℕ) (mode : Mode) (steps : Steps) (here : Here) (stack other : Stack) (t : ℕ) →
@@ -66,7 +66,7 @@ FollowingIsMeaning =
 abbrev pub TableIsSettled : Type 0
 TableIsSettled = (job : Tree) (input : List ℕ) → GivesNamesOnce job → IsSettled (meaning_table job input) job input
 
--- following whichever settled table is the meaning
+-- following any settled table is the meaning
 abbrev pub FollowingSettledIsMeaning : Type 0
 FollowingSettledIsMeaning =
     (table : Table) (job : Tree) (input : List ℕ) → GivesNamesOnce job → IsSettled table job input →

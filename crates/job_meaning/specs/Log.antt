@@ -1,4 +1,4 @@
--- What a walk comes to: its end, its exception, and the log of what was done on the way.
+-- What a walk results in: its end, its exception, and the log of what was done on the way.
 use Rattle.std.specs.Prelude.{ℕ, ◌+◌, Bool, true, false, if◌then◌else◌, Option, Some, None, List}
 use Rattle.buffer_parts.specs.Lines.{Span}
 use Rattle.exc_groups.specs.Exceptions.{Label, Exc}
@@ -11,8 +11,8 @@ pub data Entry : Type 0 where
   scope_left : (label : Label) → (caught : Bool) → Entry
   nursery_left : (label : Label) → (caught : Bool) → Entry
 
--- What a task did, in order; the log of a started task stands inside its starter's, where it was started.
--- An entry has its tick. A sign says that a scope or nursery was cancelled in a tick. A label is entered in a tick, with
+-- What a task did, in order; the log of a started task is inside its starter's, at the point where it was started. An
+-- entry has its tick. A sign means that a scope or nursery was cancelled in a tick. A label is entered in a tick, with
 -- its deadline. A task has its start, its end and how it ended, and its own log.
 pub data Log : Type 0 where
   nil : Log
@@ -29,12 +29,12 @@ followed_by (sign l t rest) others = sign l t (followed_by rest others)
 followed_by (entered l t d rest) others = entered l t d (followed_by rest others)
 followed_by (task l s u e own rest) others = task l s u e own (followed_by rest others)
 
--- how a child ended whose nursery is still open
+-- how a child of a nursery that is still open ended
 pub record Member : Type 0 where
   pub end : ℕ
   pub exc : Option Exc
 
--- what a walk comes to
+-- what a walk results in
 pub record Result : Type 0 where
   pub end : ℕ
   pub exc : Option Exc
@@ -54,7 +54,7 @@ least_sign l (sign m t rest) = earlier (tick_if (same_label l m) t) (least_sign 
 least_sign l (entered m t d rest) = least_sign l rest
 least_sign l (task m s u e own rest) = earlier (least_sign l own) (least_sign l rest)
 
--- the first of two that is there
+-- the first of two, if it exists, or else the second
 abbrev pub either : Option Tick → Option Tick → Option Tick
 either None o = o
 either (Some d) o = Some d
@@ -63,7 +63,7 @@ abbrev pub deadline_if : Bool → Tick → Option Tick
 deadline_if true d = Some d
 deadline_if false d = None
 
--- the deadline with which a label was entered, where it was
+-- the deadline with which a label was entered, or none if it was not
 abbrev pub deadline_of : Label → Log → Option Tick
 deadline_of l nil = None
 deadline_of l (entry t e rest) = deadline_of l rest
@@ -75,7 +75,7 @@ deadline_of l (task m s u e own rest) = either (deadline_of l own) (deadline_of 
 abbrev pub from_by : Tick → Tick → Tick
 from_by deadline signed = earlier deadline (next signed)
 
--- a table says from which tick each label is cancelled
+-- a table maps each label to the tick from which it is cancelled
 abbrev pub Table : Type 0
 Table = Label → Tick
 
@@ -83,8 +83,8 @@ abbrev pub entered_from : Option Tick → Tick → Tick
 entered_from None signed = None
 entered_from (Some deadline) signed = from_by deadline signed
 
--- the table of a log: each label entered there with the lesser of its deadline and the tick after its first sign,
--- and never for every other
+-- the table of a log: for each label entered there the lesser of its deadline and the tick after its first sign, and
+-- never for every other
 abbrev pub table_of : Log → Table
 table_of log l = entered_from (deadline_of l log) (least_sign l log)
 

@@ -1,4 +1,4 @@
--- The meaning of a job over an input: one thread's walk of its tree, and the records that it comes to.
+-- The meaning of a job over an input: one thread's walk of its tree, and the records of that walk.
 use Rattle.std.specs.Prelude.{ℕ, Option, List, [], ◌∷◌, ◌++◌, length}
 use Rattle.job_tree.specs.Tree.{Tree}
 use Rattle.exc_groups.specs.Exceptions.{Label, Exc}
@@ -11,7 +11,8 @@ pub record Noted : Type 0 where
   pub tick : ℕ
   pub entry : Entry
 
--- what a report says of a task: its label, its start and end, its exception, and its entries in order
+-- what a report contains for a task: its label, its start and end, its exception, and its entries in
+-- order
 pub record Record : Type 0 where
   pub label : Label
   pub start : ℕ
@@ -27,7 +28,7 @@ entries_of (sign l t rest) = entries_of rest
 entries_of (entered l t d rest) = entries_of rest
 entries_of (task l s u e own rest) = entries_of rest
 
--- the records of the tasks that a log tells of: each with its descendants behind it
+-- the records of the tasks in a log: each followed by those of its descendants
 abbrev pub records_of : Log → List Record
 records_of nil = []
 records_of (entry t e rest) = records_of rest
@@ -61,7 +62,7 @@ abbrev pub root_here : Tree → List ℕ → Here
 root_here job input =
     record { input = input; part = record { from = 0; to = length input }; task = root_label job.name; path = [] }
 
--- the walk of a job from tick 0 with no scope round it
+-- the walk of a job from tick 0, enclosed by no scope
 abbrev pub root_walk : Mode → Tree → List ℕ → Result
 root_walk mode job input = walk mode job.steps (root_here job input) [] 0
 

@@ -1,4 +1,4 @@
--- A task that stopped on its way: what it made so far, what is left of it, what that comes to, and how much it is.
+-- A task that stopped on its way: what it did so far, what is left of it, what that results in, and how much it is.
 use Rattle.std.specs.Prelude.{ℕ, zero, suc, ◌+◌, ◌*◌, Bool, Option, List, [], ◌∷◌, ◌++◌}
 use Rattle.job_tree.specs.Tree.{Steps, Handled, Cleaned}
 use Rattle.job_tree.specs.Names.{size_of, handled_size, cleaned_size}
@@ -8,19 +8,19 @@ use Rattle.job_meaning.specs.Log.{Entry, Log, nil, entry, sign, entered, task, f
 use Rattle.job_meaning.specs.Walk.{label_over, in_pass, passes, Stack, Mode, Here, walk, walk_handler, walk_cleanup, done_at, and_then, sleeping, Kind, a_scope, a_nursery, left_as, Left, left_with, exc_after, signed, gathered, handler_exc, outcome_after, with_outcome}
 use Rattle.job_meaning.specs.Asking.{Kernel, answer_of, Purpose, shows, needs, paces, answered}
 
--- What a task made so far, in order. The children that it started are numbered 0, 1, .. within it, and what they come
--- to is told apart.
+-- What a task did so far, in order. The children that it started are numbered 0, 1, .. within it, and their results are
+-- given separately.
 pub data Event : Type 0 where
   noted : (tick : ℕ) → (entry : Entry) → Event
   signs : (label : Label) → (tick : ℕ) → Event
   enters : (label : Label) → (tick : ℕ) → (deadline : Tick) → Event
   starts : (child : ℕ) → (label : Label) → (tick : ℕ) → Event
 
--- what each child of a task comes to, by its number
+-- the result of each child of a task, by its number: what is recorded of the children's outcomes
 abbrev pub Telling : Type 0
 Telling = ℕ → Result
 
--- the log of what was made, with what is told of the children
+-- the log of what was done, with what is recorded of the children
 abbrev pub fill : Telling → List Event → Log
 fill told [] = nil
 fill told (noted t e ∷ es) = entry t e (fill told es)
@@ -33,17 +33,17 @@ abbrev pub told_members : Telling → List ℕ → List Member
 told_members told [] = []
 told_members told (i ∷ is) = record { end = (told i).end; exc = (told i).exc } ∷ told_members told is
 
--- so many numbers of children from one on, in order
+-- `k` consecutive numbers of children in order, from the given first one
 abbrev pub numbered : ℕ → ℕ → List ℕ
 numbered first zero = []
 numbered first (suc k) = numbered first k ++ (first + k) ∷ []
 
--- what a task makes that starts children 0 to k - 1 of a `start .. over`, and numbers them from one on
+-- the events of starting children 0 to k - 1 of a `start .. over`, which are numbered from the given number on
 abbrev pub starts_over : List ℕ → Here → ℕ → ℕ → ℕ → List Event
 starts_over name here t first zero = []
 starts_over name here t first (suc k) = starts_over name here t first k ++ starts (first + k) (label_over name here k) t ∷ []
 
--- What a task has not finished. It is in one of them inside the other, and its stack has a level for each scope and
+-- What a task has not finished. The frames are nested in each other, and the task's stack has a level for each scope and
 -- nursery among them.
 pub data Frame : Type 0 where
   -- the steps of a block that were not begun
@@ -61,8 +61,8 @@ pub data Frame : Type 0 where
   -- a cleanup, with the earlier outcome
   in_cleanup : (outcome : Option Exc) → Frame
 
--- The path of indices inside these frames, on the path of their task: a pass adds its number. It is read from the frames, so
--- that a frame that is left gives back the path of what is round it.
+-- The path of indices inside these frames, given the path of their task: a pass adds its number. It is computed from the
+-- frames, so when a frame is left, this is again the path of what encloses it.
 abbrev pub path_in : List Frame → List ℕ → List ℕ
 path_in [] path = path
 path_in (steps_left ss ∷ fs) path = path_in fs path
@@ -83,9 +83,9 @@ pub data Stopped : Type 0 where
   to_begin : Stopped
   -- it asked for a kernel's answer
   asking : (kernel : Kernel) → (purpose : Purpose) → Stopped
-  -- it sleeps so many ticks since this one
+  -- it sleeps this number of ticks from this tick on
   asleep : (ticks since : ℕ) → Stopped
-  -- it waits for these children of a nursery, its innermost place, whose body ended in this tick and so
+  -- it waits for these children of a nursery, its innermost one, whose body ended in this tick with this exception or none
   awaiting : (children : List ℕ) → (ended : ℕ) → (exc : Option Exc) → Stopped
   -- it ended
   at_end : (end : ℕ) → (exc : Option Exc) → Stopped
@@ -112,8 +112,8 @@ block_left kind level outer r = leaving_log kind level.label (left_with (catches
 abbrev pub with_children : List Member → Result → Result
 with_children ms r = record r { members = ms ++ r.members }
 
--- What a task comes to that has come to a result so far, and has these frames left on this stack. With no frame left
--- it signs for its home nursery, if it ends with an exception.
+-- What a task results in, given its result so far, with these frames left on this stack. If no frame is left, it signs for
+-- its home nursery if it ends with an exception.
 unfoldable pub finish : Mode → Telling → List Frame → Here → Stack → Result → Result
 finish m told [] here st r = signed st r
 finish m told (steps_left ss ∷ fs) here st r = finish m told fs here st (and_then r (λ u. walk m ss (inside fs here) st u))
@@ -132,12 +132,12 @@ finish m told (in_handler rest cleanup ∷ fs) here st r =
 finish m told (in_cleanup outcome ∷ fs) here st r =
     finish m told fs here st (with_outcome (outcome_after outcome r.exc) r)
 
--- a nursery whose body ended in tick u so, once its children have ended too
+-- a nursery whose body ended in tick u with this exception or none, after its children have ended too
 abbrev pub waited : List Member → ℕ → Option Exc → Level Label → Stack → Result
 waited ms u exc l outer = block_left a_nursery l outer (gathered l.label (record { end = u; exc = exc; members = ms; log = nil }))
 
--- What is left of a task that stopped in tick t comes to this, on its stack. An answer comes in the same tick, a sleep ends
--- when it is due or cancelled, a wait with the last child; and a task that ended has nothing left.
+-- What the rest of a task that stopped in tick t results in, on its stack. An answer comes in the same tick, a sleep ends
+-- when it is due or cancelled, a wait ends with the last child; and a task that ended has nothing left.
 abbrev pub finished_from : Mode → Telling → Stopped → List Frame → Here → Stack → ℕ → Result
 finished_from m told to_begin fs here st t = finish m told fs here st (done_at t)
 finished_from m told (asking kernel purpose) fs here st t =
@@ -148,11 +148,11 @@ finished_from m told (awaiting children u exc) fs here (l ∷ outer) t =
     finish m told fs here outer (waited (told_members told children) u exc l outer)
 finished_from m told (at_end u e) fs here st t = record { end = u; exc = e; members = []; log = nil }
 
--- what is left of a task comes to this, on its stack in tick t
+-- what the rest of a task results in, on its stack in tick t
 abbrev pub rest_comes_to : Mode → Telling → Rest → Here → Stack → ℕ → Result
 rest_comes_to m told rest here st t = finished_from m told rest.stopped rest.frames here st t
 
--- and the whole task to this, with what it made before
+-- what the whole task results in, with what it did before
 abbrev pub task_comes_to : Mode → Telling → List Event → Rest → Here → Stack → ℕ → Result
 task_comes_to m told made rest here st t =
     let r = rest_comes_to m told rest here st t in
@@ -177,7 +177,7 @@ abbrev pub frames_weight : List Frame → ℕ
 frames_weight [] = 0
 frames_weight (f ∷ fs) = frame_weight f + frames_weight fs
 
--- who asks for a count goes on to sleep
+-- a task that asks for a count continues with a sleep
 abbrev pub asking_weight : Purpose → ℕ
 asking_weight shows = 1
 asking_weight (needs name) = 1

@@ -1,4 +1,4 @@
--- The walk of a job's steps. It goes over the tree: there is no queue, no turn and no other task in it.
+-- The walk of a job's steps. It recurses over the tree: it has no queue, no turns and no other task.
 use Rattle.std.specs.Prelude.{ℕ, zero, suc, ◌+◌, ◌-◌, ◌/◌, Bool, true, false, ◌&&◌, Option, Some, None, List, [], ◌∷◌, ◌++◌, nat_le, max, if◌then◌else◌}
 use Rattle.std.specs.Str.{bytes_eq}
 use Rattle.job_tree.specs.declared.deadline.Deadline.{Deadline}
@@ -16,12 +16,12 @@ use Rattle.job_meaning.specs.Log.{Entry, line, scope_left, nursery_left, Log, ni
 abbrev pub far : ℕ
 far = 1099511627776
 
--- the scopes and nurseries round a task, innermost first
+-- the scopes and nurseries that enclose a task, innermost first
 abbrev pub Stack : Type 0
 Stack = List (Level Label)
 
 -- How a block's from is found. The meaning walks it twice: first for its earliest sign, then with the from that
--- follows. A table gives each from outright.
+-- follows. A table contains each from.
 pub data Mode : Type 0 where
   two_walks : Mode
   by_table : (table : Table) → Mode
@@ -53,12 +53,12 @@ abbrev pub then_if : Option Exc → Result → (ℕ → Result) → Result
 then_if None r go = joined r (go r.end)
 then_if (Some e) r go = r
 
--- goes on from where a walk ended well; an exception ends it
+-- continues from where a walk ended without an exception; an exception ends it
 unfoldable pub and_then : Result → (ℕ → Result) → Result
 and_then r go = then_if r.exc r go
 
--- A checkpoint at which a cancellation is seen raises `Cancelled`, each time (Trio reference: level-triggered
--- cancellation). A sleeper due in the tick of its cancellation is cancelled: this profile's own choice.
+-- A checkpoint at which a cancellation is seen raises `Cancelled`, each time (level-triggered cancellation, as in
+-- Trio). A sleeper that is due in the tick of its cancellation is cancelled: this is this language's own choice.
 abbrev pub slept : Tick → ℕ → ℕ → Result
 slept None n t = done_at (t + n)
 slept (Some from) n t =
@@ -95,7 +95,7 @@ abbrev pub label_if : Bool → Label → Option Label → Option Label
 label_if true l o = Some l
 label_if false l o = o
 
--- the label of the scope or nursery of a name that is round the task
+-- the label of the scope or nursery of this name that encloses the task
 abbrev pub label_on : List ℕ → Stack → Option Label
 label_on name [] = None
 label_on name (l ∷ ls) = label_if (bytes_eq name l.label.name) l.label (label_on name ls)
@@ -114,12 +114,12 @@ due Never t = None
 due (After n) t = Some (t + n)
 due (At n) t = Some n
 
--- what leaving a block leaves of an exception, and whether a `Cancelled` was caught
+-- the exception that remains after a block is left, and whether a `Cancelled` was caught
 pub record Left : Type 0 where
   pub caught : Bool
   pub exc : Option Exc
 
--- a block that catches takes every `Cancelled` leaf away and lets the rest go on
+-- a block that catches removes every `Cancelled` leaf and lets the rest propagate
 abbrev pub left_with : Bool → Option Exc → Left
 left_with catches None = record { caught = false; exc = None }
 left_with true (Some e) = record { caught = holds_cancelled e; exc = drop is_cancelled e }
@@ -144,7 +144,7 @@ abbrev pub exc_after : Kind → Label → ℕ → Left → Option Exc
 exc_after (a_scope fail) label t left = slow_if (fail && left.caught) label t left.exc
 exc_after a_nursery label t left = left.exc
 
--- A block that was entered in tick t is left. No child is left open: a nursery waited for its own, and a child is
+-- A block that was entered in tick t is left. No child is still open: a nursery waited for its own, and a child is
 -- started directly in a nursery.
 abbrev pub leaving : Kind → Label → ℕ → Tick → Left → Result → Result
 leaving kind label t deadline left r =
@@ -182,7 +182,7 @@ abbrev pub sign_if : Option Exc → Option Label → ℕ → Log
 sign_if None label t = nil
 sign_if (Some e) label t = sign_of label t
 
--- A member that ends with any exception cancels its nursery (Trio reference, nurseries), at the end of its own log.
+-- A member that ends with any exception cancels its nursery, at the end of its own log.
 unfoldable pub signed : Stack → Result → Result
 signed stack r = record r { log = followed_by r.log (sign_if r.exc (home_of stack) r.end) }
 
@@ -201,7 +201,7 @@ excs_of [] = []
 excs_of (m ∷ ms) = with_exc m.exc (excs_of ms)
 
 -- A nursery ends with its last member. Its exception is one group: the body's first, then the children's in the order
--- of their starts (Trio reference, nurseries: strict exception groups; the order is this profile's own choice).
+-- of their starts (strict exception groups, as in Trio; the order is this language's own choice).
 unfoldable pub gathered : Label → Result → Result
 gathered label r =
     record {
@@ -211,7 +211,7 @@ gathered label r =
       log = r.log;
     }
 
--- what a started task leaves in its starter's walk, which goes on in the same tick
+-- what a started task adds to its starter's walk, which continues in the same tick
 unfoldable pub child : Label → ℕ → Result → Result
 child label t r =
     record {
@@ -230,7 +230,8 @@ each (suc k) go t = joined (each k go t) (go k)
 abbrev pub in_pass : ℕ → Here → Here
 in_pass i here = record here { path = here.path ++ i ∷ [] }
 
--- so many passes, numbered from one on, each from where the one before it ended well
+-- the given number of passes, numbered from the given number on, each from where the one before it ended without an
+-- exception
 abbrev pub passes : ℕ → ℕ → (ℕ → ℕ → Result) → ℕ → Result
 passes first zero go t = done_at t
 passes first (suc k) go t = and_then (go first t) (λ u. passes (suc first) k go u)
@@ -263,8 +264,8 @@ abbrev pub handled_exc : Option Exc → Wanted → Result → (ℕ → Result) �
 handled_exc None wanted r go = r
 handled_exc (Some e) wanted r go = handled_if (keep wanted e) (drop wanted e) r go
 
--- `except` runs once, where some leaf matches, at the tick at which the body ended (PEP 654, `except*`; what comes of
--- a handler that raises is this profile's own choice)
+-- `except` runs once, if some leaf matches, at the tick at which the body ended (as `except*` in PEP 654; the
+-- exception that results from a handler that raises is this language's own choice)
 unfoldable pub handled : Wanted → Result → (ℕ → Result) → Result
 handled wanted r go = handled_exc r.exc wanted r go
 
@@ -275,7 +276,7 @@ outcome_after earlier_exc (Some e) = Some e
 abbrev pub cleaned_by : Result → Result → Result
 cleaned_by r q = with_outcome (outcome_after r.exc q.exc) (joined r q)
 
--- `finally` always runs; an exception of its own takes the place of the earlier one
+-- `finally` always runs; an exception of its own replaces the earlier one
 unfoldable pub cleaned : Result → (ℕ → Result) → Result
 cleaned r go = cleaned_by r (go r.end)
 

@@ -15,33 +15,33 @@ ghost use Rattle.job_meaning.specs.Laws.{
   UpgradingKeepsTheMeaning,
 };
 
-/// A cancellation that is seen at a tick is seen at every later tick, and where the tick from which a scope is
-/// cancelled is made earlier, whatever was seen is still seen.
+/// A cancellation that is seen at a tick is seen at every later tick, and if the tick from which a scope is cancelled is made
+/// earlier, whatever was seen is still seen.
 pub fn law_monotone_sight()
     ensures later { StaysSeen }
     ensures lowered { LoweringShows }
 {}
 
-/// Where a walk ends with a `Cancelled` in its exception, a cancellation is seen on its stack in that tick. A job has
-/// no scope round it, so no `Cancelled` comes out of a job.
+/// If a walk ends with an exception that holds a `Cancelled`, a cancellation is seen on its stack in that tick. No scope encloses
+/// a job, so no `Cancelled` leaves a job.
 pub fn law_root()
     ensures walks { CancelledIsSeen }
     ensures jobs { NoneReachesTheRoot }
 {}
 
-/// A cancellation changes nothing before its tick: where two stacks differ only in froms that are at least c, the walks
-/// of a block on them have the same starts, entries, entered labels, signs and ends in all ticks before c.
+/// A cancellation changes nothing before its tick: if two stacks differ only in froms that are at least c, the walks of a block
+/// on them have the same starts, entries, entered labels, signs and ends in all ticks before c.
 pub fn law_causality()
     ensures { NothingBeforeItsCause }
 {}
 
-/// The meaning walks each block twice, the first time as if no sign were made. Its table says from which tick each
-/// scope and nursery is cancelled, and one walk that reads the table comes to the same: so the table is that of its own
-/// following. Names have to be given once, as they are in each job that was read: of two scopes of one name, the
-/// first of which is cancelled, a table could not tell one from the other.
+/// The meaning walks each block twice, the first time as if no sign were made. Its table contains, for each scope and nursery,
+/// the tick from which it is cancelled, and one walk that reads the table has the same result. So the table is that of its own
+/// following. This requires that each name is given once, as in each job that was read: if two scopes had one name and only the
+/// first were cancelled, a table could not distinguish them.
 ///
-/// It is the only table of which that is so. Following whichever table is settled is the meaning, and any two settled tables
-/// agree on every label: what a design does is the only thing that fits.
+/// It is the only such table. Following any settled table is the meaning, and any two settled tables agree on every label. So an
+/// implementation that follows a settled table does exactly what the meaning says.
 pub fn law_settled_table()
     ensures follow { FollowingIsMeaning }
     ensures settled { TableIsSettled }
@@ -49,20 +49,20 @@ pub fn law_settled_table()
     ensures one { OneTableIsSettled }
 {}
 
-/// Each label of a run is given once: to one scope, one nursery or one task, the root's own included. It holds of the
-/// meaning and of following any table, where names are given once.
+/// Each label of a run is given once: to one scope, one nursery or one task, including the root. This holds for the meaning and
+/// for following any table, if each name is given once.
 pub fn law_labels()
     ensures { LabelsAreGivenOnce }
 {}
 
-/// A job and the same job in format 2 mean the same over every input: the format says how a text is read, and nothing of what
-/// the job does.
+/// A job and the same job in format 2 mean the same over every input: the format determines how a text is read, and nothing of
+/// what the job does.
 pub fn law_upgrade()
     ensures { UpgradingKeepsTheMeaning }
 {}
 
-/// Every job ends by the last tick: a task that waits forever goes on at tick two to the 40, and a job has at most a million step
-/// instances. So a run that has no other limit always ends, and its table is complete.
+/// Every job whose numbers are in their ranges ends by the last tick: `forever` sleeps until tick two to the 40, and a job has at
+/// most a million step instances. So a run that has no other limit always ends, and its table is complete.
 pub fn law_end()
     ensures { EndsByTheLastTick }
 {}

@@ -1,9 +1,9 @@
-//! What a job means: the definitions that every contract above cites, and the laws that hold of them. It does nothing
-//! at run time.
+//! What a job means: the definitions that the contracts of the layers above cite, and the laws that hold for them. It does
+//! nothing at run time.
 //!
-//! The layer promises seven laws of these definitions: monotone sight, the root, causality, the settled table, that labels
-//! are given once, that a job means the same in format 2, and a tick by which every job has ended. It stands on the definitions of
-//! the tree, the input's parts, the kernels, the exceptions and the sight.
+//! The layer promises seven laws of these definitions: monotone sight, the root, causality, the settled table, that labels are
+//! given once, that a job means the same in format 2, and a tick by which every job has ended. It uses the definitions of the
+//! tree, the input's parts, the kernels, the exceptions and the cancel scopes.
 #![tactic(auto)]
 
 mod laws;
