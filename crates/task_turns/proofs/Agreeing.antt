@@ -23,7 +23,7 @@ pub seen_alike : (t : ℕ) (table froms : Table) (ps : List Place) → AgreesOn 
     seen (stack_at table ps) t ≡ seen (stack_at froms ps) t
 seen_alike t table froms ps a = seen_near (suc t) (stack_at table ps) (stack_at froms ps) t (near_stacks t table froms ps a) (omega arith)
 
--- and the innermost place catches alike
+-- and the innermost enclosing scope or nursery catches in the same way
 pub catches_alike : (t : ℕ) (table froms : Table) (p : Place) (ps : List Place) → AgreesOn t table froms (p ∷ ps) →
     catches (table p.label) p.shield (stack_at table ps) t ≡ catches (froms p.label) p.shield (stack_at froms ps) t
 catches_alike t table froms p ps a =
@@ -32,7 +32,7 @@ catches_alike t table froms p ps a =
     both : {a b x y : Bool} → a ≡ b → x ≡ y → (a && (p.shield || not x)) ≡ (b && (p.shield || not y))
     both e f = cc
 
--- the label of a name is the same on the stack as among the places
+-- the label of a name is the same on the stack as among the enclosing scopes and nurseries
 pub label_at_places : (table : Table) (name : List ℕ) (ps : List Place) → label_on name (stack_at table ps) ≡ label_among name ps
 label_at_places table name [] = refl
 label_at_places table name (p ∷ ps) =
@@ -89,7 +89,7 @@ module _ (t : ℕ) (table : Table) where
   pub agrees_own : (froms : Table) (m : Label) (d : Tick) → upto (suc t) (table m) ≡ upto (suc t) d → SameFrom (opened froms m d) m
   agrees_own froms m d e = e ∙ ap (λ (b : Bool). upto (suc t) (opened_if b d (froms m))) (sym (same_label_itself m))
 
-  -- what holds of each label holds of each place
+  -- what holds for each label holds for each enclosing scope or nursery
   pub each_place : (f g : Table) → ((l : Label) → SameFrom f l → SameFrom g l) → (ps : List Place) → AgreesOn t table f ps →
       AgreesOn t table g ps
   each_place f g h [] a = tt

@@ -60,7 +60,7 @@ module _ (t : ℕ) (here : Here) (froms : Table) (ps : List Place) (count : ℕ)
       (onward (steps_left body ∷ in_handler (drop (named name) e) cleanup ∷ fs) ps None)
       (ap (λ (o : Option Exc). handler_if o (drop (named name) e) e body cleanup fs ps) k) p
 
-  -- and one whose name none has
+  -- and one whose name no leaf has
   pub handler_passes : (name : List ℕ) (body : Steps) (cleanup : Cleaned) (fs : List Frame) (e : Exc) →
       Placed (in_try (except name body) cleanup ∷ fs) ps → keep (named name) e ≡ None →
       Goes t here froms (with_frames (in_try (except name body) cleanup ∷ fs) (Some e)) (onward (in_try unhandled cleanup ∷ fs) ps (Some e))

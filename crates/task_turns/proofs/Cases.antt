@@ -20,7 +20,8 @@ use Rattle.task_turns.specs.Turned.{Known, labels_of, AllKnown, known_after, Mad
 use Rattle.task_turns.proofs.Events.{all_own, all_grow, known_stays, begun_append, made_append, starts_append, weight_append}
 use Rattle.std.proofs.Math.Nat.{suc-mul}
 
--- what a move from these places with this weight promises, but for what the task comes to
+-- what a move from these enclosing scopes and nurseries with this weight promises, except for the
+-- result of the task
 pub record Case (t : ℕ) (froms : Table) (weight_before : ℕ) (home ps : List Place) (count : ℕ) (o : Move) : Type 0 where
   pub placed : PlacedAfter o.stopped o.frames o.places
   pub at_home : home_after o.stopped o.frames o.places ≡ home
@@ -31,7 +32,7 @@ pub record Case (t : ℕ) (froms : Table) (weight_before : ℕ) (home ps : List 
   pub stops : StopsAt t (froms_after froms o.made) o.stopped o.places
   pub weight : weight_of_stop o.stopped + frames_weight o.frames + weight_of_begun o.begun ≤ weight_before
 
--- a label that is found among places is one of theirs
+-- a label that is found among enclosing scopes and nurseries belongs to one of them
 found_known : (name : List ℕ) (ps : List Place) (t : ℕ) → MadeAt t (labels_of ps) (signs_to (label_among name ps) t)
 found_known name ps t = by_label (label_among name ps) (found ps)
   where
@@ -55,7 +56,7 @@ found_known name ps t = by_label (label_among name ps) (found ps)
     by_label None k = tt
     by_label (Some l) k = (refl, k, tt)
 
--- the innermost place is known
+-- the innermost enclosing scope or nursery is known
 home_known : (e : Option Exc) (ps : List Place) (t : ℕ) → MadeAt t (labels_of ps) (signs_home e ps t)
 home_known None ps t = tt
 home_known (Some e) [] t = tt
@@ -76,7 +77,7 @@ still_known ps es = all_grow (labels_of ps) (known_after (labels_of ps) es) (λ 
 
 -- ---- shapes of moves
 
--- a move that goes on, and makes nothing
+-- a move that continues, and makes nothing
 pub onward_case : (t : ℕ) (froms : Table) (w : ℕ) (home : List Place) (fs : List Frame) (ps : List Place) (exc : Option Exc) (count : ℕ) →
     Placed fs ps → home_places fs ps ≡ home → frames_weight fs ≤ w → Case t froms w home ps count (onward fs ps exc)
 onward_case t froms w home fs ps exc count p h le =
@@ -209,7 +210,7 @@ weight_started more (in_try handler cleanup ∷ fs) = refl
 weight_started more (in_handler rest cleanup ∷ fs) = refl
 weight_started more (in_cleanup outcome ∷ fs) = refl
 
--- a `start .. over` begins so many children
+-- a `start .. over` begins the given number of children
 pub over_length : (name : List ℕ) (here : Here) (of : ℕ) (body : Steps) (ps : List Place) (first k : ℕ) →
     length (begun_over name here of body ps first k) ≡ k
 over_length name here of body ps first zero = refl

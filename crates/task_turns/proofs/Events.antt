@@ -1,4 +1,4 @@
--- What events that are made one after another tell, and how the froms change by them.
+-- What events that are made one after another mean, and how the froms change by them.
 use Rattle.std.proofs.Common.{◌≡◌, inl, inr, ℕ, suc, ◌+◌, List, [], ◌∷◌, ◌++◌, length, refl, sym, subst, arith}
 use Rattle.exc_groups.specs.Exceptions.{Label}
 use Rattle.job_meaning.specs.Log.{Table}
@@ -43,23 +43,23 @@ known_append (signs m t ∷ es) fs ls = known_append es fs ls
 known_append (enters m t d ∷ es) fs ls = known_append es fs (m ∷ ls)
 known_append (starts i m t ∷ es) fs ls = known_append es fs ls
 
--- each place is known where each label that was known is
+-- each enclosing scope or nursery whose label was known is known where more labels are known
 pub all_grow : (ls ms : List Label) → ((l : Label) → Known l ls → Known l ms) → (ps : List Place) → AllKnown ps ls → AllKnown ps ms
 all_grow ls ms h [] a = tt
 all_grow ls ms h (p ∷ ps) a = (h p.label a.0, all_grow ls ms h ps a.1)
 
--- places are known by their own labels
+-- enclosing scopes and nurseries are known by their own labels
 pub all_own : (ps : List Place) → AllKnown ps (labels_of ps)
 all_own [] = tt
 all_own (p ∷ ps) = (inl refl, all_grow (labels_of ps) (p.label ∷ labels_of ps) (λ l k. inr k) ps (all_own ps))
 
--- a label of places that are all known is known
+-- a label of enclosing scopes and nurseries that are all known is known
 pub place_known : (ls : List Label) (ps : List Place) → AllKnown ps ls → (l : Label) → Known l (labels_of ps) → Known l ls
 place_known ls [] a l k = absurd k
 place_known ls (p ∷ ps) a l (inl e) = subst (λ (x : Label). Known x ls) (sym e) a.0
 place_known ls (p ∷ ps) a l (inr k) = place_known ls ps a.1 l k
 
--- so is each place of each child begun
+-- so is each enclosing scope or nursery of each child begun
 pub begun_grow : (ls ms : List Label) → ((l : Label) → Known l ls → Known l ms) → (bs : List Begun) → BegunIn ls bs → BegunIn ms bs
 begun_grow ls ms h [] a = tt
 begun_grow ls ms h (b ∷ bs) a = (all_grow ls ms h b.places a.0, a.1, begun_grow ls ms h bs a.2)
@@ -142,20 +142,21 @@ known_agree t table told (enters m u d ∷ es) ls froms a b h l k = known_agree 
     grown x (inr i) = agrees_opened t table froms m d x b.0 (h x i)
 known_agree t table told (starts i m u ∷ es) ls froms a b h l k = known_agree t table told es ls froms a.1 b h l k
 
--- who agrees on places agrees on each of their labels
+-- if tables agree on enclosing scopes and nurseries, they agree on each of their labels
 pub on_places : (t : ℕ) (table froms : Table) (ps : List Place) → AgreesOn t table froms ps → (l : Label) → Known l (labels_of ps) →
     SameFrom t table froms l
 on_places t table froms [] a l k = absurd k
 on_places t table froms (p ∷ ps) a l (inl e) = subst (λ (x : Label). SameFrom t table froms x) (sym e) a.0
 on_places t table froms (p ∷ ps) a l (inr k) = on_places t table froms ps a.1 l k
 
--- and who agrees on known labels agrees on places that are known
+-- and if they agree on known labels, they agree on enclosing scopes and nurseries that are known
 pub by_known : (t : ℕ) (table froms : Table) (ls : List Label) → ((l : Label) → Known l ls → SameFrom t table froms l) → (ps : List Place) →
     AllKnown ps ls → AgreesOn t table froms ps
 by_known t table froms ls h [] a = tt
 by_known t table froms ls h (p ∷ ps) a = (h p.label a.0, by_known t table froms ls h ps a.1)
 
--- so it agrees with the froms after the events, on places that were there before or were entered
+-- so a table agrees with the froms after the events, on enclosing scopes and nurseries that were there before or
+-- were entered
 pub agrees_after : (t : ℕ) (table : Table) (told : Telling) (es : List Event) (ps qs : List Place) (froms : Table) →
     MadeAt t (labels_of ps) es → AllKnown qs (known_after (labels_of ps) es) →
     AgreesOn t table froms ps → AgreesIn t table (fill told es) → AgreesOn t table (froms_after froms es) qs

@@ -1,4 +1,4 @@
--- Each child that a task begins is in the places of a nursery of the task, which keeps it until it is settled.
+-- Each child that a task begins belongs to a nursery of the task, which keeps it until it is settled.
 use Rattle.std.proofs.Common.{◌≡◌, ◌⊎◌, inl, inr, ℕ, zero, suc, ◌+◌, ◌-◌, ◌<◌, Bool, true, false, IsTrue, Option, Some, None, List, [], ◌∷◌, ◌++◌, refl, ap, arith}
 use Rattle.job_tree.specs.Tree.{Step, sleep, checkpoint, forever, pace, find, head, longest, need, raise, cancel, scope, nursery, start, repeat, attempt, Steps, stop, step, Handled, unhandled, except, Cleaned, uncleaned, finally}
 use Rattle.job_tree.specs.Starting.{StartsIn, StartsAt}
@@ -33,7 +33,7 @@ numbered_has first i (suc k) lt = by_last (last_or_before i k lt) (λ l. numbere
     by_last (inl e) more = among_right (first + i) (numbered first k) ((first + k) ∷ []) (inl (ap (λ (n : ℕ). first + n) e))
     by_last (inr l) more = among_left (first + i) (numbered first k) ((first + k) ∷ []) (more l)
 
--- a child of a task that goes on is one of a nursery among its frames
+-- a child of a task that continues is one of a nursery among its frames
 pub has_going : (i : ℕ) (home : List Place) (fs : List Frame) (ps : List Place) → HasChildAfter i home None fs ps → HasChild i home fs ps
 has_going i home fs ps (inl e) = absurd e
 has_going i home fs ps (inr h) = h

@@ -1,4 +1,4 @@
--- Each step of a turn leaves what the task comes to as it was.
+-- Each step of a turn leaves the result of the task unchanged.
 use Rattle.std.proofs.Common.{◌≡◌, ℕ, zero, suc, ◌+◌, ◌-◌, ◌<◌, Bool, true, false, IsTrue, ◌⊎◌, inl, inr, Option, Some, None, List, [], ◌∷◌, ◌++◌, refl, ap, sym, ◌∙◌, subst, nat_lt, arith}
 use Rattle.std.proofs.lemmas.Bool.Decides.{nat_tests}
 use Rattle.job_tree.specs.Tree.{Step, sleep, checkpoint, forever, pace, find, head, longest, need, raise, cancel, scope, nursery, start, repeat, attempt, Steps, stop, step, Handled, unhandled, except, Cleaned, uncleaned, finally}
@@ -38,7 +38,7 @@ pub begun_walk : (table : Table) (t : ℕ) (b : Begun) →
     begun_comes_to table t b ≡ signed (stack_at table b.places) (walk (by_table table) b.body b.here (stack_at table b.places) t)
 begun_walk table t b = finish_begin (by_table table) none_told b.body b.here (stack_at table b.places) t
 
--- what is told of children is told of the first of them
+-- what is recorded of children is recorded of the first of them
 pub told_first : (t : ℕ) (table : Table) (told : Telling) (bs cs : List Begun) → AllTold t table told (bs ++ cs) → AllTold t table told bs
 told_first t table told [] cs h = tt
 told_first t table told (b ∷ bs) cs h = (h.0, told_first t table told bs cs h.1)
@@ -58,11 +58,11 @@ last_or_before i k lt = by_order (nat_lt i k) refl
 
 -- in a world with these froms, and by a table that agrees with them
 module _ (table froms : Table) (told : Telling) (t : ℕ) (here : Here) where
-  -- the move leaves what the task comes to as it was
+  -- the move leaves the result of the task unchanged
   abbrev pub Keeps : List Frame → List Place → Option Exc → Move → Type 0
   Keeps fs ps exc o = going_to table told here t fs ps exc ≡ behind told o.made (left_after table told here t o)
 
-  -- a step that opens no frame, by what it comes to
+  -- a step that opens no frame, by its result
   first_step : (s : Step) (ss : Steps) (fs : List Frame) (ps : List Place) (r : Result) →
       walk_step (by_table table) s (inside fs here) (stack_at table ps) t ≡ r →
       going_to table told here t (steps_left (step s ss) ∷ fs) ps None
@@ -104,7 +104,7 @@ module _ (table froms : Table) (told : Telling) (t : ℕ) (here : Here) where
       ∙ finish_after (steps_left ss ∷ fs) (fill told (signs_to (label_among name ps) t)) (by_table table) told here (stack_at table ps)
       (done_at t)
 
-  -- children of a `start .. over` at a place are told of by their numbers
+  -- children of a `start .. over` are recorded by their numbers
   over_told : (at : Here) (name : List ℕ) (of : ℕ) (body : Steps) (ps : List Place) (first k : ℕ) →
       AllTold t table told (begun_over name at of body ps first k) →
       (i : ℕ) → i < k →
@@ -279,8 +279,9 @@ module _ (table froms : Table) (told : Telling) (t : ℕ) (here : Here) where
   keeps_frames (in_cleanup outcome ∷ fs) ps exc count a w h =
       finish_cleaned fs (by_table table) told outcome here (stack_at table ps) (so_far exc t)
 
-  -- One step: for a table that agrees with the froms on the task's places, and a telling that fits the children begun,
-  -- what is left of the task comes to the events made, and then to what is left after the step.
+  -- One step: for a table that agrees with the froms of the scopes and nurseries that enclose the task, and a record
+  -- of outcomes that fits the children begun, what is left of the task results in the events made, followed by the
+  -- result of what is left after the step.
   pub step_keeps : (m : Midway) → AgreesOn t table froms m.places → Placed m.frames m.places →
       AllTold t table told (step_of froms t here m).begun →
       left_of table told here t m ≡ behind told (step_of froms t here m).made (left_after table told here t (step_of froms t here m))

@@ -1,4 +1,4 @@
--- No scope is entered that has the name of one round it: each step of a task keeps that.
+-- No scope is entered that has the name of an enclosing one: each step of a task keeps that.
 use Rattle.std.proofs.Common.{◌≡◌, inl, inr, ℕ, zero, suc, ◌+◌, Bool, true, false, Option, Some, None, List, [], ◌∷◌, ◌++◌, length, refl, subst}
 use Rattle.job_tree.specs.Tree.{Step, sleep, checkpoint, forever, pace, find, head, longest, need, raise, cancel, scope, nursery, start, repeat, attempt, Steps, stop, step, Handled, unhandled, except, Cleaned, uncleaned, finally, Tree}
 use Rattle.job_tree.specs.Names.{names_of, names_in, handled_names, cleaned_names, GivesNamesOnce}
@@ -27,7 +27,8 @@ more_round name ns round d h n i (inl e) = d (subst (λ (x : List ℕ). Among x 
 more_round name ns round d h n i (inr j) = h n i j
 
 mutual
-  -- steps that give each name once, and none of a scope round them, enter no scope that has the name of one round it
+  -- steps that give each name once, and none of an enclosing scope, enter no scope that has the name of an enclosing
+  -- one
   pub new_steps : (ss : Steps) (round : List (List ℕ)) → Distinct (names_of ss) → NoName (names_of ss) round → AreNew round ss
   new_steps stop round d h = tt
   new_steps (step s ss) round d h = (

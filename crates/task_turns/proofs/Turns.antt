@@ -1,4 +1,4 @@
--- A whole turn keeps what the task comes to, and what its steps promise.
+-- A whole turn keeps the result of the task, and what its steps promise.
 use Rattle.std.proofs.Common.{◌≡◌, inl, inr, ℕ, zero, suc, ◌+◌, Option, Some, None, List, ◌++◌, length, refl, ap, sym, ◌∙◌, subst, length-append, arith}
 use Rattle.exc_groups.specs.Exceptions.{Label}
 use Rattle.job_meaning.specs.Log.{Log, nil, entry, sign, entered, task, followed_by, Result, Table}
@@ -23,7 +23,7 @@ behind_append told es fs r =
     ap (λ (x : Log). record r { log = x }) (ap (λ (x : Log). followed_by x r.log) (fill_append told es fs)
     ∙ followed_assoc (fill told es) (fill told fs) r.log)
 
--- who agrees with a log agrees with the first part of it
+-- a table that agrees with a log agrees with the first part of it
 pub agrees_in_first : (t : ℕ) (table : Table) (a b : Log) → AgreesIn t table (followed_by a b) → AgreesIn t table a
 agrees_in_first t table nil b h = tt
 agrees_in_first t table (entry u e a) b h = agrees_in_first t table a b h

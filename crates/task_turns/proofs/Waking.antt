@@ -1,4 +1,4 @@
--- A task that wakes comes to the same as when it stopped, and so does its whole turn.
+-- A task that wakes has the same result as when it stopped, and so does its whole turn.
 use Rattle.std.proofs.Common.{◌≡◌, ℕ, ◌+◌, ◌-◌, ◌<◌, ◌≤◌, true, false, Option, Some, None, List, [], ◌∷◌, length, refl, ap, sym, ◌∙◌, subst, nat_le, arith}
 use Rattle.std.proofs.lemmas.Bool.Decides.{nat_tests}
 use Rattle.buffer_parts.specs.Lines.{Span}
@@ -35,7 +35,7 @@ slept_seen st n since t lt le e = rw e (rw late (rw soon refl))
     soon : nat_le t (since + n) ≡ true
     soon = grind (arith, nat_tests)
 
--- and another goes on when it is due
+-- and another one continues when it is due
 pub slept_due : (st : Stack) (n since : ℕ) → seen st (since + n) ≡ false → sleeping st n since ≡ done_at (since + n)
 unfolding sleeping
 slept_due st n since e = by_sight (sight st) e
@@ -61,10 +61,10 @@ lines_start : (t n : ℕ) (ls : List Span) → Starts n (lines_made t ls) []
 lines_start t n [] = tt
 lines_start t n (l ∷ ls) = lines_start t n ls
 
--- ---- what a task comes to that wakes
+-- ---- the result of a task that wakes
 
 module _ (table froms : Table) (told : Telling) (t : ℕ) (here : Here) where
-  -- lines are noted, and the task goes on in the same tick
+  -- lines are noted, and the task continues in the same tick
   wakes_lines : (ls : List Span) (fs : List Frame) (ps : List Place) →
       finish (by_table table) told fs here (stack_at table ps) (showing ls t)
       ≡ behind told (lines_made t ls) (left_after table told here t (making (lines_made t ls) fs ps))
@@ -129,7 +129,7 @@ module _ (table froms : Table) (told : Telling) (t : ℕ) (here : Here) where
 
 -- ---- what a wake makes and leaves
 
--- who asks has a weight
+-- a task that asks has a weight
 asking_weighs : (purpose : Purpose) → 1 ≤ asking_weight purpose
 asking_weighs shows = omega arith
 asking_weighs (needs name) = omega arith

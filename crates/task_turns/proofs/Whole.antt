@@ -13,8 +13,8 @@ use Rattle.task_turns.specs.Wakes.{Wake, WakesBy}
 use Rattle.task_turns.specs.Turned.{AgreesOn, AgreesAhead, AllTold, BegunIn, TurnsOver}
 use Rattle.task_turns.proofs.Turns.{behind_append}
 
--- A whole turn leaves what the task comes to as it was: with what it made before, its stop and its frames before the
--- turn, as with what it has made, its stop and its frames after it.
+-- A whole turn leaves the result of the task unchanged: what it did before, its stop and its frames before the turn
+-- have the same result as what it has done, its stop and its frames after it.
 pub turn_comes_to : (u t : ℕ) (here : Here) (froms : Table) (w : Wake) (rest : Rest) (ps : List Place) (count : ℕ) (o : Move)
     (made : List Event) (s : Stopped) →
     TurnsOver u t here froms w rest ps count o → o.stopped ≡ Some s → (table : Table) (told : Telling) →
@@ -29,7 +29,7 @@ turn_comes_to u t here froms w rest ps count o made s x e table told g a b h =
     ∙ (sym (behind_append told made o.made (left_after table told here t o))
     ∙ ap (λ (z : Option Stopped). behind told (made ++ o.made) (stop_comes_to z table told here t o.frames o.places o.exc)) e)
 
--- a task that was started, and whose block is no nursery's body, may begin in any places
+-- a task that was started, and whose block is no nursery's body, may begin inside any scopes and nurseries
 pub start_placed : (body : Steps) (ps : List Place) → StartsIn false body →
     PlacedStop (rest_at_start body).stopped (rest_at_start body).frames ps
 start_placed body ps h = (h, tt)
@@ -39,12 +39,13 @@ abbrev pub AllPlaced : List Begun → Type 0
 AllPlaced [] = Unit {0}
 AllPlaced (b ∷ bs) = PlacedStop to_begin (steps_left b.body ∷ []) b.places × AllPlaced bs
 
--- each child that is begun in known places may begin
+-- each child that is begun inside known scopes and nurseries may begin
 pub begun_placed : (ls : List Label) (bs : List Begun) → BegunIn ls bs → AllPlaced bs
 begun_placed ls [] a = tt
 begun_placed ls (b ∷ bs) a = ((a.1, tt), begun_placed ls bs a.2)
 
--- what a child comes to, before it began: the same by each telling, and what its block's walk comes to
+-- the result of a child, before it began: the same whatever is recorded of the children, and the result of its
+-- block's walk
 pub begun_fate : (table : Table) (told : Telling) (t : ℕ) (b : Begun) →
     task_comes_to (by_table table) told [] (rest_at_start b.body) b.here (stack_at table b.places) t ≡ begun_comes_to table t b
 begun_fate table told t b =

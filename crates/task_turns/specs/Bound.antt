@@ -3,7 +3,8 @@ use Rattle.std.specs.Prelude.{ℕ, ◌+◌, ◌*◌, List, [], ◌∷◌}
 use Rattle.job_tree.specs.Tree.{Step, sleep, checkpoint, forever, pace, find, head, longest, need, raise, cancel, scope, nursery, start, repeat, attempt, Steps, stop, step, Handled, unhandled, except, Cleaned, uncleaned, finally}
 use Rattle.job_meaning.specs.Rest.{Frame, steps_left, in_scope, in_nursery, in_repeat, in_try, in_handler, in_cleanup}
 
--- steps of a turn, for the steps of a block, and for its end; children take their own turns
+-- the maximum number of steps of a turn for the steps of a block, and for its end; children take
+-- their own turns
 abbrev mutual
   pub turn_length : Steps → ℕ
   turn_length stop = 1

@@ -32,8 +32,8 @@ EachTurnStops =
     frames_length (wake_of froms t here w rest.stopped rest.frames ps).frames < n →
     IsSome (turn_from n froms t here w rest.stopped rest.frames ps count).stopped
 
--- A turn that keeps the promise leaves what the task comes to as it was: with what it made before, its stop and its frames
--- before the turn, as with what it has made, its stop and its frames after it.
+-- A turn that keeps the promise leaves the result of the task unchanged: what it did before, its stop and its frames
+-- before the turn have the same result as what it has done, its stop and its frames after it.
 abbrev pub TaskComesToTheSame : Type 0
 TaskComesToTheSame =
     (u t : ℕ) (here : Here) (froms : Table) (w : Wake) (rest : Rest) (ps : List Place) (count : ℕ) (o : Move) (made : List Event)
@@ -46,23 +46,23 @@ TaskComesToTheSame =
     task_comes_to (by_table table) told made rest here (stack_at table ps) u
     ≡ task_comes_to (by_table table) told (made ++ o.made) (record { stopped = s; frames = o.frames }) here (stack_at table o.places) t
 
--- a from is lowered by just the signs made for its label, where the label was not entered
+-- the from of a label that was not entered is lowered by exactly the signs made for it
 abbrev pub FromsAreLowered : Type 0
 FromsAreLowered = (es : List Event) (froms : Table) (l : Label) → (EntersIn l es → ⊥) →
     froms_after froms es l ≡ from_by (froms l) (made_sign l es)
 
--- and that of a label that was entered once, and was none of those before, from its deadline
+-- and that of a label that was entered once, and was none of those before, starts as its deadline
 abbrev pub FromsAreOpened : Type 0
 FromsAreOpened =
     (t : ℕ) (es : List Event) (ls : List Label) (froms : Table) (l : Label) (d : Tick) → MadeAt t ls es → (Known l ls → ⊥) →
     EntersOnceWith l d es →
     froms_after froms es l ≡ from_by d (made_sign l es)
 
--- in a job whose names are given once, none is the name of a scope round it
+-- in a job whose names are given once, none is the name of an enclosing scope
 abbrev pub JobsBeginNew : Type 0
 JobsBeginNew = (job : Tree) → GivesNamesOnce job → NewIn (steps_left job.steps ∷ []) []
 
--- and each step and each turn keep that, so that the scopes round a task have labels of their own
+-- and each step and each turn keep that, so the scopes that enclose a task have different labels
 abbrev pub EachStepStaysNew : Type 0
 EachStepStaysNew = (froms : Table) (t : ℕ) (here : Here) (m : Midway) → NewIn m.frames m.places → OwnNames (names_at m.places) →
     StaysNew (step_of froms t here m)

@@ -1,4 +1,4 @@
--- Names of scopes and nurseries that are round one another.
+-- Names of nested scopes and nurseries.
 use Rattle.std.specs.Prelude.{◌≡◌, ◌⊎◌, ℕ, List, [], ◌∷◌}
 use Rattle.job_tree.specs.Tree.{Step, sleep, checkpoint, forever, pace, find, head, longest, need, raise, cancel, scope, nursery, start, repeat, attempt, Steps, stop, step, Handled, unhandled, except, Cleaned, uncleaned, finally}
 use Rattle.job_meaning.specs.Rest.{Frame, steps_left, in_scope, in_nursery, in_repeat, in_try, in_handler, in_cleanup}
@@ -10,17 +10,17 @@ abbrev pub IsName : List ℕ → List (List ℕ) → Type 0
 IsName name [] = ⊥
 IsName name (n ∷ ns) = (name ≡ n) ⊎ IsName name ns
 
--- the names of places
+-- the names of enclosing scopes and nurseries
 abbrev pub names_at : List Place → List (List ℕ)
 names_at [] = []
 names_at (p ∷ ps) = p.label.name ∷ names_at ps
 
--- each place has another name than those round it
+-- each enclosing scope or nursery has a name that differs from those that enclose it
 abbrev pub OwnNames : List (List ℕ) → Type 0
 OwnNames [] = Unit {0}
 OwnNames (n ∷ ns) = (IsName n ns → ⊥) × OwnNames ns
 
--- steps inside scopes of these names, none of which enters one of a name that is round it
+-- steps inside scopes of these names, none of which enters a scope with the name of an enclosing one
 abbrev mutual
   pub AreNew : List (List ℕ) → Steps → Type 0
   AreNew round stop = Unit {0}
@@ -51,7 +51,7 @@ abbrev mutual
   IsNewCleanup round uncleaned = Unit {0}
   IsNewCleanup round (finally body) = AreNew round body
 
--- the same of the frames of a task in these places
+-- the same for the frames of a task with these enclosing scopes and nurseries
 abbrev pub NewIn : List Frame → List Place → Type 0
 NewIn [] ps = Unit {0}
 NewIn (steps_left ss ∷ fs) ps = AreNew (names_at ps) ss × NewIn fs ps
@@ -64,12 +64,12 @@ NewIn (in_try handler cleanup ∷ fs) ps = IsNewHandler (names_at ps) handler ×
 NewIn (in_handler rest cleanup ∷ fs) ps = IsNewCleanup (names_at ps) cleanup × NewIn fs ps
 NewIn (in_cleanup outcome ∷ fs) ps = NewIn fs ps
 
--- and of each child begun
+-- and for each child begun
 abbrev pub AllNew : List Begun → Type 0
 AllNew [] = Unit {0}
 AllNew (b ∷ bs) = AreNew (names_at b.places) b.body × OwnNames (names_at b.places) × AllNew bs
 
--- What is kept by a move: no scope is entered that has the name of one round it, by the task and by the children begun.
+-- What a move keeps: no scope is entered that has the name of an enclosing one, by the task and by the children begun.
 pub record StaysNew (o : Move) : Type 0 where
   pub frames : NewIn o.frames (places_behind o.stopped o.places)
   pub own : OwnNames (names_at o.places)

@@ -1,4 +1,4 @@
--- Which frames a task may have in its places, and which children its nurseries have.
+-- Which frames a task may have inside its enclosing scopes and nurseries, and which children its nurseries have.
 use Rattle.std.specs.Prelude.{◌≡◌, ◌⊎◌, ℕ, ◌<◌, Bool, true, false, Option, Some, None, List, [], ◌∷◌}
 use Rattle.job_tree.specs.Starting.{StartsIn, HandlerStarts, CleanupStarts}
 use Rattle.job_meaning.specs.Asking.{Suits}
@@ -16,8 +16,8 @@ in_body (in_try handler cleanup ∷ fs) = false
 in_body (in_handler rest cleanup ∷ fs) = false
 in_body (in_cleanup outcome ∷ fs) = false
 
--- Frames of a task in these places: each scope and nursery among them has its place, and each `start` left stands
--- directly in a nursery.
+-- Frames of a task with these enclosing scopes and nurseries: each scope and nursery among the frames is one of
+-- these, and each `start` that is left is directly in a nursery.
 abbrev pub Placed : List Frame → List Place → Type 0
 Placed [] ps = Unit {0}
 Placed (steps_left ss ∷ fs) ps = StartsIn (in_body fs) ss × Placed fs ps
@@ -30,8 +30,8 @@ Placed (in_try handler cleanup ∷ fs) ps = HandlerStarts handler × CleanupStar
 Placed (in_handler rest cleanup ∷ fs) ps = CleanupStarts cleanup × Placed fs ps
 Placed (in_cleanup outcome ∷ fs) ps = Placed fs ps
 
--- A stop, and the frames and places of the task: a kernel was asked for what it answers, who waits does so for its
--- innermost place, and who ended has no frame left.
+-- A stop, and the frames and enclosing scopes and nurseries of the task: a kernel was asked for a purpose that suits
+-- it, a task that waits does so for its innermost nursery, and a task that ended has no frame left.
 abbrev pub PlacedStop : Stopped → List Frame → List Place → Type 0
 PlacedStop to_begin fs ps = Placed fs ps
 PlacedStop (asking kernel purpose) fs ps = Suits kernel purpose × Placed fs ps
@@ -45,7 +45,8 @@ abbrev pub PlacedAfter : Option Stopped → List Frame → List Place → Type 0
 PlacedAfter None fs ps = Placed fs ps
 PlacedAfter (Some s) fs ps = PlacedStop s fs ps
 
--- the places behind the nursery that a task waits for, and all places of one that does not wait
+-- the scopes and nurseries that enclose the nursery that a task waits for, and all that enclose a task that does not
+-- wait
 abbrev pub places_behind : Option Stopped → List Place → List Place
 places_behind None ps = ps
 places_behind (Some to_begin) ps = ps
@@ -55,7 +56,7 @@ places_behind (Some (awaiting children ended exc)) [] = []
 places_behind (Some (awaiting children ended exc)) (p ∷ ps) = ps
 places_behind (Some (at_end u e)) ps = ps
 
--- the places of a task behind those of its own frames: its home's
+-- the scopes and nurseries that enclose a task and are not those of its own frames: those of its home
 abbrev pub home_places : List Frame → List Place → List Place
 home_places [] ps = ps
 home_places (steps_left ss ∷ fs) ps = home_places fs ps
@@ -68,7 +69,7 @@ home_places (in_try handler cleanup ∷ fs) ps = home_places fs ps
 home_places (in_handler rest cleanup ∷ fs) ps = home_places fs ps
 home_places (in_cleanup outcome ∷ fs) ps = home_places fs ps
 
--- and of a task that stopped, or did not
+-- and for a task that stopped, or did not
 abbrev pub home_after : Option Stopped → List Frame → List Place → List Place
 home_after s fs ps = home_places fs (places_behind s ps)
 
@@ -88,7 +89,7 @@ KidsBelow n (in_try handler cleanup ∷ fs) = KidsBelow n fs
 KidsBelow n (in_handler rest cleanup ∷ fs) = KidsBelow n fs
 KidsBelow n (in_cleanup outcome ∷ fs) = KidsBelow n fs
 
--- and those that are waited for
+-- and those of the nursery that the task waits for
 abbrev pub KidsAfter : ℕ → Option Stopped → List Frame → Type 0
 KidsAfter n None fs = KidsBelow n fs
 KidsAfter n (Some to_begin) fs = KidsBelow n fs
@@ -102,7 +103,7 @@ abbrev pub IsAmong : ℕ → List ℕ → Type 0
 IsAmong i [] = ⊥
 IsAmong i (j ∷ js) = (i ≡ j) ⊎ IsAmong i js
 
--- A nursery among the frames has this child, and these places are the nursery's and those round it: the child's home.
+-- A nursery among the frames has this child, and these are the nursery and those that enclose it: the child's home.
 abbrev pub HasChild : ℕ → List Place → List Frame → List Place → Type 0
 HasChild i home [] ps = ⊥
 HasChild i home (steps_left ss ∷ fs) ps = HasChild i home fs ps
@@ -115,7 +116,7 @@ HasChild i home (in_try handler cleanup ∷ fs) ps = HasChild i home fs ps
 HasChild i home (in_handler rest cleanup ∷ fs) ps = HasChild i home fs ps
 HasChild i home (in_cleanup outcome ∷ fs) ps = HasChild i home fs ps
 
--- the same of a nursery that is waited for
+-- the same for a nursery that the task waits for
 abbrev pub WaitsFor : ℕ → List Place → Option Stopped → List Place → Type 0
 WaitsFor i home None ps = ⊥
 WaitsFor i home (Some to_begin) ps = ⊥
@@ -125,11 +126,11 @@ WaitsFor i home (Some (awaiting children ended exc)) [] = ⊥
 WaitsFor i home (Some (awaiting children ended exc)) (p ∷ ps) = IsAmong i children × (home ≡ p ∷ ps)
 WaitsFor i home (Some (at_end u e)) ps = ⊥
 
--- and of any nursery of a task
+-- and for any nursery of a task
 abbrev pub HasChildAfter : ℕ → List Place → Option Stopped → List Frame → List Place → Type 0
 HasChildAfter i home s fs ps = WaitsFor i home s ps ⊎ HasChild i home fs (places_behind s ps)
 
--- each child begun has its nursery at the task, and is in its places
+-- each child begun belongs to a nursery of the task, and is enclosed by that nursery and those that enclose it
 abbrev pub AllHoused : List Begun → Option Stopped → List Frame → List Place → Type 0
 AllHoused [] s fs ps = Unit {0}
 AllHoused (b ∷ bs) s fs ps = HasChildAfter b.number b.places s fs ps × AllHoused bs s fs ps

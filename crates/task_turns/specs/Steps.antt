@@ -41,7 +41,7 @@ froms_after froms (starts i l t ∷ es) = froms_after froms es
 
 -- ---- what a step does
 
--- the task goes on, with these frames and this outcome so far
+-- the task continues, with these frames and this outcome so far
 abbrev pub onward : List Frame → List Place → Option Exc → Move
 onward fs ps exc = record { frames = fs; places = ps; exc = exc; made = []; begun = []; stopped = None }
 
@@ -49,11 +49,11 @@ onward fs ps exc = record { frames = fs; places = ps; exc = exc; made = []; begu
 abbrev pub halts : Stopped → List Frame → List Place → Move
 halts s fs ps = record { frames = fs; places = ps; exc = None; made = []; begun = []; stopped = Some s }
 
--- the task makes these events and goes on, with nothing raised
+-- the task makes these events and continues, with nothing raised
 abbrev pub making : List Event → List Frame → List Place → Move
 making es fs ps = record { frames = fs; places = ps; exc = None; made = es; begun = []; stopped = None }
 
--- A sleep is a checkpoint: where a cancellation is seen now it raises at once. A sleep of no tick goes on.
+-- A sleep is a checkpoint: if a cancellation is seen now, it raises at once. A sleep of no tick continues.
 abbrev pub falls_asleep : (seen_now : Bool) → ℕ → ℕ → List Frame → List Place → Move
 falls_asleep true n t fs ps = onward fs ps (Some cancelled)
 falls_asleep false zero t fs ps = onward fs ps None
@@ -62,7 +62,7 @@ falls_asleep false (suc n) t fs ps = halts (asleep (suc n) t) fs ps
 abbrev pub sleeps : Table → ℕ → ℕ → List Frame → List Place → Move
 sleeps froms n t fs ps = falls_asleep (seen (stack_at froms ps) t) n t fs ps
 
--- the label of the scope or nursery of a name that is round the task
+-- the label of the scope or nursery of this name that encloses the task
 abbrev pub label_among : List ℕ → List Place → Option Label
 label_among name [] = None
 label_among name (p ∷ ps) = label_if (bytes_eq name p.label.name) p.label (label_among name ps)
@@ -71,8 +71,8 @@ abbrev pub signs_to : Option Label → ℕ → List Event
 signs_to None t = []
 signs_to (Some l) t = signs l t ∷ []
 
--- who ends with an exception signs for the innermost place: a nursery's body for its own nursery, and a task, which has
--- left all its own places, for its home nursery
+-- a task or body that ends with an exception signs for the innermost enclosing nursery: a nursery's body for its own
+-- nursery, and a task, which has left all its own scopes and nurseries, for its home nursery
 abbrev pub signs_home : Option Exc → List Place → ℕ → List Event
 signs_home None ps t = []
 signs_home (Some e) [] t = []
@@ -87,7 +87,7 @@ with_started more fs = fs
 abbrev pub begun_one : ℕ → Here → Steps → List Place → Begun
 begun_one i here body ps = record { number = i; here = here; places = ps; body = body }
 
--- children 0 to k - 1 of a `start .. over` of `of` cuts, numbered from first on
+-- children 0 to k - 1 of a `start .. over` of `of` cuts, numbered from `first` on
 abbrev pub begun_over : List ℕ → Here → ℕ → Steps → List Place → ℕ → ℕ → List Begun
 begun_over name here of body ps first zero = []
 begun_over name here of body ps first (suc k) =
@@ -99,12 +99,12 @@ abbrev pub enters_block : Label → Bool → Tick → ℕ → Steps → Frame �
 enters_block label shield deadline t body exit fs ps =
     making (enters label t deadline ∷ []) (steps_left body ∷ exit ∷ fs) (record { label = label; shield = shield } ∷ ps)
 
--- the first pass of a `repeat`, if it has one, in front of what comes after it
+-- the first pass of a `repeat`, if it has one, before what comes after it
 abbrev pub begins_passes : ℕ → Steps → List Frame → List Place → Move
 begins_passes zero body fs ps = onward fs ps None
 begins_passes (suc k) body fs ps = onward (steps_left body ∷ in_repeat 0 k body ∷ fs) ps None
 
--- One step of a block, at this place of the job, with nothing raised; the steps ss of the block come after it, and the
+-- One step of a block, at this point of the job, with nothing raised; the steps ss of the block come after it, and the
 -- frames fs after them.
 abbrev pub step_on : Table → ℕ → Here → Step → Steps → List Frame → List Place → ℕ → Move
 step_on froms t here (sleep n) ss fs ps count = sleeps froms n t (steps_left ss ∷ fs) ps
@@ -162,25 +162,25 @@ leaves froms t kind fs p ps exc =
       stopped = None;
     }
 
--- a handler runs where the exception has leaves of its name
+-- a handler runs if the exception has leaves of its name
 abbrev pub handler_if : Option Exc → Option Exc → Exc → Steps → Cleaned → List Frame → List Place → Move
 handler_if None rest e body cleanup fs ps = onward (in_try unhandled cleanup ∷ fs) ps (Some e)
 handler_if (Some matched) rest e body cleanup fs ps = onward (steps_left body ∷ in_handler rest cleanup ∷ fs) ps None
 
--- the body of a `try` has ended: its handler, or its cleanup, or what is behind it
+-- the body of a `try` has ended: its handler, or its cleanup, or what comes after it
 abbrev pub step_try : Handled → Cleaned → List Frame → List Place → Option Exc → Move
 step_try unhandled uncleaned fs ps exc = onward fs ps exc
 step_try unhandled (finally body) fs ps exc = onward (steps_left body ∷ in_cleanup exc ∷ fs) ps None
 step_try (except name body) cleanup fs ps None = onward (in_try unhandled cleanup ∷ fs) ps None
 step_try (except name body) cleanup fs ps (Some e) = handler_if (keep (named name) e) (drop (named name) e) e body cleanup fs ps
 
--- a pass has ended: the next one begins, if it ended well and there is one
+-- a pass has ended: the next one begins, if it ended without an exception and there is one
 abbrev pub step_pass : ℕ → ℕ → Steps → List Frame → List Place → Option Exc → Move
 step_pass pass left body fs ps (Some e) = onward fs ps (Some e)
 step_pass pass zero body fs ps None = onward fs ps None
 step_pass pass (suc k) body fs ps None = onward (steps_left body ∷ in_repeat (suc pass) k body ∷ fs) ps None
 
--- who stops after this outcome, with the sign of one who failed as the last event
+-- a task that stops after this outcome: its last event is its sign, if it failed
 abbrev pub ends_as : Stopped → Option Exc → ℕ → List Frame → List Place → Move
 ends_as s exc t fs ps = record { frames = fs; places = ps; exc = None; made = signs_home exc ps t; begun = []; stopped = Some s }
 
@@ -201,7 +201,7 @@ step_frames froms t here (in_cleanup outcome ∷ fs) ps exc count = onward fs ps
 unfoldable pub step_of : Table → ℕ → Here → Midway → Move
 step_of froms t here m = step_frames froms t here m.frames m.places m.exc m.count
 
--- a turn: steps until the task stops, at most so many; each reads the froms that the steps before it left
+-- a turn: steps until the task stops, at most the given number; each reads the froms that the steps before it left
 unfoldable pub turn_of : ℕ → Table → ℕ → Here → Midway → Move
 turn_of zero froms t here m = unmoved m
 turn_of (suc n) froms t here m =

@@ -1,4 +1,4 @@
--- What a turn promises of a task: it comes to the same as before, and what it made, began and left.
+-- What a turn promises of a task: its result is the same as before, and what it did, began and left.
 use Rattle.std.specs.Prelude.{◌≡◌, ◌⊎◌, ℕ, suc, ◌+◌, ◌<◌, false, Option, Some, None, List, [], ◌∷◌, length}
 use Rattle.exc_groups.specs.Exceptions.{Label}
 use Rattle.cancel_scopes.specs.Sight.{Tick, earlier, seen}
@@ -12,14 +12,14 @@ use Rattle.task_turns.specs.Placed.{PlacedAfter, places_behind, home_after, Kids
 use Rattle.task_turns.specs.Wakes.{Wake, WakesBy}
 use Rattle.task_turns.specs.Steps.{froms_after}
 
--- ---- what a table is asked
+-- ---- what is required of a table
 
--- a table agrees with froms at tick t on these places: each from is the same, or both are still to come
+-- a table agrees with froms at tick t on these enclosing scopes and nurseries: each from is the same, or both are later than t
 abbrev pub AgreesOn : ℕ → Table → Table → List Place → Type 0
 AgreesOn t table froms [] = Unit {0}
 AgreesOn t table froms (p ∷ ps) = (upto (suc t) (table p.label) ≡ upto (suc t) (froms p.label)) × AgreesOn t table froms ps
 
--- a table agrees at tick t with the deadline of each label that a task itself enters, by its log
+-- a table agrees at tick t with the deadline of each label that a task itself enters, according to its log
 abbrev pub AgreesIn : ℕ → Table → Log → Type 0
 AgreesIn t table nil = Unit {0}
 AgreesIn t table (entry u e rest) = AgreesIn t table rest
@@ -27,12 +27,12 @@ AgreesIn t table (sign l u rest) = AgreesIn t table rest
 AgreesIn t table (entered l u d rest) = (upto (suc t) (table l) ≡ upto (suc t) d) × AgreesIn t table rest
 AgreesIn t table (task l s u e own rest) = AgreesIn t table rest
 
--- A table agrees at tick t with the deadlines of these labels that a move enters; or with those of all labels that the task enters
--- on its way from before the move, which is known of a table that is settled, before it is known what the move enters.
+-- A table agrees at tick t with the deadlines of these labels that a move enters; or with those of all labels that the task
+-- enters from before the move on, which is known for a settled table before it is known what the move enters.
 abbrev pub AgreesAhead : ℕ → Table → Log → Log → Type 0
 AgreesAhead t table made ahead = AgreesIn t table made ⊎ AgreesIn t table ahead
 
--- what is told of each child begun in tick t is what following the table from its start gives
+-- what is recorded of each child begun in tick t is the result of following the table from its start
 abbrev pub AllTold : ℕ → Table → Telling → List Begun → Type 0
 AllTold t table told [] = Unit {0}
 AllTold t table told (b ∷ bs) = (told b.number ≡ begun_comes_to table t b) × AllTold t table told bs
@@ -44,12 +44,12 @@ abbrev pub Known : Label → List Label → Type 0
 Known l [] = ⊥
 Known l (m ∷ ms) = (l ≡ m) ⊎ Known l ms
 
--- the labels of places
+-- the labels of enclosing scopes and nurseries
 abbrev pub labels_of : List Place → List Label
 labels_of [] = []
 labels_of (p ∷ ps) = p.label ∷ labels_of ps
 
--- each place has a label among these
+-- each enclosing scope or nursery has a label among these
 abbrev pub AllKnown : List Place → List Label → Type 0
 AllKnown [] ls = Unit {0}
 AllKnown (p ∷ ps) ls = Known p.label ls × AllKnown ps ls
@@ -62,7 +62,8 @@ known_after ls (signs l t ∷ es) = known_after ls es
 known_after ls (enters l t d ∷ es) = known_after (l ∷ ls) es
 known_after ls (starts i l t ∷ es) = known_after ls es
 
--- each event is at tick t, and each sign is for a label that was known then: of a place before, or entered since
+-- each event is at tick t, and each sign is for a label that was known then: of a scope or nursery that enclosed the task before,
+-- or that was entered since
 abbrev pub MadeAt : ℕ → List Label → List Event → Type 0
 MadeAt t ls [] = Unit {0}
 MadeAt t ls (noted u e ∷ es) = (u ≡ t) × MadeAt t ls es
@@ -70,7 +71,7 @@ MadeAt t ls (signs l u ∷ es) = (u ≡ t) × Known l ls × MadeAt t ls es
 MadeAt t ls (enters l u d ∷ es) = (u ≡ t) × MadeAt t (l ∷ ls) es
 MadeAt t ls (starts i l u ∷ es) = (u ≡ t) × MadeAt t ls es
 
--- the children begun are those of the starts among the events, in order, and numbered on from n
+-- the children begun are those of the starts among the events, in order, and numbered consecutively from n
 abbrev pub Starts : ℕ → List Event → List Begun → Type 0
 Starts n [] [] = Unit {0}
 Starts n [] (b ∷ bs) = ⊥
@@ -80,7 +81,7 @@ Starts n (enters l t d ∷ es) bs = Starts n es bs
 Starts n (starts i l t ∷ es) [] = ⊥
 Starts n (starts i l t ∷ es) (b ∷ bs) = (i ≡ n) × (b.number ≡ n) × (l ≡ b.here.task) × Starts (suc n) es bs
 
--- each child is in places with labels among these, and its own block is no nursery's body
+-- each child is enclosed by scopes and nurseries with labels among these, and its own block is no nursery's body
 abbrev pub BegunIn : List Label → List Begun → Type 0
 BegunIn ls [] = Unit {0}
 BegunIn ls (b ∷ bs) = AllKnown b.places ls × StartsIn false b.body × BegunIn ls bs
@@ -116,7 +117,7 @@ IsSome None = ⊥
 IsSome (Some x) = Unit {0}
 
 -- How a task stops in tick t, with these froms after the turn: a sleep begins now, with nothing seen now and a due tick after
--- now; a body that waits, and a task that ended, did so now.
+-- now; for a body that waits, and for a task that ended, the end is now.
 abbrev pub StopsAt : ℕ → Table → Option Stopped → List Place → Type 0
 StopsAt t froms None ps = Unit {0}
 StopsAt t froms (Some to_begin) ps = ⊥
@@ -137,40 +138,42 @@ weight_of_begun (b ∷ bs) = rest_weight (rest_at_start b.body) + weight_of_begu
 
 -- ---- the promise
 
--- What is promised of a move at tick t, in a world with these froms: of one step, of several, or of a whole turn with the
--- wake before it. The task had stopped there, or not; it had these frames, was in these places and had started so many
--- children. Given says what is asked of a table and a telling beside the rest, and before what was left of the task by
--- them.
+-- What is promised of a move at tick t, in a world with these froms: of one step, of several, or of a whole turn with the wake
+-- before it. The task had stopped there, or not; it had these frames and these enclosing scopes and nurseries, and had started
+-- `count` children. `Given` is what else is required of a table and what is recorded of the children, and `before` is the result
+-- of what was left of the task by them.
 pub record Turned
     (t : ℕ) (here : Here) (froms : Table) (Given : Table → Telling → Type 0) (before : Table → Telling → Result) (bound : ℕ)
     (stop_before : Option Stopped) (frames_before : List Frame) (places_before : List Place) (count : ℕ) (o : Move) : Type 0
   where
-    -- For each table that agrees at t with the froms on the task's places, and with the deadlines of what the move enters, and
-    -- each telling that fits the children begun: what was left comes to the events made, and then to what is left after the
-    -- move. That asks no more of the table than to agree at t with the froms after the move: a sign made at t acts from t + 1 on.
+    -- For each table that agrees at t with the froms of the scopes and nurseries that enclose the task, and with the deadlines of
+    -- what the move enters, and each record of outcomes that fits the children begun: what was left results in the events made,
+    -- followed by the result of what is left after the move. Of the table this requires only that it agrees at t with the froms
+    -- after the move: a sign made at t takes effect from t + 1 on.
     pub keeps :
         (table : Table) (told : Telling) → Given table told → AgreesOn t table froms places_before →
         AgreesAhead t table (fill told o.made) (before table told).log →
         AllTold t table told o.begun → before table told ≡ behind told o.made (left_after table told here t o)
-    -- the frames that are left fit the places
+    -- the frames that are left fit the enclosing scopes and nurseries
     pub placed : PlacedAfter o.stopped o.frames o.places
-    -- behind the places of the task's own frames are those of its home, as before
+    -- outside the scopes and nurseries of the task's own frames are those of its home, as before
     pub at_home : home_after o.stopped o.frames o.places ≡ home_after stop_before frames_before places_before
     -- the numbers of children in its nurseries stay below the count
     pub kids : KidsAfter count stop_before frames_before → KidsAfter (count + length o.begun) o.stopped o.frames
-    -- each child begun is in the places of a nursery of the task, which has it
+    -- each child begun belongs to a nursery of the task, and is enclosed by it and those that enclose it
     pub housed : AllHoused o.begun o.stopped o.frames o.places
     -- and each child of a nursery whose body had not ended stays in it
     pub stays :
         (i : ℕ) (home : List Place) → HasChild i home frames_before (places_behind stop_before places_before) →
         HasChildAfter i home o.stopped o.frames o.places
-    -- each event is made now, and signs are for labels round the task
+    -- each event is made now, and signs are for labels of scopes and nurseries that enclose the task
     pub made_now : MadeAt t (labels_of places_before) o.made
-    -- each place was one before, or was entered on the way
+    -- each scope or nursery that encloses the task did so before, or was entered on the way
     pub places : AllKnown o.places (known_after (labels_of places_before) o.made)
-    -- the children begun are the starts made, in order, numbered on from those before
+    -- the children begun are the starts made, in order, numbered after those before
     pub starts : Starts count o.made o.begun
-    -- each is in places that its starter was in or entered on the way, and no nursery's body
+    -- each is enclosed by scopes and nurseries that enclosed its starter or were entered on the way, and its block is no
+    -- nursery's body
     pub begun_in : BegunIn (known_after (labels_of places_before) o.made) o.begun
     -- how the task stopped
     pub stops : StopsAt t (froms_after froms o.made) o.stopped o.places

@@ -20,7 +20,7 @@ main_at input = record { input = input; part = record { from = 0; to = length in
 abbrev pub never : Table
 never l = None
 
--- a place that no shield is at
+-- an enclosing scope or nursery without a shield
 abbrev pub place : List ℕ → Place
 place name = record { label = label_named name; shield = false }
 
@@ -59,7 +59,8 @@ pub body_fails :
 unfolding first_turn
 body_fails = refl
 
--- and once the child ended in tick 1, cancelled, `main` leaves the nursery, which catches what was cancelled, and ends
+-- and when the child has ended in tick 1, cancelled, `main` leaves the nursery, which catches what was cancelled, and
+-- ends
 pub nursery_settles :
     later_turn (λ l. Some 1) 1 [] (settles (Some (group_by (codes "n") (raised_by (codes "E") (codes "main") 0 ∷ cancelled ∷ []))))
     (awaiting (0 ∷ []) 0 (Some (raised_by (codes "E") (codes "main") 0))) (steps_left stop ∷ []) (place (codes "n") ∷ [])
@@ -88,7 +89,7 @@ pub cancel_then_sleep :
 unfolding first_turn
 cancel_then_sleep = refl
 
--- scope s after 0 { checkpoint; } find "a";: the checkpoint raises, the scope catches, and the kernel is asked for
+-- scope s after 0 { checkpoint; } find "a";: the checkpoint raises, the scope catches, and a kernel is asked
 pub caught_then_asks :
     first_turn (timed_scope (codes "s") 0 (checkpoint ∷ []) ∷ find (codes "a") ∷ [])
     ≡ record {
@@ -139,9 +140,9 @@ pub pace_sleeps :
 unfolding later_turn
 pace_sleeps = refl
 
--- ---- a fate, before a turn and after it
+-- ---- the result of a task, before a turn and after it
 
--- what `main` comes to by a table in which each label is cancelled from tick 1 on, with nothing told
+-- the result of `main` by a table in which each label is cancelled from tick 1 on, with nothing recorded of children
 unfoldable pub fate_of : List Event → Rest → List Place → Result
 unfolding finish walk and_then sleeping showing needing cancelling block signed gathered child handled cleaned
 fate_of made rest ps = task_comes_to (by_table (λ l. Some 1)) none_told made rest (main_at []) (stack_at (λ l. Some 1) ps) 0
