@@ -1,4 +1,4 @@
--- Blocks are read again from their tokens.
+-- Blocks are read back from their tokens.
 use Rattle.std.proofs.Common.{◌≡◌, ℕ, zero, suc, ◌+◌, ◌-◌, ◌<◌, ◌≤◌, Bool, true, false, List, [], ◌∷◌, length, Option, Some, None, refl, subst, arith}
 use Rattle.job_tree.specs.declared.format.Format.{Format}
 use Rattle.job_tree.specs.declared.deadline.Deadline.{Deadline}
@@ -74,9 +74,9 @@ mutual
   long_cleanup uncleaned rest = omega arith
   long_cleanup (finally body) rest = omega (arith, long_steps body rest)
 
--- ---- a step, whose blocks are read again
+-- ---- a step, whose blocks are read back
 
--- a block is read again, whatever follows it
+-- a block is read back, whatever follows it
 abbrev ReadsAgain : Blocks → Steps → Type 0
 ReadsAgain blocks body = (rest : List Piece) → blocks (shapes_in (steps_pieces body rest)) ≡ Some (body, shapes_in rest)
 
@@ -160,7 +160,7 @@ no_finally (step (start n o body) ss) rest = refl
 no_finally (step (repeat n body) ss) rest = refl
 no_finally (step (attempt body h c) ss) rest = refl
 
--- a step is no closing mark
+-- a step does not begin with a closing mark
 no_close : (s : Step) (rest : List Piece) → mark_at mark.Close (shapes_in (step_pieces s rest)) ≡ None
 no_close (sleep n) rest = refl
 no_close checkpoint rest = refl
@@ -178,9 +178,9 @@ no_close (start n o body) rest = refl
 no_close (repeat n body) rest = refl
 no_close (attempt body h c) rest = refl
 
--- ---- blocks in blocks
+-- ---- nested blocks
 
--- steps are read again where blocks are at most so deep, with room for so many steps
+-- steps are read back if `depth` levels of blocks and `n` tokens are enough for them
 abbrev StepsAgain : (format : Format) → Steps → Type 0
 StepsAgain format steps =
     (inside : Bool) (depth n : ℕ) (rest : List Piece) → AreSteps format inside steps → AreWithin depth steps →
@@ -206,7 +206,7 @@ one_step blocks n s ss shapes after rest going found others = rw (going, found, 
 mutual
   unfolding steps_with keyword_of
 
-  -- a block of the grammar that is not too deep is read again from its tokens, up to the mark that closes it
+  -- a block of the grammar that is not too deep is read back from its tokens, up to the mark that closes it
   pub steps_again : (format : Format) (steps : Steps) (inside : Bool) (depth n : ℕ) (rest : List Piece) → AreSteps format inside steps →
       AreWithin depth steps →
       length (steps_pieces steps rest) ≤ n + length rest
@@ -277,7 +277,7 @@ one_job : (format : Format) (name : List ℕ) (body : Steps) → blocks_at 32 (s
 unfolding keyword_of
 one_job format name body reads = rw reads refl
 
--- a job is read again from its tokens
+-- a job is read back from its tokens
 pub job_again : (job : Tree) → AreSteps job.format false job.steps → AreWithin 31 job.steps →
     job_at job.format (shapes_in (job_pieces job)) ≡ Some job
 job_again job are within =

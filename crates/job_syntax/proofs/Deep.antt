@@ -1,4 +1,4 @@
--- Blocks whose tokens stand nowhere too deep are within a depth.
+-- If no `{` is too deep, the blocks of the tree are nested within the maximum depth.
 use Rattle.std.proofs.Common.{◌≡◌, ℕ, suc, ◌+◌, ◌-◌, ◌<◌, ◌≤◌, nat_le, Bool, true, false, cond, List, [], ◌∷◌, Option, Some, None, refl, subst, arith}
 use Rattle.std.proofs.lemmas.Bool.{leb-true, le-leb}
 use Rattle.job_tree.specs.declared.deadline.Deadline.{Deadline}
@@ -14,7 +14,7 @@ use Rattle.job_syntax.specs.Depth.{AreWithin, IsWithin, IsHandlerWithin, IsClean
 
 -- ---- along the shapes
 
--- behind none of the tokens more blocks are open than may be, if so many are open in front
+-- after none of the tokens are more blocks open than the maximum, if `depth` are open before them
 abbrev pub NoneTooDeep : ℕ → List Shape → Type 0
 NoneTooDeep depth [] = Unit {0}
 NoneTooDeep depth (s ∷ rest) = (depth_behind depth (mark_in s) ≤ 32) × NoneTooDeep (depth_behind depth (mark_in s)) rest
@@ -38,7 +38,7 @@ no_fault depth (t ∷ ts) none =
     let behind : ℕ = depth_behind depth (mark_in t.shape) in
     rw (le-leb behind 32 none.0) (no_fault behind ts none.1)
 
--- where blocks stand too deep shows in the shapes
+-- whether blocks are too deep depends only on the shapes
 pub depth_by_shapes : (d : ℕ) (xs ys : List Token) → shapes_of xs ≡ shapes_of ys → depth_fault d xs ≡ None → depth_fault d ys ≡ None
 depth_by_shapes d xs ys e none = no_fault d ys (subst (NoneTooDeep d) e (none_too_deep d xs none))
 
@@ -60,7 +60,7 @@ past_over : (depth : ℕ) (o : Option ℕ) (rest : List Piece) → NoneTooDeep d
 past_over depth None rest none = none
 past_over depth (Some n) rest none = none.1.1
 
--- the steps of a block in which so many blocks are open and so many more may stand in one another
+-- if `depth` blocks are open and no `{` is too deep, the blocks of these steps are nested at most `more` deep
 abbrev StepsWithin : Steps → List Piece → Type 0
 StepsWithin steps rest = (depth more : ℕ) → depth + more ≡ 32 → NoneTooDeep depth (shapes_in (steps_pieces steps rest)) →
     AreWithin more steps × NoneTooDeep (depth - 1) (shapes_in rest)
@@ -130,7 +130,7 @@ mutual
   cleanup_within (finally body) rest depth more e none =
       block_within depth more body rest (λ depth' more'. steps_within body rest depth' more') e none.1
 
--- the blocks of a job whose tokens stand nowhere too deep stand at most so many in one another
+-- if no `{` of a job is too deep, its blocks are nested within the maximum depth
 pub within_depth : (job : Tree) (tokens : List Token) → shapes_of tokens ≡ shapes_in (job_pieces job) → depth_fault 0 tokens ≡ None →
     AreWithin 31 job.steps
 within_depth job tokens e none =

@@ -1,4 +1,4 @@
--- A token that stands for a symbol goes in front of what fits the rest.
+-- A token that is read for a nonterminal, followed by what fits the nonterminals that it leaves, fits.
 use Rattle.std.proofs.Common.{◌≡◌, ℕ, Bool, true, false, cond, List, [], ◌∷◌, Option, Some, None, refl, sym, ap, subst, ◌∙◌}
 use Rattle.std.specs.Str.{bytes_eq}
 use Rattle.std.proofs.lemmas.Slice.Eq.{bytes_eq-Decides}
@@ -21,7 +21,7 @@ use Rattle.job_syntax.specs.Pieces.{Piece, keyword, named, number, string, opens
 use Rattle.job_syntax.specs.Syntax.{IsBlock, IsTail, IsCleanupAndBlock, Stands, Fits, role_of}
 use Rattle.job_syntax.proofs.Grammar.{Left, plain_head}
 
--- ---- a keyword is spelled so
+-- ---- the spelling of a keyword
 
 among-spelling : (ks : List Keyword) (w : List ℕ) (k : Keyword) → among ks w ≡ Some k → spelling k ≡ w
 among-spelling [] w k e = absurd cc
@@ -33,7 +33,7 @@ among-spelling (first ∷ ks) w k e = by_test (λ chosen. among-spelling ks w k 
         subst (λ (x : Keyword). spelling x ≡ w) same ((bytes_eq-Decides (spelling first) w).0 is_so)
     by_test others false is_so chosen = others chosen
 
--- a word that is a keyword is spelled as that keyword
+-- a word that is a keyword has the spelling of that keyword
 pub keyword_of-spelling : (w : List ℕ) (k : Keyword) → keyword_of w ≡ Some k → spelling k ≡ w
 unfolding keyword_of
 keyword_of-spelling w k e = among-spelling keywords w k e
@@ -56,11 +56,11 @@ cleanup_of : (format : Format) (inside : Bool) (ps rest : List Piece) → Stands
 cleanup_of format false ps rest is = is
 cleanup_of format true ps rest is = is
 
--- what begins a block, in front of what it leaves, is a block
+-- what begins a block, followed by what it leaves, is a block
 abbrev BlockFits : (format : Format) → Bool → List Symbol → List Piece → Type 0
 BlockFits format inside ss ps = (rest : List Piece) × IsBlock format inside ps rest × Fits format ss rest
 
--- a step in front of a block
+-- a step before a block
 step_on : (format : Format) (inside : Bool) (s : Step) (ss : List Symbol) (ps rest : List Piece) (steps : Steps) → IsStep format inside s →
     AreSteps format inside steps →
     ps ≡ step_pieces s (steps_pieces steps rest) → Fits format ss rest → BlockFits format inside ss ps
@@ -181,7 +181,7 @@ by_step One inside word.Repeat ss ps left = absurd left
 by_step format inside word.Try ss ps left = try_step format inside ss ps left
 by_step format inside _ ss ps left = absurd left
 
--- ---- what may stand behind a handler or the block of a `try`
+-- ---- what may follow a handler or the block of a `try`
 
 abbrev CleanupFits : (format : Format) → Bool → List Symbol → List Piece → Type 0
 CleanupFits format inside ss ps = (rest : List Piece) × IsCleanupAndBlock format inside ps rest × Fits format ss rest
@@ -345,7 +345,7 @@ by_text format word.Job ss ps (r, (n, e), left) =
     (b.0, (job, refl, b.2, ap (on (keyword word.Job)) (e ∙ ap (on (named role.Given n)) b.3)), b.4)
 by_text format _ ss ps left = absurd left
 
--- ---- all symbols
+-- ---- all nonterminals
 
 -- a word that is a keyword is its spelling
 by_keyword : (format : Format) (s : Symbol) (rest : Keyword → Rest) → role_of s ≡ role.Plain →
@@ -358,7 +358,7 @@ by_keyword format s rest same each w (Some k) is ss ps left =
     let e : keyword k ≡ taken = λ i. record { shape = shape.Word (keyword_of-spelling w k is i); role = sym same i } in
     subst (λ (p : Piece). Fits format (s ∷ ss) (p ∷ ps)) e (each k ss ps left)
 
--- a token that can stand for a symbol, in front of what it leaves, fits that symbol and those behind it
+-- a token that can be read for a nonterminal, followed by what it leaves, fits that nonterminal and those after it
 pub forward : (format : Format) (s : Symbol) (shape : Shape) (ss : List Symbol) (ps : List Piece) →
     Left format (next format s shape) ss ps →
     Fits format (s ∷ ss) (record { shape = shape; role = role_of s } ∷ ps)

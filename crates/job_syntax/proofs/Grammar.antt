@@ -1,4 +1,4 @@
--- The grammar symbol by symbol: each symbol can be completed, and a first token leads to what must stand behind it.
+-- The grammar, nonterminal by nonterminal: each can be completed, and a first token determines what must follow it.
 use Rattle.std.proofs.Common.{◌≡◌, ℕ, Bool, true, false, List, [], ◌∷◌, ◌++◌, Option, Some, None, ◌⊎◌, inl, inr, refl, sym, subst}
 use Rattle.job_tree.specs.declared.format.Format.{Format}
 use Rattle.job_tree.specs.declared.format.Format.TheVariants.{One, Two}
@@ -17,7 +17,7 @@ use Rattle.job_syntax.specs.Syntax.{Stands, Fits, role_of}
 
 -- ---- completion
 
--- the shortest tokens of a symbol, in front of others
+-- the shortest tokens of a nonterminal, followed by others
 abbrev shortest : (format : Format) → Symbol → List Piece → List Piece
 shortest format symbol.Job rest = job_onto (record { format = format; name = []; steps = stop }) rest
 shortest format symbol.Steps rest = closes ∷ rest
@@ -41,7 +41,7 @@ shortest format symbol.Text rest = string [] ∷ rest
 shortest format symbol.Open rest = opens ∷ rest
 shortest format symbol.Semicolon rest = ends ∷ rest
 
--- a nursery may have nothing behind its name
+-- nothing needs to follow the name of a nursery
 pub plain_head : (format : Format) → IsNurseryHead format Never false
 plain_head One = (refl, refl)
 plain_head Two = tt
@@ -69,13 +69,13 @@ shortest_stands format symbol.Text rest = ([], refl)
 shortest_stands format symbol.Open rest = refl
 shortest_stands format symbol.Semicolon rest = refl
 
--- each list of symbols has a completion
+-- each list of nonterminals has a completion
 pub completed : (format : Format) (ss : List Symbol) → (ps : List Piece) × Fits format ss ps
 completed format [] = ([], refl)
 completed format (s ∷ ss) = let others = completed format ss in
     (shortest format s others.0, (others.0, shortest_stands format s others.0, others.1))
 
--- ---- back: from a token and the rest to what must stand in the rest
+-- ---- back: from a token and the rest to what must be in the rest
 
 -- what the first token leaves
 abbrev pub Left : (format : Format) → Rest → List Symbol → List Piece → Type 0
@@ -225,12 +225,12 @@ unfolding keyword_of
 keyword_of-spelled word.Job = refl
 keyword_of-spelled _ = refl
 
--- a keyword in front of what it leaves
+-- a keyword, followed by what it leaves
 by_keyword : (format : Format) (words : Keyword → Rest) (k : Keyword) (ss : List Symbol) (ps : List Piece) → Left format (words k) ss ps →
     Left format (keyword_of (spelling k) >>= words) ss ps
 by_keyword format words k ss ps left = subst (λ (o : Option Keyword). Left format (o >>= words) ss ps) (sym (keyword_of-spelled k)) left
 
--- a word that is no `finally` begins what a block begins with
+-- a word other than `finally` begins what a block begins with
 finally_no_step : (format : Format) (inside : Bool) (k : Keyword) (ss : List Symbol) (ps : List Piece) →
     Left format (step_rest format inside k) ss ps →
     Left format (cleanup_rest format inside k) ss ps
@@ -259,7 +259,7 @@ goes_uncleaned format true ss (p ∷ ps) (inl (e, fits)) = subst (λ (x : Piece)
 goes_uncleaned format true ss (p ∷ ps) (inr (k, e, left)) = subst (λ (x : Piece). Goes format symbol.ItemsCleanup ss (x ∷ ps)) (sym e)
     (by_keyword format (cleanup_rest format true) k ss ps (finally_no_step format true k ss ps left), refl)
 
--- a block with its opening mark, and others behind it
+-- a block with its opening mark, followed by others
 block_fits : (format : Format) (inside : Bool) (body others : Steps) (ss : List Symbol) (rest : List Piece) → AreSteps format false body →
     AreSteps format inside others →
     Fits format ss rest
@@ -384,7 +384,7 @@ on_job format job ss rest are fits = (
   refl,
 )
 
--- what fits begins with a token that stands for the first symbol, and the rest fits what is left
+-- what fits begins with a token that can be read for the first nonterminal, and the rest fits what is left
 pub goes : (format : Format) (s : Symbol) (ss : List Symbol) (ps : List Piece) → Fits format (s ∷ ss) ps → Goes format s ss ps
 goes format symbol.Job ss ps (rest, (job, same, are, e), fits) = subst (Goes format symbol.Job ss) (sym e)
     (on_job format job ss rest are fits)

@@ -19,12 +19,12 @@ use Rattle.job_syntax.specs.Ranges.{keyword_in, is_in_range, number_fault}
 
 -- ---- along the shapes
 
--- all numbers are in their ranges, behind a token that may be a keyword
+-- all numbers are in their ranges, after a token that may be a keyword
 abbrev pub AllInRange : (format : Format) → Option Keyword → List Shape → Type 0
 AllInRange format before [] = Unit {0}
 AllInRange format before (s ∷ rest) = (is_in_range format before s ≡ true) × AllInRange format (keyword_in s) rest
 
--- where no number out of its range is found, all are in their ranges
+-- if no number out of its range is found, all are in their ranges
 pub all_in_range : (format : Format) (before : Option Keyword) (tokens : List Token) → number_fault format before tokens ≡ None →
     AllInRange format before (shapes_of tokens)
 all_in_range format before [] none = tt
@@ -37,20 +37,20 @@ all_in_range format before (t ∷ ts) none = by_test (all_in_range format (keywo
     by_test others true is none' = (is, others none')
     by_test others false is none' = absurd cc
 
--- where all numbers are in their ranges no fault is found
+-- if all numbers are in their ranges, no fault is found
 pub no_fault : (format : Format) (before : Option Keyword) (tokens : List Token) → AllInRange format before (shapes_of tokens) →
     number_fault format before tokens ≡ None
 no_fault format before [] all = refl
 no_fault format before (t ∷ ts) all = rw all.0 (no_fault format (keyword_in t.shape) ts all.1)
 
--- which numbers are out of their ranges shows in the shapes
+-- which numbers are out of their ranges depends only on the shapes
 pub numbers_by_shapes : (format : Format) (before : Option Keyword) (xs ys : List Token) → shapes_of xs ≡ shapes_of ys →
     number_fault format before xs ≡ None →
     number_fault format before ys ≡ None
 numbers_by_shapes format before xs ys e none = no_fault format before ys
     (subst (AllInRange format before) e (all_in_range format before xs none))
 
--- ---- one number behind its keyword
+-- ---- one number after its keyword
 
 both : (a b : Bool) → a && b ≡ true → (a ≡ true) × (b ≡ true)
 both true true e = (refl, refl)
@@ -60,7 +60,7 @@ both false b e = absurd cc
 between : (least most n : ℕ) → nat_le least n && nat_le n most ≡ true → (least ≤ n) × (n ≤ most)
 between least most n e = let two = both (nat_le least n) (nat_le n most) e in (leb-true least n two.0, leb-true n most two.1)
 
--- a number behind a keyword
+-- a number after a keyword
 abbrev IsFit : (format : Format) → Keyword → ℕ → Type 0
 IsFit format k n = is_in_range format (keyword_in (keyword k).shape) (number n).shape ≡ true
 
@@ -95,7 +95,7 @@ repeat_fit One n two e = absurd cc
 
 -- ---- construct by construct
 
--- the numbers of tokens are in their ranges, whatever stands in front
+-- the numbers of tokens are in their ranges, whatever comes before them
 abbrev InRangeBehind : (format : Format) → List Piece → Type 0
 InRangeBehind format rest = (before : Option Keyword) × AllInRange format before (shapes_in rest)
 
@@ -178,7 +178,7 @@ mutual
   cleanup_modest format uncleaned rest is all = (tt, all)
   cleanup_modest format (finally body) rest is all = steps_modest format body false rest is (None, all.1.1.1)
 
--- the numbers of a job none of whose tokens is out of its range are in their ranges
+-- if no number of a job's tokens is out of its range, the numbers of the job are in their ranges
 pub modest_numbers : (job : Tree) (tokens : List Token) → AreSteps job.format false job.steps →
     shapes_of tokens ≡ shapes_in (job_pieces job) →
     number_fault job.format None tokens ≡ None → AreModest job.steps

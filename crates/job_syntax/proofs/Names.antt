@@ -1,4 +1,4 @@
--- What each token of a job is for, found token by token.
+-- The role of each token of a job, found token by token.
 use Rattle.std.proofs.Common.{◌≡◌, false, List, [], ◌∷◌, ◌++◌, Some, None, refl, sym, ap, subst, ◌∙◌}
 use Rattle.job_tree.specs.declared.format.Format.{Format}
 use Rattle.job_tree.specs.Tree.{Tree}
@@ -11,7 +11,7 @@ use Rattle.job_syntax.specs.Pieces.{Piece, shapes_in, roles_in, job_onto, job_pi
 use Rattle.job_syntax.specs.Syntax.{Fits, IsText, role_of, roles_at, or_nothing, whole_job}
 use Rattle.job_syntax.proofs.Grammar.{Left, goes}
 
--- the roles found along the tokens of what fits are those of its pieces
+-- the roles found along tokens that fit are those of their pieces
 pub roles_at-in : (format : Format) (ss : List Symbol) (tokens : List Token) (ps : List Piece) → Fits format ss ps →
     shapes_of tokens ≡ shapes_in ps →
     roles_at format ss tokens ≡ roles_in ps
@@ -47,7 +47,7 @@ pub roles_of_job : (job : Tree) (tokens : List Token) → AreSteps job.format fa
     shapes_of tokens ≡ shapes_in (job_pieces job) → roles_at job.format whole_job tokens ≡ roles_in (job_pieces job)
 roles_of_job job tokens are e = roles_at-in job.format whole_job tokens (job_pieces job) (job_fits job are) e
 
--- what fits a whole job of a format are the tokens of one
+-- tokens that fit a whole job of a format are the tokens of a job
 pub job_of_text : (format : Format) (shapes : List Shape) → IsText format whole_job shapes →
     (job : Tree) × (job.format ≡ format) × AreSteps format false job.steps × (shapes ≡ shapes_in (job_pieces job))
 job_of_text format shapes (ps, (rest, (job, same_format, are, e), none), same) =

@@ -1,4 +1,4 @@
--- The place at which tokens leave the grammar: found token by token, and only one.
+-- The place at which tokens leave the grammar: it is found token by token, and it is unique.
 use Rattle.std.proofs.Common.{◌≡◌, ℕ, List, [], ◌∷◌, ◌++◌, Option, Some, None, inl, inr, refl, sym, ap, subst, ◌∙◌}
 use Rattle.job_tree.specs.declared.format.Format.{Format}
 use Rattle.job_tokens.specs.declared.token.Shape.{Shape}
@@ -13,7 +13,7 @@ use Rattle.job_syntax.proofs.Forward.{forward}
 
 -- ---- one token
 
--- what may follow a token, where it may stand
+-- what may follow a token, if it can occur there
 abbrev Follows : (format : Format) → Rest → List Symbol → List Shape → Type 0
 Follows format None ss shapes = ⊥
 Follows format (Some more) ss shapes = IsText format (more ++ ss) shapes
@@ -66,7 +66,7 @@ begins_nothing format ss = let c = completed format ss in (shapes_in c.0, (c.0, 
 
 -- ---- all tokens
 
--- what the answer of `fault_at` means
+-- what the result of `fault_at` means
 abbrev pub IsFault : (format : Format) → ℕ → List Symbol → List Token → Option ℕ → Type 0
 IsFault format end ss tokens None = IsText format ss (shapes_of tokens)
 IsFault format end ss tokens (Some at) = LeavesAt format end ss tokens at
@@ -97,7 +97,7 @@ fault_on : (format : Format) (end : ℕ) (s : Symbol) (ss more : List Symbol) (t
 fault_on format end s ss more t ts None is text = text_forward format s ss more t.shape (shapes_of ts) is text
 fault_on format end s ss more t ts (Some at) is leaves = leaves_on format end s ss more t ts at is leaves
 
--- where no place is found the tokens are a whole text, and at one that is found they leave the grammar
+-- if no place is found, the tokens are a whole text; if a place is found, they leave the grammar there
 pub fault_at-means : (format : Format) (end : ℕ) (ss : List Symbol) (tokens : List Token) →
     IsFault format end ss tokens (fault_at format end ss tokens)
 fault_at-means format end [] [] = ([], refl, refl)
@@ -127,9 +127,9 @@ fault_at-means format end (s ∷ ss) (t ∷ ts) = by_rest (λ more. fault_at-mea
     })
     by_rest others (Some more) is = fault_on format end s ss more t ts (fault_at format end (more ++ ss) ts) is (others more)
 
--- ---- the other way: what leaves there is found there
+-- ---- the other way: the place at which tokens leave the grammar is found
 
--- of the tokens of a whole text no place is found
+-- no place is found in the tokens of a whole text
 pub fault_at-text : (format : Format) (end : ℕ) (ss : List Symbol) (tokens : List Token) → IsText format ss (shapes_of tokens) →
     fault_at format end ss tokens ≡ None
 fault_at-text format end [] [] text = refl

@@ -1,4 +1,4 @@
--- What the grammar says of where a `start` stands.
+-- What the grammar says about where a `start` may occur.
 use Rattle.job_tree.specs.declared.format.Format.{Format}
 use Rattle.job_tree.specs.Tree.{Step, sleep, checkpoint, forever, pace, find, head, longest, need, raise, cancel, scope, nursery, start, repeat, attempt, Steps, stop, step, Handled, unhandled, except, Cleaned, uncleaned, finally}
 use Rattle.job_tree.specs.Starting.{StartsIn, StartsAt, HandlerStarts, CleanupStarts}
@@ -6,12 +6,12 @@ use Rattle.std.specs.Prelude.{Bool, true, false}
 use Rattle.job_syntax.specs.Pieces.{AreSteps, IsStep, IsHandler, IsCleanup}
 
 mutual
-  -- the blocks of the grammar have each `start` directly in a nursery's body
+  -- in the blocks of the grammar, each `start` is directly in the body of a nursery
   pub starts_in : (format : Format) (inside : Bool) (ss : Steps) → AreSteps format inside ss → StartsIn inside ss
   starts_in format inside stop a = tt
   starts_in format inside (step s ss) a = (starts_at format inside s a.0, starts_in format inside ss a.1)
 
-  -- the same of one step
+  -- the same for one step
   pub starts_at : (format : Format) (inside : Bool) (s : Step) → IsStep format inside s → StartsAt inside s
   starts_at format inside (sleep n) a = tt
   starts_at format inside checkpoint a = tt
@@ -33,12 +33,12 @@ mutual
     cleanup_starts format cleanup a.3,
   )
 
-  -- the same of a handler
+  -- the same for a handler
   pub handler_starts : (format : Format) (x : Handled) → IsHandler format x → HandlerStarts x
   handler_starts format unhandled a = tt
   handler_starts format (except name body) a = starts_in format false body a
 
-  -- the same of a cleanup
+  -- the same for a cleanup
   pub cleanup_starts : (format : Format) (x : Cleaned) → IsCleanup format x → CleanupStarts x
   cleanup_starts format uncleaned a = tt
   cleanup_starts format (finally body) a = starts_in format false body a

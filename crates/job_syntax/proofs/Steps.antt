@@ -8,12 +8,12 @@ use Rattle.job_tokens.specs.declared.token.Shape.{Shape}
 use Rattle.job_syntax.specs.Symbols.{◌>>=◌}
 use Rattle.job_syntax.specs.Reading.{Read, Blocks, mark_at, step_at, steps_with, blocks_at}
 
--- steps in front of a block
+-- steps before a block
 abbrev pub in_front : List Step → tree.Steps → tree.Steps
 in_front [] others = others
 in_front (s ∷ ss) others = tree.step (step_of s) (in_front ss others)
 
--- what was read before, and what is still read
+-- what was read before, and what is still to be read
 abbrev pub with_front : List Step → Read tree.Steps → Read tree.Steps
 with_front front read = read >>= λ x. Some (in_front front x.0, x.1)
 
@@ -31,7 +31,7 @@ regroup : (front : List Step) (s : Step) (read : Read tree.Steps) →
 regroup front s None = refl
 regroup front s (Some read) = ap (λ (steps : tree.Steps). Some (steps, read.1)) (in_front-push front s read.0)
 
--- at the closing mark
+-- the case of the closing mark
 pub ends : (blocks : Blocks) → (front : List Step) (count i : ℕ) (rest after : List Shape) (total : Read tree.Steps) → i < count →
     mark_at mark.Close rest ≡ Some after → with_front front (steps_with blocks (count - i) rest) ≡ total →
     total ≡ Some (steps_of front, after)
@@ -42,7 +42,7 @@ ends blocks front count i rest after total lt closed so_far =
     rw (k, closed) (ap (λ (steps : tree.Steps). Some (steps, after)) (in_front-stop front)) in
     sym so_far ∙ one
 
--- at what is no step
+-- the case of tokens that are no step
 pub fails : (blocks : Blocks) → (front : List Step) (count i : ℕ) (rest : List Shape) (total : Read tree.Steps) → i < count →
     mark_at mark.Close rest ≡ None → step_at blocks rest ≡ None → with_front front (steps_with blocks (count - i) rest) ≡ total →
     total ≡ None
@@ -52,7 +52,7 @@ fails blocks front count i rest total lt going none so_far =
     let one : with_front front (steps_with blocks (count - i) rest) ≡ None = rw (k, going, none) refl in
     sym so_far ∙ one
 
--- at a step
+-- the case of a step
 pub goes_on : (blocks : Blocks) → (front : List Step) (count i : ℕ) (rest : List Shape) (s : Step) (after : List Shape)
     (total : Read tree.Steps) → i < count → mark_at mark.Close rest ≡ None → step_at blocks rest ≡ Some (step_of s, after)
     → with_front front (steps_with blocks (count - i) rest) ≡ total →
@@ -65,7 +65,7 @@ goes_on blocks front count i rest s after total lt going found so_far =
     rw (k, going, found) (regroup front s (steps_with blocks (count - (i + 1)) after)) in
     sym one ∙ so_far
 
--- where no further step may come
+-- the case in which no further step may come
 pub is_over : (blocks : Blocks) → (front : List Step) (count i : ℕ) (rest : List Shape) (total : Read tree.Steps) → count ≤ i →
     with_front front (steps_with blocks (count - i) rest) ≡ total → total ≡ None
 unfolding steps_with
@@ -74,12 +74,12 @@ is_over blocks front count i rest total le so_far =
     let one : with_front front (steps_with blocks (count - i) rest) ≡ None = rw k refl in
     sym so_far ∙ one
 
--- a block where none may be, and one level of blocks
+-- no block is read at depth 0
 pub no_block : (depth : ℕ) (shapes : List Shape) → depth ≡ 0 → blocks_at depth shapes ≡ None
 unfolding blocks_at
 no_block depth shapes e = rw e refl
 
--- a block, where one may be, is steps whose blocks stand one level less deep
+-- a block, if it may be read, consists of steps whose blocks have one level less
 pub one_level : (depth n : ℕ) (shapes : List Shape) → (depth ≡ 0 → ⊥) → length shapes ≡ n →
     blocks_at depth shapes ≡ steps_with (blocks_at (depth - 1)) n shapes
 unfolding blocks_at

@@ -1,4 +1,4 @@
--- A job of format 1 is one of format 2 too: its blocks are of the grammar, and its numbers in their ranges.
+-- A job of format 1 is also one of format 2: its blocks are in the grammar, and its numbers in their ranges.
 use Rattle.std.proofs.Common.{◌≡◌, ℕ, Bool, true, false, List, [], ◌∷◌, Option, Some, None, refl, sym, subst}
 use Rattle.job_tree.specs.declared.format.Format.{Format}
 use Rattle.job_tree.specs.declared.format.Format.TheVariants.{One, Two}
@@ -23,7 +23,7 @@ head_again One (After n) s may = tt
 head_again One (At n) s may = let e = may.0 in absurd cc
 
 mutual
-  -- a block of a grammar is one of format 2
+  -- a block of either format's grammar is one of format 2
   pub upgraded_steps : (format : Format) (inside : Bool) (ss : Steps) → AreSteps format inside ss → AreSteps Two inside ss
   upgraded_steps format inside stop a = tt
   upgraded_steps format inside (step s ss) a = (upgraded_step format inside s a.0, upgraded_steps format inside ss a.1)

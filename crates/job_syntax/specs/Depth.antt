@@ -1,4 +1,4 @@
--- How deep blocks may stand in one another.
+-- How deep blocks are nested.
 use Rattle.std.specs.Prelude.{ℕ, suc, ◌-◌, ◌<◌, List, [], ◌∷◌, nat_le, Option, Some, None, if◌then◌else◌}
 use Rattle.job_tokens.specs.declared.token.Mark.{Mark}
 use Rattle.job_tokens.specs.declared.token.Mark.TheVariants as mark
@@ -7,7 +7,7 @@ use Rattle.job_tokens.specs.Shapes.{mark_in}
 use Rattle.job_tree.specs.Tree.{Step, sleep, checkpoint, forever, pace, find, head, longest, need, raise, cancel, scope, nursery, start, repeat, attempt, Steps, stop, step, Handled, unhandled, except, Cleaned, uncleaned, finally}
 
 abbrev mutual
-  -- at most so many blocks stand in one another inside a block
+  -- blocks are nested at most `depth` deep inside a block
   pub AreWithin : ℕ → Steps → Type 0
   AreWithin depth stop = Unit {0}
   AreWithin depth (step s ss) = IsWithin depth s × AreWithin depth ss
@@ -38,18 +38,18 @@ abbrev mutual
   IsCleanupWithin depth uncleaned = Unit {0}
   IsCleanupWithin depth (finally body) = (0 < depth) × AreWithin (depth - 1) body
 
--- the most blocks that may stand in one another, the job's own included
+-- the maximum depth of nested blocks, including the job's own block
 abbrev pub most_deep : ℕ
 most_deep = 32
 
--- how many blocks are open behind a token, if so many were in front of it
+-- how many blocks are open after a token, if `depth` are open before it
 abbrev pub depth_behind : ℕ → Option Mark → ℕ
 depth_behind depth None = depth
 depth_behind depth (Some mark.Open) = suc depth
 depth_behind depth (Some mark.Close) = depth - 1
 depth_behind depth (Some mark.Semicolon) = depth
 
--- the first `{` behind which more blocks are open than may be, if so many are open already
+-- the first `{` after which more blocks are open than the maximum, if `depth` are already open
 abbrev pub depth_fault : ℕ → List Token → Option ℕ
 depth_fault depth [] = None
 depth_fault depth (t ∷ ts) = if nat_le (depth_behind depth (mark_in t.shape)) most_deep then depth_fault

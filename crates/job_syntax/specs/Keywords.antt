@@ -29,7 +29,7 @@ spelling Except = codes "except"
 spelling Finally = codes "finally"
 spelling Repeat = codes "repeat"
 
--- the first of these keywords that is spelled so
+-- the first of these keywords that has this spelling
 abbrev pub among : List Keyword → List ℕ → Option Keyword
 among [] word = None
 among (k ∷ ks) word = if bytes_eq (spelling k) word then Some k else among ks word
@@ -39,6 +39,6 @@ abbrev pub keywords : List Keyword
 keywords = Job ∷ Sleep ∷ Checkpoint ∷ Forever ∷ Pace ∷ Find ∷ Head ∷ Longest ∷ Need ∷ Raise ∷ Cancel ∷ Scope ∷ After ∷ At ∷ Shield ∷ Fail
     ∷ Nursery ∷ Start ∷ Over ∷ Try ∷ Except ∷ Finally ∷ Repeat ∷ []
 
--- the keyword that a word is, where it is one
+-- the keyword that a word is, or `None` if it is not a keyword
 unfoldable pub keyword_of : List ℕ → Option Keyword
 keyword_of word = among keywords word

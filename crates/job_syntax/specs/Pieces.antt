@@ -1,5 +1,5 @@
--- A job as tokens, each with what it is for: one short case for each construct. Each construct is printed in front of
--- the tokens behind it.
+-- A job as tokens, each with its role: one short case for each construct. Each construct is printed before the tokens
+-- that follow it (`rest`).
 use Rattle.std.specs.Prelude.{◌≡◌, ℕ, List, [], ◌∷◌, map, Bool, true, false, Option, Some, None}
 use Rattle.job_tree.specs.declared.deadline.Deadline.{Deadline}
 use Rattle.job_tree.specs.declared.deadline.Deadline.TheVariants.{Never, After, At}
@@ -16,7 +16,7 @@ use Rattle.job_syntax.specs.Keywords.{spelling}
 use Rattle.job_syntax.specs.declared.role.Role.{Role}
 use Rattle.job_syntax.specs.declared.role.Role.TheVariants as role
 
--- a token and what it is for
+-- a token and its role
 pub record Piece : Type 0 where
   pub shape : Shape
   pub role : Role
@@ -25,7 +25,7 @@ pub record Piece : Type 0 where
 abbrev pub shapes_in : List Piece → List Shape
 shapes_in ps = map (λ p. p.shape) ps
 
--- what each is for
+-- the roles alone
 abbrev pub roles_in : List Piece → List Role
 roles_in ps = map (λ p. p.role) ps
 
@@ -59,7 +59,7 @@ deadline_pieces Never rest = rest
 deadline_pieces (After n) rest = keyword word.After ∷ number n ∷ rest
 deadline_pieces (At n) rest = keyword word.At ∷ number n ∷ rest
 
--- a word that may stand or not
+-- an optional keyword
 abbrev pub flag_pieces : Keyword → Bool → List Piece → List Piece
 flag_pieces k false rest = rest
 flag_pieces k true rest = keyword k ∷ rest
@@ -106,7 +106,7 @@ abbrev mutual
   cleanup_pieces uncleaned rest = rest
   cleanup_pieces (finally body) rest = keyword word.Finally ∷ opens ∷ steps_pieces body rest
 
--- a job, in front of other tokens and alone
+-- a job, with other tokens after it and alone
 abbrev pub job_onto : Tree → List Piece → List Piece
 job_onto job rest = keyword word.Job ∷ named role.Given job.name ∷ opens ∷ steps_pieces job.steps rest
 
@@ -119,7 +119,7 @@ HasTail (except name body) cleanup = Unit {0}
 HasTail unhandled (finally body) = Unit {0}
 HasTail unhandled uncleaned = ⊥
 
--- what may stand behind a nursery's name: nothing in format 1, in format 2 no `at`
+-- what may follow the name of a nursery: nothing in format 1; no `at` in format 2
 abbrev pub IsNurseryHead : Format → Deadline → Bool → Type 0
 IsNurseryHead One deadline shield = (deadline ≡ Never) × (shield ≡ false)
 IsNurseryHead Two Never shield = Unit {0}
@@ -127,7 +127,7 @@ IsNurseryHead Two (After n) shield = Unit {0}
 IsNurseryHead Two (At n) shield = ⊥
 
 abbrev mutual
-  -- what stands in a block: a `start` only right inside a nursery, and a `repeat` only in format 2
+  -- the grammar of a block: a `start` only directly inside a nursery, and a `repeat` only in format 2
   pub AreSteps : Format → Bool → Steps → Type 0
   AreSteps format inside stop = Unit {0}
   AreSteps format inside (step s ss) = IsStep format inside s × AreSteps format inside ss

@@ -10,38 +10,38 @@ use Rattle.job_syntax.specs.declared.keyword.Keyword.{Keyword}
 use Rattle.job_syntax.specs.declared.keyword.Keyword.TheVariants as word
 use Rattle.job_syntax.specs.Keywords.{keyword_of}
 
--- the keyword that a token is, where it is one
+-- the keyword that a token is, if it is one
 abbrev pub keyword_in : Shape → Option Keyword
 keyword_in (shape.Word word) = keyword_of word
 keyword_in (shape.Number n) = None
 keyword_in (shape.Text text) = None
 keyword_in (shape.Mark mark) = None
 
--- the greatest number behind `repeat`, which begins no step in format 1
+-- the maximum of a number after `repeat`, which begins no step in format 1
 abbrev pub most_passes : Format → ℕ
 most_passes One = GREATEST_NUMBER
 most_passes Two = MOST_PASSES
 
--- the least and the greatest number behind a keyword; `repeat` has a range of its own in format 2
+-- the minimum and the maximum of a number after a keyword; `repeat` has its own range in format 2
 abbrev pub range_of : Format → Option Keyword → ℕ × ℕ
 range_of format (Some word.Over) = (1, MOST_COPIES)
 range_of format (Some word.Pace) = (1, GREATEST_PACE)
 range_of format (Some word.Repeat) = (0, most_passes format)
 range_of format _ = (0, GREATEST_NUMBER)
 
--- a number in its range: none is one that the number rule refuses
+-- a number in its range; `None` is a number with a leading zero or above the maximum of the lexer
 abbrev pub fits : Format → Option Keyword → Option ℕ → Bool
 fits format before None = false
 fits format before (Some n) = nat_le (range_of format before).0 n && nat_le n (range_of format before).1
 
--- no number, or one in its range
+-- not a number, or a number in its range
 abbrev pub is_in_range : Format → Option Keyword → Shape → Bool
 is_in_range format before (shape.Word word) = true
 is_in_range format before (shape.Number n) = fits format before n
 is_in_range format before (shape.Text text) = true
 is_in_range format before (shape.Mark mark) = true
 
--- the place of the first number out of its range, behind a token that may be a keyword
+-- the place of the first number out of its range, where `before` is the token before the list if that is a keyword
 abbrev pub number_fault : Format → Option Keyword → List Token → Option ℕ
 number_fault format before [] = None
 number_fault format before (t ∷ ts) = if is_in_range format before t.shape then number_fault format (keyword_in t.shape) ts else Some t.at

@@ -1,4 +1,4 @@
--- Reading a job from its tokens, construct by construct. Blocks are read so many deep at most.
+-- Reading a job from its tokens, construct by construct. The depth of nested blocks is limited.
 use Rattle.std.specs.Prelude.{ℕ, zero, suc, List, [], ◌∷◌, length, Bool, true, false, ◌==◌, Option, Some, None, if◌then◌else◌}
 use Rattle.std.specs.Str.{bytes_eq}
 use Rattle.job_tree.specs.declared.deadline.Deadline.{Deadline}
@@ -15,7 +15,7 @@ use Rattle.job_syntax.specs.Keywords.{spelling, keyword_of}
 use Rattle.job_syntax.specs.Symbols.{◌>>=◌}
 use Rattle.job_syntax.specs.Depth.{most_deep}
 
--- something and the tokens behind it
+-- a value and the tokens after it
 abbrev pub Read : Type 0 → Type 0
 Read A = Option (A × List Shape)
 
@@ -41,11 +41,11 @@ is_mark mark.Close mark.Close = true
 is_mark mark.Semicolon mark.Semicolon = true
 is_mark _ _ = false
 
--- what is behind a mark
+-- the tokens after a mark
 abbrev pub mark_at : Mark → List Shape → Option (List Shape)
 mark_at m shapes = first_of mark_in shapes >>= λ found. if is_mark found.0 m then Some found.1 else None
 
--- what is behind a keyword, where it comes first
+-- the tokens after a keyword, if it is the first token
 abbrev pub unless_other : Keyword → Read (List ℕ) → Option (List Shape)
 unless_other k None = None
 unless_other k (Some w) = if bytes_eq w.0 (spelling k) then Some w.1 else None
@@ -53,7 +53,7 @@ unless_other k (Some w) = if bytes_eq w.0 (spelling k) then Some w.1 else None
 abbrev pub behind_word : Keyword → List Shape → Option (List Shape)
 behind_word k shapes = unless_other k (word_at shapes)
 
--- a word that may stand or not
+-- an optional keyword
 abbrev pub flag_read : Option (List Shape) → List Shape → Bool × List Shape
 flag_read (Some rest) shapes = (true, rest)
 flag_read None shapes = (false, shapes)
@@ -61,7 +61,7 @@ flag_read None shapes = (false, shapes)
 abbrev pub flag_at : Keyword → List Shape → Bool × List Shape
 flag_at k shapes = flag_read (behind_word k shapes) shapes
 
--- what may stand behind a keyword, or something else
+-- what follows an optional keyword, or something else
 abbrev pub or_else : {A : Type 0} → Option (List Shape) → (List Shape → Read A) → Read A → Read A
 or_else (Some rest) behind other = behind rest
 or_else None behind other = other
@@ -74,7 +74,7 @@ deadline_at shapes =
 abbrev pub over_at : List Shape → Read (Option ℕ)
 over_at shapes = or_else (behind_word word.Over shapes) (λ rest. number_at rest >>= λ n. Some (Some n.0, n.1)) (Some (None, shapes))
 
--- how a block inside is read
+-- how a nested block is read
 abbrev pub Blocks : Type 0
 Blocks = List Shape → Read Steps
 
@@ -90,7 +90,7 @@ abbrev pub cleanup_at : Blocks → List Shape → Read Cleaned
 cleanup_at blocks shapes = or_else (behind_word word.Finally shapes) (λ rest. body_at blocks rest >>= λ b. Some (finally b.0, b.1))
     (Some (uncleaned, shapes))
 
--- a scope behind its keyword
+-- a scope, read after its keyword
 abbrev pub scope_at : Blocks → List Shape → Read Step
 scope_at blocks shapes =
     word_at shapes >>= λ n. deadline_at n.1 >>= λ d.
@@ -115,7 +115,7 @@ start_at blocks shapes = word_at shapes >>= λ n. over_at n.1 >>= λ o. body_at 
 abbrev pub repeat_at : Blocks → List Shape → Read Step
 repeat_at blocks shapes = number_at shapes >>= λ n. body_at blocks n.1 >>= λ b. Some (repeat n.0 b.0, b.1)
 
--- a step that holds no block, behind its keyword
+-- a step without a block, read after its keyword
 abbrev pub plain_step : Keyword → List Shape → Read Step
 plain_step word.Sleep shapes = number_at shapes >>= λ n. ended (sleep n.0) n.1
 plain_step word.Checkpoint shapes = ended checkpoint shapes
@@ -129,7 +129,7 @@ plain_step word.Raise shapes = word_at shapes >>= λ n. ended (raise n.0) n.1
 plain_step word.Cancel shapes = word_at shapes >>= λ n. ended (cancel n.0) n.1
 plain_step _ shapes = None
 
--- a step behind its keyword
+-- a step, read after its keyword
 abbrev pub step_behind : Blocks → Keyword → List Shape → Read Step
 step_behind blocks word.Scope shapes = scope_at blocks shapes
 step_behind blocks word.Nursery shapes = nursery_at blocks shapes
@@ -145,13 +145,13 @@ abbrev pub ended_or : Option (List Shape) → Read Steps → Read Steps
 ended_or (Some rest) others = Some (stop, rest)
 ended_or None others = others
 
--- the steps up to the `}` that ends them, fewer than so many
+-- the steps up to the `}` that ends them, fewer than the given number
 unfoldable pub steps_with : Blocks → ℕ → List Shape → Read Steps
 steps_with blocks zero shapes = None
 steps_with blocks (suc n) shapes = ended_or (mark_at mark.Close shapes)
     (step_at blocks shapes >>= λ s. steps_with blocks n s.1 >>= λ others. Some (step s.0 others.0, others.1))
 
--- a block that holds at most so many blocks in one another
+-- a block in which at most the given number of blocks are nested, itself included
 unfoldable pub blocks_at : ℕ → List Shape → Read Steps
 blocks_at zero shapes = None
 blocks_at (suc depth) shapes = steps_with (blocks_at depth) (length shapes) shapes
@@ -160,12 +160,12 @@ abbrev pub is_job : Keyword → Bool
 is_job word.Job = true
 is_job _ = false
 
--- a job's name, between its keyword and its `{`
+-- the name of a job, between its keyword and its `{`
 abbrev pub head_at : List Shape → Read (List ℕ)
 head_at shapes = keyword_at shapes >>= λ k. (if is_job k.0 then word_at k.1 else None) >>= λ w. mark_at mark.Open w.1 >>= λ rest.
     Some (w.0, rest)
 
--- a whole job of a format, whose blocks stand at most 32 deep
+-- a whole job of a format, whose blocks are nested at most 32 deep
 abbrev pub job_at : Format → List Shape → Option Tree
 job_at format shapes = head_at shapes >>= λ name. blocks_at most_deep name.1 >>= λ steps.
     if length steps.1 == 0 then Some (record { format = format; name = name.0; steps = steps.0 }) else None

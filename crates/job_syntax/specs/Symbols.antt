@@ -1,4 +1,4 @@
--- What may stand behind a token, symbol by symbol.
+-- What may follow a token, nonterminal by nonterminal.
 use Rattle.std.specs.Prelude.{List, [], ◌∷◌, Bool, true, false, Option, Some, None}
 use Rattle.job_tree.specs.declared.format.Format.{Format}
 use Rattle.job_tree.specs.declared.format.Format.TheVariants.{One, Two}
@@ -12,17 +12,18 @@ use Rattle.job_syntax.specs.declared.symbol.Symbol.{Symbol}
 use Rattle.job_syntax.specs.declared.symbol.Symbol.TheVariants.{Job, Steps, Items, StepsTail, ItemsTail, StepsCleanup, ItemsCleanup, Scope, Shield, Fail, Nursery, NurseryShield, Over, Given, Raised, Handled, Target, Number, Text, Open, Semicolon}
 use Rattle.job_syntax.specs.Keywords.{keyword_of}
 
--- what comes of a value, where there is one
+-- continues with a value, if there is one
 infixl 10 ◌>>=◌
 abbrev pub ◌>>=◌ : {A B : Type 0} → Option A → (A → Option B) → Option B
 None >>= f = None
 (Some x) >>= f = f x
 
--- the symbols that must follow, the next one first: none where the token cannot stand there
+-- the nonterminals that must follow, the next one first; `None` if the token cannot occur there
 abbrev pub Rest : Type 0
 Rest = Option (List Symbol)
 
--- the rest of a block, of a nursery or of another, and the same with what may stand behind a `try` or a handler
+-- the rest of the enclosing block, which may be the body of a nursery, and the same after the block of a `try` or
+-- after a handler
 abbrev pub outer : Bool → Symbol
 outer false = Steps
 outer true = Items
@@ -35,22 +36,22 @@ abbrev pub cleanup : Bool → Symbol
 cleanup false = StepsCleanup
 cleanup true = ItemsCleanup
 
--- behind the first word of a text
+-- after the first word of a text
 abbrev pub text_rest : Keyword → Rest
 text_rest word.Job = Some (Given ∷ Open ∷ Steps ∷ [])
 text_rest _ = None
 
--- behind `start`, which stands only right inside a nursery
+-- after `start`, which may occur only directly inside a nursery
 abbrev pub start_rest : Bool → Rest
 start_rest true = Some (Given ∷ Over ∷ Items ∷ [])
 start_rest false = None
 
--- behind `repeat`, which begins a step in format 2 alone
+-- after `repeat`, which begins a step only in format 2
 abbrev pub repeat_rest : Format → Bool → Rest
 repeat_rest One inside = None
 repeat_rest Two inside = Some (Number ∷ Open ∷ Steps ∷ outer inside ∷ [])
 
--- behind the first word of a step
+-- after the first word of a step
 abbrev pub step_rest : Format → Bool → Keyword → Rest
 step_rest format inside word.Sleep = Some (Number ∷ Semicolon ∷ outer inside ∷ [])
 step_rest format inside word.Checkpoint = Some (Semicolon ∷ outer inside ∷ [])
@@ -69,18 +70,18 @@ step_rest format inside word.Repeat = repeat_rest format inside
 step_rest format inside word.Try = Some (Open ∷ Steps ∷ tail inside ∷ [])
 step_rest format inside _ = None
 
--- behind the first word of what may stand behind a handler, where it is no step
+-- after the first word of what may follow a handler
 abbrev pub cleanup_rest : Format → Bool → Keyword → Rest
 cleanup_rest format inside word.Finally = Some (Open ∷ Steps ∷ outer inside ∷ [])
 cleanup_rest format inside k = step_rest format inside k
 
--- behind the word that follows the block of a `try`
+-- after the word that follows the block of a `try`
 abbrev pub tail_rest : Bool → Keyword → Rest
 tail_rest inside word.Except = Some (Handled ∷ Open ∷ Steps ∷ cleanup inside ∷ [])
 tail_rest inside word.Finally = Some (Open ∷ Steps ∷ outer inside ∷ [])
 tail_rest inside _ = None
 
--- behind a word in the head of a scope
+-- after a word in the head of a scope
 abbrev pub fail_rest : Keyword → Rest
 fail_rest word.Fail = Some (Open ∷ Steps ∷ [])
 fail_rest _ = None
@@ -94,7 +95,7 @@ scope_rest word.After = Some (Number ∷ Shield ∷ [])
 scope_rest word.At = Some (Number ∷ Shield ∷ [])
 scope_rest k = shield_rest k
 
--- behind a word in the head of a nursery, which has one in format 2 alone
+-- after a word in the head of a nursery, which has such words only in format 2
 abbrev pub nursery_shield_rest : Format → Keyword → Rest
 nursery_shield_rest Two word.Shield = Some (Open ∷ Items ∷ [])
 nursery_shield_rest format _ = None
@@ -122,7 +123,7 @@ semicolon_rest mark.Open = None
 semicolon_rest mark.Close = None
 semicolon_rest mark.Semicolon = Some []
 
--- behind a mark, or else behind a keyword
+-- after a mark, or otherwise after a keyword
 abbrev pub by_mark : (Mark → Rest) → (Keyword → Rest) → Option Mark → Shape → Rest
 by_mark marks words (Some m) shape = marks m
 by_mark marks words None shape = word_in shape >>= λ w. keyword_of w >>= words
@@ -133,7 +134,7 @@ either marks words shape = by_mark marks words (mark_in shape) shape
 abbrev pub any_name : Shape → Rest
 any_name shape = word_in shape >>= λ w. Some []
 
--- behind a token that stands for a symbol
+-- after a token that is read for a nonterminal
 abbrev pub next : Format → Symbol → Shape → Rest
 next format Job shape = word_in shape >>= λ w. keyword_of w >>= text_rest
 next format Steps shape = either close_rest (step_rest format false) shape

@@ -19,7 +19,7 @@ use Rattle.job_syntax.specs.Symbols.{Rest, next}
 abbrev pub IsBlock : Format → Bool → List Piece → List Piece → Type 0
 IsBlock format inside ps rest = (steps : Steps) × AreSteps format inside steps × (ps ≡ steps_pieces steps rest)
 
--- what follows the block of a `try`, and the rest of the block round it
+-- what follows the block of a `try`, and the rest of the enclosing block
 abbrev pub IsTail : Format → Bool → List Piece → List Piece → Type 0
 IsTail format inside ps rest =
     (handler : Handled) × (cleanup : Cleaned) × (steps : Steps) × HasTail handler cleanup × IsHandler format handler
@@ -27,7 +27,7 @@ IsTail format inside ps rest =
     × AreSteps format inside steps
     × (ps ≡ handler_pieces handler (cleanup_pieces cleanup (steps_pieces steps rest)))
 
--- what follows a handler, and the rest of the block round it
+-- what follows a handler, and the rest of the enclosing block
 abbrev pub IsCleanupAndBlock : Format → Bool → List Piece → List Piece → Type 0
 IsCleanupAndBlock format inside ps rest =
     (cleanup : Cleaned) × (steps : Steps) × IsCleanup format cleanup × AreSteps format inside steps
@@ -36,7 +36,7 @@ IsCleanupAndBlock format inside ps rest =
 abbrev pub IsName : Role → List Piece → List Piece → Type 0
 IsName role ps rest = (bytes : List ℕ) × (ps ≡ named role bytes ∷ rest)
 
--- tokens are those of something that a symbol stands for, in front of others
+-- `ps` are the tokens of something that the nonterminal derives, followed by `rest`
 abbrev pub Stands : Format → Symbol → List Piece → List Piece → Type 0
 Stands format symbol.Job ps rest = (job : Tree) × (job.format ≡ format) × AreSteps format false job.steps × (ps ≡ job_onto job rest)
 Stands format symbol.Steps ps rest = IsBlock format false ps rest
@@ -70,12 +70,12 @@ Stands format symbol.Text ps rest = (bytes : List ℕ) × (ps ≡ string bytes �
 Stands format symbol.Open ps rest = ps ≡ opens ∷ rest
 Stands format symbol.Semicolon ps rest = ps ≡ ends ∷ rest
 
--- the tokens of something for each symbol in turn
+-- the tokens of something that each nonterminal derives, in turn
 abbrev pub Fits : Format → List Symbol → List Piece → Type 0
 Fits format [] ps = ps ≡ []
 Fits format (s ∷ ss) ps = (rest : List Piece) × Stands format s ps rest × Fits format ss rest
 
--- these tokens and no more
+-- exactly these tokens
 abbrev pub IsText : Format → List Symbol → List Shape → Type 0
 IsText format ss shapes = (ps : List Piece) × Fits format ss ps × (shapes_in ps ≡ shapes)
 
@@ -93,33 +93,33 @@ pub record StopsAt (format : Format) (ss : List Symbol) (tokens : List Token) (a
   pub no_further : Begins format ss (shapes_of (front ++ stop ∷ [])) → ⊥
   pub place : at ≡ stop.at
 
--- a text begins so, and ends later
+-- a text begins with these tokens, and does not end with them
 pub record EndsEarly (format : Format) (ss : List Symbol) (tokens : List Token) : Type 0 where
   pub begins : Begins format ss (shapes_of tokens)
   pub not_whole : IsText format ss (shapes_of tokens) → ⊥
 
--- where tokens of a text that ends at `end` leave the grammar
+-- the place at which the tokens of a text that ends at `end` leave the grammar
 abbrev pub LeavesAt : Format → ℕ → List Symbol → List Token → ℕ → Type 0
 LeavesAt format end ss tokens at = StopsAt format ss tokens at ⊎ (EndsEarly format ss tokens × (at ≡ end))
 
--- the symbols of a whole job
+-- the nonterminals of a whole job
 abbrev pub whole_job : List Symbol
 whole_job = symbol.Job ∷ []
 
--- ---- the same, token by token
+-- ---- the same, computed token by token
 
 abbrev pub or_stop : Rest → ℕ → (List Symbol → Option ℕ) → Option ℕ
 or_stop None at others = Some at
 or_stop (Some more) at others = others more
 
--- the place at which tokens leave the grammar, where they do
+-- the place at which tokens leave the grammar, or `None`
 abbrev pub fault_at : Format → ℕ → List Symbol → List Token → Option ℕ
 fault_at format end [] [] = None
 fault_at format end [] (t ∷ ts) = Some t.at
 fault_at format end (s ∷ ss) [] = Some end
 fault_at format end (s ∷ ss) (t ∷ ts) = or_stop (next format s t.shape) t.at (λ more. fault_at format end (more ++ ss) ts)
 
--- what a token that stands for a symbol is for
+-- the role of a token that is read for a nonterminal
 abbrev pub role_of : Symbol → Role
 role_of symbol.Given = role.Given
 role_of symbol.Raised = role.Raised
@@ -127,12 +127,12 @@ role_of symbol.Handled = role.Handled
 role_of symbol.Target = role.Target
 role_of _ = role.Plain
 
--- behind a token that stands for a symbol, where it can stand there
+-- continues after a token that can be read for a nonterminal
 abbrev pub or_nothing : {A : Type 0} → Rest → (List Symbol → List A) → List A
 or_nothing None others = []
 or_nothing (Some more) others = others more
 
--- what each token of a text is for
+-- the role of each token of a text
 abbrev pub roles_at : Format → List Symbol → List Token → List Role
 roles_at format ss [] = []
 roles_at format [] (t ∷ ts) = []

@@ -7,16 +7,19 @@ use job_tokens::Token;
 use job_tree::Format;
 use std::alloc::{AllocError, Global};
 
-/// What was found along the tokens of a text.
+/// The result of checking the tokens of a text against the grammar.
 #[derive(Drop)]
 pub struct Course {
-    /// Where the tokens leave the grammar.
+    /// The place at which the tokens leave the grammar: that of the first token that no text of the grammar
+    /// continues with, or the end of the text if the tokens end too early. `None` if they are the tokens of a whole
+    /// job.
     pub fault: Option<usize>,
-    /// What each token is for, where the tokens do not leave the grammar; else of no meaning.
+    /// The role of each token, in order. It is meaningful only if `fault` is `None`.
     pub roles: Vec<Role>,
 }
 
-/// Goes along the tokens of a text of that format that ends at `end`.
+/// Checks the tokens of a text of the given format against the grammar. The text ends at place `end`. The only
+/// error is that memory was refused.
 pub fn follow(
     alloc: Global,
     format: Format,
@@ -43,7 +46,7 @@ pub fn follow(
     Ok(Course { fault, roles })
 }
 
-// The tokens leave the grammar at that place.
+// Returns the result for tokens that leave the grammar at that place.
 fn stopped_at(at: usize, roles: Vec<Role>) -> Course
     ensures { result ≡ record { fault = Some at; roles = roles } }
 {

@@ -4,10 +4,11 @@ ghost use Rattle.job_syntax.specs.Depth.{depth_fault, depth_behind};
 
 use job_tokens::{Mark, Shape, Token};
 
-/// The most blocks that may stand in one another, the job's own included.
+/// The maximum depth of nested blocks. The block of the job itself has depth 1.
 pub const MOST_DEEP: usize = 32;
 
-/// The place of the first `{` at which more than 32 blocks are open, its own included.
+/// Returns the place of the first `{` at which more than 32 blocks are open, including its own, or `None` if there
+/// is none.
 pub fn depth_fault(tokens: &[Token]) -> Option<usize>
     ensures { result ≡ depth_fault 0 tokens.now }
 {
@@ -21,7 +22,7 @@ pub fn depth_fault(tokens: &[Token]) -> Option<usize>
     None
 }
 
-// How many blocks are open behind a token, if so many were open in front of it.
+// Returns how many blocks are open after a token, if `depth` blocks are open before it.
 fn depth_behind(depth: usize, shape: Shape) -> usize
     requires { depth ≤ 32 }
     ensures { result ≡ depth_behind depth (mark_in shape) }

@@ -3,26 +3,27 @@ ghost use Rattle.job_syntax.specs.Keywords.{spelling, among, keyword_of};
 
 use job_tree::Name;
 
-/// The words that no job, task, scope, nursery or exception may have as its name.
+/// The words that have a meaning of their own in a job text. None of them may be the name of a job, task, scope,
+/// nursery or exception.
 #[derive(Clone, Copy, PartialEq, Eq)]
 pub enum Keyword {
     /// `job`. Begins a job.
     Job,
-    /// `sleep`. Sleeps so many ticks.
+    /// `sleep`. Sleeps for a number of ticks.
     Sleep,
-    /// `checkpoint`. Sees whether the task is cancelled.
+    /// `checkpoint`. Checks whether the task is cancelled.
     Checkpoint,
     /// `forever`. Sleeps until the task is cancelled.
     Forever,
-    /// `pace`. Sleeps by the number of lines.
+    /// `pace`. Sleeps for a time that depends on the number of lines.
     Pace,
-    /// `find`. Shows the lines that contain a string.
+    /// `find`. Reports the lines that contain a string.
     Find,
-    /// `head`. Shows the first lines.
+    /// `head`. Reports the first lines.
     Head,
-    /// `longest`. Shows the first of the longest lines.
+    /// `longest`. Reports the first of the longest lines.
     Longest,
-    /// `need`. Shows a line, or raises.
+    /// `need`. Reports a line, or raises an exception.
     Need,
     /// `raise`. Raises an exception.
     Raise,
@@ -30,19 +31,19 @@ pub enum Keyword {
     Cancel,
     /// `scope`. Opens a cancel scope.
     Scope,
-    /// `after`. A deadline so many ticks after the entry.
+    /// `after`. A deadline, in ticks after the scope or nursery was entered.
     After,
-    /// `at`. A deadline at a tick.
+    /// `at`. A deadline, at a tick of the job.
     At,
-    /// `shield`. Hides the cancellations from outside.
+    /// `shield`. Hides the cancellations of enclosing scopes.
     Shield,
-    /// `fail`. Raises `TooSlow` where the scope caught a cancellation.
+    /// `fail`. Raises `TooSlow` if the scope caught a cancellation.
     Fail,
     /// `nursery`. Opens a nursery.
     Nursery,
     /// `start`. Starts a task.
     Start,
-    /// `over`. One task for each part.
+    /// `over`. Starts one task for each cut of the lines.
     Over,
     /// `try`. A block with a handler or a cleanup.
     Try,
@@ -50,7 +51,7 @@ pub enum Keyword {
     Except,
     /// `finally`. A cleanup.
     Finally,
-    /// `repeat`. Runs a block several times; in format 1 it begins no step.
+    /// `repeat`. Runs a block several times. In format 1 it begins no step.
     Repeat,
 }
 
@@ -82,7 +83,7 @@ pub const KEYWORDS: [Keyword; 23] = [
 ];
 
 impl Keyword {
-    /// The keyword's bytes.
+    /// Returns the bytes of the keyword.
     pub fn bytes(self) -> &'static [u8]
         ensures { result.now ≡ spelling self }
     {
@@ -113,7 +114,7 @@ impl Keyword {
         }
     }
 
-    /// The keyword that a word is, where it is one.
+    /// Returns the keyword with the spelling of this word, or `None` if the word is not a keyword.
     #[tactic(auto, unfolding(crate::specs::Keywords::keyword_of))]
     pub fn of(word: Name) -> Option<Keyword>
         ensures { result ≡ keyword_of word }
@@ -122,7 +123,7 @@ impl Keyword {
     }
 }
 
-// The first of the keywords that is spelled so.
+// Returns the first of these keywords that has this spelling.
 fn spelled_so(keywords: &[Keyword], word: &[u8]) -> Option<Keyword>
     ensures { result ≡ among keywords.now word.now }
 {

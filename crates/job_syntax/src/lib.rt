@@ -1,10 +1,9 @@
 //! The grammar of the whole language, over tokens: which tokens a job text may have, the place at which they leave the
-//! grammar, what each token is for, how deep blocks stand in one another, the ranges of the numbers, and the tree of a
-//! job.
+//! grammar, the role of each token, the depth of nested blocks, the ranges of the numbers, and the tree of a job.
 //!
-//! The layer promises exactness: `follow` finds the first token that no text of the grammar continues with, and where
-//! there is none the tokens are those of a job, each with its role. From a job's tokens `job_at` reads that job again,
-//! where at most 32 blocks stand in one another. It stands on `job_tokens`.
+//! `follow` finds exactly the first token that no text of the grammar continues with. If there is none, the tokens are
+//! those of a job, and each has its role. `job_at` reads a job back from its tokens, if its blocks are nested at most
+//! 32 deep. The crate uses `job_tokens` and `job_tree`.
 #![tactic(auto)]
 
 mod course;

@@ -5,7 +5,8 @@ use crate::keyword::Keyword;
 use job_tokens::{Shape, Token};
 use job_tree::{Format, GREATEST_NUMBER, GREATEST_PACE, MOST_COPIES, MOST_PASSES};
 
-/// The place of the first number of a text of that format with a leading zero, or out of its range.
+/// Returns the place of the first number that has a leading zero or is out of its range in a text of this format,
+/// or `None` if there is none. The range depends on the keyword directly before the number.
 pub fn number_fault(format: Format, tokens: &[Token]) -> Option<usize>
     ensures { result ≡ number_fault format None tokens.now }
 {
@@ -19,7 +20,7 @@ pub fn number_fault(format: Format, tokens: &[Token]) -> Option<usize>
     None
 }
 
-// The keyword that a token is, where it is one.
+// Returns the keyword that a token is, if it is one.
 fn keyword_in(shape: Shape) -> Option<Keyword>
     ensures { result ≡ keyword_in shape }
 {
@@ -31,7 +32,7 @@ fn keyword_in(shape: Shape) -> Option<Keyword>
     }
 }
 
-// Whether a token behind that keyword is no number, or one in its range.
+// Returns whether a token after that keyword is not a number, or is a number in its range.
 fn is_in_range(format: Format, before: Option<Keyword>, shape: Shape) -> bool
     ensures { result ≡ is_in_range format before shape }
 {
@@ -55,7 +56,7 @@ fn fits(format: Format, before: Option<Keyword>, number: Option<u64>) -> bool
     }
 }
 
-// The least and the greatest number that may stand behind a keyword.
+// Returns the minimum and the maximum of a number after a keyword.
 fn range_of(format: Format, before: Option<Keyword>) -> (u64, u64)
     ensures { result ≡ range_of format before }
 {
@@ -67,7 +68,8 @@ fn range_of(format: Format, before: Option<Keyword>) -> (u64, u64)
     }
 }
 
-// The greatest number behind `repeat`, which begins no step in format 1.
+// Returns the maximum of a number after `repeat`. In format 1, `repeat` begins no step, so the maximum is that of
+// any number.
 fn most_passes(format: Format) -> u64
     ensures { result ≡ most_passes format }
 {

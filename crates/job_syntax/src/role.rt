@@ -1,14 +1,14 @@
-/// What a token of a job text is for.
+/// The role of a token of a job text: whether it is a name, and of what.
 #[derive(Clone, Copy, Debug, PartialEq, Eq)]
 pub enum Role {
-    /// No name.
+    /// Not a name.
     Plain,
-    /// The name that a job, scope, nursery or start is given.
+    /// The name that a job, scope, nursery or started task gets.
     Given,
     /// The name of an exception that is raised.
     Raised,
-    /// The name of an exception that is handled.
+    /// The name of the exceptions that a handler handles.
     Handled,
-    /// The name of what is cancelled.
+    /// The name in a `cancel`.
     Target,
 }

@@ -10,42 +10,42 @@ use crate::role::Role;
 use job_tokens::{Mark, Shape};
 use job_tree::{Format, Name};
 
-/// What may have to stand next in a job text.
+/// A nonterminal of the grammar: what may have to come next in a job text.
 #[derive(Clone, Copy, PartialEq, Eq)]
 pub enum Symbol {
     /// A whole job.
     Job,
-    /// The steps of a block, and the `}` behind them.
+    /// The steps of a block, and the `}` after them.
     Steps,
-    /// The steps and starts of a nursery, and the `}` behind them.
+    /// The steps and starts of a nursery, and the `}` after them.
     Items,
-    /// What follows the block of a `try`, and the rest of the block round it.
+    /// What follows the block of a `try`, and the rest of the enclosing block.
     StepsTail,
-    /// The same right inside a nursery.
+    /// The same directly inside a nursery.
     ItemsTail,
-    /// What follows a handler, and the rest of the block round it.
+    /// What follows a handler, and the rest of the enclosing block.
     StepsCleanup,
-    /// The same right inside a nursery.
+    /// The same directly inside a nursery.
     ItemsCleanup,
-    /// A scope behind its name.
+    /// The rest of a scope after its name.
     Scope,
-    /// A scope behind its deadline.
+    /// The rest of a scope after its deadline.
     Shield,
-    /// A scope behind its `shield`.
+    /// The rest of a scope after its `shield`.
     Fail,
-    /// A nursery behind its name.
+    /// The rest of a nursery after its name.
     Nursery,
-    /// A nursery behind its deadline.
+    /// The rest of a nursery after its deadline.
     NurseryShield,
-    /// A `start` behind its name.
+    /// The rest of a `start` after its name.
     Over,
-    /// The name that a job, scope, nursery or start is given.
+    /// The name that a job, scope, nursery or started task gets.
     Given,
     /// The name of an exception that is raised.
     Raised,
-    /// The name of an exception that is handled.
+    /// The name of the exceptions that a handler handles.
     Handled,
-    /// The name of what is cancelled.
+    /// The name in a `cancel`.
     Target,
     /// A number.
     Number,
@@ -57,8 +57,8 @@ pub enum Symbol {
     Semicolon,
 }
 
-// What follows a token, last first, as it goes onto a stack. `outer`, `tail` and `cleanup` are how the block round it goes
-// on: right inside a nursery by symbols of its own.
+// The nonterminals that follow a token, last first, in the order in which they go onto a stack. `outer`, `tail` and `cleanup`
+// are the rest of the enclosing block; directly inside a nursery, it has nonterminals of its own.
 macro_rules! rest {
     (outer $inside:ident, $($symbol:ident),*) => { rest!($inside: Items | Steps, $($symbol),*) };
     (tail $inside:ident, $($symbol:ident),*) => { rest!($inside: ItemsTail | StepsTail, $($symbol),*) };
@@ -70,7 +70,7 @@ macro_rules! rest {
 }
 
 impl Symbol {
-    /// What a token that stands for this symbol is for.
+    /// Returns the role of a token that is read for this nonterminal.
     pub fn role(self) -> Role
         ensures { result ≡ role_of self }
     {
@@ -83,8 +83,8 @@ impl Symbol {
         }
     }
 
-    /// What must stand behind a token that stands for this symbol in a text of that format, last first: none where it
-    /// cannot stand there.
+    /// Returns the nonterminals that must follow, last first, if this token is read for this nonterminal in a text of the
+    /// format. Returns `None` if the token cannot be read for it.
     pub fn next(self, format: Format, shape: Shape) -> Option<&'static [Symbol]>
         ensures { Gives (λ x. reverse x.now) result (next format self shape) }
     {
@@ -103,7 +103,7 @@ impl Symbol {
     fn behind_word(self, format: Format, word: Name) -> Option<&'static [Symbol]>
         ensures { Gives (λ x. reverse x.now) result (next format self (shape.Word word)) }
     {
-        // A name may be any word: that it is no keyword is asked later.
+        // Any word is accepted as a name here. Keywords are refused by a later check.
         if self.role() != Role::Plain {
             return rest!();
         }
@@ -143,7 +143,8 @@ impl Symbol {
     }
 }
 
-// What stands behind the first word of a step. A `start` stands only right inside a nursery, and a `repeat` only in format 2.
+// Returns what follows the first word of a step. A `start` may occur only directly inside a nursery, and a `repeat` only in
+// format 2.
 fn step_rest(format: Format, inside: bool, keyword: Keyword) -> Option<&'static [Symbol]>
     ensures { Gives (λ x. reverse x.now) result (step_rest format inside keyword) }
 {
@@ -163,7 +164,7 @@ fn step_rest(format: Format, inside: bool, keyword: Keyword) -> Option<&'static 
     }
 }
 
-// What stands behind a word in the head of a nursery, which has one in format 2 alone.
+// Returns what follows a word in the head of a nursery. Only in format 2 has the head such words.
 fn nursery_rest(format: Format, keyword: Keyword) -> Option<&'static [Symbol]>
     ensures { Gives (λ x. reverse x.now) result (nursery_rest format keyword) }
 {
@@ -173,7 +174,7 @@ fn nursery_rest(format: Format, keyword: Keyword) -> Option<&'static [Symbol]>
     }
 }
 
-// The same behind its deadline.
+// The same after the deadline of the nursery.
 fn nursery_shield_rest(format: Format, keyword: Keyword) -> Option<&'static [Symbol]>
     ensures { Gives (λ x. reverse x.now) result (nursery_shield_rest format keyword) }
 {
@@ -183,7 +184,7 @@ fn nursery_shield_rest(format: Format, keyword: Keyword) -> Option<&'static [Sym
     }
 }
 
-// What stands behind the word that follows a handler.
+// Returns what follows the word after a handler.
 fn cleanup_rest(format: Format, inside: bool, keyword: Keyword) -> Option<&'static [Symbol]>
     ensures { Gives (λ x. reverse x.now) result (cleanup_rest format inside keyword) }
 {
@@ -193,7 +194,7 @@ fn cleanup_rest(format: Format, inside: bool, keyword: Keyword) -> Option<&'stat
     }
 }
 
-// What stands behind the word that follows the block of a `try`.
+// Returns what follows the word after the block of a `try`.
 fn tail_rest(inside: bool, keyword: Keyword) -> Option<&'static [Symbol]>
     ensures { Gives (λ x. reverse x.now) result (tail_rest inside keyword) }
 {

@@ -12,8 +12,9 @@ use job_tokens::{Mark, Token};
 use job_tree::{Body, Deadline, Handler, Name, Step, Text};
 use std::alloc::{AllocError, Global};
 
-/// The name and the steps of the job, of any format, whose tokens these are, where at most 32 of its blocks stand in one another. It is
-/// for tokens in which `follow` finds no fault: it asks neither where a `start` stands nor what follows a `try`.
+/// Returns the name and the steps of the job with these tokens, of either format, if its blocks are nested at most 32 deep.
+/// Otherwise returns `None`. Call it with tokens in which `follow` finds no fault: it does not check where a `start` occurs or
+/// what follows a `try`. The only error is that memory was refused.
 pub fn job_at(alloc: Global, tokens: &[Token]) -> Result<Option<(Name, Body)>, AllocError>
     ensures { (format : Format) → IfOk result (λ x. Gives (λ j. record { format = format; name = j.0; steps = j.1 }) x
         (job_at format (shapes_of tokens.now))) }
@@ -30,7 +31,7 @@ pub fn job_at(alloc: Global, tokens: &[Token]) -> Result<Option<(Name, Body)>, A
     Ok(Some((name, steps)))
 }
 
-// The job's name, behind its keyword and in front of its `{`.
+// Returns the name of the job, between its keyword and its `{`, and the tokens after the `{`.
 fn head_at(tokens: &[Token]) -> Option<(Name, &[Token])>
     ensures { Gives (λ x. (x.0, shapes_of x.1.now)) result (head_at (shapes_of tokens.now)) }
 {
@@ -81,7 +82,7 @@ fn text_at(tokens: &[Token]) -> Option<(Text, &[Token])>
     Some((text, rest))
 }
 
-// What is behind a mark.
+// Returns the tokens after this mark, if it is the first token.
 fn mark_at(tokens: &[Token], mark: Mark) -> Option<&[Token]>
     ensures { Gives (λ x. shapes_of x.now) result (mark_at mark (shapes_of tokens.now)) }
 {
@@ -93,7 +94,7 @@ fn mark_at(tokens: &[Token], mark: Mark) -> Option<&[Token]>
     Some(rest)
 }
 
-// What is behind a keyword, where it comes first.
+// Returns the tokens after this keyword, if it is the first token.
 fn behind_word(tokens: &[Token], keyword: Keyword) -> Option<&[Token]>
     ensures { Gives (λ x. shapes_of x.now) result (behind_word keyword (shapes_of tokens.now)) }
 {
@@ -106,7 +107,7 @@ fn behind_word(tokens: &[Token], keyword: Keyword) -> Option<&[Token]>
     Some(rest)
 }
 
-// A word that may stand or not.
+// Returns whether this optional keyword is the first token, and the tokens after it.
 fn flag_at(tokens: &[Token], keyword: Keyword) -> (bool, &[Token])
     ensures { (result.0, shapes_of result.1.now) ≡ flag_at keyword (shapes_of tokens.now) }
 {
@@ -130,7 +131,7 @@ fn deadline_at(tokens: &[Token]) -> Option<(Deadline, &[Token])>
     Some((Deadline::Never, tokens))
 }
 
-// How many copies are started.
+// Returns the number of copies that are started, if there is an `over`.
 fn over_at(tokens: &[Token]) -> Option<(Option<u64>, &[Token])>
     ensures { Gives (λ x. (x.0, shapes_of x.1.now)) result (over_at (shapes_of tokens.now)) }
 {
@@ -141,8 +142,8 @@ fn over_at(tokens: &[Token]) -> Option<(Option<u64>, &[Token])>
     Some((None, tokens))
 }
 
-// The steps of a block that holds at most so many blocks in one another, itself included, behind its `{`, and the tokens
-// behind its `}`: none where they are no such block. It recurses no deeper than that.
+// Returns the steps of a block after its `{`, and the tokens after its `}`, or `None` if the tokens do not begin with such a
+// block. At most `depth` blocks may be nested, including this one; so the recursion is no deeper than that.
 #[cycle(tree)]
 #[tactic(auto, unfolding(crate::specs::Reading::blocks_at))]
 fn blocks_at(
@@ -158,7 +159,7 @@ fn blocks_at(
     steps_with(alloc, depth - 1, tokens)
 }
 
-// The steps up to the `}` that ends them, and what is behind it.
+// Returns the steps up to the `}` that ends them, and the tokens after it.
 #[cycle(tree)]
 fn steps_with(
     alloc: Global,
@@ -183,7 +184,7 @@ fn steps_with(
     Ok(None)
 }
 
-// The step that the tokens begin with, and what is behind it.
+// Returns the first step, and the tokens after it.
 #[cycle(tree)]
 fn step_at(
     alloc: Global,
@@ -205,7 +206,7 @@ fn step_at(
     }
 }
 
-// A block with its `{`.
+// Returns a block that begins with its `{`.
 #[cycle(tree)]
 fn body_at(
     alloc: Global,
@@ -375,7 +376,7 @@ fn cleanup_at(
     Ok(Some((Some(body), rest)))
 }
 
-// A step that holds no block, behind its keyword.
+// Returns a step without a block, read after its keyword.
 fn plain_step(keyword: Keyword, tokens: &[Token]) -> Option<(Step, &[Token])>
     ensures { Gives (λ x. (step_of x.0, shapes_of x.1.now)) result (plain_step keyword (shapes_of tokens.now)) }
 {
@@ -430,7 +431,7 @@ fn need_at(tokens: &[Token]) -> Option<(Step, &[Token])>
     ended(Step::Need { text, name }, rest)
 }
 
-// A step and what is behind its `;`.
+// Returns the step, and the tokens after its `;`.
 fn ended(step: Step, tokens: &[Token]) -> Option<(Step, &[Token])>
     ensures { Gives (λ x. (step_of x.0, shapes_of x.1.now)) result (ended (step_of step) (shapes_of tokens.now)) }
 {
