@@ -1,4 +1,5 @@
--- What a check finds nothing in, it finds nothing in whatever the places of the tokens are.
+-- The result that a check finds nothing depends only on the shapes of the tokens and on their roles, not on their
+-- places.
 use Rattle.std.proofs.Common.{◌≡◌, ℕ, Bool, true, false, ◌∷◌, ◌++◌, List, [], Option, Some, None, refl, sym, ap, subst, ◌∙◌, cond, length, arith}
 use Rattle.job_tokens.specs.declared.token.Shape.{Shape}
 use Rattle.job_tokens.specs.declared.token.Token.{Token}
@@ -13,7 +14,7 @@ same_shape : (x y : Token) (xs ys : List Token) → shapes_of (x ∷ xs) ≡ sha
     × (shapes_of xs ≡ shapes_of ys)
 same_shape x y xs ys e = (cc, cc)
 
--- that no name is reserved shows in the shapes and in what the tokens are for
+-- whether a name is reserved depends only on the shapes and the roles
 pub reserved_by_shapes : (xs ys : List Token) (roles : List Role) → shapes_of xs ≡ shapes_of ys → reserved_in xs roles ≡ None →
     reserved_in ys roles ≡ None
 reserved_by_shapes [] [] roles e none = refl
@@ -31,7 +32,7 @@ reserved_by_shapes (x ∷ xs) (y ∷ ys) (r ∷ rs) e none =
         let others : reserved_in xs rs ≡ None = sym (ap (λ (b : Bool). cond b (reserved_in xs rs) (Some x.at)) is) ∙ none in
         rw same (rest others)
 
--- that no name is given twice, and none of these again, shows in the shapes and in what the tokens are for
+-- whether a name is given twice, or is one of these, depends only on the shapes and the roles
 pub twice_by_shapes : (names : List (List ℕ)) (xs ys : List Token) (roles : List Role) → shapes_of xs ≡ shapes_of ys →
     twice_in names xs roles ≡ None → twice_in names ys roles ≡ None
 twice_by_shapes names [] [] roles e none = refl
@@ -87,7 +88,7 @@ stray_among (c ∷ cs) (x ∷ xs) (y ∷ ys) e found = by_among (is_among c.roun
     by_among true found rest = rest found
     by_among false found rest = absurd cc
 
--- that no `cancel` is stray shows in the shapes and in what the tokens are for
+-- whether a `cancel` is stray depends only on the shapes and the roles
 pub stray_by_shapes : (cs : List Cancel) (xs ys : List Token) (roles : List Role) → shapes_of xs ≡ shapes_of ys →
     stray_in cs (targets_in xs roles) ≡ None → stray_in cs (targets_in ys roles) ≡ None
 stray_by_shapes cs xs ys roles e found = stray_among cs (targets_in xs roles) (targets_in ys roles) (as_many_in xs ys roles e) found

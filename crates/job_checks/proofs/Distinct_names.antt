@@ -1,4 +1,4 @@
--- The names that a job gives, found along its tokens: where none is given twice, they are distinct.
+-- The names that a job defines, found along its tokens. If none is given twice, they are distinct.
 use Rattle.std.proofs.Common.{◌≡◌, ℕ, Bool, true, false, ◌||◌, List, [], ◌∷◌, ◌++◌, Option, Some, None, refl, sym, ap, subst, ◌∙◌, cond, append_assoc, append-nil}
 use Rattle.std.specs.List.{AllByRecursion, IsDistinct}
 use Rattle.std.specs.Str.{bytes_eq}
@@ -20,12 +20,12 @@ Names = List (List ℕ)
 
 -- ---- names one after the other
 
--- none of the names is one of those that are known, or one before it
+-- none of the names is already known or equal to one before it
 abbrev pub NoneTwice : Names → Names → Type 0
 NoneTwice known [] = Unit {0}
 NoneTwice known (n ∷ ns) = (is_among known n ≡ false) × NoneTwice (known ++ n ∷ []) ns
 
--- a name that is not among others differs from one that is
+-- a name that is not in a list differs from each name in it
 differs : (front back : Names) (k n : List ℕ) → is_among (front ++ k ∷ back) n ≡ false → bytes_eq k n ≡ false
 differs [] back k n none = sym (nat_list_eq_equiv.symm n k) ∙ (either (bytes_eq n k) (is_among back n) none).0
   where
@@ -38,7 +38,7 @@ differs (f ∷ front) back k n none = differs front back k n (or_else (bytes_eq 
     or_else false b e = e
     or_else true b e = absurd cc
 
--- a name that is known differs from all that follow
+-- a known name differs from all that follow
 apart : (front back : Names) (k : List ℕ) (ns : Names) → NoneTwice (front ++ k ∷ back) ns
     → AllByRecursion (λ n. bytes_eq k n ≡ false) ns
 apart front back k [] none = tt
@@ -46,7 +46,7 @@ apart front back k (n ∷ ns) none =
     let others = subst (λ (known : Names). NoneTwice known ns) (append_assoc front (k ∷ back) (n ∷ [])) none.1 in
     (differs front back k n none.0, apart front (back ++ n ∷ []) k ns others)
 
--- names none of which is given twice are distinct
+-- names of which none is given twice are distinct
 pub distinct : (known ns : Names) → NoneTwice known ns → IsDistinct bytes_eq ns
 unfolding IsDistinct
 distinct known [] none = tt
@@ -54,7 +54,7 @@ distinct known (n ∷ ns) none = (apart known [] n ns none.1, distinct (known ++
 
 -- ---- along the tokens
 
--- a name that may be given, in front of others
+-- a name, if there is one, followed by others
 abbrev with_name : Option (List ℕ) → Names → Names
 with_name None names = names
 with_name (Some name) names = name ∷ names
@@ -64,7 +64,7 @@ abbrev pub given_in : List Piece → Names
 given_in [] = []
 given_in (p ∷ ps) = with_name (given_by p.role p.shape) (given_in ps)
 
--- where the search finds nothing, none of those names is given twice
+-- if the search finds nothing, none of those names is given twice
 pub none_twice : (known : Names) (ts : List Token) (ps : List Piece) → shapes_of ts ≡ shapes_in ps
     → twice_in known ts (roles_in ps) ≡ None → NoneTwice known (given_in ps)
 none_twice known [] [] e none = tt
@@ -108,11 +108,11 @@ past_over : (o : Option ℕ) (rest : List Piece) → given_in (over_pieces o res
 past_over None rest = refl
 past_over (Some n) rest = refl
 
--- a name in front of what a block gives
+-- a name before those of a block
 behind_name : {names more : Names} (name : List ℕ) → names ≡ more → name ∷ names ≡ name ∷ more
 behind_name name e = ap (λ (ns : Names). name ∷ ns) e
 
--- names of two parts, one in front of the other
+-- the names of two parts, one after the other
 in_turn : {all behind : Names} (first second rest : Names) → all ≡ first ++ behind → behind ≡ second ++ rest
     → all ≡ (first ++ second) ++ rest
 in_turn first second rest e f = e ∙ ap (λ (ns : Names). first ++ ns) f ∙ sym (append_assoc first second rest)

@@ -1,4 +1,4 @@
--- Which `cancel` names a scope or nursery round it.
+-- Which `cancel` names an enclosing scope or nursery.
 use Rattle.std.specs.Prelude.{ℕ, List, [], ◌∷◌, ◌++◌, Option, Some, None, if◌then◌else◌}
 use Rattle.job_tokens.specs.declared.token.Token.{Token}
 use Rattle.job_syntax.specs.declared.role.Role.{Role}
@@ -6,12 +6,12 @@ use Rattle.job_syntax.specs.declared.role.Role.TheVariants as role
 use Rattle.job_tree.specs.Tree.{Step, sleep, checkpoint, forever, pace, find, head, longest, need, raise, cancel, scope, nursery, start, repeat, attempt, Steps, stop, step, Handled, unhandled, except, Cleaned, uncleaned, finally}
 use Rattle.job_checks.specs.Given.{is_among}
 
--- a `cancel`: what it names, and the names of the scopes and nurseries round it, the innermost first
+-- a `cancel`: the name in it, and the names of the scopes and nurseries that enclose it, the innermost first
 pub record Cancel : Type 0 where
   pub name : List ℕ
   pub round : List (List ℕ)
 
--- the cancels of a block that has these scopes and nurseries round it, in the order of the text
+-- the cancels of a block that these scopes and nurseries enclose, in the order of the text
 abbrev mutual
   pub cancels_of : List (List ℕ) → Steps → List Cancel
   cancels_of round stop = []
@@ -43,7 +43,7 @@ abbrev mutual
   cleaned_cancels round uncleaned = []
   cleaned_cancels round (finally body) = cancels_of round body
 
--- the place of a name of what is cancelled, in front of others
+-- the place of a name in a `cancel`, followed by others
 abbrev pub place_of_target : Role → ℕ → List ℕ → List ℕ
 place_of_target role.Target at others = at ∷ others
 place_of_target role.Plain at others = others
@@ -51,13 +51,13 @@ place_of_target role.Given at others = others
 place_of_target role.Raised at others = others
 place_of_target role.Handled at others = others
 
--- the places of the names of what is cancelled
+-- the places of the names in cancels
 abbrev pub targets_in : List Token → List Role → List ℕ
 targets_in [] roles = []
 targets_in (t ∷ ts) [] = []
 targets_in (t ∷ ts) (r ∷ rs) = place_of_target r t.at (targets_in ts rs)
 
--- the place of the first `cancel` whose name is not among those round it
+-- the place of the first `cancel` whose name no enclosing scope or nursery has
 abbrev pub stray_in : List Cancel → List ℕ → Option ℕ
 stray_in [] places = None
 stray_in (c ∷ cs) [] = None

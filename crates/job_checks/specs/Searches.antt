@@ -1,16 +1,16 @@
--- What a search for a stray `cancel` found so far, and what it goes on with.
+-- The state of a search for a stray `cancel`.
 use Rattle.std.specs.Prelude.{ℕ, List, [], ◌∷◌, Option}
 use Rattle.job_checks.specs.declared.cancels.Search.{Search}
 use Rattle.job_checks.specs.declared.cancels.Search.TheVariants.{Passed, Stopped}
 use Rattle.job_checks.specs.declared.cancels.Round.{Round, Nothing, Inside'}
 use Rattle.job_checks.specs.Cancels.{Cancel, targets_in, stray_in}
 
--- the names of the scopes and nurseries round a block, the innermost first
+-- the names of the scopes and nurseries that enclose a block, the innermost first
 abbrev pub names_round : Round → List (List ℕ)
 names_round Nothing = []
 names_round (Inside' name p outer) = name.now ∷ names_round outer
 
--- what is found behind a search, where these cancels follow
+-- the result of a search if these cancels follow
 abbrev pub found_in : Search → List Cancel → Option ℕ
 found_in (Passed left) cs = stray_in cs (targets_in left.tokens.now left.roles.now)
 found_in (Stopped at) cs = at

@@ -8,7 +8,10 @@ use job_syntax::Role;
 use job_tokens::Token;
 use job_tree::{Body, Handler, Name, Step};
 
-/// The place of the first name of a `cancel` that names no scope or nursery round it. Takes no memory.
+/// Returns the place of the first name in a `cancel` that is not the name of an enclosing scope or nursery, or
+/// `None` if there is none. `steps` are the steps of the job, `tokens` are the tokens of its text, and `roles` are
+/// their roles, in the same order. A nursery that encloses a `start` also encloses the body of the started task.
+/// Does not allocate.
 pub fn stray_cancel(steps: &[Step], tokens: &[Token], roles: &[Role]) -> Option<usize>
     ensures { result ≡ stray_in (cancels_of [] (steps_of steps.now)) (targets_in tokens.now roles.now) }
 {
@@ -19,28 +22,28 @@ pub fn stray_cancel(steps: &[Step], tokens: &[Token], roles: &[Role]) -> Option<
     }
 }
 
-// The scopes and nurseries round a block, the innermost first.
+// The scopes and nurseries that enclose a block, the innermost first.
 #[derive(Clone, Copy)]
 enum Round<'a> {
     Nothing,
     Inside(&'a Name, &'a Round<'a>),
 }
 
-// The tokens that are left, with what each is for.
+// The tokens that are left, with their roles.
 #[derive(Clone, Copy)]
 struct Left<'a> {
     tokens: &'a [Token],
     roles: &'a [Role],
 }
 
-// A search for a stray `cancel`: it passed those up to some tokens, or it has its answer.
+// The state of a search for a stray `cancel`: it has passed the cancels before some tokens, or it has its result.
 #[derive(Clone, Copy)]
 enum Search<'a> {
     Passed(Left<'a>),
     Stopped(Option<usize>),
 }
 
-// Goes on through the steps of a block.
+// Continues the search through the steps of a block.
 #[cycle(search)]
 fn search_steps<'a>(steps: &[Step], round: &Round, search: Search<'a>) -> Search<'a>
     ensures { (more : List Cancel) → found_in result more
@@ -106,7 +109,7 @@ fn search_cleanup<'a>(cleanup: &Option<Body>, round: &Round, search: Search<'a>)
     }
 }
 
-// Goes on past one `cancel`, whose name is the next that stands behind that word.
+// Continues the search past one `cancel`, whose name is the next one after that keyword.
 fn search_cancel<'a>(name: &Name, round: &Round, search: Search<'a>) -> Search<'a>
     ensures { (more : List Cancel) → found_in result more
         ≡ found_in search.entry (record { name = name.now; round = names_round round.now } ∷ more) }
@@ -124,7 +127,7 @@ fn search_cancel<'a>(name: &Name, round: &Round, search: Search<'a>) -> Search<'
     }
 }
 
-// The place of the first name of what is cancelled, and what is left behind it.
+// Returns the place of the first name in a `cancel`, and the tokens after it.
 fn next_target(left: Left<'_>) -> Option<(usize, Left<'_>)>
     ensures { MatchOption result (targets_in left.entry.tokens.now left.entry.roles.now ≡ [])
         (λ found. targets_in left.entry.tokens.now left.entry.roles.now ≡ found.0 ∷ targets_in found.1.tokens.now found.1.roles.now) }
@@ -144,7 +147,7 @@ fn next_target(left: Left<'_>) -> Option<(usize, Left<'_>)>
     None
 }
 
-// Whether a scope or nursery of that name is round a block.
+// Returns whether an enclosing scope or nursery has this name.
 fn is_round(name: &Name, round: &Round) -> bool
     ensures { result ≡ is_among (names_round round.now) name.now }
 {

@@ -1,8 +1,8 @@
-//! The checks of a job that its grammar does not make: names given twice, a `cancel` of nothing round it, names that are
-//! reserved, and the number of step instances.
+//! The checks of a job that a grammar cannot make: names that are given twice, a `cancel` whose name no enclosing scope
+//! or nursery has, names that are reserved, and the number of step instances.
 //!
-//! The layer promises for each check the earliest place at which it finds something, exactly. It stands on the tree of a
-//! job and on what `job_syntax` says each token is for.
+//! Each check of names returns exactly the earliest place at which it finds something. The crate uses the tree of a job,
+//! and the roles of tokens from `job_syntax`.
 #![tactic(auto)]
 
 mod cancels;

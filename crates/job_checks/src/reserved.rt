@@ -5,7 +5,9 @@ use job_syntax::{Keyword, Role};
 use job_tokens::{Shape, Token};
 use job_tree::Name;
 
-/// The place of the first name that is reserved: a keyword or `Cancelled`, or `TooSlow` but behind `except`.
+/// Returns the place of the first name that is reserved, or `None` if there is none. The keywords and `Cancelled`
+/// are reserved, and `TooSlow` is reserved everywhere except after `except`. `roles` are the roles of the tokens,
+/// in the same order.
 pub fn reserved_name(tokens: &[Token], roles: &[Role]) -> Option<usize>
     ensures { result ≡ reserved_in tokens.now roles.now }
 {
@@ -22,7 +24,7 @@ pub fn reserved_name(tokens: &[Token], roles: &[Role]) -> Option<usize>
     None
 }
 
-// Whether a token may serve as what it is for.
+// Returns whether a token is allowed in its role.
 fn allows(role: Role, shape: Shape) -> bool
     ensures { result ≡ allows role shape }
 {
@@ -53,7 +55,7 @@ fn may_be_handled(word: Option<Name>) -> bool
     }
 }
 
-// A keyword, or `Cancelled`.
+// Returns whether the word is a keyword or `Cancelled`.
 fn is_reserved(word: Name) -> bool
     ensures { result ≡ is_reserved word }
 {

@@ -4,7 +4,8 @@ ghost use Rattle.job_tree.specs.Names.{copies_of, size_of, size_in, handled_size
 
 use job_tree::{Body, Handler, Step};
 
-/// How many step instances a block has, or the greatest number of 64 bits where it has more. Takes no memory.
+/// Returns the number of step instances of a block, or 18,446,744,073,709,551,615 (the maximum `u64`) if it has
+/// more. The copies of a `start .. over` and the passes of a `repeat` are counted. Does not allocate.
 #[cycle(size)]
 pub fn size_of(steps: &[Step]) -> u64
     ensures { result ≡ min (size_of (steps_of steps.now)) 18446744073709551615 }
@@ -17,7 +18,7 @@ pub fn size_of(steps: &[Step]) -> u64
     size
 }
 
-// The size of one step.
+// Returns the number of step instances of one step.
 #[cycle(size)]
 fn size_in(step: &Step) -> u64
     ensures { result ≡ min (size_in (step_of step.now)) 18446744073709551615 }
@@ -69,7 +70,7 @@ fn one_more(size: u64) -> u64
     size.saturating_add(1)
 }
 
-// The size of all copies, or of all passes.
+// Returns the number of step instances of all copies or all passes.
 fn times(over: Option<u64>, size: u64) -> u64
     ensures { result ≡ min (copies_of over * size) 18446744073709551615 }
 {
