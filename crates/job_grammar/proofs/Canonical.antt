@@ -1,4 +1,4 @@
--- The canonical text of a job that some text spells, which spells it too.
+-- The canonical text of a job that some text spells also spells that job.
 use Rattle.std.proofs.Common.{◌≡◌, ℕ, ◌+◌, ◌≤◌, Bool, true, false, cond, List, [], ◌∷◌, ◌++◌, length, take, drop, Option, Some, None, inl, inr, refl, sym, ap, subst, ◌∙◌, arith}
 use Rattle.std.specs.List.{prefix_len, list_all}
 use Rattle.std.proofs.lemmas.List.{length-append, length-drop, length-take}
@@ -38,17 +38,17 @@ use Rattle.job_grammar.specs.Refusals.{most_bytes, first_line, format_of, IsHead
 use Rattle.job_grammar.specs.Canon.{canon}
 use Rattle.job_grammar.proofs.Passing.{format_is, none_of, small_enough, passes_one, passes_two, passes_three, passes_tokens, passes_numbers, passes_syntax, passes_depth, passes_given, passes_cancels, passes_reserved, passes_size, passes_all}
 
--- ---- what depends on the shapes alone
+-- ---- what depends only on the shapes
 
 no_some : (x : ℕ) → None ≡ Some x → ⊥
 no_some x e = cc
 
--- a test that went on
+-- a test that passed
 went_on : (b : Bool) (o : Option ℕ) (at : ℕ) → cond b o (Some at) ≡ None → (b ≡ true) × (o ≡ None)
 went_on true o at e = (refl, e)
 went_on false o at e = absurd (no_some at (sym e))
 
--- what the passes along tokens of a job find nothing in
+-- the checks along the tokens of a job find nothing
 record PassesTokens (ts : List Token) (job : Tree) : Type 0 where
   pub numbers : number_fault job.format None ts ≡ None
   pub depth : depth_fault 0 ts ≡ None
@@ -57,7 +57,7 @@ record PassesTokens (ts : List Token) (job : Tree) : Type 0 where
   pub reserved : reserved_in ts (roles_of job) ≡ None
   pub size : size_of job.steps ≤ most_steps job.format
 
--- it does not depend on their places
+-- this does not depend on the places of the tokens
 by_shapes : (ts us : List Token) (job : Tree) → shapes_of ts ≡ shapes_of us → PassesTokens ts job → PassesTokens us job
 by_shapes ts us job e old = record {
   numbers = numbers_by_shapes job.format None ts us e old.numbers;
@@ -80,7 +80,7 @@ passed text ts job is_of none = record {
   size = small_enough (most_steps job.format) (size_of job.steps) (λ lt. none kind.TooLarge 0 (ts, job, is_of, lt, refl));
 }
 
--- numbers in their ranges are written
+-- numbers in their ranges can be written
 writable : (format : Format) (before : Option Keyword) (s : Shape) → IsSpelled s → is_in_range format before s ≡ true → IsWritable s
 writable format before (shape.Word word) is in_range = is
 writable format before (shape.Number None) is in_range = absurd cc
@@ -95,7 +95,7 @@ all_writable format before (t ∷ ts) are none =
     let parts = went_on (is_in_range format before t.shape) (number_fault format (keyword_in t.shape) ts) t.at none in
     (writable format before t.shape are.0 parts.0, all_writable format (keyword_in t.shape) ts are.1 parts.1)
 
--- ---- the passes of the canonical text
+-- ---- the checks of the canonical text
 
 all_ascii : (bytes : List ℕ) → list_all is_ascii bytes ≡ true → length bytes ≤ prefix_len is_ascii bytes
 all_ascii [] all = omega arith
@@ -131,7 +131,7 @@ long_enough text headed = elim (cases_lt (length text) 11) [
 short_enough : (text : List ℕ) → ((at : ℕ) → Finds kind.TooLong text at → ⊥) → length text ≤ most_bytes
 short_enough text never = elim (cases_lt most_bytes (length text)) [ inl lt ↦ absurd (never most_bytes (lt, refl)) | inr le ↦ le ]
 
--- what is known of a first line in front of other bytes
+-- what holds of a first line followed by other bytes
 record IsHeaded (format : Format) (body : List ℕ) : Type 0 where
   pub line : take 11 (first_line format ++ body) ≡ first_line format
   pub rest : drop 11 (first_line format ++ body) ≡ body
@@ -142,7 +142,7 @@ headed_by : (format : Format) (body : List ℕ) → IsHeaded format body
 headed_by One body = record { line = refl; rest = refl; long = length-append (first_line One) body; small = refl }
 headed_by Two body = record { line = refl; rest = refl; long = length-append (first_line Two) body; small = refl }
 
--- the first line, and tokens behind it
+-- the first line, followed by tokens
 headed_spells : (limit : ℕ) (body : List ℕ) (job : Tree) (old : List Token) → limit ≤ most_bytes → 11 + length body ≤ limit →
     list_all is_ascii body ≡ true
     → (ts : List Token) → Lexes (11 + length body) body ts None → shapes_of ts ≡ shapes_of old → AreTokensOf old job →
@@ -174,7 +174,7 @@ canon_again text job ts lexed short long are found =
       omega (arith, bound, (headed_by job.format (canon_of shapes)).long),
     )
 
--- the canonical text of a job that a text spells, which spells it too and is no longer
+-- the canonical text of a job that a text spells also spells it, and is no longer
 pub canon_spells : (text : List ℕ) (job : Tree) → Spells text job → Spells (canon job) job × (length (canon job) ≤ length text)
 canon_spells text job (ts, is_of, none) =
     canon_again text job ts is_of.0 (short_enough text (none kind.TooLong)) (long_enough text (λ e. none kind.Version 0 (e, refl))) is_of.1

@@ -1,4 +1,4 @@
--- One pass after the other, and that each finds one place.
+-- The checks one after the other, and that each finds one place only.
 use Rattle.std.proofs.Common.{Bool, true, false, ◌≡◌, ℕ, ◌+◌, ◌<◌, ◌≤◌, List, [], length, take, drop, Option, Some, None, inl, inr, refl, sym, ap, subst, ◌∙◌, arith}
 use Rattle.std.specs.Prelude.{Result, Ok, Err, MatchResult, ◌==◌, if◌then◌else◌}
 use Rattle.std.specs.List.{prefix_len}
@@ -36,7 +36,7 @@ next_pass : (text : List ℕ) (n : ℕ) → Passes text n → ((k : JobKind) (at
 next_pass text n before here k at le finds =
     elim (cases_lt (number_of k) (n + 1)) [ inl lt ↦ before k at (omega arith) finds | inr ge ↦ here k at (omega arith) finds ]
 
--- what a pass finds is a refusal of the text, where all passes before it find nothing
+-- what a check finds is a refusal of the text if all checks before it find nothing
 pub refused_after : (text : List ℕ) (n : ℕ) (k : JobKind) (at : ℕ) → Passes text n → number_of k ≡ n + 1 → Finds k text at →
     IsRefused text k at
 refused_after text n k at before e finds = (finds, λ other place lt. before other place (omega arith))
@@ -55,12 +55,12 @@ here_ascii : (text : List ℕ) → length text ≤ prefix_len is_ascii text → 
 here_ascii text all kind.NotAscii at e finds = omega (arith, finds.0, finds.1)
 here_ascii text all _ at e finds = absurd (omega arith)
 
--- a text that begins with the first line of a format is of that format
+-- a text that begins with the first line of a format has that format
 pub format_is : (text : List ℕ) (format : Format) → take 11 text ≡ first_line format → format ≡ format_of text
 format_is text One e = rw e refl
 format_is text Two e = rw e refl
 
--- a text that begins with neither first line counts as one of format 1
+-- a text that begins with neither first line has format 1
 pub format_headless : (text : List ℕ) → IsHeadless text → One ≡ format_of text
 format_headless text none = by_test (bytes_eq (take 11 text) (first_line Two)) refl
   where
@@ -77,15 +77,15 @@ here_version : (text : List ℕ) (format : Format) → take 11 text ≡ first_li
 here_version text format is kind.Version at e finds = not_headless text format is finds.0
 here_version text format is _ at e finds = absurd (omega arith)
 
--- a text of at most the greatest number of bytes passes the first pass
+-- a text of at most the maximum number of bytes passes the first check
 pub passes_one : (text : List ℕ) → length text ≤ most_bytes → Passes text 1
 passes_one text short = next_pass text 0 (no_pass text) (here_long text short)
 
--- a text that passed the first pass and is all ASCII passes the second
+-- a text that passed the first check and is all ASCII passes the second
 pub passes_two : (text : List ℕ) → Passes text 1 → length text ≤ prefix_len is_ascii text → Passes text 2
 passes_two text before all = next_pass text 1 before (here_ascii text all)
 
--- a text that passed these and begins with the first line passes the third
+-- a text that passed these and begins with a first line passes the third
 pub passes_three : (text : List ℕ) (format : Format) → Passes text 2 → take 11 text ≡ first_line format → Passes text 3
 passes_three text format before is = next_pass text 2 before (here_version text format is)
 
@@ -130,39 +130,39 @@ here_syntax text tokens lexed none _ at e finds = absurd (omega arith)
 
 -- ---- the job
 
--- where no place is the one that is found, none is found
+-- if no place is found, the result is `None`
 pub none_of : (o : Option ℕ) → ((x : ℕ) → o ≡ Some x → ⊥) → o ≡ None
 none_of None never = refl
 none_of (Some x) never = absurd (never x refl)
 
--- a number that is not above the greatest number of step instances is at most it
+-- a number that is not above the maximum number of step instances is at most that maximum
 pub small_enough : (most n : ℕ) → (most < n → ⊥) → n ≤ most
 small_enough most n never = elim (cases_lt most n) [ inl lt ↦ absurd (never lt) | inr le ↦ le ]
 
 some_tree : (a b : Tree) → Some a ≡ Some b → a ≡ b
 some_tree a b e = cc
 
--- what tokens are for, whatever job they are of
+-- the roles of tokens do not depend on the job that has them
 same_roles : (text : List ℕ) (ts us : List Token) (a b : Tree) → IsOf text ts a → IsOf text us b → roles_of a ≡ roles_of b
 same_roles text ts us a b (p, (are_a, same_a), of_a) (q, (are_b, same_b), of_b) =
     sym (roles_of_job a ts are_a same_a) ∙ ap (roles_at a.format whole_job) (same_tokens text ts us None None p q)
     ∙ ap (λ (format : Format). roles_at format whole_job us) (of_a ∙ sym of_b) ∙ roles_of_job b us are_b same_b
 
--- what a pass along tokens and what they are for finds
+-- what a check finds along tokens and their roles
 same_found : (text : List ℕ) (ts us : List Token) (a b : Tree) (pass : List Token → List Role → Option ℕ) → IsOf text ts a →
     IsOf text us b → pass ts (roles_of a) ≡ pass us (roles_of b)
 same_found text ts us a b pass p q =
     ap (λ (xs : List Token). pass xs (roles_of a)) (same_tokens text ts us None None p.0 q.0) ∙ ap (pass us) (same_roles text ts us a b p q)
 
--- the depth pass finds nothing
+-- the depth check finds nothing
 abbrev pub IsShallow : List ℕ → Type 0
 IsShallow text = (at : ℕ) → Finds kind.Depth text at → ⊥
 
--- of a text that is not too deep, at most 31 blocks stand in one another inside the job's own
+-- in a text that is not too deep, at most 31 blocks are nested inside the job's own
 pub within : (text : List ℕ) (ts : List Token) (job : Tree) → IsOf text ts job → IsShallow text → AreWithin 31 job.steps
 within text ts job (lexed, (are, same), of) never = within_depth job ts same (none_of (depth_fault 0 ts) (λ at e. never at (ts, lexed, e)))
 
--- a text that is not too deep is that of one job only
+-- a text that is not too deep is the text of only one job
 pub same_job : (text : List ℕ) (ts us : List Token) (a b : Tree) → IsOf text ts a → IsOf text us b → IsShallow text → a ≡ b
 same_job text ts us a b p q never =
     let shapes : shapes_in (job_pieces a) ≡ shapes_in (job_pieces b) =
@@ -215,43 +215,43 @@ here_large text tokens job is_of never small kind.TooLarge at e finds =
     omega (arith, same, most, large, small)
 here_large text tokens job is_of never small _ at e finds = absurd (omega arith)
 
--- a text that passed three passes, and of which all tokens can be read, passes the pass for tokens too
+-- a text that passed three checks, and of which all tokens can be read, also passes the check for tokens
 pub passes_tokens : (text : List ℕ) (tokens : List Token) → Passes text 3 → HasTokens text tokens None → Passes text 4
 passes_tokens text tokens before lexed = next_pass text 3 before (here_token text tokens lexed)
 
--- one that passed so far, with no number out of its range, passes the pass for numbers too
+-- if no number is out of its range, it also passes the check for numbers
 pub passes_numbers : (text : List ℕ) (tokens : List Token) → Passes text 4 → HasTokens text tokens None →
     number_fault (format_of text) None tokens ≡ None →
     Passes text 5
 passes_numbers text tokens before lexed none = next_pass text 4 before (here_number text tokens lexed none)
 
--- one that passed so far, with tokens that leave the grammar nowhere, passes the pass for syntax too
+-- if its tokens do not leave the grammar, it also passes the check for syntax
 pub passes_syntax : (text : List ℕ) (tokens : List Token) → Passes text 5 → HasTokens text tokens None →
     fault_at (format_of text) (length text) whole_job tokens ≡ None → Passes text 6
 passes_syntax text tokens before lexed none = next_pass text 5 before (here_syntax text tokens lexed none)
 
--- one that passed so far, with no block too deep, passes the pass for depth too
+-- if no block is too deep, it also passes the check for depth
 pub passes_depth : (text : List ℕ) (tokens : List Token) → Passes text 6 → HasTokens text tokens None → depth_fault 0 tokens ≡ None →
     Passes text 7
 passes_depth text tokens before lexed none = next_pass text 6 before (here_depth text tokens lexed none)
 
--- one that passed so far, with no name given twice, passes the pass for names given too
+-- if no name is given twice, it also passes the check for given names
 pub passes_given : (text : List ℕ) (tokens : List Token) (job : Tree) → Passes text 7 → IsOf text tokens job →
     twice_in [] tokens (roles_of job) ≡ None → Passes text 8
 passes_given text tokens job before is_of none = next_pass text 7 before (here_twice text tokens job is_of none)
 
--- one that passed so far, with no stray `cancel`, passes the pass for cancels too
+-- if no `cancel` is stray, it also passes the check for cancels
 pub passes_cancels : (text : List ℕ) (tokens : List Token) (job : Tree) → Passes text 8 → IsOf text tokens job →
     stray_of job tokens (roles_of job) ≡ None → Passes text 9
 passes_cancels text tokens job before is_of none =
     next_pass text 8 before (here_enclosing text tokens job is_of (λ at. before kind.Depth at (omega arith)) none)
 
--- one that passed so far, with no reserved name, passes the pass for reserved names too
+-- if no name is reserved, it also passes the check for reserved names
 pub passes_reserved : (text : List ℕ) (tokens : List Token) (job : Tree) → Passes text 9 → IsOf text tokens job →
     reserved_in tokens (roles_of job) ≡ None → Passes text 10
 passes_reserved text tokens job before is_of none = next_pass text 9 before (here_reserved text tokens job is_of none)
 
--- one that passed so far, of a job with at most the greatest number of step instances, passes the last pass too
+-- if the job has at most the maximum number of step instances, it also passes the last check
 pub passes_size : (text : List ℕ) (tokens : List Token) (job : Tree) → Passes text 10 → IsOf text tokens job →
     size_of job.steps ≤ most_steps job.format → Passes text 11
 passes_size text tokens job before is_of small =
@@ -261,7 +261,7 @@ never_memory : (text : List ℕ) (k : JobKind) (at : ℕ) → 12 ≤ number_of k
 never_memory text kind.NoMemory at le finds = finds
 never_memory text _ at le finds = absurd (omega arith)
 
--- all passes find nothing
+-- all checks find nothing
 pub passes_all : (text : List ℕ) → Passes text 11 → (k : JobKind) (at : ℕ) → Finds k text at → ⊥
 passes_all text before k at finds =
     elim (cases_lt (number_of k) 12) [ inl lt ↦ before k at (omega arith) finds | inr ge ↦ never_memory text k at (omega arith) finds ]
@@ -331,16 +331,16 @@ ok_job job = Ok job
 abbrev err_job : JobFault → Result Tree JobFault
 err_job fault = Err fault
 
--- ---- what a reading that is exact both ways answers
+-- ---- the answers of a reading that is exact both ways
 
--- of a text that spells a job, a reading that is exact answers that job, or want of memory
+-- for a text that spells a job, an exact reading answers that job, or that memory was refused
 pub only_spelled : (text : List ℕ) (result : Result Tree JobFault) (job : Tree) → MatchResult result (Spells text) (IsFair text) →
     Spells text job → AnswersUnlessMemory result (Ok job)
 only_spelled text (Ok found) job spelled spells = inl (ap ok_job (one_spelled text found job spelled spells))
 only_spelled text (Err fault) job (inl memory) spells = inr (ap err_job memory)
 only_spelled text (Err fault) job (inr refused) spells = absurd (spells.2 fault.kind fault.at refused.0)
 
--- of a text that is refused, a reading that is exact answers that refusal, or want of memory
+-- for a text that is refused, an exact reading answers that refusal, or that memory was refused
 pub exact_refusal : (text : List ℕ) (result : Result Tree JobFault) (k : JobKind) (at : ℕ) →
     MatchResult result (Spells text) (IsFair text) → IsRefused text k at → AnswersUnlessMemory result (Err (record { at = at; kind = k }))
 exact_refusal text (Ok found) k at spelled refused = absurd (spelled.2 k at refused.0)

@@ -1,4 +1,4 @@
--- What is known of a job that a text spells.
+-- What holds of a job that a text spells.
 use Rattle.std.proofs.Common.{ℕ, List, [], false, None, refl, ap, sym, ◌∙◌}
 use Rattle.job_tree.specs.declared.format.Format.{Format}
 use Rattle.job_tree.specs.Tree.{Tree}
@@ -14,16 +14,16 @@ use Rattle.job_grammar.specs.declared.fault.JobKind.TheVariants as kind
 use Rattle.job_grammar.specs.Refusals.{roles_of, Spells}
 use Rattle.job_grammar.proofs.Passing.{none_of, small_enough}
 
--- its names are given once
+-- no name is given twice
 pub gives_names_once : (text : List ℕ) (job : Tree) → Spells text job → GivesNamesOnce job
 gives_names_once text job (ts, is_of, none) =
     names_once job ts is_of.1.1 (none_of (twice_in [] ts (roles_of job)) (λ at e. none kind.Twice at (ts, job, is_of, e)))
 
--- each start stands directly in a nursery
+-- each start is directly in the body of a nursery
 pub starts_in_nurseries : (text : List ℕ) (job : Tree) → Spells text job → StartsInNurseries job
 starts_in_nurseries text job (ts, is_of, none) = starts_in job.format false job.steps is_of.1.0
 
--- its numbers are in their ranges, and it has not too many steps
+-- its numbers are in their ranges, and it has no more steps than its format allows
 pub is_modest : (text : List ℕ) (job : Tree) → Spells text job → IsModest job
 is_modest text job (ts, is_of, none) = record {
   numbers = modest_numbers job ts is_of.1.0 is_of.1.1 (none_of (number_fault job.format None ts)

@@ -1,4 +1,4 @@
--- Tokens appended one after the other.
+-- Tokens that are appended one after the other.
 use Rattle.std.proofs.Common.{◌≡◌, ℕ, ◌+◌, ◌≤◌, List, [], ◌∷◌, ◌++◌, length, drop, refl, sym, ap, ◌∙◌, append_assoc}
 use Rattle.std.proofs.lemmas.List.{drop_all}
 use Rattle.job_tree.specs.declared.step.Step.{Step}
@@ -13,7 +13,7 @@ use Rattle.job_grammar.specs.Printing.{Appends}
 abbrev Print : Type 0
 Print = List Piece → List Piece
 
--- a list of tokens behind those that are there
+-- a list of tokens after those that are already there
 pub pushed : (print : Print) (old new more : List Shape) → new ≡ old ++ more →
     ((rest : List Piece) → shapes_in (print rest) ≡ more ++ shapes_in rest) → Appends print old new
 pushed print old new more is prints =
@@ -27,7 +27,7 @@ Left whole old left now = (rest : List Piece) → old ++ shapes_in (whole rest) 
 abbrev pub left_from : List Step → ℕ → Print
 left_from steps i = steps_pieces (steps_of (drop i steps))
 
--- the mark behind the last step
+-- the mark after the last step
 pub closed : (whole : Print) (old now new : List Shape) (steps : List Step) (i : ℕ) → length steps ≤ i →
     Left whole old (left_from steps i) now → new ≡ now ++ shape.Mark mark.Close ∷ [] → Appends whole old new
 closed whole old now new steps i le so_far is = λ rest.

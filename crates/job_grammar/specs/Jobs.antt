@@ -3,6 +3,6 @@ use Rattle.job_tree.specs.Tree.{Tree}
 use Rattle.job_grammar.specs.Refusals.{Spells}
 use Rattle.job_grammar.specs.Canon.{canon}
 
--- a job that a text spells: its canonical text does
+-- a tree that a text spells: its canonical text spells it
 abbrev pub IsReadable : Tree → Type 0
 IsReadable job = Spells (canon job) job

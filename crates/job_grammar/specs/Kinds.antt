@@ -4,7 +4,7 @@ use Rattle.job_grammar.specs.declared.fault.JobKind.{JobKind}
 use Rattle.job_grammar.specs.declared.fault.JobKind.TheVariants.{TooLong, NotAscii, Version, Token, Number, Syntax, Depth, Twice, NotEnclosing, Reserved, TooLarge, NoMemory}
 use Rattle.job_grammar.specs.declared.fault.JobFault.{JobFault}
 
--- a kind's number: the order in which the passes look for it
+-- the number of a kind: the order in which the checks look for it
 abbrev pub number_of : JobKind → ℕ
 number_of TooLong = 1
 number_of NotAscii = 2
@@ -33,6 +33,6 @@ name_of Reserved = codes "Reserved"
 name_of TooLarge = codes "TooLarge"
 name_of NoMemory = codes "NoMemory"
 
--- what is answered where a growth was refused
+-- the answer if memory was refused
 abbrev pub no_memory : JobFault
 no_memory = record { at = 0; kind = NoMemory }

@@ -1,4 +1,4 @@
--- What a job text spells, and why one is refused.
+-- Which job a text spells, and why a text is refused.
 use Rattle.std.specs.Prelude.{◌≡◌, ◌≢◌, ◌⊎◌, ℕ, ◌<◌, ◌≤◌, Bool, true, false, nat_lt, List, [], length, take, drop, Option, Some, None, Result, Err, codes}
 use Rattle.std.specs.List.{prefix_len}
 use Rattle.std.specs.Str.{bytes_eq}
@@ -23,11 +23,11 @@ use Rattle.job_grammar.specs.declared.fault.JobKind.TheVariants as kind
 use Rattle.job_grammar.specs.declared.fault.JobFault.{JobFault}
 use Rattle.job_grammar.specs.Kinds.{number_of, no_memory}
 
--- the greatest number of bytes of a job text
+-- the maximum number of bytes of a job text
 abbrev pub most_bytes : ℕ
 most_bytes = 65536
 
--- the line with which a text of a format begins
+-- the first line of a text of a format
 abbrev pub first_line : Format → List ℕ
 first_line One = codes "trio-job 1\n"
 first_line Two = codes "trio-job 2\n"
@@ -36,14 +36,14 @@ abbrev pub format_if : Bool → Format
 format_if true = Two
 format_if false = One
 
--- the format whose first line a text begins with, and format 1 where it begins with neither
+-- the format of the first line of a text, or format 1 if the text begins with neither first line
 abbrev pub format_of : List ℕ → Format
 format_of text = format_if (bytes_eq (take 11 text) (first_line Two))
 
 abbrev pub is_ascii : ℕ → Bool
 is_ascii b = nat_lt b 128
 
--- the tokens behind the first line, up to a place from which none can be read
+-- the tokens after the first line, up to a place from which no token can be read
 abbrev pub HasTokens : List ℕ → List Token → Option ℕ → Type 0
 HasTokens text tokens fault = Lexes (length text) (drop 11 text) tokens fault
 
@@ -51,23 +51,23 @@ HasTokens text tokens fault = Lexes (length text) (drop 11 text) tokens fault
 abbrev pub AreTokensOf : List Token → Tree → Type 0
 AreTokensOf tokens job = AreSteps job.format false job.steps × (shapes_of tokens ≡ shapes_in (job_pieces job))
 
--- the text is of the grammar of its format: it has these tokens, and they are those of this job
+-- the text is in the grammar of its format: it has these tokens, and they are those of this job
 abbrev pub IsOf : List ℕ → List Token → Tree → Type 0
 IsOf text tokens job = HasTokens text tokens None × AreTokensOf tokens job × (job.format ≡ format_of text)
 
--- what each token of a job is for
+-- the role of each token of a job
 abbrev pub roles_of : Tree → List Role
 roles_of job = roles_in (job_pieces job)
 
--- the place of the first `cancel` that names nothing round it
+-- the place of the first `cancel` that names no enclosing scope or nursery
 abbrev pub stray_of : Tree → List Token → List Role → Option ℕ
 stray_of job tokens roles = stray_in (cancels_of [] job.steps) (targets_in tokens roles)
 
--- the text begins with no format's first line
+-- the text begins with the first line of neither format
 abbrev pub IsHeadless : List ℕ → Type 0
 IsHeadless text = (take 11 text ≢ first_line One) × (take 11 text ≢ first_line Two)
 
--- what the pass for a kind finds, and where
+-- what the check for a kind finds, and where
 abbrev pub Finds : JobKind → List ℕ → ℕ → Type 0
 Finds kind.TooLong text at = (most_bytes < length text) × (at ≡ most_bytes)
 Finds kind.NotAscii text at = (prefix_len is_ascii text ≡ at) × (at < length text)
@@ -84,33 +84,33 @@ Finds kind.TooLarge text at = (tokens : List Token) × (job : Tree) × IsOf text
     × (at ≡ 0)
 Finds kind.NoMemory text at = ⊥
 
--- the first so many passes find nothing
+-- the first `n` checks find nothing
 abbrev pub Passes : List ℕ → ℕ → Type 0
 Passes text n = (k : JobKind) (at : ℕ) → number_of k ≤ n → Finds k text at → ⊥
 
--- a refusal: a pass finds it, and no earlier pass finds anything
+-- a refusal: the check for this kind finds it, and no earlier check finds anything
 abbrev pub IsRefused : List ℕ → JobKind → ℕ → Type 0
 IsRefused text k at = Finds k text at × ((other : JobKind) (place : ℕ) → number_of other < number_of k → Finds other text place → ⊥)
 
--- a text spells a job: its tokens are those of the job, and no pass finds anything
+-- a text spells a job: its tokens are those of the job, and no check finds anything
 abbrev pub Spells : List ℕ → Tree → Type 0
 Spells text job = (tokens : List Token) × IsOf text tokens job × ((k : JobKind) (at : ℕ) → Finds k text at → ⊥)
 
--- want of memory, or a refusal
+-- memory was refused, or a refusal of the text
 abbrev pub IsFair : List ℕ → JobFault → Type 0
 IsFair text fault = (fault ≡ no_memory) ⊎ IsRefused text fault.kind fault.at
 
--- this answer, or want of memory
+-- this answer, or that memory was refused
 abbrev pub AnswersUnlessMemory : {X : Type 0} → Result X JobFault → Result X JobFault → Type 0
 AnswersUnlessMemory result answer = (result ≡ answer) ⊎ (result ≡ Err no_memory)
 
--- ---- what holds between two passes
+-- ---- what holds between two checks
 
--- these are the tokens of the text, and the first so many passes find nothing
+-- these are the tokens of the text, and the first `n` checks find nothing
 pub record IsReadTo (n : ℕ) (text : List ℕ) (tokens : List Token) : Type 0 where
   pub tokens_are : HasTokens text tokens None
   pub passes : Passes text n
 
--- these are the tokens of some job of a format, and this is what each is for
+-- these are the tokens of some job of a format, and their roles
 abbrev pub IsOfSomeJob : Format → List Token → List Role → Type 0
 IsOfSomeJob format tokens roles = (job : Tree) × AreTokensOf tokens job × (job.format ≡ format) × (roles ≡ roles_of job)

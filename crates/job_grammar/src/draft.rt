@@ -10,7 +10,7 @@ use job_tokens::Token;
 use job_tree::{Body, Format, Name};
 use std::alloc::{AllocError, Global};
 
-/// A job that the last passes have not seen yet, with its text, its tokens and what each is for.
+/// A job that the last checks have not seen yet, with its text, its tokens and their roles.
 #[derive(Drop)]
 pub struct Draft<'t> {
     text: &'t [u8],
@@ -22,7 +22,9 @@ pub struct Draft<'t> {
 }
 
 impl<'t> Draft<'t> {
-    /// The job whose tokens these are.
+    /// Makes the draft of the job with these tokens. The caller must ensure that these are all the tokens of the
+    /// text, that the text passed the checks up to the depth of blocks, and that the roles are those of the tokens.
+    /// The only error is that memory was refused.
     pub fn new(
         alloc: Global,
         text: &'t [u8],
@@ -49,7 +51,8 @@ impl<'t> Draft<'t> {
         })
     }
 
-    /// No name is given twice.
+    /// Checks that no name is given twice. Requires that the checks before this one passed. The error is the first
+    /// such name, or that memory was refused.
     pub fn check_given(&self, alloc: Global) -> Result<(), JobFault>
         requires { IsDraftTo 7 self.now.text.now self.now }
         ensures ok { OnOk result (IsDraftTo 8 self.now.text.now self.now) }
@@ -59,7 +62,8 @@ impl<'t> Draft<'t> {
         refuse_at(found, JobKind::Twice)
     }
 
-    /// Each `cancel` names a scope or nursery round it.
+    /// Checks that each `cancel` names an enclosing scope or nursery. Requires that the checks before this one
+    /// passed. The error is the first that does not.
     pub fn check_cancels(&self) -> Result<(), JobFault>
         requires { IsDraftTo 8 self.now.text.now self.now }
         ensures ok { OnOk result (IsDraftTo 9 self.now.text.now self.now) }
@@ -69,7 +73,8 @@ impl<'t> Draft<'t> {
         refuse_at(found, JobKind::NotEnclosing)
     }
 
-    /// No name is reserved.
+    /// Checks that no name is reserved. Requires that the checks before this one passed. The error is the first
+    /// name that is.
     pub fn check_reserved(&self) -> Result<(), JobFault>
         requires { IsDraftTo 9 self.now.text.now self.now }
         ensures ok { OnOk result (IsDraftTo 10 self.now.text.now self.now) }
@@ -79,7 +84,8 @@ impl<'t> Draft<'t> {
         refuse_at(found, JobKind::Reserved)
     }
 
-    /// The job has not too many step instances.
+    /// Checks that the job has no more step instances than its format allows. Requires that the checks before this
+    /// one passed.
     pub fn check_size(&self) -> Result<(), JobFault>
         requires { IsDraftTo 10 self.now.text.now self.now }
         ensures ok { OnOk result (IsDraftTo 11 self.now.text.now self.now) }
@@ -94,7 +100,7 @@ impl<'t> Draft<'t> {
         Ok(())
     }
 
-    /// The job, which all passes have seen.
+    /// Returns the job. Requires that all checks passed. The text spells this job.
     pub fn into_job(self) -> Job
         requires { IsDraftTo 11 self.text.now self }
         ensures { Spells self.entry.text.now result }

@@ -4,41 +4,43 @@ ghost use Rattle.job_grammar.specs.Kinds.{number_of, name_of};
 use std::alloc::AllocError;
 use thiserror::Error;
 
-/// Why a job text was refused, in the order in which it is looked for.
+/// Why a job text was refused. The kinds are in the order in which they are looked for. Places are in bytes from the start
+/// of the text.
 #[derive(Clone, Copy, Debug, PartialEq, Eq)]
 pub enum JobKind {
     /// The text has more than 65,536 bytes. The place is 65536.
     TooLong,
-    /// A byte is above 127. The place is that byte.
+    /// A byte is above 127. The place is the first such byte.
     NotAscii,
-    /// The text begins neither with the line `trio-job 1` nor with `trio-job 2`. The place is 0.
+    /// The text begins neither with the line `trio-job 1` nor with the line `trio-job 2`. The place is 0.
     Version,
-    /// A byte begins no token, a word has more than 32 bytes, a letter or `_` stands directly behind digits, or a string has
-    /// no or too many units, a wrong unit or no end. The place is the first byte of what is no token.
+    /// Bytes from which no token can be read: a byte begins no token, a word has more than 32 bytes, a letter or `_`
+    /// directly follows digits, or a string has no units, more than 64 units, a wrong unit or no end. The place is the first
+    /// byte of what is no token.
     Token,
-    /// A number has a leading zero or is out of its range: 1 to 64 behind `over`, 1 to 1,000,000 behind `pace`, in
-    /// format 2 0 to 1,000 behind `repeat`, and else 0 to 1,000,000,000. The place is its first digit.
+    /// A number has a leading zero or is out of its range: 1 to 64 after `over`, 1 to 1,000,000 after `pace`, 0 to 1,000
+    /// after `repeat` in format 2, and otherwise 0 to 1,000,000,000. The place is its first digit.
     Number,
-    /// The tokens are no text of the format's grammar. The place is the first token that no text of it continues with, or
-    /// the text's length where the tokens end too early.
+    /// The tokens are not a text of the grammar of the format. The place is the first token that no text of the grammar
+    /// continues with, or the length of the text if the tokens end too early.
     Syntax,
-    /// A block stands at depth 33, the job's own block being depth 1. The place is its `{`.
+    /// A block is at depth 33, where the block of the job itself is at depth 1. The place is its `{`.
     Depth,
-    /// A job, scope, nursery or start has a name that was given before. The place is the later name.
+    /// A job, scope, nursery or started task has a name that was given before. The place is the later name.
     Twice,
-    /// A `cancel` names no scope or nursery round it. The place is that name.
+    /// A `cancel` names no enclosing scope or nursery. The place is the name in it.
     NotEnclosing,
-    /// A name is a keyword or `Cancelled`, or `TooSlow` anywhere but behind `except`. The place is that name.
+    /// A name is a keyword or `Cancelled`, or `TooSlow` anywhere except after `except`. The place is that name.
     Reserved,
-    /// The job has more than 100,000 step instances, in format 2 more than 1,000,000, the copies that `over` makes and the
-    /// passes of a `repeat` counted. The place is 0.
+    /// The job has more than 100,000 step instances in format 1, or more than 1,000,000 in format 2. The copies of a `start
+    /// .. over` and the passes of a `repeat` are counted. The place is 0.
     TooLarge,
-    /// A growth was refused. The place is 0.
+    /// Memory was refused. The place is 0.
     NoMemory,
 }
 
 impl JobKind {
-    /// The kind's number, as refusals show it behind a `J`.
+    /// Returns the number of the kind, as it is printed after the `J` of a refusal.
     pub fn number(self) -> u64
         ensures { result ≡ number_of self }
     {
@@ -58,7 +60,7 @@ impl JobKind {
         }
     }
 
-    /// The kind's name.
+    /// Returns the name of the kind.
     pub fn name(self) -> &'static str
         ensures { result.now ≡ name_of self }
     {
@@ -102,7 +104,7 @@ impl From<AllocError> for JobFault {
     }
 }
 
-/// Refuses for that kind, at the place that a pass found, if it found one.
+/// Returns a refusal of this kind at the place that a check found, or `Ok` if it found none.
 pub(crate) fn refuse_at(found: Option<usize>, kind: JobKind) -> Result<(), JobFault>
     ensures ok { OnOk result (found ≡ None) }
     ensures err { IfErr result (λ fault. (found ≡ Some fault.at) × (fault.kind ≡ kind)) }

@@ -9,9 +9,9 @@ use job_checks::size_of;
 use job_tree::{Body, Format, Name, Step};
 use std::marker::Model;
 
-/// A job that a text spells. A contract sees it as the job's tree, and its canonical text spells that tree: so its names are
-/// given once, each of its starts stands directly in a nursery, its numbers are in their ranges, and it has no more step instances
-/// than its format allows.
+/// A job that a text spells. In contracts, it is the tree of the job, and the canonical text of the job spells that tree. So no
+/// name is given twice, each `start` is directly in the body of a nursery, the numbers are in their ranges, and the job has no
+/// more step instances than its format allows.
 #[derive(Drop)]
 pub struct Job {
     format: Format,
@@ -34,7 +34,7 @@ impl Model for Job {
 }
 
 impl Job {
-    // A job of that format and name, which does these steps, where a text spells it.
+    // Makes the job with this format, name and steps. Requires that a text spells it.
     pub(crate) fn new(format: Format, name: Name, steps: Body) -> Job
         requires { IsReadable (record { format = format; name = name; steps = steps }) }
         ensures { result ≡ record { format = format; name = name; steps = steps } }
@@ -46,28 +46,29 @@ impl Job {
         }
     }
 
-    /// Which first line the job's text has: 1 for `trio-job 1`, 2 for `trio-job 2`. Takes no memory.
+    /// Returns the number in the first line of the job's text: 1 for `trio-job 1`, 2 for `trio-job 2`. Does not allocate.
     pub fn format(&self) -> u64
         ensures { result ≡ number_of self.now.format }
     {
         self.format.number()
     }
 
-    // The same as a format.
+    // Returns the same as a `Format`.
     pub(crate) fn text_format(&self) -> Format
         ensures { result ≡ self.now.format }
     {
         self.format
     }
 
-    /// The job's name, which is also its root task's.
+    /// Returns the name of the job, which is also the name of its root task.
     pub fn name(&self) -> Name
         ensures { result ≡ self.now.name }
     {
         self.name
     }
 
-    /// The job's steps, in order. A text spells the job that does them.
+    /// Returns the steps of the root task, in order. The contract adds what holds of each job: its numbers are in their ranges,
+    /// and its canonical text spells it.
     pub fn steps(&self) -> &[Step]
         ensures steps { steps_of result.now ≡ self.now.steps }
         ensures modest { IsModest self.now }
@@ -76,8 +77,8 @@ impl Job {
         self.steps.as_slice()
     }
 
-    /// How many step instances the job has: each step counts once, a `start .. over K` counts K times with all that it
-    /// starts, and a `repeat N` N passes, each of which counts beside its block.
+    /// Returns the number of step instances of the job. Each step counts once; a `start .. over K` counts K times together with
+    /// its body; a `repeat N` counts once, and for each of its N passes once more with its body.
     pub fn size(&self) -> u64
         ensures { result ≡ size_of self.now.steps }
     {
@@ -85,7 +86,7 @@ impl Job {
     }
 }
 
-/// The job with the same steps in format 2, without memory; a job of format 2 comes back as it was.
+/// Returns the job with the same name and steps in format 2. A job of format 2 is returned unchanged. Does not allocate.
 pub fn to_format_2(job: Job) -> Job
     ensures { result ≡ record job { format = Two } }
 {

@@ -6,20 +6,21 @@ ghost use Rattle.job_tree.specs.Modest.{IsModest};
 ghost use Rattle.job_grammar.specs.Refusals.{Spells};
 ghost use Rattle.job_grammar.specs.Canon.{canon};
 
-/// No text spells two jobs.
+/// A law: no text spells two jobs. The function does nothing when it is called.
 pub fn spells_one_job()
     ensures { (text : List ℕ) (a b : Tree) → Spells text a → Spells text b → a ≡ b }
 {}
 
-/// The canonical text of a job that a text spells spells it too, and is no longer. So what `write_job` gives for a
-/// job is read as that job.
+/// A law: the canonical text of a job that a text spells also spells that job, and is no longer than that text. So reading
+/// the result of `write_job` returns the same job. The function does nothing when it is called.
 pub fn canonical_text_spells()
     ensures again { (text : List ℕ) (job : Tree) → Spells text job → Spells (canon job) job }
     ensures shortest { (text : List ℕ) (job : Tree) → Spells text job → length (canon job) ≤ length text }
 {}
 
-/// What is known of each job that a text spells: it gives each of its names once, its own included; each `start` stands
-/// directly in a nursery's body; its numbers are in their ranges, and it has no more step instances than its format allows.
+/// A law about each job that a text spells: no name is given twice, its own included; each `start` is directly in the body
+/// of a nursery; its numbers are in their ranges, and it has no more step instances than its format allows. The function
+/// does nothing when it is called.
 pub fn spelled_jobs_are_sound()
     ensures names { (text : List ℕ) (job : Tree) → Spells text job → GivesNamesOnce job }
     ensures starts { (text : List ℕ) (job : Tree) → Spells text job → StartsInNurseries job }

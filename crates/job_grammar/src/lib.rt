@@ -1,10 +1,10 @@
-//! Job texts to jobs and back.
+//! Reads job texts as jobs, and writes jobs as texts.
 //!
-//! The layer promises that `read_job` finds exactly what a text spells, and refuses any other text by the first of its
-//! passes that finds a fault, at the earliest place (`specs/Refusals.antt`); and that the canonical text of a job, which
-//! `write_job` gives, spells that job. A text spells each `Job`; so its names are given once, its starts stand in
-//! nurseries, and its numbers are in their ranges (`laws.rt`). It stands on `job_tree` for the tree, on `job_tokens` for
-//! the tokens, on `job_syntax` for the grammar and on `job_checks` for the rules on names and size.
+//! `read_job` returns exactly the job that a text spells. It refuses any other text by the first of its checks that
+//! finds a fault, at the earliest place (`specs/Refusals.antt`). The canonical text of a job, which `write_job` returns,
+//! spells that job. Each `Job` is spelled by some text; so no name is given twice, each `start` is in a nursery, and the
+//! numbers are in their ranges (`laws.rt`). The crate uses `job_tree` for the tree, `job_tokens` for the tokens,
+//! `job_syntax` for the grammar and `job_checks` for the rules on names and size.
 #![tactic(auto)]
 
 mod draft;

@@ -12,13 +12,13 @@ use job_tokens::{Lexed, Token, lex};
 use job_tree::Format;
 use std::alloc::Global;
 
-/// The most bytes of a job text.
+/// The maximum number of bytes of a job text.
 pub const MOST_BYTES: usize = 65_536;
 
-/// How many bytes the line has with which a job text begins.
+/// The number of bytes of the first line of a job text, with its newline.
 pub const FIRST_LINE_LENGTH: usize = 11;
 
-/// The line with which each job text of a format begins.
+/// Returns the first line of a job text of this format, with its newline.
 pub fn first_line(format: Format) -> &'static [u8]
     ensures { result.now ≡ first_line format }
 {
@@ -28,22 +28,23 @@ pub fn first_line(format: Format) -> &'static [u8]
     }
 }
 
-/// The job that a text spells, or why the text is refused.
+/// Returns the job that a text spells. The error is the refusal of the first check that finds a fault, at the
+/// earliest place, or that memory was refused. `JobKind` lists the kinds in the order of the checks.
 pub fn read_job(alloc: Global, text: &[u8]) -> Result<Job, JobFault>
-    // What is found is spelled so.
+    // The text spells the job that is returned.
     ensures found { IfOk result (λ job. Spells text.now job) }
-    // What is refused has that fault at that place, and no fault of an earlier kind.
+    // A refusal is the fault at that place, and there is no fault of an earlier kind.
     ensures refused { IfErr result (IsFair text.now) }
-    // What is spelled so is found, unless a growth is refused.
+    // If the text spells a job, that job is returned, unless memory is refused.
     ensures only { (job : Tree) → Spells text.now job → AnswersUnlessMemory result (Ok job) }
-    // Where a refusal's condition holds it is that refusal, unless a growth is refused.
+    // If the condition of a refusal holds, that refusal is returned, unless memory is refused.
     ensures exact { (kind : JobKind) (at : ℕ) → IsRefused text.now kind at
         → AnswersUnlessMemory result (Err (record { at = at; kind = kind })) }
 {
     read(alloc, text)
 }
 
-// The passes, one after the other. No tree is built before the depth of the blocks is known.
+// Runs the checks one after the other. No tree is built before the depth of the blocks is known.
 fn read(alloc: Global, text: &[u8]) -> Result<Job, JobFault>
     ensures { MatchResult result (Spells text.now) (IsFair text.now) }
 {
@@ -60,7 +61,7 @@ fn read(alloc: Global, text: &[u8]) -> Result<Job, JobFault>
     Ok(draft.into_job())
 }
 
-// The text's format, and the bytes behind its first line.
+// Returns the format of the text, and the bytes after its first line.
 fn check_bytes(text: &[u8]) -> Result<(Format, &[u8]), JobFault>
     ensures ok { IfOk result (λ found. (found.0 ≡ format_of text.now) × (found.1.now ≡ drop 11 text.now) × Passes text.now 3) }
     ensures err { IfErr result (IsFair text.now) }
@@ -87,7 +88,7 @@ fn check_bytes(text: &[u8]) -> Result<(Format, &[u8]), JobFault>
     Ok(found)
 }
 
-/// The format whose first line a text begins with, and format 1 where it begins with neither.
+/// Returns the format of the first line of a text, or format 1 if the text begins with neither first line.
 pub fn format_of(text: &[u8]) -> Format
     ensures { result ≡ format_of text.now }
 {
@@ -97,7 +98,7 @@ pub fn format_of(text: &[u8]) -> Format
     }
 }
 
-// The format whose first line the text begins with, and the bytes behind it.
+// Returns the format of the first line, and the bytes after it, if the text begins with a first line.
 fn behind_first_line(text: &[u8]) -> Option<(Format, &[u8])>
     ensures { MatchOption result (IsHeadless text.now)
         (λ found. (take 11 text.now ≡ first_line found.0) × (found.1.now ≡ drop 11 text.now)) }
@@ -111,7 +112,7 @@ fn behind_first_line(text: &[u8]) -> Option<(Format, &[u8])>
     None
 }
 
-// How many bytes stand before the first that is above 127.
+// Returns the number of bytes before the first that is above 127.
 fn count_ascii(text: &[u8]) -> usize
     ensures { result ≡ prefix_len is_ascii text.now }
 {
@@ -123,7 +124,7 @@ fn count_ascii(text: &[u8]) -> usize
     text.len()
 }
 
-// The tokens of the text, whose first line is behind us.
+// Returns the tokens of the text. `body` is the text without its first line.
 fn tokens_of(alloc: Global, text: &[u8], body: &[u8]) -> Result<Vec<Token>, JobFault>
     requires behind { body.now ≡ drop 11 text.now }
     requires earlier { Passes text.now 3 }
@@ -144,7 +145,7 @@ fn check_numbers(text: &[u8], format: Format, tokens: &[Token]) -> Result<(), Jo
     refuse_at(number_fault(format, tokens), JobKind::Number)
 }
 
-// What each token is for, where the tokens are those of a job.
+// Returns the role of each token, if the tokens are those of a job.
 fn roles_of(
     alloc: Global,
     text: &[u8],

@@ -16,7 +16,8 @@ use job_tokens::{Mark, Shape, push_canon};
 use job_tree::{Body, Deadline, Handler, Name, Step};
 use std::alloc::{AllocError, Global};
 
-/// The canonical text of a job, which spells it: `read_job` gives that job for it. No text that spells it is shorter.
+/// Returns the canonical text of a job. It spells the job, so `read_job` returns the same job for it, and no text
+/// that spells the job is shorter. The only error is that memory was refused.
 pub fn write_job(alloc: Global, job: &Job) -> Result<Vec<u8>, AllocError>
     ensures canonical { IfOk result (λ text. text.items ≡ canon job.now) }
     ensures again { IfOk result (λ text. Spells text.items job.now) }
@@ -27,7 +28,7 @@ pub fn write_job(alloc: Global, job: &Job) -> Result<Vec<u8>, AllocError>
     Ok(text)
 }
 
-// The tokens of a job, which its canonical text spells.
+// Returns the tokens of a job, which its canonical text spells.
 fn shapes_of_job(alloc: Global, job: &Job) -> Result<Vec<Shape>, AllocError>
     ensures shapes { IfOk result (λ shapes. shapes.items ≡ shapes_in (job_pieces job.now)) }
     ensures spelled { OnOk result (IsReadable job.now) }
@@ -39,7 +40,7 @@ fn shapes_of_job(alloc: Global, job: &Job) -> Result<Vec<Shape>, AllocError>
     Ok(shapes)
 }
 
-// The steps of a block and the mark that ends it.
+// Appends the steps of a block and the mark that ends it.
 #[cycle(writing)]
 fn push_steps(shapes: &mut Vec<Shape>, steps: &[Step]) -> Result<(), AllocError>
     ensures { OnOk result (Appends (steps_pieces (steps_of steps.now)) shapes.old.items shapes.new.items) }
@@ -51,7 +52,7 @@ fn push_steps(shapes: &mut Vec<Shape>, steps: &[Step]) -> Result<(), AllocError>
     Ok(())
 }
 
-// A block with the mark that begins it.
+// Appends a block with the mark that begins it.
 #[cycle(writing)]
 fn push_body(shapes: &mut Vec<Shape>, body: &Body) -> Result<(), AllocError>
     ensures { OnOk result (Appends (λ rest. opens ∷ steps_pieces body.now rest) shapes.old.items shapes.new.items) }
@@ -152,7 +153,7 @@ fn push_cleanup(shapes: &mut Vec<Shape>, cleanup: &Option<Body>) -> Result<(), A
     Ok(())
 }
 
-// A step that holds no block: its keyword, its operands and its semicolon.
+// Appends a step without a block: its keyword, its operands and its semicolon.
 fn push_plain(
     shapes: &mut Vec<Shape>,
     keyword: Keyword,
@@ -167,7 +168,7 @@ fn push_plain(
     Ok(())
 }
 
-// A keyword and the name behind it.
+// Appends a keyword and the name after it.
 fn push_named(shapes: &mut Vec<Shape>, keyword: Keyword, name: Name) -> Result<(), AllocError>
     ensures { OnOk result (shapes.new.items ≡ shapes.old.items ++ shape.Word (spelling keyword) ∷ shape.Word name ∷ []) }
 {
@@ -176,7 +177,7 @@ fn push_named(shapes: &mut Vec<Shape>, keyword: Keyword, name: Name) -> Result<(
     Ok(())
 }
 
-// A keyword and the number behind it.
+// Appends a keyword and the number after it.
 fn push_counted(shapes: &mut Vec<Shape>, keyword: Keyword, count: u64) -> Result<(), AllocError>
     ensures { OnOk result (shapes.new.items ≡ shapes.old.items ++ shape.Word (spelling keyword) ∷ shape.Number (Some count) ∷ []) }
 {
@@ -195,7 +196,7 @@ fn push_deadline(shapes: &mut Vec<Shape>, deadline: Deadline) -> Result<(), Allo
     }
 }
 
-// A word that may stand or not.
+// Appends an optional keyword.
 fn push_flag(shapes: &mut Vec<Shape>, keyword: Keyword, stands: bool) -> Result<(), AllocError>
     ensures { OnOk result (Appends (flag_pieces keyword stands) shapes.old.items shapes.new.items) }
 {
@@ -205,7 +206,7 @@ fn push_flag(shapes: &mut Vec<Shape>, keyword: Keyword, stands: bool) -> Result<
     Ok(())
 }
 
-// How many copies are started.
+// Appends the number of copies that are started.
 fn push_over(shapes: &mut Vec<Shape>, over: Option<u64>) -> Result<(), AllocError>
     ensures { OnOk result (Appends (over_pieces over) shapes.old.items shapes.new.items) }
 {
@@ -215,7 +216,7 @@ fn push_over(shapes: &mut Vec<Shape>, over: Option<u64>) -> Result<(), AllocErro
     }
 }
 
-// A keyword as a token.
+// Returns the token of a keyword.
 fn shape_of(keyword: Keyword) -> Shape
     ensures { result ≡ shape.Word (spelling keyword) }
 {
