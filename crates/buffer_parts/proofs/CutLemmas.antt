@@ -22,12 +22,12 @@ pub next_start-stopped : (buffer : List ℕ) (place left : ℕ) → starts_line 
 next_start-stopped buffer place zero here = refl
 next_start-stopped buffer place (suc left) here = rw here refl
 
--- where none starts there, the next start is the one from the place behind it on
+-- where none starts there, the next start is the one from the following place on
 pub next_start-passed : (buffer : List ℕ) (place left : ℕ) → starts_line buffer place ≡ false →
     next_start buffer place (suc left) ≡ next_start buffer (place + 1) left
 next_start-passed buffer place left none = rw none refl
 
--- whatever is the next start is what the definition computes
+-- the definition computes every next start
 pub next_start-is : (buffer : List ℕ) (place left found : ℕ) → IsNextStart buffer place (place + left) found →
     next_start buffer place left ≡ found
 next_start-is buffer place zero found is = let low = is.low in let high = is.high in omega arith
@@ -121,7 +121,7 @@ cut_point-between buffer r k i some less =
     let not_last : eqb i k ≡ false = ne_eqb i k less in
     rw no (rw not_last refl)
 
--- none of the k equal steps of a range ends behind the range
+-- none of the k equal steps of a range ends after the range
 pub target-le : (r : Range) (k i : ℕ) → r.from ≤ r.to → 0 < k → i ≤ k → target_of r k i ≤ r.to
 target-le r k i ordered some le =
     let step = step-le (r.to - r.from) k i some le in
@@ -225,7 +225,7 @@ cut-aligned buffer r k i ordered less aligned =
     (λ (not_zero : i ≢ 0). ⊎_elim at_end (λ starts. or_left _ _ starts) (here.stops (omega arith)))
     (cases_eq i 0)
 
--- what begins at a cut point and goes on to the range's end starts where a line starts, or is empty
+-- a range from a cut point to the range's end starts where a line starts, or is empty
 pub rest-aligned : (buffer : List ℕ) (r : Range) (k i : ℕ) → r.from ≤ r.to → 0 < i → i ≤ k →
     IsTrue (starts_line buffer (cut_point buffer r k i) || eqb (cut_point buffer r k i) r.to)
 rest-aligned buffer r k i ordered some le =

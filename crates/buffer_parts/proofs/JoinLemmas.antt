@@ -28,7 +28,7 @@ begun_at-append : (at : ℕ) (ls ms : List Span) → 0 < length ls → begun_at 
 begun_at-append at [] ms some = absurd (omega arith)
 begun_at-append at (l ∷ ls) ms some = refl
 
--- bytes that end in a newline, and bytes behind them
+-- bytes that end in a newline, and bytes after them
 pub lines_from-append : (at : ℕ) (xs ys : List ℕ) → (0 < length xs → get_or xs (length xs - 1) 0 ≡ 10) →
     lines_from at (xs ++ ys) ≡ lines_from at xs ++ lines_from (at + length xs) ys
 lines_from-append at [] ys ends = let same : at ≡ at + 0 = omega arith in ap (λ n. lines_from n ys) same

@@ -1,4 +1,4 @@
--- The lines that no line of more than so many bytes stands before.
+-- The lines that are not preceded by a line of more than the given number of bytes.
 use Rattle.std.proofs.Common.{◌≡◌, ℕ, zero, suc, ◌+◌, ◌-◌, ◌<◌, ◌≤◌, true, false, eqb, List, [], ◌∷◌, ◌++◌, length, get_or, slice_range, Option, Some, None, refl, sym, ap, subst, ◌∙◌, inr, ⊎_elim, arith}
 use Rattle.std.proofs.lemmas.Bool.{lt-ltb, le-ltb, eq-eqb, eqb-true, cases_Bool, cases_lt}
 use Rattle.memchr.specs.Find.{IsLastByte, is_byte}
@@ -12,7 +12,7 @@ use Rattle.buffer_parts.proofs.SearchLemmas.{starts_line-newline}
 use Rattle.buffer_parts.proofs.JoinLemmas.{lines_of-split, lines_from-some}
 use Rattle.buffer_parts.proofs.SkipLemmas.{IsFirstLine, BeginsWithFirst, lines_from-first}
 
--- no line has more than so many bytes
+-- no line has more than the given number of bytes
 abbrev pub NoLonger : ℕ → List Span → Type 0
 NoLonger n [] = Unit {0}
 NoLonger n (l ∷ ls) = (l.len ≤ n) × NoLonger n ls
@@ -21,7 +21,7 @@ NoLonger-more : (n m : ℕ) (ls : List Span) → n ≤ m → NoLonger n ls → N
 NoLonger-more n m [] le short = tt
 NoLonger-more n m (l ∷ ls) le (first, rest) = (omega arith, NoLonger-more n m ls le rest)
 
--- lines that are not longer are passed over
+-- lines that are not longer are skipped
 pub from_longer-short : (n : ℕ) (ls ms : List Span) → NoLonger n ls → from_longer n (ls ++ ms) ≡ from_longer n ms
 from_longer-short n [] ms short = refl
 from_longer-short n (l ∷ ls) ms (first, rest) = rw (le-ltb n l.len first) (from_longer-short n ls ms rest)
@@ -57,7 +57,7 @@ begun-ended : (n at : ℕ) (ls : List Span) → 0 < length ls → NoLonger n ls 
 begun-ended n at [] some short = absurd (omega arith)
 begun-ended n at (l ∷ ls) some (first, rest) = (omega arith, NoLonger-more n (suc n) ls (omega arith) rest)
 
--- a newline behind the last line counts for none of them
+-- a newline after the last line counts for none of them
 lines_from-ended : (at n : ℕ) (xs : List ℕ) → length xs ≡ suc n → get_or xs n 0 ≡ 10 → NoLonger n (lines_from at xs)
 lines_from-ended at n [] long ends = absurd (omega arith)
 lines_from-ended at zero (b ∷ []) long ends = rw (eq-eqb b 10 ends) (omega arith, tt)
@@ -103,7 +103,7 @@ passed-rest buffer next end n few within =
     from_longer-none n (lines_of buffer (range next end)) (NoLonger-more (length (slice_range buffer next end)) n
     (lines_of buffer (range next end)) (omega arith) (lines_from-all next (slice_range buffer next end)))
 
--- where no newline stands among them the next line is longer
+-- where there is no newline among them the next line is longer
 pub longer-line : (s t : Lines) (n : ℕ) (line : Line) → n < s.end - s.next →
     IsLastByte (is_byte 10) (slice_range (source_of s) s.next (s.next + n + 1)) None → GivesLine s (Some line) t →
     from_longer n (lines_left s) ≡ span_of line ∷ lines_left t
@@ -128,7 +128,7 @@ longer-line s t n line more missed gives =
     first.ends in
     ap (from_longer n) gives.first ∙ from_longer-first n l (lines_left t) longer
 
--- so what the call gives then is the first longer line of those that were left before
+-- so what the call returns then is the first longer line of those that were left before
 pub longer-given : (old s t : Lines) (n : ℕ) (given : Option Line) → source_of s ≡ source_of old → (range_left s).to ≡ (range_left old).to →
     from_longer n (lines_left old) ≡ from_longer n (lines_left s) → n < s.end - s.next
     → IsLastByte (is_byte 10) (slice_range (source_of s) s.next (s.next + n + 1)) None → GivesLine s given t → GivesLonger old n given t

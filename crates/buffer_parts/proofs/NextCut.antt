@@ -5,7 +5,7 @@ use Rattle.buffer_parts.specs.Lines.{Range}
 use Rattle.buffer_parts.specs.Cuts.{starts_line, cut_point}
 use Rattle.buffer_parts.proofs.CutLemmas.{IsNextStart, next_start-is, next_start-finds, cut_point-between, cut_point-lies, step-ordered, target_of}
 
--- where a cut ends behind the next step already, the next one ends there too
+-- where a cut ends after the next step, the next one ends there too
 pub same_end : (buffer : List ℕ) (r : Range) (k i : ℕ) → r.from ≤ r.to → IsTrue (starts_line buffer r.from || eqb r.from r.to) → i + 1 < k →
     target_of r k (i + 1) ≤ cut_point buffer r k i
     → cut_point buffer r k (i + 1) ≡ cut_point buffer r k i

@@ -23,12 +23,12 @@ drop-slice_range xs a c k fits =
     ap (λ n. drop k (take n (drop a xs))) sum ∙ drop-take k (c - (a + k)) (drop a xs)
     ∙ ap (take (c - (a + k))) (drop-drop k a xs)
 
--- the first k bytes of a range are the range that ends k places behind its start
+-- the first k bytes of a range are the range that ends k places after its start
 pub take-slice_range : (xs : List ℕ) (a c k : ℕ) → a + k ≤ c → take k (slice_range xs a c) ≡ slice_range xs a (a + k)
 take-slice_range xs a c k fits =
     let same : k ≡ a + k - a = omega arith in
     take-take k (c - a) (drop a xs) (omega arith) ∙ ap (λ n. take n (drop a xs)) same
 
--- byte j of a range is the buffer's byte j places behind the range's start
+-- byte j of a range is the buffer's byte j places after the range's start
 pub get_or-slice_range : (xs : List ℕ) (a c j : ℕ) → a + j < c → get_or (slice_range xs a c) j 0 ≡ get_or xs (a + j) 0
 get_or-slice_range xs a c j below = get_or-take (c - a) (drop a xs) j 0 (omega arith) ∙ get_or-drop a xs j 0

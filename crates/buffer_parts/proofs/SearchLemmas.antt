@@ -6,17 +6,17 @@ use Rattle.buffer_parts.specs.Cuts.{starts_line, next_start}
 use Rattle.buffer_parts.proofs.RangeLemmas.{length-slice_range, get_or-slice_range}
 use Rattle.buffer_parts.proofs.CutLemmas.{NoStart, next_start-is, or_right}
 
--- a line starts behind a newline
+-- a line starts after a newline
 pub starts_line-newline : (buffer : List ℕ) (p : ℕ) → get_or buffer (p - 1) 0 ≡ 10 → starts_line buffer p ≡ true
 starts_line-newline buffer p is = or_right (eqb p 0) _ (eq-eqb _ _ is)
 
--- no line starts behind any other byte
+-- no line starts after any other byte
 pub starts_line-other : (buffer : List ℕ) (p : ℕ) → 0 < p → get_or buffer (p - 1) 0 ≢ 10 → starts_line buffer p ≡ false
 starts_line-other buffer p some other =
     let no : eqb p 0 ≡ false = ne_eqb p 0 (λ is. omega arith) in
     rw no (ne_eqb _ _ other)
 
--- the first newline from the place before on stands before the next start
+-- the first newline from the preceding place on is directly before the next start
 pub next_start-newline : (buffer : List ℕ) (target end k : ℕ) → 0 < target → target ≤ end → end ≤ length buffer →
     IsFirstByte (is_byte 10) (slice_range buffer (target - 1) end) (Some k) → (target + k ≤ end)
     × (next_start buffer target (end - target) ≡ target + k)
@@ -38,7 +38,7 @@ next_start-newline buffer target end k some ordered within found =
           (record { low = omega arith; high = omega arith; before = before; stops = inr starts }),
     )
 
--- where there is no newline from the place before on, no line starts
+-- where there is no newline from the preceding place on, no line starts
 pub next_start-missed : (buffer : List ℕ) (target end : ℕ) → 0 < target → target ≤ end → end ≤ length buffer →
     IsFirstByte (is_byte 10) (slice_range buffer (target - 1) end) None → next_start buffer target (end - target) ≡ end
 next_start-missed buffer target end some ordered within missed =

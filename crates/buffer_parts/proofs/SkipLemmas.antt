@@ -1,4 +1,4 @@
--- From the lines that are left to the one that holds a place.
+-- From the lines that are left to the line at a place.
 use Rattle.std.proofs.Common.{◌≡◌, ◌≢◌, ◌⊎◌, ℕ, suc, ◌+◌, ◌-◌, ◌<◌, ◌≤◌, true, false, eqb, List, [], ◌∷◌, ◌++◌, length, get_or, slice_range, Option, Some, None, refl, sym, ap, subst, ◌∙◌, inl, inr, ⊎_elim, arith}
 use Rattle.std.specs.Prelude.{IsSome}
 use Rattle.std.proofs.lemmas.Bool.{eq-eqb, eqb-true, cases_Bool, cases_lt}
@@ -12,7 +12,7 @@ use Rattle.buffer_parts.proofs.LineLemmas.{range, lines_of-none}
 use Rattle.buffer_parts.proofs.SearchLemmas.{starts_line-newline}
 use Rattle.buffer_parts.proofs.JoinLemmas.{lines_of-split, lines_from-some}
 
--- a line is the first of these bytes, which stand at this place
+-- a line is the first of these bytes, which are at this place
 pub record IsFirstLine (at : ℕ) (xs : List ℕ) (l : Span) : Type 0 where
   pub place : l.at ≡ at
   pub within : l.len ≤ length xs
@@ -51,13 +51,13 @@ pub lines_of-some : (buffer : List ℕ) (from to : ℕ) → from < to → to ≤
 lines_of-some buffer from to some within =
     some_lines from (slice_range buffer from to) (omega (arith, length-slice_range buffer from to within))
 
--- where lines are left a call gives one
+-- where lines are left a call returns one
 pub GivesLine-some : (before after : Lines) (given : Option Line) → 0 < length (lines_left before) → GivesLine before given after →
     IsSome given
 GivesLine-some before after None some gives = absurd (omega (arith, ap length gives.first.0))
 GivesLine-some before after (Some line) some gives = refl
 
--- the last newline before a place ends the lines that are passed over
+-- the last newline before a place ends the lines that are skipped
 pub skipped-newline : (buffer : List ℕ) (next end place k start : ℕ) → start ≡ next + (k + 1) → next + place < end → end ≤ length buffer →
     IsLastByte (is_byte 10) (slice_range buffer next (next + place)) (Some k)
     → (start ≤ next + place) × (lines_of buffer (range next end) ≡ lines_of buffer (range next start) ++ lines_of buffer (range start end))
@@ -78,7 +78,7 @@ skipped-newline buffer next end place k start is below within found =
           (get_or-slice_range buffer next (next + place) (p - next) (omega arith) ∙ ap (λ n. get_or buffer n 0) back ∙ other)),
     )
 
--- with no newline before the place nothing is passed over
+-- with no newline before the place nothing is skipped
 pub skipped-none : (buffer : List ℕ) (next end place : ℕ) → next + place < end → end ≤ length buffer →
     IsLastByte (is_byte 10) (slice_range buffer next (next + place)) None
     → (lines_of buffer (range next end) ≡ lines_of buffer (range next next) ++ lines_of buffer (range next end))
@@ -93,7 +93,7 @@ skipped-none buffer next end place below within missed =
           ∙ ap (λ n. get_or buffer n 0) back ∙ other)),
     )
 
--- the line that a call gives behind what was passed over
+-- the line that a call returns after what was skipped
 pub goes_to_line : (s t u : Lines) (place : ℕ) (line : Line) → (range_left s).from + place < (range_left s).to → SkipsTo s place t →
     GivesLine t (Some line) u → GoesToLine s place line u
 goes_to_line s t u place line below skips gives =

@@ -2,17 +2,17 @@
 use Rattle.std.specs.Prelude.{ℕ, zero, suc, ◌+◌, ◌-◌, ◌*◌, ◌/◌, ◌==◌, Bool, ◌||◌, if◌then◌else◌, List, [], ◌++◌, slice_index}
 use Rattle.buffer_parts.specs.Lines.{Range, Span, bytes_of, lines_of}
 
--- a place at which a line starts: the buffer's first, and each behind a newline
+-- a place at which a line starts: the first of the buffer, and each directly after a newline
 abbrev pub starts_line : List ℕ → ℕ → Bool
 starts_line buffer place = (place == 0) || (slice_index buffer (place - 1) == 10)
 
--- the first line start among so many places from this one on, or the place behind them
+-- the first line start among the given number of places from this one on, or the place after them
 abbrev pub next_start : List ℕ → ℕ → ℕ → ℕ
 next_start buffer place zero = place
 next_start buffer place (suc left) = if starts_line buffer place then place else next_start buffer (place + 1) left
 
--- Cut point i of k: the range's start for 0, its end for k, and between them the least line start of the range from
--- the i-th of k equal steps on, or the range's end where there is none.
+-- Cut point i of k: the range's start for 0, its end for k, and otherwise the first line start of the range at or after
+-- the i-th of k equal steps, or the range's end where there is none.
 abbrev pub cut_point : List ℕ → Range → ℕ → ℕ → ℕ
 cut_point buffer r k i =
     if i == 0 then r.from

@@ -1,4 +1,4 @@
--- What clauses read of the cuts of a part that are given one after the other.
+-- What contracts see of the iterator over the cuts of a part.
 use Rattle.std.specs.Prelude.{◌≡◌, ◌+◌, ℕ}
 use Rattle.buffer_parts.specs.Cuts.{cut_of}
 use Rattle.buffer_parts.specs.Part.{buffer_of, range_of}
@@ -9,15 +9,15 @@ use Rattle.buffer_parts.specs.declared.cuts.Cuts.{Cuts}
 abbrev pub part_cut : Cuts → Part
 part_cut cuts = cuts.part
 
--- in how many cuts
+-- the number of cuts
 abbrev pub cut_count : Cuts → ℕ
 cut_count cuts = cuts.count
 
--- how many of them are given
+-- how many of them were returned
 abbrev pub cuts_given : Cuts → ℕ
 cuts_given cuts = cuts.given
 
--- one call gave the next cut of the part
+-- one call returned the next cut of the part
 pub record GivesCut (before : Cuts) (given : Part) (after : Cuts) : Type 0 where
   pub buffer : buffer_of given ≡ buffer_of (part_cut before)
   pub range : range_of given ≡ cut_of (buffer_of (part_cut before)) (range_of (part_cut before)) (cut_count before) (cuts_given before)

@@ -1,12 +1,12 @@
 -- Ranges of a buffer, and their lines.
 use Rattle.std.specs.Prelude.{ℕ, ◌+◌, ◌==◌, nat_lt, if◌then◌else◌, List, [], ◌∷◌, slice_range}
 
--- the places of a buffer from one on, up to another that is left out
+-- the places of a buffer from `from` on, up to `to`, which is left out
 pub record Range : Type 0 where
   pub from : ℕ
   pub to : ℕ
 
--- a line: its first place, and how many bytes it has
+-- a line: its first place, and its length in bytes without the newline
 pub record Span : Type 0 where
   pub at : ℕ
   pub len : ℕ
@@ -19,13 +19,13 @@ bytes_of buffer r = slice_range buffer r.from r.to
 abbrev pub text_of : List ℕ → Span → List ℕ
 text_of buffer l = slice_range buffer l.at (l.at + l.len)
 
--- a byte that is no newline begins the first line of what follows it, or is the last line
+-- the lines with one more byte in front that is not a newline: it begins the first line, or is the only line
 abbrev pub begun_at : ℕ → List Span → List Span
 begun_at at [] = record { at = at; len = 1 } ∷ []
 begun_at at (l ∷ ls) = record { at = at; len = l.len + 1 } ∷ ls
 
--- The lines of these bytes, of which the first stands at this place. A newline (10) ends a line, which may be empty.
--- Bytes behind the last newline are a line, if there are any.
+-- The lines of these bytes, of which the first is at this place. A newline (10) ends a line, which may be empty.
+-- Bytes after the last newline are a line, if there are any.
 abbrev pub lines_from : ℕ → List ℕ → List Span
 lines_from at [] = []
 lines_from at (b ∷ bs) =
@@ -37,7 +37,7 @@ lines_from at (b ∷ bs) =
 abbrev pub lines_of : List ℕ → Range → List Span
 lines_of buffer r = lines_from r.from (bytes_of buffer r)
 
--- lines from the first on that has more than so many bytes
+-- the lines from the first one on that has more than the given number of bytes
 abbrev pub from_longer : ℕ → List Span → List Span
 from_longer len [] = []
 from_longer len (l ∷ ls) = if nat_lt len l.len then l ∷ ls else from_longer len ls

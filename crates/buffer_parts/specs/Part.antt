@@ -1,11 +1,11 @@
--- What clauses read of a part, of a line and of the lines that are left.
+-- What contracts see of a part, of a line and of the iterator over lines.
 use Rattle.std.specs.Prelude.{◌≡◌, ◌≢◌, ◌⊎◌, ◌<◌, ◌≤◌, ◌+◌, ℕ, List, [], ◌∷◌, ◌++◌, Option, length, slice_index, IfSome, MatchOption}
 use Rattle.buffer_parts.specs.Lines.{Range, Span, text_of, lines_of, from_longer}
 use Rattle.buffer_parts.specs.declared.part.Part.{Part}
 use Rattle.buffer_parts.specs.declared.line.Line.{Line}
 use Rattle.buffer_parts.specs.declared.line.Lines.{Lines}
 
--- the bytes that a part lies in
+-- the bytes of the buffer that a part is a range of
 abbrev pub buffer_of : Part → List ℕ
 buffer_of part = part.buffer.now
 
@@ -21,7 +21,7 @@ span_of line = record { at = line.start; len = length line.bytes.now }
 abbrev pub line_text : Line → List ℕ
 line_text line = line.bytes.now
 
--- the line's bytes are those of the buffer at its place, which lies in the buffer
+-- the line's bytes are those of the buffer at its place, and the line lies inside the buffer
 pub record IsLineOf (buffer : List ℕ) (line : Line) : Type 0 where
   pub within : (span_of line).at + (span_of line).len ≤ length buffer
   pub text : line_text line ≡ text_of buffer (span_of line)
@@ -38,7 +38,7 @@ range_left lines = record { from = lines.next; to = lines.end }
 abbrev pub lines_left : Lines → List Span
 lines_left lines = lines_of (source_of lines) (range_left lines)
 
--- one call gave the first of the lines that were left, as it stands in the buffer, or none where none was left
+-- one call returned the first of the lines that were left, with its bytes in the buffer, or `None` where none was left
 pub record GivesLine (before : Lines) (given : Option Line) (after : Lines) : Type 0 where
   pub first : MatchOption given ((lines_left before ≡ []) × (lines_left after ≡ []))
       (λ line. lines_left before ≡ span_of line ∷ lines_left after)
@@ -46,8 +46,8 @@ pub record GivesLine (before : Lines) (given : Option Line) (after : Lines) : Ty
   pub same_source : source_of after ≡ source_of before
   pub same_end : (range_left after).to ≡ (range_left before).to
 
--- one call gave the first of the lines left that has more than so many bytes, and passed over those before it, or gave none
--- where none has
+-- one call returned the first of the lines left that has more than the given number of bytes, and skipped those before it,
+-- or returned `None` where there is no such line
 pub record GivesLonger (before : Lines) (len : ℕ) (given : Option Line) (after : Lines) : Type 0 where
   pub first : MatchOption given ((from_longer len (lines_left before) ≡ []) × (lines_left after ≡ []))
       (λ line. from_longer len (lines_left before) ≡ span_of line ∷ lines_left after)
@@ -55,7 +55,7 @@ pub record GivesLonger (before : Lines) (len : ℕ) (given : Option Line) (after
   pub same_source : source_of after ≡ source_of before
   pub same_end : (range_left after).to ≡ (range_left before).to
 
--- the lines before the one that holds a place of what was left, counted from its start, were passed over
+-- the lines before the one at a place of the bytes that were left, counted from their start, were skipped
 pub record SkipsTo (before : Lines) (place : ℕ) (after : Lines) : Type 0 where
   pub passed : lines_left before ≡ lines_of (source_of before) (record { from = (range_left before).from; to = (range_left after).from })
       ++ lines_left after
@@ -65,8 +65,8 @@ pub record SkipsTo (before : Lines) (place : ℕ) (after : Lines) : Type 0 where
   pub same_source : source_of after ≡ source_of before
   pub same_end : (range_left after).to ≡ (range_left before).to
 
--- A call gave the line that holds a place of what was left, counted from its start, or that ends there. The lines
--- before it were passed over.
+-- A call returned the line that contains the byte at a place of the bytes that were left, counted from their start, or
+-- whose newline that byte is. The lines before it were skipped.
 pub record GoesToLine (before : Lines) (place : ℕ) (line : Line) (after : Lines) : Type 0 where
   pub passed : lines_left before ≡ lines_of (source_of before) (record { from = (range_left before).from; to = (span_of line).at })
       ++ span_of line ∷ lines_left after

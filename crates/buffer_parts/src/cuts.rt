@@ -20,7 +20,7 @@ pub struct Cuts<'a> {
 impl<'a> Cuts<'a> {
     ghost use Rattle.buffer_parts.specs.Giving.{part_cut, cut_count, cuts_given, GivesCut};
 
-    /// So many cuts of a part, of which none is given.
+    /// Creates the iterator over `count` cuts of a part, of which none has been returned yet.
     pub(crate) fn of(part: Part<'a>, count: usize) -> Cuts<'a>
         requires some { 1 ≤ count }
         requires few { count ≤ 64 }
@@ -36,7 +36,7 @@ impl<'a> Cuts<'a> {
         }
     }
 
-    /// The next cut. The caller sees to it that one is left.
+    /// Returns the next cut. The caller must ensure that one is left. A part has as many cuts as were asked of `Part::cuts`.
     pub fn next_cut(&mut self) -> Part<'a>
         requires { cuts_given self.old < cut_count self.old }
         ensures { GivesCut self.old result self.new }
@@ -52,8 +52,8 @@ impl<'a> Cuts<'a> {
         cut
     }
 
-    /// Where the next cut ends. The line start behind the last cut is the next one's end too, where it stands behind the
-    /// next step already.
+    /// Returns the place where the next cut ends. If the last cut ended at or after the next step, the next cut ends there
+    /// too, and is empty.
     fn next_end(&self) -> usize
         requires { self.now.given < self.now.count }
         ensures { result ≡ cut_point (buffer_of self.now.part) (range_of self.now.part) self.now.count (self.now.given + 1) }

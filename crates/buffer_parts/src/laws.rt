@@ -1,4 +1,4 @@
-//! What follows from where the cuts lie: laws over the definitions, whose functions do nothing at run time.
+//! Laws about the cuts of a part, which follow from the definitions. Their functions do nothing at run time.
 
 ghost use Rattle.std.specs.Prelude.{◌≡◌, ℕ, ◌+◌, ◌<◌, ◌≤◌};
 ghost use Rattle.buffer_parts.specs.Lines.{bytes_of, lines_of};

@@ -1,9 +1,9 @@
 //! Line-aligned parts of a borrowed buffer: ranges, their lines and their cuts. Nothing is copied.
 //!
 //! The layer promises that a part is a range of its buffer that starts where a line starts, that the cuts of a part
-//! joined in order are the part, and that `lines` gives the lines of the range in order, each with its place in the
-//! buffer. `specs/Lines.antt` says what a line is, and `specs/Cuts.antt` where a cut lies. It stands on `memchr`
-//! alone, and no call takes memory.
+//! joined in order are the part, and that `lines` returns the lines of the range in order, each with its place in the
+//! buffer. `specs/Lines.antt` defines a line, and `specs/Cuts.antt` where a cut begins and ends. It uses only `memchr`,
+//! and no call allocates.
 #![tactic(auto)]
 
 mod cuts;

@@ -3,7 +3,7 @@ ghost use Rattle.std.specs.Iterator.{item_count};
 
 use memchr::{memchr, memrchr};
 
-/// A line of a buffer: where it starts, and its bytes without the newline.
+/// A line of a buffer: the place where it starts, and its bytes without the newline.
 #[derive(Clone, Copy)]
 pub struct Line<'a> {
     start: usize,
@@ -13,14 +13,14 @@ pub struct Line<'a> {
 impl<'a> Line<'a> {
     ghost use Rattle.buffer_parts.specs.Part.{span_of, line_text};
 
-    /// The place in the buffer of the line's first byte, or of its newline where the line is empty.
+    /// Returns the place in the buffer, in bytes, of the line's first byte, or of its newline if the line is empty.
     pub fn at(self) -> usize
         ensures { result ≡ (span_of self.entry).at }
     {
         self.start
     }
 
-    /// The line's bytes.
+    /// Returns the line's bytes, without the newline.
     pub fn text(self) -> &'a [u8]
         ensures { result.now ≡ line_text self.entry }
     {
@@ -28,7 +28,7 @@ impl<'a> Line<'a> {
     }
 }
 
-/// The lines of a part that are still to come, in order.
+/// An iterator over the lines of a part that are still to come, in order.
 #[derive(Drop)]
 pub struct Lines<'a> {
     buffer: &'a [u8],
@@ -42,7 +42,7 @@ impl<'a> Lines<'a> {
     ghost use Rattle.buffer_parts.specs.Lines.{lines_of, bytes_of};
     ghost use Rattle.buffer_parts.specs.Part.{source_of, lines_left, range_left, SkipsTo, GoesToLine, GivesLonger};
 
-    /// The lines of a range of a buffer.
+    /// Creates the iterator over the lines of a range of a buffer. `start` is the first place, and `end` is left out.
     pub(crate) fn over(buffer: &'a [u8], start: usize, end: usize) -> Lines<'a>
         requires ordered { start ≤ end }
         requires within { end ≤ length buffer.now }
@@ -58,15 +58,15 @@ impl<'a> Lines<'a> {
         }
     }
 
-    /// The bytes of the lines that are still to come.
+    /// Returns the bytes of the lines that are still to come, with their newlines.
     pub fn text(&self) -> &'a [u8]
         ensures { result.now ≡ bytes_of (source_of self.now) (range_left self.now) }
     {
         &self.buffer[self.next..self.end]
     }
 
-    /// Passes over the lines before a place of `text`, and takes the line that holds it, or that ends there.
-    /// The caller sees to it that the place lies inside `text`.
+    /// Skips to the line that contains the byte at `place`, or whose newline that byte is, and returns it. `place` is
+    /// counted from the start of `text`, in bytes. The caller must ensure that `place` is less than the length of `text`.
     pub fn line_at(&mut self, place: usize) -> Line<'a>
         requires { (range_left self.old).from + place < (range_left self.old).to }
         ensures { GoesToLine self.old place result self.new }
@@ -75,11 +75,11 @@ impl<'a> Lines<'a> {
         self.next().unwrap()
     }
 
-    /// Takes the first line that has more than `length` bytes, and passes over those before it. Where no line has, none
-    /// is left.
+    /// Skips to the first line that has more than `length` bytes, and returns it. If there is no such line, returns `None`,
+    /// and no line is left.
     ///
-    /// Such a line would cover the next `length + 1` bytes, so the lines up to the last newline among them are passed
-    /// over at once.
+    /// A line that long would cover the next `length + 1` bytes, so the lines up to the last newline among those bytes are
+    /// skipped at once.
     pub fn next_longer_than(&mut self, length: usize) -> Option<Line<'a>>
         ensures { GivesLonger self.old length result self.new }
     {
@@ -89,11 +89,11 @@ impl<'a> Lines<'a> {
                 None => return self.next(),
             }
         }
-        self.next = self.end; // no line of the rest is longer
+        self.next = self.end; // no line of the rest is longer than `length`
         None
     }
 
-    /// Passes over the lines before the one that holds a place of `text`, or that ends there.
+    /// Skips the lines before the one that contains the byte at a place of `text`, or whose newline that byte is.
     fn skip_to(&mut self, place: usize)
         requires { (range_left self.old).from + place < (range_left self.old).to }
         ensures { SkipsTo self.old place self.new }

@@ -5,7 +5,8 @@ use crate::cuts::Cuts;
 use crate::line::Lines;
 use memchr::memchr;
 
-/// A range of a borrowed buffer that starts where a line starts, or is empty.
+/// A range of a borrowed buffer that starts where a line starts, or is empty. Places and lengths are in bytes, and
+/// places are counted from the start of the buffer.
 #[derive(Clone, Copy)]
 pub struct Part<'a> {
     pub(crate) buffer: &'a [u8],
@@ -22,7 +23,7 @@ impl<'a> Part<'a> {
     ghost use Rattle.buffer_parts.specs.Part.{buffer_of, range_of, source_of, range_left, lines_left};
     ghost use Rattle.buffer_parts.specs.Giving.{part_cut, cut_count, cuts_given};
 
-    /// The whole of a buffer.
+    /// Returns the whole buffer as a part.
     pub fn whole(buffer: &'a [u8]) -> Part<'a>
         ensures buffer { buffer_of result ≡ buffer.now }
         ensures range { range_of result ≡ record { from = 0; to = length buffer.now } }
@@ -34,29 +35,31 @@ impl<'a> Part<'a> {
         }
     }
 
-    /// The place in the buffer at which the part starts.
+    /// Returns the place in the buffer at which the part starts.
     pub fn at(self) -> usize
         ensures { result ≡ (range_of self.entry).from }
     {
         self.start
     }
 
-    /// The part's bytes.
+    /// Returns the part's bytes.
     pub fn text(self) -> &'a [u8]
         ensures { result.now ≡ bytes_of (buffer_of self.entry) (range_of self.entry) }
     {
         &self.buffer[self.start..self.end]
     }
 
-    /// The whole buffer that the part lies in.
+    /// Returns the bytes of the whole buffer that the part is a range of.
     pub fn buffer(self) -> &'a [u8]
         ensures { result.now ≡ buffer_of self.entry }
     {
         self.buffer
     }
 
-    /// Cut `i` of `k`: from the first line start of the part at or behind `i` of `k` equal steps to the first at or
-    /// behind the next step. The cuts of a part may be empty, and joined in order they are the part.
+    /// Returns cut `i` of `k`. It begins at the first line start of the part at or after `i` of `k` equal steps, and ends
+    /// at the first one at or after the next step. The first cut begins where the part begins, and the last ends where the
+    /// part ends. A cut may be empty, and the cuts joined in order are the part. The caller must ensure that `k` is from
+    /// 1 to 64 and that `i` is less than `k`.
     pub fn cut(self, k: usize, i: usize) -> Part<'a>
         requires some { 1 ≤ k }
         requires few { k ≤ 64 }
@@ -71,7 +74,7 @@ impl<'a> Part<'a> {
         }
     }
 
-    /// The first of `k` cuts, and what is left of the part behind it.
+    /// Returns the first of `k` cuts, and the rest of the part after it. The caller must ensure that `k` is from 1 to 64.
     pub fn first_of(self, k: usize) -> (Part<'a>, Part<'a>)
         requires some { 1 ≤ k }
         requires few { k ≤ 64 }
@@ -92,7 +95,8 @@ impl<'a> Part<'a> {
         )
     }
 
-    /// The cuts of the part, in order, found in one pass over it.
+    /// Returns an iterator over the `k` cuts of the part, in order, which are found in one pass over it. The caller must
+    /// ensure that `k` is from 1 to 64.
     pub fn cuts(self, k: usize) -> Cuts<'a>
         requires some { 1 ≤ k }
         requires few { k ≤ 64 }
@@ -103,7 +107,8 @@ impl<'a> Part<'a> {
         Cuts::of(self, k)
     }
 
-    /// This part and the next one as one, where the next begins at this one's end.
+    /// Returns this part and `next` as one part, or `None` if `next` does not begin where this part ends. The caller must
+    /// ensure that both are parts of the same buffer.
     pub fn join(self, next: Part<'a>) -> Option<Part<'a>>
         requires { buffer_of self ≡ buffer_of next }
         ensures meet { IsSome result ↔ ((range_of self.entry).to ≡ (range_of next.entry).from) }
@@ -121,7 +126,7 @@ impl<'a> Part<'a> {
         })
     }
 
-    /// The part's lines, in order.
+    /// Returns an iterator over the part's lines, in order.
     pub fn lines(self) -> Lines<'a>
         ensures source { source_of result ≡ buffer_of self.entry }
         ensures range { range_left result ≡ range_of self.entry }
@@ -131,7 +136,7 @@ impl<'a> Part<'a> {
         Lines::over(self.buffer, self.start, self.end)
     }
 
-    /// Where cut `i` of `k` starts, and the cut before it ends.
+    /// Returns the place where cut `i` of `k` starts and the cut before it ends.
     fn cut_point(self, k: usize, i: usize) -> usize
         requires some { 1 ≤ k }
         requires few { k ≤ 64 }
@@ -147,7 +152,7 @@ impl<'a> Part<'a> {
         self.next_start(self.start + steps(self.end - self.start, k, i))
     }
 
-    /// The first line start of the part from a place on, or the part's end where there is none.
+    /// Returns the first line start of the part from a place on, or the part's end if there is none.
     pub(crate) fn next_start(self, place: usize) -> usize
         requires { place ≤ self.end }
         ensures { result ≡ next_start (buffer_of self.entry) place ((range_of self.entry).to - place) }
@@ -162,7 +167,7 @@ impl<'a> Part<'a> {
     }
 }
 
-/// How far `i` of `k` equal steps lead through a length, rounded down.
+/// Returns the length of the first `i` of `k` equal steps through `length`, rounded down.
 pub(crate) fn steps(length: usize, k: usize, i: usize) -> usize
     requires some { 1 ≤ k }
     requires few { k ≤ 64 }
