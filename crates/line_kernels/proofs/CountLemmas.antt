@@ -1,4 +1,4 @@
--- The number of lines: one for each newline, and one for bytes behind the last.
+-- The number of lines: one for each newline, and one for bytes after the last.
 use Rattle.std.proofs.Common.{◌≡◌, ◌≢◌, ℕ, suc, ◌+◌, ◌-◌, ◌<◌, ◌≤◌, true, false, eqb, cond, List, [], ◌∷◌, length, get_or, take, drop, slice_range, count_by, refl, sym, ap, ◌∙◌, ⊎_elim, arith}
 use Rattle.std.proofs.lemmas.Bool.{ne_eqb, eq-eqb, cases_Bool}
 use Rattle.std.proofs.lemmas.List.{length-take, take_rest}
@@ -10,7 +10,7 @@ use Rattle.buffer_parts.proofs.JoinLemmas.{lines_from-some}
 abbrev pub newlines : List ℕ → ℕ
 newlines bytes = count_by (λ b. eqb b 10) bytes
 
--- 1 where bytes stand behind the last newline
+-- 1 where there are bytes after the last newline
 abbrev pub open_end : List ℕ → ℕ
 open_end [] = 0
 open_end (b ∷ []) = cond (eqb b 10) 0 1
@@ -23,7 +23,7 @@ length-begun_at : (at : ℕ) (ls : List Span) → 0 < length ls → length (begu
 length-begun_at at [] some = absurd (omega arith)
 length-begun_at at (l ∷ ls) some = refl
 
--- there are as many lines as newlines, and one more where bytes stand behind the last newline
+-- there are as many lines as newlines, and one more where there are bytes after the last newline
 pub lines_from-count : (at : ℕ) (xs : List ℕ) → length (lines_from at xs) ≡ newlines xs + open_end xs
 lines_from-count at [] = refl
 lines_from-count at (b ∷ []) =

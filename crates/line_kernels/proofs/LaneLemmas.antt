@@ -33,7 +33,7 @@ added-low n [] ys low one = _
 added-low n (x ∷ xs) [] low one = _
 added-low n (x ∷ xs) (y ∷ ys) (a, low) (b, one) = (omega arith, added-low n xs ys low one)
 
--- lanes of at most n, where n is below 255, take hits of at most 1 and stay bytes
+-- lanes of at most n, where n is below 255, with hits of at most 1 added, are still bytes
 pub added-fit : (n : ℕ) (xs ys : List ℕ) → n < 255 → Each1 (λ x. x ≤ n) xs → Each1 (λ y. y ≤ 1) ys → Each2 (λ a b. Fits w8 (a + b)) xs ys
 added-fit n xs ys few low one =
     Each2-of (λ x. x ≤ n) (λ y. y ≤ 1) (λ a b. Fits w8 (a + b)) (λ a b le one. record { fits = omega arith }) xs ys low one

@@ -1,4 +1,4 @@
--- The first of the longest lines, by those that are longer than one before.
+-- The first of the longest lines, found by searching for longer lines.
 use Rattle.std.proofs.Common.{◌≡◌, ℕ, ◌<◌, ◌≤◌, true, false, ltb, List, [], ◌∷◌, length, refl, sym, ap, ◌∙◌, ⊎_elim, arith}
 use Rattle.std.proofs.lemmas.Bool.{lt-ltb, ltb-true, cases_Bool}
 use Rattle.buffer_parts.specs.Lines.{Span, from_longer}
@@ -52,6 +52,6 @@ from_longer-length n (l ∷ ls) =
     (λ (no_is : ltb n l.len ≡ false). rw no_is (omega (arith, from_longer-length n ls)))
     (cases_Bool (ltb n l.len))
 
--- fewer lines are left behind it
+-- fewer lines are left after it
 pub longer-fewer : (n : ℕ) (ls : List Span) (m : Span) (ms : List Span) → from_longer n ls ≡ m ∷ ms → length ms < length ls
 longer-fewer n ls m ms is = omega (arith, ap length is, from_longer-length n ls)

@@ -1,4 +1,4 @@
--- One search through the lines that are left shows the lines that contain a string.
+-- One search through the lines that are left finds the lines that contain a string.
 use Rattle.std.proofs.Common.{◌≡◌, ◌≢◌, ℕ, ◌+◌, ◌-◌, ◌<◌, ◌≤◌, Bool, true, false, eqb, List, [], ◌∷◌, ◌++◌, length, get_or, slice_range, filter, All, Some, None, refl, sym, ap, subst, ◌∙◌, ⊎_elim, arith}
 use Rattle.std.proofs.lemmas.Bool.{cases_Bool, cases_lt}
 use Rattle.std.proofs.lemmas.List.Elements.{All-nil, All-cons, All-head, All-tail, All-weaker, filter-append}
@@ -27,7 +27,7 @@ begun-lies at count (l ∷ ls) lie =
     (All-weaker (LiesIn (at + 1) (at + 1 + count)) (LiesIn at (at + 1 + count)) (λ m lies. let low = lies.0 in (omega arith, lies.1)) ls
     (All-tail (LiesIn (at + 1) (at + 1 + count)) l ls lie))
 
--- the lines of bytes lie where the bytes stand
+-- the lines of bytes lie where the bytes are
 pub lines_from-lie : (at : ℕ) (xs : List ℕ) → All (LiesIn at (at + length xs)) (lines_from at xs)
 lines_from-lie at [] = All-nil (LiesIn at (at + 0))
 lines_from-lie at (b ∷ bs) =
@@ -54,7 +54,7 @@ filter-none p [] none = refl
 filter-none p (l ∷ ls) none =
     filter-dropped p l ls (All-head (λ m. p m ≡ false) l ls none) ∙ filter-none p ls (All-tail (λ m. p m ≡ false) l ls none)
 
--- the bytes of a string stand at a place
+-- the bytes of a string are at a place
 abbrev pub StandsAt : List ℕ → List ℕ → ℕ → Type 0
 StandsAt buffer needle p = (j : ℕ) → j < length needle → get_or buffer (p + j) 0 ≡ get_or needle j 0
 
@@ -80,7 +80,7 @@ stands-occurs buffer needle a c p within low high stands =
           get_or-slice_range buffer a c (p - a + j) (omega arith) ∙ ap (λ n. get_or buffer n 0) sum ∙ stands j less;
     }
 
--- no line of a range contains a string that stands nowhere in it
+-- no line of a range contains a string that does not occur in it
 none_stand : (buffer needle : List ℕ) (from to : ℕ) → from ≤ to → to ≤ length buffer → 0 < length needle →
     ((p : ℕ) → from ≤ p → p + length needle ≤ to → StandsAt buffer needle p → ⊥) →
     filter (stands_in buffer needle) (lines_of buffer (range from to)) ≡ []
@@ -96,7 +96,7 @@ none_stand buffer needle from to ordered within some nowhere =
     nowhere (l.at + k) (omega arith) (omega arith) stands.1))
     (lines_of buffer (range from to)) (lines_of-lie buffer from to ordered within))
 
--- where a search misses no line is shown
+-- where a search fails no line is found
 pub missed-none : (lines : Lines) (needle : List ℕ) → 0 < length needle →
     FindsNeedle (bytes_of (source_of lines) (range_left lines)) needle 0 None →
     filter (stands_in (source_of lines) needle) (lines_left lines) ≡ []
@@ -108,7 +108,7 @@ missed-none lines needle some missed =
     none_stand b needle from to lines.ordered lines.within some
     (λ p low high stands. missed (p - from) (omega arith) (omega arith) (stands-occurs b needle from to p lines.within low high stands))
 
--- where a search finds, the next line that is shown is the one that holds the place
+-- where a search succeeds, the next line that is found is the one at that place
 pub found-next : (before after : Lines) (needle : List ℕ) (place : ℕ) (line : Line) → 0 < length needle →
     ((j : ℕ) → j < length needle → get_or needle j 0 ≢ 10)
     → FindsNeedle (bytes_of (source_of before) (range_left before)) needle 0 (Some place) → GoesToLine before place line after

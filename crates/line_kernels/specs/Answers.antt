@@ -1,4 +1,4 @@
--- What an answer says of a kernel and a part.
+-- Which answer is right for a kernel and a part.
 use Rattle.std.specs.Prelude.{◌≡◌, ℕ, List, [], ◌∷◌, All, map, None, MatchOption}
 use Rattle.buffer_parts.specs.Lines.{Span}
 use Rattle.buffer_parts.specs.Part.{span_of, buffer_of, range_of, IsLineOf}
@@ -11,12 +11,12 @@ use Rattle.line_kernels.specs.declared.answers.Answer.{Answer}
 use Rattle.line_kernels.specs.declared.answers.Answer.TheVariants.{Lines, Missing}
 use Rattle.line_kernels.specs.declared.answers.Answer.TheVariants as answers
 
--- the lines at these places, each with the bytes that stand there
+-- the lines at these places, each with the bytes of the buffer at its place
 pub record AreLinesAt (buffer : List ℕ) (spans : List Span) (lines : List Line) : Type 0 where
   pub places : map span_of lines ≡ spans
   pub texts : All (IsLineOf buffer) lines
 
--- the answer to a kernel on a part
+-- the answer of a kernel on a part
 abbrev pub IsAnswer : Kernel → Part → Answer → Type 0
 IsAnswer (Find needle) part (Lines lines) = AreLinesAt (buffer_of part) (found_in (buffer_of part) needle.now (range_of part)) lines
 IsAnswer (Head count) part (Lines lines) = AreLinesAt (buffer_of part) (head_of (buffer_of part) count (range_of part)) lines

@@ -1,12 +1,12 @@
 use crate::lines::FoundLines;
 
-/// What a kernel answers on a part.
+/// The answer of a kernel on a part. Its lines borrow from the input.
 #[derive(Drop)]
 pub enum Answer<'a> {
-    /// Lines of the part, in order.
+    /// Lines of the part, in order: the answer of `Find`, `Head`, `Longest`, and of `Need` if a line contains the string.
     Lines(FoundLines<'a>),
-    /// How many lines the part has.
+    /// The number of lines of the part: the answer of `Count`.
     Count(u64),
-    /// No line contains the string that was needed.
+    /// The answer of `Need` if no line contains the string.
     Missing,
 }

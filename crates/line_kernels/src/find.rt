@@ -9,7 +9,7 @@ use buffer_parts::Part;
 use memchr::{memchr, memmem};
 use std::alloc::{AllocError, Global};
 
-/// The lines that contain a string.
+/// Returns the lines that contain a string, in order.
 pub(crate) fn found<'a>(
     alloc: Global,
     part: Part<'a>,
@@ -24,8 +24,8 @@ pub(crate) fn found<'a>(
     found_by_search(alloc, part, needle)
 }
 
-/// The lines that contain a string, each looked through by itself. An empty string stands in every line, and one with a
-/// newline in none, wherever it stands in the part.
+/// Returns the lines that contain a string, by a search in each line. The empty string occurs in every line, and a
+/// string with a newline in none, even if it occurs in the part.
 fn found_by_line<'a>(
     alloc: Global,
     part: Part<'a>,
@@ -43,7 +43,7 @@ fn found_by_line<'a>(
     Ok(FoundLines::from_vec(lines))
 }
 
-/// The lines that contain a string, by one search through the part.
+/// Returns the lines that contain a string, by one search through the part.
 fn found_by_search<'a>(
     alloc: Global,
     part: Part<'a>,

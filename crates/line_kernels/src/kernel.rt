@@ -11,22 +11,23 @@ use crate::need::needed_line;
 use buffer_parts::Part;
 use std::alloc::{AllocError, Global};
 
-/// What a task asks of the lines of a part.
+/// A question that a task asks of the lines of a part.
 #[derive(Clone, Copy)]
 pub enum Kernel<'a> {
-    /// All lines that contain the string. The empty string stands in every line.
+    /// All lines that contain the string, in order. The empty string is in every line.
     Find(&'a [u8]),
-    /// The first so many lines, or all where there are fewer.
+    /// The first lines, of the given number, or all lines if there are fewer.
     Head(u64),
-    /// The first of the longest lines, none where there is no line.
+    /// The first of the longest lines, or no line if the part has none.
     Longest,
-    /// The first line that contains the string, or `Missing`.
+    /// The first line that contains the string, or `Answer::Missing` if there is none.
     Need(&'a [u8]),
-    /// How many lines there are.
+    /// The number of lines.
     Count,
 }
 
-/// The kernel's answer on a part, or an error where memory is refused. `Count` takes no memory.
+/// Returns the kernel's answer on a part, or `AllocError` if memory is refused. `Count` does not allocate and cannot
+/// fail.
 pub fn answer<'a>(
     alloc: Global,
     kernel: &Kernel<'a>,

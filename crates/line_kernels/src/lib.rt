@@ -1,7 +1,7 @@
-//! Kernels: what a task asks of the lines of its part. Each is computed from the part alone.
+//! Kernels: the questions that a task asks of the lines of its part. Each answer is computed only from the part.
 //!
-//! The layer promises that an answer's lines are those of the part's buffer that `specs/Kernels.antt` says, in order,
-//! each with its place and its bytes. It stands on `buffer_parts` and on `memchr`.
+//! The layer promises that an answer's lines are the lines of the part's buffer that `specs/Kernels.antt` defines, in
+//! order, each with its place and its bytes. It uses `buffer_parts` and `memchr`.
 #![tactic(auto)]
 
 mod answers;

@@ -18,28 +18,28 @@ impl<'a> Model for FoundLines<'a> {
 }
 
 impl<'a> FoundLines<'a> {
-    /// The lines of a vector, which takes no memory.
+    /// Creates `FoundLines` from a vector of lines. Does not allocate.
     pub fn from_vec(lines: Vec<Line<'a>>) -> FoundLines<'a>
         ensures { result ≡ lines.entry.items }
     {
         FoundLines { lines }
     }
 
-    /// The lines as a vector, which takes no memory.
+    /// Returns the lines as a vector. Does not allocate.
     pub fn into_vec(self) -> Vec<Line<'a>>
         ensures { result.items ≡ self.entry }
     {
         self.lines
     }
 
-    /// The lines.
+    /// Returns the lines as a slice.
     pub fn as_slice(&self) -> &[Line<'a>]
         ensures { result.now ≡ self.now }
     {
         self.lines.as_slice()
     }
 
-    /// A line, or no line.
+    /// Creates `FoundLines` with one line, or with none.
     pub(crate) fn from_option(
         alloc: Global,
         line: Option<Line<'a>>,

@@ -6,7 +6,7 @@ use crate::contains::contains;
 use buffer_parts::{Line, Part};
 use memchr::{memchr, memmem};
 
-/// The first line that contains a string.
+/// Returns the first line that contains a string, or `None` if there is none.
 pub(crate) fn needed_line<'a>(part: Part<'a>, needle: &[u8]) -> Option<Line<'a>>
     ensures place { MatchOption result (needed_in (buffer_of part.entry) needle.now (range_of part.entry) ≡ None)
         (λ line. needed_in (buffer_of part.entry) needle.now (range_of part.entry) ≡ Some (span_of line)) }
@@ -18,8 +18,8 @@ pub(crate) fn needed_line<'a>(part: Part<'a>, needle: &[u8]) -> Option<Line<'a>>
     needed_by_search(part, needle)
 }
 
-/// The first line that contains a string, each looked through by itself. An empty string stands in every line, and one with
-/// a newline in none, wherever it stands in the part.
+/// Returns the first line that contains a string, by a search in each line. The empty string occurs in every line, and a
+/// string with a newline in none, even if it occurs in the part.
 fn needed_by_line<'a>(part: Part<'a>, needle: &[u8]) -> Option<Line<'a>>
     ensures place { MatchOption result (needed_in (buffer_of part.entry) needle.now (range_of part.entry) ≡ None)
         (λ line. needed_in (buffer_of part.entry) needle.now (range_of part.entry) ≡ Some (span_of line)) }
@@ -33,7 +33,7 @@ fn needed_by_line<'a>(part: Part<'a>, needle: &[u8]) -> Option<Line<'a>>
     None
 }
 
-/// The first line that contains a string, by one search through the part.
+/// Returns the first line that contains a string, by one search through the part.
 fn needed_by_search<'a>(part: Part<'a>, needle: &[u8]) -> Option<Line<'a>>
     requires some { 0 < length needle.now }
     requires in_one_line { (j : ℕ) → j < length needle.now → slice_index needle.now j ≢ 10 }

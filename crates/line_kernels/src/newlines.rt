@@ -2,7 +2,7 @@ ghost use Rattle.std.specs.Prelude.{◌≡◌, ◌+◌, ◌≤◌, ◌<◌, ◌=
 
 use std::simd::prelude::*;
 
-/// How many newlines there are.
+/// Returns how many newlines there are in the bytes.
 pub(crate) fn newline_count(bytes: &[u8]) -> u64
     ensures { result ≡ count_by (λ b. b == 10) bytes.now }
 {
@@ -15,7 +15,7 @@ pub(crate) fn newline_count(bytes: &[u8]) -> u64
     count + newlines_by_block(&bytes[at..])
 }
 
-/// The newlines among the 255 blocks of 64 bytes from a place on: a lane holds no more than 255.
+/// Returns the number of newlines in the 255 blocks of 64 bytes from a place on. A lane counts to at most 255.
 fn newlines_in_run(bytes: &[u8], at: usize) -> u16
     requires { at + 16320 ≤ length bytes.now }
     ensures { result ≡ count_by (λ b. b == 10) (slice_range bytes.now at (at + 16320)) }
@@ -29,7 +29,7 @@ fn newlines_in_run(bytes: &[u8], at: usize) -> u16
     lanes.cast::<u16>().strict_reduce_sum()
 }
 
-/// Of each of the 64 bytes from a place on, 1 where it is a newline.
+/// Returns for each of the 64 bytes from a place on 1 if it is a newline, and 0 otherwise.
 #[inline(always)]
 fn newline_lanes(bytes: &[u8], at: usize) -> u8x64
     requires { at + 64 ≤ length bytes.now }
@@ -40,7 +40,7 @@ fn newline_lanes(bytes: &[u8], at: usize) -> u8x64
         .select(u8x64::splat(1), u8x64::splat(0))
 }
 
-/// The newlines of what is left behind the runs.
+/// Returns the number of newlines in the bytes that are left after the runs.
 fn newlines_by_block(bytes: &[u8]) -> u64
     ensures { result ≡ count_by (λ b. b == 10) bytes.now }
 {
@@ -53,7 +53,7 @@ fn newlines_by_block(bytes: &[u8]) -> u64
     count + newlines_one_by_one(&bytes[at..])
 }
 
-/// The newlines among the 64 bytes from a place on.
+/// Returns the number of newlines in the 64 bytes from a place on.
 #[inline(always)]
 fn newlines_in_block(bytes: &[u8], at: usize) -> u32
     requires { at + 64 ≤ length bytes.now }
@@ -65,7 +65,7 @@ fn newlines_in_block(bytes: &[u8], at: usize) -> u32
         .count_ones()
 }
 
-/// The newlines of a few bytes.
+/// Returns the number of newlines in fewer than 64 bytes.
 fn newlines_one_by_one(bytes: &[u8]) -> u64
     requires { length bytes.now < 64 }
     ensures { result ≡ count_by (λ b. b == 10) bytes.now }

@@ -1,11 +1,11 @@
 use crate::kernel::Kernel;
 use buffer_parts::Part;
 
-/// A kernel that is asked of a part.
+/// A kernel and the part that it is asked of.
 #[derive(Clone, Copy)]
 pub struct Request<'a> {
-    /// What is asked.
+    /// The question.
     pub kernel: Kernel<'a>,
-    /// Where it is asked.
+    /// The part whose lines are searched.
     pub part: Part<'a>,
 }
