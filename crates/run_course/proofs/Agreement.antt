@@ -1,5 +1,5 @@
--- Where a run is on its course, the table and the froms that the run keeps agree at the present tick; and the jump: nothing
--- that was not made happens before the tick to which the clock jumps.
+-- If a run agrees with a table, the table and the froms that the run keeps agree at the present tick; and the jump: nothing
+-- that was not done yet happens before the tick to which the clock jumps.
 use Rattle.std.proofs.Common.{◌≡◌, ℕ, zero, suc, ◌+◌, ◌-◌, ◌<◌, ◌≤◌, min, max, true, Some, None, List, [], ◌∷◌, refl, sym, ap, ◌∙◌, subst, inl, inr, arith}
 use Rattle.exc_groups.specs.Exceptions.{Label}
 use Rattle.cancel_scopes.specs.Sight.{Tick, sight}
@@ -17,7 +17,7 @@ use Rattle.run_course.proofs.Readings.{upto_from, entered_times, left_fresh}
 use Rattle.run_course.proofs.Contract.{near_places, agrees_each}
 use Rattle.run_course.proofs.Lateness.{late_rest, timed_rest, sleeping_end, latest_in}
 
--- a telling says the same as itself
+-- a record of outcomes says the same as itself
 pub told_tells : (q : Started) → Tells q q.told
 told_tells q = λ i h. refl
 
@@ -27,7 +27,7 @@ left_timed : (k : Table) (q : Started) (v : ℕ) → Fits k q → PlacedStop q.r
 left_timed k q v p s h =
     subst (Timed v) (p.lefts q.told (told_tells q)) (timed_rest k q.told q.here q.stop v q.rest.stopped q.rest.frames q.places s h)
 
--- a task ends no earlier than it goes on
+-- a task ends no earlier than it continues
 pub ends_at : (k : Table) (q : Started) (v : ℕ) → Fits k q → PlacedStop q.rest.stopped q.rest.frames q.places →
     live q.rest.stopped ≡ true → v ≤ resumes k q → v ≤ q.fate.end
 ends_at k q v p s l h =
@@ -59,7 +59,7 @@ module _ (k f : Table) (whole : Result) (qs : List Started) (o : OnCourse k f wh
   pub agrees_entered : (l : Label) → Entered qs l → upto (suc v) (k l) ≡ upto (suc v) (f l)
   agrees_entered l e = agrees l e.deadline (o.known e.by e.among l e.deadline e.made)
 
-  -- so they agree on each task's places
+  -- so they agree for the scopes and nurseries that enclose each task
   pub agrees_on : (ps : List Place) → EachPlace (Entered qs) ps → AgreesOn v k f ps
   agrees_on [] p = tt
   agrees_on (x ∷ ps) p = (agrees_entered x.label p.0, agrees_on ps p.1)
@@ -89,8 +89,8 @@ module _ (k f : Table) (whole : Result) (qs : List Started) (o : OnCourse k f wh
       let j : (q.told c.number).end ≤ latest ended (told_members q.told children) = latest_in q.told ended children c.number c.among in
       omega arith
 
-  -- One tick further: no sleeper goes on before it, and who waits goes on no earlier than a child that has not ended,
-  -- whose serial number is greater.
+  -- One tick further: no sleeper continues before it, and a task that waits continues no earlier than a child that has not
+  -- ended, whose serial number is greater.
   pub further :
       (u bound : ℕ) → v < u → Blocked f qs u → ((q : Started) → In q qs → q.serial < bound) → (n : ℕ) (q : Started) → In q qs →
       live q.rest.stopped ≡ true → bound ≤ q.serial + n →

@@ -1,4 +1,4 @@
--- A run begins on its course, for each settled table of a job that gives names once.
+-- A run agrees at its beginning with each settled table of a job that gives names once.
 use Rattle.std.proofs.Common.{◌≡◌, ◌⊎◌, ℕ, ◌+◌, ◌<◌, ◌≤◌, Bool, true, false, Option, Some, None, List, [], ◌∷◌, refl, sym, ap, ◌∙◌, subst, inl, inr, arith, if◌then◌else◌}
 use Rattle.job_tree.specs.Tree.{Tree}
 use Rattle.job_tree.specs.Names.{GivesNamesOnce}
@@ -98,7 +98,7 @@ module _ (k f : Table) (job : Tree) (input : List ℕ) (names : GivesNamesOnce j
   of_root P h q (inl e) = subst P (sym e) h
   of_root P h q (inr i) = absurd i
 
-  -- a run begins on its course
+  -- a run agrees with the table at its beginning
   pub opens : OnCourse k f whole tasks
   unfolding all_least made_least all_times made_times times_made
   opens = record {

@@ -26,9 +26,9 @@ eqb_less a b h = grind (arith, nat_tests)
 eqb_more : (a b : ℕ) → b < a → eqb a b ≡ false
 eqb_more a b h = grind (arith, nat_tests)
 
--- ---- what is told of the children
+-- ---- what is recorded of the children
 
--- of earlier children the same is told
+-- of earlier children the same is recorded
 pub old_told : (k : Table) (t : ℕ) (told : Telling) (n : ℕ) (bs : List Begun) → NumberedFrom n bs → (i : ℕ) → i < n →
     told_new k t told bs i ≡ told i
 unfolding told_new
@@ -44,7 +44,7 @@ pub first_told : (k : Table) (t : ℕ) (told : Telling) (b : Begun) (bs : List B
 unfolding told_new
 first_told k t told b bs i h = ap (λ (c : Bool). cond c (begun_comes_to k t b) (told_new k t told bs i)) (eqb_same i b.number h)
 
--- and of those behind the first what is told of them
+-- and of those after the first what is recorded of them
 pub later_told : (k : Table) (t : ℕ) (told : Telling) (b : Begun) (bs : List Begun) (i : ℕ) → b.number < i →
     told_new k t told (b ∷ bs) i ≡ told_new k t told bs i
 unfolding told_new
@@ -59,7 +59,7 @@ all_told k t e d n (b ∷ bs) p h =
       all_told k t e d (suc n) bs p.1 (λ i x y. h i (omega arith) (omega arith) ∙ later_told k t e b bs i (omega arith)),
     )
 
--- tellings that say the same of all children give the same log
+-- records of outcomes that say the same of all children give the same log
 fill_agree : (d e : Telling) (n : ℕ) (es : List Event) (bs : List Begun) → Starts n es bs →
     ((i : ℕ) → i < n + length bs → d i ≡ e i) → fill d es ≡ fill e es
 fill_agree d e n [] bs p h = refl
@@ -72,7 +72,7 @@ fill_agree d e n (starts i m t ∷ es) (b ∷ bs) p h =
     let z : d i ≡ e i = h i (omega arith) in
     λ j. task m t (z j).end (z j).exc (z j).log (fill_agree d e (suc n) es bs p.3 (λ o g. h o (omega arith)) j)
 
--- a log that stands in front of two is in front of one
+-- a log that is in front of two is in front of one
 pub followed_cancel : (a b c : Log) → followed_by a b ≡ followed_by a c → b ≡ c
 followed_cancel nil b c h = h
 followed_cancel (entry t e rest) b c h = followed_cancel rest b c (cc)
@@ -152,11 +152,12 @@ module _ (k f : Table) (t m : ℕ) (wake : Wake) (q : Started) (o : Move) (s : S
   tells_before : (told : Telling) → Tells (turned k t m q o s) told → Tells q told
   tells_before told h = λ i x. h i (omega arith) ∙ old_told k t q.told q.count o.begun numbers i x
 
-  -- a telling that fits the task after the turn tells of its new children what following the table gives
+  -- a record of outcomes that fits the task after the turn contains for its new children the results of
+  -- following the table
   pub tells_begun : (told : Telling) → Tells (turned k t m q o s) told → AllTold t k told o.begun
   tells_begun told h = all_told k t q.told told q.count o.begun numbers (λ i x y. h i y)
 
-  -- and its own telling fits it
+  -- and its own record fits it
   pub tells_itself : Tells (turned k t m q o s) (turned k t m q o s).told
   tells_itself = λ i h. refl
 
@@ -177,7 +178,7 @@ module _ (k f : Table) (t m : ℕ) (wake : Wake) (q : Started) (o : Move) (s : S
       ap (λ (a : Log). followed_by a (left_after told).log) (fill_append told q.made o.made)
       ∙ followed_assoc (fill told q.made) (fill told o.made) (left_after told).log
 
-  -- the task still comes to its fate
+  -- the task still has the same whole result
   pub fits_turned : Fits k (turned k t m q o s)
   fits_turned = record {
     comes = λ told h.
@@ -218,7 +219,7 @@ module _ (k f : Table) (t m : ℕ) (wake : Wake) (q : Started) (o : Move) (s : S
       let v : times_made l (q.made ++ o.made) ≡ times_made l q.made + times_made l o.made = times_join l q.made o.made in
       omega arith
 
--- a child before its first turn comes to what following the table gives, whatever is told
+-- the result of a child before its first turn is that of following the table, whatever is recorded of children
 pub fits_begun : (k : Table) (t m : ℕ) (bs : List Begun) (q : Started) → In q (children_from k t m bs) → Fits k q
 unfolding children_from
 fits_begun k t m [] q i = absurd i

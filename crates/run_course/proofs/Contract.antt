@@ -17,7 +17,7 @@ use Rattle.run_course.proofs.Readings.{upto_from, enters_counted, enters_once}
 
 -- ---- what is asked of a table
 
--- a table that agrees with froms on places is near them on their stacks
+-- a table that agrees with froms for enclosing scopes and nurseries is near them on their stacks
 pub near_places : (t : ℕ) (k f : Table) (ps : List Place) → AgreesOn t k f ps → Near (suc t) (stack_at k ps) (stack_at f ps)
 near_places t k f [] h = tt
 near_places t k f (p ∷ ps) h = (refl, refl, h.0, near_places t k f ps h.1)
@@ -68,7 +68,7 @@ known_of ls (signs m t ∷ es) l h = known_of ls es l h
 known_of ls (enters m t d ∷ es) l h = behind_entered l m t d ls es (known_of (m ∷ ls) es l h)
 known_of ls (starts i m t ∷ es) l h = known_of ls es l h
 
--- what is true of each known label is true of each place with a known label
+-- what is true for each known label is true for each enclosing scope or nursery with a known label
 pub each_known : (P : Label → Type 0) (ls : List Label) → ((l : Label) → Known l ls → P l) →
     (ps : List Place) → AllKnown ps ls → EachPlace P ps
 each_known P ls h [] p = tt
@@ -99,7 +99,7 @@ module _ (t : ℕ) (f : Table) (wake : Wake) (q : Started) (o : Move) (s : Stopp
   abbrev pub rest_after : Rest
   rest_after = record { stopped = s; frames = o.frames }
 
-  -- what was left before the turn comes to what it made, and then to what is left after it
+  -- what was left before the turn results in what it did, followed by the result of what is left after it
   pub keeps_to : (k : Table) (told : Telling) → AgreesOn t k f q.places →
       AgreesIn t k (rest_comes_to (by_table k) told q.rest q.here (stack_at k q.places) q.stop).log → AllTold t k told o.begun →
       WakesBy k told q.here q.stop t wake q.rest.stopped q.places →
@@ -109,7 +109,7 @@ module _ (t : ℕ) (f : Table) (wake : Wake) (q : Started) (o : Move) (s : Stopp
       w.keeps k told come near (inr inside) all
       ∙ ap (λ (x : Option Stopped). behind told o.made (stop_comes_to x k told q.here t o.frames o.places o.exc)) e
 
-  -- the frames that are left fit the places
+  -- the frames that are left fit the enclosing scopes and nurseries
   pub placed_stop : PlacedStop s o.frames o.places
   placed_stop = subst (λ (x : Option Stopped). PlacedAfter x o.frames o.places) e w.placed
 

@@ -1,4 +1,4 @@
--- A run that is over: its rows say what following the table gives.
+-- A run that is over: its rows contain the result of following the table.
 use Rattle.std.proofs.Common.{◌≡◌, ℕ, suc, ◌+◌, ◌<◌, min, true, Option, Some, None, List, [], ◌∷◌, ◌++◌, refl, sym, ap, ◌∙◌, subst, inl, inr, arith, append_assoc}
 use Rattle.std.proofs.lemmas.List.{append-nil}
 use Rattle.job_tree.specs.Tree.{Tree}
@@ -36,7 +36,7 @@ froms_append : (k : Table) (a b : List Label) → froms_by k (a ++ b) ≡ froms_
 froms_append k [] b = refl
 froms_append k (l ∷ a) b = ap (λ (x : List From). record { label = l; seen = k l } ∷ x) (froms_append k a b)
 
--- an ended task comes to the log of what it made
+-- the log of an ended task is the log of what it did
 ended_log : (k : Table) (q : Started) → Fits k q → (u : ℕ) (e : Option Exc) → q.rest.stopped ≡ at_end u e → q.fate.log ≡ fill q.told q.made
 ended_log k q p u e s =
     sym (ap (λ (r : Result). r.log) (p.comes q.told (told_tells q)))
@@ -279,7 +279,7 @@ module _ (k f : Table) (whole : Result) (qs : List Started) (o : OnCourse k f wh
   pub ends_over : (rows 0).end ≡ whole.end
   ends_over = root_row
 
-  -- the records of the rows, each with its descendants behind it, are those of the whole
+  -- the records of the rows, each followed by its descendants, are those of the whole
   pub records_over : (job : Tree) → (rows 0).label ≡ root_label job.name → (rows 0).start ≡ 0 → (taken : List ℕ) →
       DepthFirst rows (0 ∷ []) taken →
       records_by rows taken ≡ records_of (root_log job whole)

@@ -1,4 +1,4 @@
--- Where `start` stands in nurseries alone, a task ends no earlier than those that it started.
+-- If `start` occurs only directly in nurseries, a task ends no earlier than those that it started.
 use Rattle.std.proofs.Common.{◌≡◌, ℕ, zero, suc, ◌+◌, ◌≤◌, max, Bool, true, false, Option, Some, None, List, [], ◌∷◌, ◌++◌, refl, subst, arith, nat_le, if◌then◌else◌}
 use Rattle.job_tree.specs.Tree.{Step, sleep, checkpoint, forever, pace, find, head, longest, need, raise, cancel, scope, nursery, start, repeat, attempt, Steps, stop, step, Handled, unhandled, except, Cleaned, uncleaned, finally}
 use Rattle.job_tree.specs.Starting.{StartsIn, StartsAt, HandlerStarts, CleanupStarts}

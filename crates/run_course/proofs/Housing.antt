@@ -56,9 +56,9 @@ stop_below n i home (asleep m since) fs ps b (inl h) = absurd h
 stop_below n i home (awaiting children ended exc) fs [] b (inl h) = absurd h
 stop_below n i home (at_end u e) fs ps b (inl h) = absurd h
 
--- ---- who may be woken
+-- ---- which tasks may be woken
 
--- who may be woken has not ended
+-- a task that may be woken has not ended
 wakes_live : (f : Table) (qs : List Started) (t : ℕ) (q : Started) (w : Wake) (s : Stopped) → MayWake f qs t q w s → live s ≡ true
 wakes_live f qs t q w to_begin h = refl
 wakes_live f qs t q w (asking kernel purpose) h = refl
@@ -88,9 +88,9 @@ none_waited f qs t q w (asking kernel purpose) ps h i home a c among serial l = 
 none_waited f qs t q w (asleep n since) ps h i home a c among serial l = absurd a
 none_waited f qs t q w (at_end u e) ps h i home a c among serial l = absurd a
 
--- ---- labels of places
+-- ---- labels of enclosing scopes and nurseries
 
--- what is true of each place's label is true of a label among them
+-- what is true for the label of each enclosing scope or nursery is true for a label among them
 at_place : (P : Label → Type 0) (l : Label) (ps : List Place) → EachPlace P ps → Known l (labels_of ps) → P l
 at_place P l [] e k = absurd k
 at_place P l (p ∷ ps) e (inl g) = subst P (sym g) e.0
@@ -138,7 +138,7 @@ module _ (k f : Table) (t m : ℕ) (q : Started) (ys : List Started) (wake : Wak
   here_stopped : (P : Option Stopped → Type 0) → P o.stopped → P (Some s)
   here_stopped P h = subst P stopped h
 
-  -- who is home before the turn is so after it
+  -- a task's home before the turn is its home after it
   home_stays : (serial : ℕ) (home : List Place) → (x : Started) → In x (q ∷ ys) → x.serial ≡ serial → live x.rest.stopped ≡ true →
       Home (q ∷ ys) serial home → Home after_turn serial home
   home_stays serial home x i e l h = by_starter h.among
@@ -316,9 +316,9 @@ tasks_are_housed k job input inside f t m _ (turn g u n p qs others wake o s r a
     may goes stopped (λ x j. serials_below k job input g u n qs r x ((front_same p qs others at).back x j)) q i
 tasks_are_housed k job input inside f t m qs (jump g v u n qs' r le blocked) q i = tasks_are_housed k job input inside g v n qs' r q i
 
--- ---- who is in a scope or nursery
+-- ---- which tasks are in a scope or nursery
 
--- the home of a child is among the places of the task that has it
+-- the home of a child is among the scopes and nurseries that enclose the task that has it
 home_among : (i : ℕ) (l : Label) (home : List Place) (fs : List Frame) (ps : List Place) → HasChild i home fs ps →
     Known l (labels_of home) → Known l (labels_of ps)
 home_among i l home [] ps h k = absurd h
@@ -349,7 +349,7 @@ home_within i l home (awaiting children ended exc) fs (p ∷ ps) (inr h) k = inr
 home_within i l home (at_end u e) fs ps (inl h) k = absurd h
 home_within i l home (at_end u e) fs ps (inr h) k = home_among i l home fs ps h k
 
--- who has a child has not ended
+-- a task that has a child has not ended
 has_live : (i : ℕ) (home : List Place) (s : Stopped) (fs : List Frame) (ps : List Place) → PlacedStop s fs ps →
     HasChildAfter i home (Some s) fs ps → live s ≡ true
 has_live i home to_begin fs ps p h = refl
@@ -377,7 +377,7 @@ one_enters l (z ∷ zs) n x y (inr i) (inr j) a b = one_enters l zs (omega arith
 
 module _ (qs : List Started) (all : (x : Started) → In x qs → IsHoused qs x) (once : (l : Label) → made_times l qs ≤ 1)
     (l : Label) (q : Started) (i : In q qs) (h : EntersIn l q.made) where
-  -- a label round a live task is round the task that entered it
+  -- a label that encloses a live task encloses the task that entered it
   in_force : (n : ℕ) (x : Started) → In x qs → x.serial < n → live x.rest.stopped ≡ true → Known l (labels_of x.places) →
       Known l (labels_of q.places)
   in_force zero x j lt a k = absurd (omega arith)
@@ -404,7 +404,7 @@ module _ (qs : List Started) (all : (x : Started) → In x qs → IsHoused qs x)
           (one_enters l qs (once l) x q j i (enters_counted l x.made e) (enters_counted l q.made h)) k
       by_own up (inr g) = by_home up g ((all x j).home a)
 
--- who leaves a scope or a nursery is the last to be in it
+-- the task that leaves a scope or nursery is the last one in it
 pub last_to_leave : LastToLeave
 last_to_leave k job input names inside settled f t m qs r l q i h x j a w =
     in_force qs (λ y g. tasks_are_housed k job input inside f t m qs r y g) at_most l q i h (suc x.serial) x j (omega arith) a w

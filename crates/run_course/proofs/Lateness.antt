@@ -1,4 +1,4 @@
--- What a task has left happens when it goes on, or later.
+-- What a task has left happens when it continues, or later.
 use Rattle.std.proofs.Common.{◌≡◌, ℕ, ◌+◌, ◌≤◌, min, max, Bool, true, false, Some, None, List, [], ◌∷◌, refl, sym, ap, subst, inl, inr, arith, nat_le, if◌then◌else◌}
 use Rattle.std.proofs.lemmas.Bool.Decides.{nat_tests}
 use Rattle.exc_groups.specs.Exceptions.{cancelled, raised}
@@ -48,7 +48,7 @@ late_sleep : (v : ℕ) (st : Stack) (n t : ℕ) → v ≤ (sleeping st n t).end 
 unfolding sleeping
 late_sleep v st n t le = record { ends = le; timed = subst (Timed v) (sym (slept_log (sight st) n t)) tt }
 
--- what comes of an answer is no earlier than the answer
+-- the result of an answer is no earlier than the answer
 late_answered : (a : Answer) (purpose : Purpose) (here : Here) (st : Stack) (t : ℕ) → Late t (answered a purpose here st t)
 late_answered (lines ls) purpose here st t = late_showing ls t
 late_answered missing (needs name) here st t = late_raised (raised name here.task t) t t (omega arith)
@@ -59,7 +59,7 @@ late_answered (counted n) shows here st t = late_done t t (omega arith)
 late_answered (counted n) (needs name) here st t = late_done t t (omega arith)
 
 module _ (k : Table) (told : Telling) (here : Here) (t v : ℕ) where
-  -- what a live task has left is as late as the tick in which it goes on
+  -- what a live task has left is as late as the tick in which it continues
   pub late_rest : (s : Stopped) (fs : List Frame) (ps : List Place) → PlacedStop s fs ps → live s ≡ true →
       v ≤ goes_on told s (stack_at k ps) t →
       Late v (rest_comes_to (by_table k) told (record { stopped = s; frames = fs }) here (stack_at k ps) t)

@@ -21,7 +21,7 @@ inside_child e told i (starts j l t ∷ es) h (inl p) =
 inside_child e told i (starts j l t ∷ es) h (inr s) = inside_child e told i es h.2 s
 
 module _ (k f : Table) (whole : Result) (qs : List Started) (o : OnCourse k f whole qs) where
-  -- what a task made stands first in the log of what it comes to
+  -- what a task did is first in the log of its whole result
   log_of : (q : Started) → In q qs → followed_by (fill q.told q.made)
       (rest_comes_to (by_table k) q.told q.rest q.here (stack_at k q.places) q.stop).log ≡ q.fate.log
   log_of q i = ap (λ (r : Result). r.log) ((o.fits q i).comes q.told (told_tells q))
@@ -59,7 +59,7 @@ module _ (k f : Table) (whole : Result) (qs : List Started) (o : OnCourse k f wh
       let b : q.fate.end ≤ whole.end = (ends_by_whole h (suc q.serial) q i (omega arith)).0 in
       omega arith
 
-  -- a blocked run has a sleeper: who waits does so for a child that has not ended
+  -- a blocked run has a sleeper: a task that waits does so for a child that has not ended
   pub has_sleeper : (u bound : ℕ) → Blocked f qs u → ((q : Started) → In q qs → q.serial < bound) → (n : ℕ) (q : Started) → In q qs →
       live q.rest.stopped ≡ true → bound ≤ q.serial + n → Sleeps qs
   has_sleeper u m b small zero q i a z = let w : q.serial < m = small q i in absurd (omega arith)

@@ -84,7 +84,7 @@ module _ (k f : Table) (whole : Result) (qs rs : List Started) (same : SameTasks
     places_moved ps p.1,
   )
 
-  -- in another order they are still on their course
+  -- in another order they still agree with the table
   pub course_moved : OnCourse k f whole qs → OnCourse k f whole rs
   course_moved o = record {
     fits = λ q i. o.fits q (same.back q i);

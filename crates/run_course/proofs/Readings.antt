@@ -24,7 +24,7 @@ upto_from c d s = upto_earlier (suc c) d (next s) ∙ ap (min (upto (suc c) d)) 
 
 -- ---- lists
 
--- what is in one of two lists is in both together, and the other way round
+-- what is in one of two lists is in both together, and vice versa
 pub in_first : {A : Type 0} (x : A) (xs ys : List A) → In x xs → In x (xs ++ ys)
 in_first x [] ys i = absurd i
 in_first x (y ∷ xs) ys (inl e) = inl e
@@ -71,7 +71,7 @@ times_join l (signs m t ∷ xs) ys = times_join l xs ys
 times_join l (enters m t d ∷ xs) ys = omega (arith, times_join l xs ys)
 times_join l (starts i m t ∷ xs) ys = times_join l xs ys
 
--- what one part enters, both do, and the other way round
+-- what one part enters, both do, and vice versa
 pub enters_first : (l : Label) (d : Tick) (xs ys : List Event) → EntersWith l d xs → EntersWith l d (xs ++ ys)
 enters_first l d [] ys h = absurd h
 enters_first l d (noted t e ∷ xs) ys h = enters_first l d xs ys h

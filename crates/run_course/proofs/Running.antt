@@ -1,4 +1,4 @@
--- Each run in turns is on its course, and comes to what the job means.
+-- Each run in turns agrees with the table, and has the result that the job means.
 use Rattle.std.proofs.Common.{◌≡◌, ◌≤◌, ◌*◌, ℕ, suc, ◌+◌, ◌<◌, Some, List, [], ◌∷◌, ◌++◌, length, refl, ap, subst, ◌∙◌, ◌⊎◌, inl, inr, arith}
 use Rattle.job_tree.specs.Tree.{Tree}
 use Rattle.job_tree.specs.Names.{GivesNamesOnce, size_of}
@@ -100,7 +100,7 @@ ends_whole k job input p = ends_by_root (by_table k) job.steps (root_here job in
 
 -- ---- the laws
 
--- each run is on its course
+-- each run agrees with the table
 pub runs_on_course : RunsOnCourse
 runs_on_course k job input settled names nurseries f t m qs r =
     let h : Kept k f (follow k job input) t m qs = kept k job input names nurseries settled r in
@@ -161,6 +161,6 @@ ends_run k (turn f t m q qs others wake o s r at may goes stopped) =
     omega arith
 ends_run k (jump f t u m qs r le blocked) = ends_run k r
 
--- a run takes so many turns at most
+-- a run takes at most this number of turns
 pub runs_end : RunsEnd
 runs_end k job input f t m qs r = ends_run k r

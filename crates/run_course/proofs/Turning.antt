@@ -1,4 +1,5 @@
--- A turn keeps a run on its course, by what is promised of a turn alone.
+-- After a turn a run still agrees with the table: this follows from what is promised of a turn
+-- alone.
 use Rattle.std.proofs.Common.{◌≡◌, ℕ, suc, ◌+◌, ◌-◌, ◌<◌, ◌≤◌, min, Bool, cond, Some, List, [], ◌∷◌, ◌++◌, length, refl, sym, ap, ◌∙◌, subst, ◌⊎◌, inl, inr, arith}
 use Rattle.std.proofs.lemmas.Bool.{cases_lt, le-ltb, lt-ltb}
 use Rattle.exc_groups.specs.Exceptions.{Label}
@@ -50,7 +51,7 @@ begun_count k t m [] x i = absurd i
 begun_count k t m (b ∷ bs) x (inl e) = ap (λ (z : Started). z.count) e
 begun_count k t m (b ∷ bs) x (inr i) = begun_count k t (suc m) bs x i
 
--- their frames fit their places, and their places have known labels
+-- their frames fit the scopes and nurseries that enclose them, and these have known labels
 begun_shape : (k : Table) (t m : ℕ) (ls : List Label) (bs : List Begun) → BegunIn ls bs →
     (x : Started) → In x (children_from k t m bs) → PlacedStop x.rest.stopped x.rest.frames x.places
 unfolding children_from
@@ -65,7 +66,7 @@ begun_places k t m ls [] p x i = absurd i
 begun_places k t m ls (b ∷ bs) p x (inl e) = subst (λ (z : Started). AllKnown z.places ls) (sym e) p.0
 begun_places k t m ls (b ∷ bs) p x (inr i) = begun_places k t (suc m) ls bs p.2 x i
 
--- they go on in this tick
+-- they continue in this tick
 begun_resumes : (k : Table) (t m : ℕ) (bs : List Begun) (x : Started) → In x (children_from k t m bs) → t ≤ resumes k x
 unfolding children_from
 begun_resumes k t m [] x i = absurd i
@@ -82,7 +83,7 @@ pub later_child : (count : ℕ) (child : ℕ → ℕ) (m i : ℕ) → count ≤ 
 unfolding child_from
 later_child count child m i h = ap (λ (b : Bool). cond b (child i) (m + (i - count))) (le-ltb i count h)
 
--- the number of a new child, which was started and of which its fate is told
+-- the number of a new child, which was started and whose whole result is recorded
 record NewChild (k : Table) (t m : ℕ) (bs : List Begun) (es : List Event) (told : Telling) (x : Started) : Type 0 where
   number : ℕ
   started : StartsChild number es
@@ -225,7 +226,7 @@ module _ (k f : Table) (whole : Result) (q : Started) (ys : List Started) (cours
       first_join c l q.made o.made in
       omega (arith, begun_least k t c l m o.begun ys (made_low c l ys))
 
-  -- a place's label was entered
+  -- the label of an enclosing scope or nursery was entered
   place_counted : (l : Label) (ps : List Place) → EachPlace (Entered (q ∷ ys)) ps → Known l (labels_of ps) → 1 ≤ made_times l (q ∷ ys)
   place_counted l [] p i = absurd i
   place_counted l (x ∷ ps) p (inl e) =
@@ -505,7 +506,7 @@ module _ (k f : Table) (whole : Result) (q : Started) (ys : List Started) (cours
       by_place (inl z) = absurd (subst (λ (es : List Event). EntersWith l d es) (begun_made k t m o.begun x z) h)
       by_place (inr z) = has_from_by x (inr z) l d h
 
-  -- ---- places
+  -- ---- enclosing scopes and nurseries
 
   entered_old : (l : Label) → Entered (q ∷ ys) l → Entered after_turn l
   entered_old l e = by_task e.by e.among e.made
@@ -560,7 +561,7 @@ module _ (k f : Table) (whole : Result) (q : Started) (ys : List Started) (cours
       }
       by_place x (inr i) a b = record { root = x; among = in_second x (q' ∷ new) ys i; first = a; comes = b }
 
-  -- a turn keeps the run on its course
+  -- after a turn the run still agrees with the table
   pub course_turned : OnCourse k g whole after_turn
   course_turned = record {
     fits = fits_after;
@@ -577,7 +578,7 @@ module _ (k f : Table) (whole : Result) (q : Started) (ys : List Started) (cours
     root = root_after;
   }
 
-  -- the task goes on in this tick or later
+  -- the task continues in this tick or later
   from_stop : (x : Stopped) → StopsAt t g (Some x) o.places → t ≤ goes_on d' x (stack_at k o.places) t
   from_stop to_begin c = absurd c
   from_stop (asking kernel purpose) c = omega arith

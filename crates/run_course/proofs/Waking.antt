@@ -1,4 +1,5 @@
--- A wake is what the table gives: where a run is on its course, a task that may be woken so wakes so by the table.
+-- A wake is what the table says: if a run agrees with the table, a task that may be woken so wakes so according to
+-- the table.
 use Rattle.std.proofs.Common.{◌≡◌, ℕ, suc, ◌+◌, ◌<◌, ◌≤◌, max, true, Option, Some, None, List, [], ◌∷◌, refl, sym, ap, ◌∙◌, subst, inl, inr, arith, nat_le}
 use Rattle.std.proofs.lemmas.Bool.Decides.{nat_tests}
 use Rattle.exc_groups.specs.Exceptions.{Exc}
@@ -25,7 +26,7 @@ seen_now t n since (Some from) lt e late = (omega arith, ap (λ (v : ℕ). Some 
     by_test : nat_le from t ≡ true → from ≤ t
     by_test h = grind (arith, nat_tests)
 
--- what an ended task comes to
+-- the result of an ended task
 pub ended_fate : (k : Table) (q : Started) → Fits k q → (u : ℕ) (e : Option Exc) → q.rest.stopped ≡ at_end u e → (q.fate.end ≡ u)
     × (q.fate.exc ≡ e)
 ended_fate k q p u e s = (
@@ -47,7 +48,7 @@ module _ (k f : Table) (whole : Result) (qs : List Started) (o : OnCourse k f wh
   same_seen = seen_near (suc t) (stack_at k q.places) (stack_at f q.places) t
       (near_places t k f q.places (agrees_on k f whole qs o t from q.places (o.placed q i))) (omega arith)
 
-  -- what is told of children that have ended is how they ended
+  -- what is recorded of children that have ended is how they ended
   told_ended : (told : Telling) → Tells q told → (ends : ℕ → Member) (is : List ℕ) → ((n : ℕ) → IsAmong n is → n < q.count) →
       ((n : ℕ) → IsAmong n is → (c : Started) → In c qs → c.serial ≡ q.child n → c.rest.stopped ≡ at_end (ends n).end (ends n).exc) →
       told_members told is ≡ members_by ends is
@@ -101,7 +102,7 @@ module _ (k f : Table) (whole : Result) (qs : List Started) (o : OnCourse k f wh
   by_stop (settles x) (awaiting children ended e) told tells late h = over_gives children ended e x h told tells
   by_stop (settles x) (at_end u e) told tells late h = absurd h
 
-  -- who may be woken so wakes so by the table, whatever is told beyond its children
+  -- a task that may be woken so wakes so according to the table, whatever is recorded except of its children
   pub woken : (wake : Wake) → MayWake f qs t q wake q.rest.stopped → (told : Telling) → Tells q told →
       WakesBy k told q.here q.stop t wake q.rest.stopped q.places
   woken wake h told tells = by_stop wake q.rest.stopped told tells (from q i) h

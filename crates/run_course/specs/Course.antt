@@ -1,4 +1,4 @@
--- A run on its course: what is kept of each started task, and what all of them keep together, where a table is followed.
+-- An interleaving that agrees with a table: what is kept of each started task, and what holds of all of them together.
 use Rattle.std.specs.Prelude.{◌≡◌, ℕ, suc, ◌+◌, ◌<◌, ◌≤◌, min, Bool, true, false, List, [], ◌∷◌, ◌⊎◌, if◌then◌else◌}
 use Rattle.exc_groups.specs.Exceptions.{Label}
 use Rattle.cancel_scopes.specs.Sight.{Tick, sight}
@@ -12,11 +12,11 @@ use Rattle.task_turns.specs.Turned.{made_sign}
 
 -- ---- one started task
 
--- A started task. Its serial number tells it from all others, and is never given again. It is at a place of the job, in
--- these places of scopes and nurseries (innermost first), since its last stop, in that tick, with that left to do; it has
--- made these events and started so many children, each of which has a serial number. Three more stand for the table that
--- is followed, and no code keeps them: what is told of its children, what the task comes to, and the log of what it has
--- left.
+-- A started task. Its serial number distinguishes it from all others, and is never used again. It is at a point of the
+-- job, enclosed by these scopes and nurseries (innermost first), since its last stop, in that tick, with that rest to do;
+-- it has made these events and started `count` children, each of which has a serial number. The last three fields depend
+-- on the table that is followed, and no code keeps them: what is recorded of its children's outcomes, the task's whole
+-- result, and the log of what it has left.
 pub record Started : Type 0 where
   pub serial : ℕ
   pub here : Here
@@ -30,16 +30,16 @@ pub record Started : Type 0 where
   pub fate : Result
   pub left : Log
 
--- another telling says the same of the children that a task has started
+-- another record of outcomes says the same of the children that a task has started
 abbrev pub Tells : Started → Telling → Type 0
 Tells q told = (i : ℕ) → i < q.count → told i ≡ q.told i
 
--- what a task made, and what following the table makes of its rest, are together what it comes to
+-- what a task has done and the result of its rest when the table is followed are together its whole result
 pub record Fits (k : Table) (q : Started) : Type 0 where
   pub comes : (told : Telling) → Tells q told → task_comes_to (by_table k) told q.made q.rest q.here (stack_at k q.places) q.stop ≡ q.fate
   pub lefts : (told : Telling) → Tells q told → (rest_comes_to (by_table k) told q.rest q.here (stack_at k q.places) q.stop).log ≡ q.left
 
--- ---- readings that add up, over what all made and over what all have left
+-- ---- sums over what all tasks have done and what all have left
 
 -- how often a label is entered among events
 unfoldable pub times_made : Label → List Event → ℕ
@@ -49,12 +49,12 @@ times_made l (signs m t ∷ es) = times_made l es
 times_made l (enters m t d ∷ es) = (if same_label l m then 1 else 0) + times_made l es
 times_made l (starts i m t ∷ es) = times_made l es
 
--- as far as c, the first sign for a label among what all made
+-- as far as c, the first sign for a label among what all have done
 unfoldable pub made_least : ℕ → Label → List Started → ℕ
 made_least c l [] = c
 made_least c l (q ∷ qs) = min (upto c (made_sign l q.made)) (made_least c l qs)
 
--- and among what all made and have left
+-- and among what all have done and have left
 unfoldable pub all_least : ℕ → Label → List Started → ℕ
 all_least c l [] = c
 all_least c l (q ∷ qs) = min (min (upto c (made_sign l q.made)) (upto c (least_sign l q.left))) (all_least c l qs)
@@ -85,7 +85,7 @@ EntersWith l d (signs m t ∷ es) = EntersWith l d es
 EntersWith l d (enters m t x ∷ es) = ((l ≡ m) × (d ≡ x)) ⊎ EntersWith l d es
 EntersWith l d (starts i m t ∷ es) = EntersWith l d es
 
--- a child of that number is started among events
+-- a child with that number is started among events
 abbrev pub StartsChild : ℕ → List Event → Type 0
 StartsChild i [] = ⊥
 StartsChild i (noted t e ∷ es) = StartsChild i es
@@ -99,7 +99,7 @@ abbrev pub In : {A : Type 0} → A → List A → Type 0
 In x [] = ⊥
 In x (y ∷ ys) = (x ≡ y) ⊎ In x ys
 
--- the task that is child number i of q: it was started later, and comes to what is told of it
+-- the task that is child number i of q: it was started later, and its result is the one that is recorded for it
 pub record Kid (qs : List Started) (q : Started) (i : ℕ) : Type 0 where
   pub kid : Started
   pub among : In kid qs
@@ -107,8 +107,8 @@ pub record Kid (qs : List Started) (q : Started) (i : ℕ) : Type 0 where
   pub later : q.serial < kid.serial
   pub same : kid.fate ≡ q.told i
 
--- The from of a label that was entered with deadline d. The table has it by the deadline and the first of all signs;
--- the run keeps it by the deadline and the first of the signs made.
+-- The from of a label that was entered with deadline d. In the table it is determined by the deadline and the first of
+-- all signs; in the run by the deadline and the first of the signs made so far.
 pub record HasFrom (k f : Table) (whole : Log) (qs : List Started) (l : Label) (d : Tick) : Type 0 where
   pub settled : k l ≡ from_by d (least_sign l whole)
   pub kept : (c : ℕ) → upto (suc c) (f l) ≡ min (upto (suc c) d) (suc (made_least c l qs))
@@ -124,14 +124,14 @@ abbrev pub EachPlace : (Label → Type 0) → List Place → Type 0
 EachPlace P [] = Unit {0}
 EachPlace P (p ∷ ps) = P p.label × EachPlace P ps
 
--- the task of serial number 0 comes to the whole
+-- the result of the task with serial number 0 is the whole result
 pub record Root (whole : Result) (qs : List Started) : Type 0 where
   pub root : Started
   pub among : In root qs
   pub first : root.serial ≡ 0
   pub comes : root.fate ≡ whole
 
--- the task that started q, earlier
+-- the task that started q, earlier than q
 pub record Parent (qs : List Started) (q : Started) : Type 0 where
   pub starter : Started
   pub among : In starter qs
@@ -140,19 +140,19 @@ pub record Parent (qs : List Started) (q : Started) : Type 0 where
   pub started : StartsChild number starter.made
   pub same : q.fate ≡ starter.told number
 
--- A run on its course: k is the table that is followed, f has the froms that the run keeps, the whole is what following
--- k comes to, and qs are all tasks ever started.
+-- An interleaving that agrees with a table: k is the table that is followed, f contains the froms that the run keeps,
+-- `whole` is the result of following k, and qs are all tasks ever started.
 pub record OnCourse (k f : Table) (whole : Result) (qs : List Started) : Type 0 where
-  -- each task comes to its fate, by what it made and what it has left
+  -- what each task has done and what it has left are its whole result
   pub fits : (q : Started) → In q qs → Fits k q
-  -- the frames of each fit its places
+  -- the frames of each fit the scopes and nurseries that enclose it
   pub shape : (q : Started) → In q qs → PlacedStop q.rest.stopped q.rest.frames q.places
   -- the children are numbered, and each is a task
   pub numbered : (q : Started) → In q qs → (i : ℕ) → StartsChild i q.made → i < q.count
   pub kids : (q : Started) → In q qs → (i : ℕ) → i < q.count → Kid qs q i
   -- each task but the root was started by another
   pub parents : (q : Started) → In q qs → (q.fate ≡ whole) ⊎ Parent qs q
-  -- the signs of the whole are those made and those left
+  -- the signs of the whole are those made and those left to make
   pub signed : (c : ℕ) (l : Label) → upto c (least_sign l whole.log) ≡ all_least c l qs
   -- no label is entered twice
   pub once : (l : Label) → all_times l qs ≤ 1
@@ -162,11 +162,11 @@ pub record OnCourse (k f : Table) (whole : Result) (qs : List Started) : Type 0 
   pub follows : (q : Started) → In q qs → (l : Label) (d : Tick) → EnteredIn l d q.left → k l ≡ from_by d (least_sign l whole.log)
   -- the table and the run have the froms of each label that was entered
   pub known : (q : Started) → In q qs → (l : Label) (d : Tick) → EntersWith l d q.made → HasFrom k f whole.log qs l d
-  -- each scope and nursery that a task is in was entered
+  -- each scope and nursery that encloses a task was entered
   pub placed : (q : Started) → In q qs → EachPlace (Entered qs) q.places
   pub root : Root whole qs
 
--- ---- when tasks go on
+-- ---- when tasks continue
 
 abbrev pub live : Stopped → Bool
 live to_begin = true
@@ -175,7 +175,7 @@ live (asleep n since) = true
 live (awaiting children ended exc) = true
 live (at_end u e) = false
 
--- the tick in which a task goes on that stopped in tick t
+-- the tick in which a task that stopped in tick t continues
 abbrev pub goes_on : Telling → Stopped → Stack → ℕ → ℕ
 goes_on told to_begin st t = t
 goes_on told (asking kernel purpose) st t = t
@@ -183,15 +183,15 @@ goes_on told (asleep n since) st t = (sleeping st n since).end
 goes_on told (awaiting children ended exc) st t = latest ended (told_members told children)
 goes_on told (at_end u e) st t = u
 
--- the tick in which a started task goes on, by a table
+-- the tick in which a started task continues, according to a table
 abbrev pub resumes : Table → Started → ℕ
 resumes k q = goes_on q.told q.rest.stopped (stack_at k q.places) q.stop
 
--- nothing that was not made happens before tick v
+-- nothing that was not done yet happens before tick v
 abbrev pub AllFrom : Table → List Started → ℕ → Type 0
 AllFrom k qs v = (q : Started) → In q qs → live q.rest.stopped ≡ true → v ≤ resumes k q
 
--- one of the children for which q waits has not ended: who has its serial number is live
+-- one of the children for which q waits has not ended: the task with its serial number is live
 pub record Unended (qs : List Started) (q : Started) (children : List ℕ) : Type 0 where
   pub number : ℕ
   pub among : IsAmong number children

@@ -1,4 +1,5 @@
--- How a run goes on: what is kept of the root before its first turn, and of a task and its new children after a turn.
+-- How a run continues: what is kept of the root before its first turn, and of a task and its new children after a
+-- turn.
 use Rattle.std.specs.Prelude.{ℕ, suc, ◌+◌, ◌-◌, eqb, ltb, cond, List, [], ◌∷◌, ◌++◌, length}
 use Rattle.job_tree.specs.Tree.{Tree}
 use Rattle.job_meaning.specs.Log.{Table}
@@ -9,7 +10,7 @@ use Rattle.job_meaning.specs.Rest.{Telling, Stopped, Rest, rest_comes_to, rest_a
 use Rattle.task_turns.specs.Midway.{stack_at, Begun, Move, none_told, begun_comes_to}
 use Rattle.run_course.specs.Course.{Started}
 
--- the root before its first turn, with what following a table gives
+-- the root before its first turn, with the result of following a table
 abbrev pub root_task : Table → Tree → List ℕ → Started
 root_task k job input =
     record {
@@ -26,7 +27,7 @@ root_task k job input =
       left = (follow k job input).log;
     }
 
--- a telling, with what following the table gives of the children begun in tick t
+-- a record of outcomes, with the results of following the table for the children begun in tick t
 unfoldable pub told_new : Table → ℕ → Telling → List Begun → Telling
 told_new k t told [] i = told i
 told_new k t told (b ∷ bs) i = cond (eqb i b.number) (begun_comes_to k t b) (told_new k t told bs i)
@@ -53,7 +54,7 @@ children_from k t m (b ∷ bs) =
 unfoldable pub child_from : (count : ℕ) → (ℕ → ℕ) → ℕ → ℕ → ℕ
 child_from count child m i = cond (ltb i count) (child i) (m + (i - count))
 
--- the task after a turn in tick t that stopped so, where serial numbers from m on are given
+-- the task after a turn in tick t that stopped so, where new serial numbers start at m
 abbrev pub turned : Table → ℕ → ℕ → Started → Move → Stopped → Started
 turned k t m q o s =
     let told = told_new k t q.told o.begun in

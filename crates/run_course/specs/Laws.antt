@@ -15,15 +15,15 @@ use Rattle.run_course.specs.Course.{Started, In, EachPlace, OnCourse, live, AllF
 use Rattle.run_course.specs.Runs.{Reached, turns_taken, all_weights}
 use Rattle.run_course.specs.Rows.{Row, HasRow, records_by, froms_in, DepthFirst}
 
--- Each turn takes some of the weight: so a run has at most as many turns as the root weighs at first, which is twice the
--- job's size and one.
+-- Each turn reduces the weight, so a run has at most as many turns as the initial weight of the root, which is twice the
+-- job's size plus one.
 abbrev pub RunsEnd : Type 0
 RunsEnd =
     (k : Table) (job : Tree) (input : List ℕ) (f : Table) (t m : ℕ) (qs : List Started) → (r : Reached k job input f t m qs) →
     turns_taken r + all_weights qs ≤ 2 * size_of job.steps + 1
 
--- The task that has another in one of its nurseries: it was started earlier, that one has this serial number, and its
--- home's places are those of the nursery.
+-- The task that has another task in one of its nurseries: it was started earlier, and the other task has this serial
+-- number. The scopes and nurseries of that task's home are this nursery and those that enclose it.
 pub record Home (qs : List Started) (serial : ℕ) (home : List Place) : Type 0 where
   pub starter : Started
   pub among : In starter qs
@@ -32,13 +32,13 @@ pub record Home (qs : List Started) (serial : ℕ) (home : List Place) : Type 0 
   pub same : serial ≡ starter.child number
   pub has : HasChildAfter number home (Some starter.rest.stopped) starter.rest.frames starter.places
 
--- a task's home: the places behind those of its own frames
+-- a task's home: the scopes and nurseries outside those of its own frames
 abbrev pub home_of : Started → List Place
 home_of q = home_after (Some q.rest.stopped) q.rest.frames q.places
 
--- What each task of a run keeps: its frames fit its places, the children of its nurseries are those that it started, and
--- the scopes and nurseries that it is in are its own, or its home's. While it has not ended it is the root, which has no
--- home, or in a nursery of another task that has not settled.
+-- What holds of each task of a run: its frames fit the scopes and nurseries that enclose it, the children of its
+-- nurseries are those that it started, and the scopes and nurseries that enclose it are its own or its home's. While it
+-- has not ended it is the root, which has no home, or it is in an unsettled nursery of another task.
 pub record IsHoused (qs : List Started) (q : Started) : Type 0 where
   pub placed : PlacedStop q.rest.stopped q.rest.frames q.places
   pub kids : KidsAfter q.count (Some q.rest.stopped) q.rest.frames
@@ -50,23 +50,23 @@ TasksAreHoused =
     (k : Table) (job : Tree) (input : List ℕ) → StartsInNurseries job →
     (f : Table) (t m : ℕ) (qs : List Started) → Reached k job input f t m qs → (q : Started) → In q qs → IsHoused qs q
 
--- A scope or nursery in which a live task is has not been left by the task that entered it: so who leaves one is the last
--- to be in it.
+-- A scope or nursery that encloses a live task has not been left by the task that entered it: so the task that leaves one
+-- is the last one in it.
 abbrev pub LastToLeave : Type 0
 LastToLeave =
     (k : Table) (job : Tree) (input : List ℕ) → GivesNamesOnce job → StartsInNurseries job → IsSettled k job input →
     (f : Table) (t m : ℕ) (qs : List Started) → Reached k job input f t m qs → (l : Label) (q : Started) → In q qs → EntersIn l q.made →
     (x : Started) → In x qs → live x.rest.stopped ≡ true → Known l (labels_of x.places) → Known l (labels_of q.places)
 
--- For each settled table a run is on its course: nothing that was not made happens before the tick, and the table agrees
--- there with the froms that the run keeps, on each task's places.
+-- For each settled table a run agrees with it: nothing that was not done yet happens before the tick, and the table
+-- agrees there with the froms that the run keeps, for the scopes and nurseries that enclose each task.
 abbrev pub RunsOnCourse : Type 0
 RunsOnCourse =
     (k : Table) (job : Tree) (input : List ℕ) → IsSettled k job input → GivesNamesOnce job → StartsInNurseries job →
     (f : Table) (t m : ℕ) (qs : List Started) → Reached k job input f t m qs →
     OnCourse k f (follow k job input) qs × AllFrom k qs t × ((q : Started) → In q qs → AgreesOn t k f q.places)
 
--- a run in which all tasks have ended says what the job means: its records, its froms and its end
+-- a run in which all tasks have ended has what the job means: its records, its froms and its end
 abbrev pub RunsAreTheMeaning : Type 0
 RunsAreTheMeaning =
     (job : Tree) (input : List ℕ) → GivesNamesOnce job → StartsInNurseries job →
@@ -84,15 +84,15 @@ pub record Sleeps (qs : List Started) : Type 0 where
   pub since : ℕ
   pub stopped : sleeper.rest.stopped ≡ asleep ticks since
 
--- Where no task is ready and one has not ended, one sleeps: so the clock has a tick to jump to.
+-- If no task is ready and one has not ended, one sleeps: so the clock has a tick to jump to.
 abbrev pub BlockedRunsSleep : Type 0
 BlockedRunsSleep =
     (k : Table) (job : Tree) (input : List ℕ) → GivesNamesOnce job → StartsInNurseries job → IsSettled k job input →
     (f : Table) (t m : ℕ) (qs : List Started) → Reached k job input f t m qs → (u : ℕ) → Blocked f qs u →
     (q : Started) → In q qs → live q.rest.stopped ≡ true → Sleeps qs
 
--- Where a task of a run has not ended, the job does not end before the present tick. So a run that stops at a limit, as
--- the clock would jump past it, stops where the job's end is past it.
+-- If a task of a run has not ended, the job does not end before the present tick. So if a run stops at a limit because
+-- the clock would jump past it, the job's end is past the limit.
 abbrev pub LimitsAreExact : Type 0
 LimitsAreExact =
     (job : Tree) (input : List ℕ) → GivesNamesOnce job → StartsInNurseries job →

@@ -6,8 +6,8 @@ use Rattle.job_meaning.specs.Meaning.{Noted, Record, From, froms_by}
 use Rattle.job_meaning.specs.Rest.{Event, noted, signs, enters, starts, at_end}
 use Rattle.run_course.specs.Course.{Started}
 
--- the row of a task: what its record says, the froms of the scopes and nurseries that it entered, and the rows of its
--- children, all in order
+-- the row of a task: its record, the froms of the scopes and nurseries that it entered, and the rows of its children,
+-- all in order
 pub record Row : Type 0 where
   pub label : Label
   pub start : ℕ
@@ -70,8 +70,8 @@ abbrev pub froms_in : (ℕ → Row) → List ℕ → List From
 froms_in rows [] = []
 froms_in rows (s ∷ ss) = (rows s).froms ++ froms_in rows ss
 
--- From a stack of rows, first to last: a row is taken from it and its children are put there, until it is empty. So
--- each row comes with its descendants behind it.
+-- From a stack of rows, first to last: a row is taken from it and its children are pushed, until it is empty. So each
+-- row is followed by its descendants.
 pub data DepthFirst (rows : ℕ → Row) : List ℕ → List ℕ → Type 0 where
   no_more : DepthFirst rows [] []
   and_more : (s : ℕ) (stack taken : List ℕ) → DepthFirst rows ((rows s).children ++ stack) taken → DepthFirst rows (s ∷ stack) (s ∷ taken)

@@ -1,4 +1,4 @@
--- Runs of a job in turns, in whatever order tasks have their turns.
+-- Runs of a job in turns, in any interleaving.
 use Rattle.std.specs.Prelude.{◌≡◌, ℕ, ◌+◌, ◌≤◌, Some, List, [], ◌∷◌, ◌++◌, length}
 use Rattle.job_tree.specs.Tree.{Tree}
 use Rattle.job_meaning.specs.Log.{Table}
@@ -11,15 +11,15 @@ use Rattle.run_course.specs.Course.{Started, Blocked}
 use Rattle.run_course.specs.Going.{root_task, children_from, turned}
 use Rattle.run_course.specs.Woken.{MayWake}
 
--- the same tasks, where one of them is taken to the front
+-- the same tasks, with one of them moved to the front
 pub data Front : Started → List Started → List Started → Type 0 where
   is_front : (q : Started) (qs : List Started) → Front q (q ∷ qs) qs
   behind_one : (q x : Started) (qs others : List Started) → Front q qs others → Front q (x ∷ qs) (x ∷ others)
 
 -- A run of a job: the froms that it keeps, the tick, the number of tasks started, and these tasks. It begins with the
--- root. One task that may be woken has its turn, which is any that keeps the promise and comes to a stop. Or the clock
--- jumps, where no task is ready. The table is that by which what is told of the tasks is found. No step asks anything of
--- it: so a run may be shown for every table at once, by what the code keeps alone.
+-- root. One task that may be woken has its turn, which is any turn that keeps the promise and comes to a stop. Or the
+-- clock jumps, if no task is ready. The table only determines what is recorded of the tasks' outcomes. No step requires
+-- anything of it, so a program can show a run for every table at once, by what it keeps alone.
 pub data Reached (k : Table) (job : Tree) (input : List ℕ) : Table → ℕ → ℕ → List Started → Type 0 where
   begun : (f : Table) → Reached k job input f 0 1 (root_task k job input ∷ [])
   turn :
@@ -36,7 +36,7 @@ turns_taken (begun f) = 0
 turns_taken (turn f t m q qs others wake o s r at may goes stopped) = turns_taken r + 1
 turns_taken (jump f t u m qs r le blocked) = turns_taken r
 
--- what all tasks have left weighs together
+-- the total weight of what all tasks have left
 abbrev pub all_weights : List Started → ℕ
 all_weights [] = 0
 all_weights (q ∷ qs) = rest_weight q.rest + all_weights qs

@@ -1,4 +1,4 @@
--- What the runner sees of a task that it wakes, in the froms that it keeps and in the ends of the task's children.
+-- When a runner may wake a task, by the froms that the runner keeps and the ends of the task's children.
 use Rattle.std.specs.Prelude.{◌≡◌, true, false, ℕ, ◌+◌, ◌<◌, Option, List, [], ◌∷◌}
 use Rattle.exc_groups.specs.Exceptions.{Exc}
 use Rattle.cancel_scopes.specs.Sight.{seen}
@@ -15,8 +15,8 @@ abbrev pub members_by : (ℕ → Member) → List ℕ → List Member
 members_by ends [] = []
 members_by ends (i ∷ is) = ends i ∷ members_by ends is
 
--- the nursery of a wait is over in tick t: who has a child's serial number has ended, the last of them then, and this is
--- their group
+-- the nursery of a wait is over in tick t: the tasks with the children's serial numbers have ended, the last of them
+-- then, and this is their group
 pub record WaitIsOver (qs : List Started) (q : Started) (t : ℕ) (children : List ℕ) (ended : ℕ) (e x : Option Exc) : Type 0 where
   pub ends : ℕ → Member
   pub numbers : (i : ℕ) → IsAmong i children → i < q.count
@@ -25,7 +25,7 @@ pub record WaitIsOver (qs : List Started) (q : Started) (t : ℕ) (children : Li
   pub settled : SettlesAt t x (members_by ends children) ended e q.places
 
 -- A task may be woken so in tick t: it began in this tick, or asked in it and has the kernel's answer; it is due now and
--- sees nothing; it sees a cancellation now; its nursery is over.
+-- sees nothing; it sees a cancellation now; or its nursery is over.
 abbrev pub MayWake : Table → List Started → ℕ → Started → Wake → Stopped → Type 0
 MayWake f qs t q begins to_begin = q.stop ≡ t
 MayWake f qs t q (has_answer a) (asking kernel purpose) = (q.stop ≡ t) × (a ≡ answer_of kernel q.here)

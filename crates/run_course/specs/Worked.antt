@@ -1,4 +1,4 @@
--- A worked run, under two orders of turns, by computing: a sibling that fails, a shield, and a task that cancels a scope
+-- A worked run, in two orders of turns, by computing: a sibling that fails, a shield, and a task that cancels a scope
 -- across a `start`.
 use Rattle.std.specs.Prelude.{◌≡◌, ℕ, zero, suc, ◌+◌, Option, None, Some, List, [], ◌∷◌, ◌++◌, refl, codes, length}
 use Rattle.job_tree.specs.Tree.{Step, sleep, raise, cancel}
@@ -52,7 +52,7 @@ kept_begun t (b ∷ bs) =
 abbrev pub goes_of : Table → ℕ → Wake → Kept → Move
 goes_of froms t w q = turn_from 20 froms t q.here w q.rest.stopped q.rest.frames q.places q.count
 
--- the task of that serial number has its turn; those before it are passed by
+-- the task with that serial number has its turn; those before it are skipped
 abbrev pub turn_in : Table → ℕ → Wake → ℕ → List Kept → List Kept → World
 turn_in froms t w n before [] = record { froms = froms; tasks = before }
 turn_in froms t w zero before (q ∷ qs) =
@@ -60,7 +60,7 @@ turn_in froms t w zero before (q ∷ qs) =
     record { froms = froms_after froms o.made; tasks = before ++ kept_after q o ∷ (qs ++ kept_begun t o.begun) }
 turn_in froms t w (suc n) before (q ∷ qs) = turn_in froms t w n (before ++ q ∷ []) qs
 
--- one turn of a run: its tick, the serial number of the task, and why it goes on
+-- one turn of a run: its tick, the serial number of the task, and why it continues
 pub record Pick : Type 0 where
   pub tick : ℕ
   pub serial : ℕ
@@ -107,7 +107,7 @@ three_tasks =
     ∷ start_of (codes "c") (sleep 1 ∷ raise (codes "E") ∷ [])
     ∷ []) ∷ []) ∷ []
 
--- the group of the nursery: c failed, and b was cancelled for it
+-- the group of the nursery: c failed, and b was cancelled because of it
 abbrev pub members_group : Option Exc
 members_group = Some (group_by (codes "n") (cancelled ∷ raised_by (codes "E") (codes "c") 1 ∷ []))
 
@@ -136,7 +136,7 @@ in_order =
     ∷ at 3 0 (settles members_group)
     ∷ []
 
--- and the other way round
+-- and in the reverse order
 abbrev pub in_reverse : List Pick
 in_reverse =
     at 0 0 begins
@@ -147,7 +147,7 @@ in_reverse =
     ∷ []
 
 -- The scope is cancelled from tick 2 on, which is seen through the nursery but not through the shield: b is cancelled in
--- tick 3, and the scope catches that. What c raised goes on.
+-- tick 3, and the scope catches that. The exception of c propagates.
 abbrev pub three_records : List Record
 three_records =
     main_ran 0 3 (Some (group_by (codes "n") (raised_by (codes "E") (codes "c") 1 ∷ [])))
@@ -157,7 +157,7 @@ three_records =
     ∷ ran (label_named (codes "c")) 0 1 (Some (raised_by (codes "E") (codes "c") 1)) []
     ∷ []
 
--- both orders come to these records, and so does the meaning
+-- both orders have these records, and so has the meaning
 pub forwards : records_kept (run_by in_order).tasks ≡ three_records
 unfolding run_by
 forwards = refl

@@ -10,13 +10,13 @@ ghost use Rattle.run_course.specs.Laws.{
   TasksAreHoused,
 };
 
-/// For each settled table a run in turns is on its course, in whatever order tasks have their turns: nothing that was
-/// not made happens before the present tick, and the table agrees there with the froms that the run keeps. Once all
-/// tasks have ended, the records, the froms and the end that their rows say are those of the meaning. While a task has
-/// not ended, the job does not end before the present tick; and where none is ready, one sleeps. A run takes at most
-/// twice as many turns as the job has steps, those of children counted, and one. A task that has not ended is the root, or
-/// stands in a nursery that has not settled of the task that started it; and who leaves a scope or a nursery is the last to
-/// be in it.
+/// For each settled table, every run in turns agrees with the table (`OnCourse`), whatever the order in which tasks have
+/// their turns: nothing that was not done yet happens before the present tick, and the table agrees there with the froms
+/// that the run keeps. When all tasks have ended, the records, the froms and the end that are read from their rows are
+/// those of the meaning. While a task has not ended, the job does not end before the present tick; and if no task is ready,
+/// one sleeps. A run takes at most twice as many turns as the job has steps (including those of children) plus one. A task
+/// that has not ended is the root, or is in an unsettled nursery of the task that started it; and the task that leaves a
+/// scope or nursery is the last one in it.
 pub fn law_runs()
     ensures course { RunsOnCourse }
     ensures meaning { RunsAreTheMeaning }

@@ -1,9 +1,10 @@
-//! A run of a job in turns, in whatever order tasks have their turns, comes to what the job means. It does nothing at run
+//! A run of a job in turns, in any interleaving of its tasks, has the result that the job means. It does nothing at run
 //! time.
 //!
-//! The layer defines what the tasks of a run keep together for each settled table (`specs/Course.antt`), and the runs
-//! themselves: a turn is any that keeps the promise of `task_turns` (`specs/Runs.antt`). It promises that each run is on its
-//! course, that one whose tasks have all ended says what the job means, and that it gets there (`specs/Laws.antt`).
+//! The layer defines what holds of all tasks of a run together for each settled table (`specs/Course.antt`), and the runs
+//! themselves: a turn is any that keeps the promise of `task_turns` (`specs/Runs.antt`). It promises that each run agrees
+//! with the table, that one whose tasks have all ended has the result that the job means, and that it gets there
+//! (`specs/Laws.antt`).
 #![tactic(auto)]
 
 mod laws;
