@@ -40,10 +40,10 @@ job_hints 'times are whole ticks: choose a smaller tick, and multiply every numb
 dots='Trio'\''s names stand here without `trio.`: `sleep 1;`, `scope NAME after 5 { .. }`, `nursery NAME { .. }`'
 job_hints "$dots" 'trio.sleep 1;'
 job_hints "$dots" 'await trio.sleep(1);'
-job_hints 'a string stands in double quotes, as in `find "error";`' "find 'er';"
+job_hints 'a string is written in double quotes, as in `find "error";`' "find 'er';"
 hints 'a name has letters, digits and `_`: `my_job`, and not `my-job`' 'trio-job 1\njob my-job { sleep 1; }\n'
 job_hints 'a step has no parentheses: `sleep 1;`, and not `sleep(1)`' 'sleep(1);'
-job_hints 'a block stands between braces, without a colon: `scope work after 5 { .. }`' 'scope work after 5:'
+job_hints 'a block is written between braces, without a colon: `scope work after 5 { .. }`' 'scope work after 5:'
 job_hints 'a handler has one name: for another one, put a second `try` around this one' 'try { sleep 1; } except A | B { }'
 job_hints '`except NAME { .. }` is Python'\''s `except*` already: leave out the star' 'try { sleep 1; } except* A { }'
 

@@ -16,7 +16,7 @@ import sys
 import tempfile
 
 FEED = b'trio-job 1\njob main { find "er"; }\n%input\nerror\nok\n'
-AWAITED = b"reading a feed: a job text, a line `%input`, the input, and Ctrl-D after it (--help tells more)\n"
+AWAITED = b"reading a feed: a job text, a line `%input`, the input, and Ctrl-D after it (see --help)\n"
 REPORT = b"job main 0\ntask main 0 0 done\n  line 0+5 error\n"
 
 

@@ -24,7 +24,7 @@ use story_app::{StoryVerdict, explain, running_at_limit};
 
 /// What a run with no words at a terminal waits for.
 const AWAITED: &str =
-    "reading a feed: a job text, a line `%input`, the input, and Ctrl-D after it (--help tells more)\n";
+    "reading a feed: a job text, a line `%input`, the input, and Ctrl-D after it (see --help)\n";
 
 /// Serves standard input with the defaults, and gives the status. Where that is a terminal, standard error says first
 /// what is waited for.

@@ -79,7 +79,7 @@ fn explain_parser<'a>(alloc: Global) -> Result<Command<'a>, AllocError> {
             "Only what concerns the task of this label: its events, and those of each task that caused one of its cancellations",
         );
     Command::new(alloc, "explain")
-        .about("Runs a job over an input and tells what happened to each task, when and why")
+        .about("Runs a job over an input and reports what happened to each task, when and why")
         .after_help(EXPLAIN_EXAMPLE)
         .arg(job_argument(alloc))?
         .arg(optional_input(alloc))?

@@ -15,7 +15,7 @@ pub(crate) const EXPECTED: &[Row] = &[
     ),
     (
         "trio-job 1\njob main {\n  sleep 1;\n",
-        "f:4:1: expected a step, as `sleep 1;`, or `}` (a `start` stands only right inside a nursery)\n\n^\nthe innermost block that is not closed begins at f:2:10\n",
+        "f:4:1: expected a step, as `sleep 1;`, or `}` (a `start` is allowed only directly inside a nursery)\n\n^\nthe innermost block that is not closed begins at f:2:10\n",
     ),
     (
         "trio-job 1\njob main { } }",

@@ -19,7 +19,7 @@ token_sentence (Some b) =
 abbrev pub expected_sentence : Option Symbol → List ℕ
 expected_sentence None = codes "expected the text's end: nothing may follow the job's `}`"
 expected_sentence (Some symbol.Job) = codes "expected `job NAME { .. }`"
-expected_sentence (Some symbol.Steps) = codes "expected a step, as `sleep 1;`, or `}` (a `start` stands only right inside a nursery)"
+expected_sentence (Some symbol.Steps) = codes "expected a step, as `sleep 1;`, or `}` (a `start` is allowed only directly inside a nursery)"
 expected_sentence (Some symbol.Items) = codes "expected a step, as `sleep 1;`, a `start NAME { .. }` or `}`"
 expected_sentence (Some symbol.StepsTail) = codes "expected `except NAME { .. }` or `finally { .. }`"
 expected_sentence (Some symbol.ItemsTail) = codes "expected `except NAME { .. }` or `finally { .. }`"

@@ -77,9 +77,9 @@ impl Advice {
                 "times are whole ticks: choose a smaller tick, and multiply every number\n"
             }
             Advice::NoDots => {
-                "Trio's names stand here without `trio.`: `sleep 1;`, `scope NAME after 5 { .. }`, `nursery NAME { .. }`\n"
+                "Trio's names are written here without `trio.`: `sleep 1;`, `scope NAME after 5 { .. }`, `nursery NAME { .. }`\n"
             }
-            Advice::DoubleQuotes => "a string stands in double quotes, as in `find \"error\";`\n",
+            Advice::DoubleQuotes => "a string is written in double quotes, as in `find \"error\";`\n",
             Advice::NoHyphens => {
                 "a name has letters, digits and `_`: `my_job`, and not `my-job`\n"
             }
@@ -87,7 +87,7 @@ impl Advice {
                 "a step has no parentheses: `sleep 1;`, and not `sleep(1)`\n"
             }
             Advice::NoColons => {
-                "a block stands between braces, without a colon: `scope work after 5 { .. }`\n"
+                "a block is written between braces, without a colon: `scope work after 5 { .. }`\n"
             }
             Advice::OneException => {
                 "a handler has one name: for another one, put a second `try` around this one\n"

@@ -52,7 +52,7 @@ fn expected_sentence(symbol: Option<Symbol>) -> &'static str
         None => "expected the text's end: nothing may follow the job's `}`",
         Some(Symbol::Job) => "expected `job NAME { .. }`",
         Some(Symbol::Steps) => {
-            "expected a step, as `sleep 1;`, or `}` (a `start` stands only right inside a nursery)"
+            "expected a step, as `sleep 1;`, or `}` (a `start` is allowed only directly inside a nursery)"
         }
         Some(Symbol::Items) => "expected a step, as `sleep 1;`, a `start NAME { .. }` or `}`",
         Some(Symbol::StepsTail | Symbol::ItemsTail) => {

@@ -36,7 +36,7 @@ pub(crate) const HANDLING: &[u8] = b"
 
 @contextlib.contextmanager
 def handling(kind, error):
-    \"\"\"As `except*`, which Python has from 3.11 on: handles what is of that kind, in groups too, and the rest goes on.\"\"\"
+    \"\"\"As `except*`, which Python has from 3.11 on: handles what is of that kind, in groups too; the rest propagates.\"\"\"
     if isinstance(error, BaseExceptionGroup):
         handled, rest = error.split(kind)
     else:
@@ -64,7 +64,7 @@ def lines_of(part):
 pub(crate) const PACE: &[u8] = b"
 
 async def pace(part, count):
-    \"\"\"Sleeps a tick for every so many lines.\"\"\"
+    \"\"\"Sleeps one tick for every `count` lines.\"\"\"
     await trio.sleep(-(-len(lines_of(part)) // count))
 ";
 
@@ -78,7 +78,7 @@ def find(part, text):
 pub(crate) const HEAD: &[u8] = b"
 
 def head(part, count):
-    \"\"\"Shows the first so many lines.\"\"\"
+    \"\"\"Shows the first `count` lines.\"\"\"
     show_lines(lines_of(part)[:count])
 ";
 
@@ -103,7 +103,7 @@ def need(part, text, error):
 pub(crate) const OVER: &[u8] = b"
 
 def over(part, count):
-    \"\"\"The part in so many parts of about the same length, each of whole lines.\"\"\"
+    \"\"\"Splits the part into `count` parts of about the same length, each of whole lines.\"\"\"
     cuts = [i * len(part) // count for i in range(count + 1)]
     cuts = [cut and (part.find(b\"\\n\", cut - 1) + 1 or len(part)) for cut in cuts]
     return [part[begin:end] for begin, end in zip(cuts, cuts[1:])]
@@ -112,20 +112,20 @@ def over(part, count):
 pub(crate) const SHOW_LINES: &[u8] = b"
 
 def show_lines(lines):
-    \"\"\"Shows lines: they are told with the task's outcome.\"\"\"
+    \"\"\"Shows lines: they are printed with the task's outcome.\"\"\"
     current_note.get().lines.extend(lines)
 ";
 
 // What runs the job and tells the outcomes.
 pub(crate) const HARNESS: &[u8] = b"
 
-# What follows tells how each task ended. Real code needs none of it: drop `@reported`, and let `trio.run` run the root task.
+# What follows prints how each task ended. Real code doesn't need it: drop `@reported`, and let `trio.run` run the root task.
 
 LIMIT = 1_000_000  # the last tick at which the root task may end
 
 
 class Note:
-    \"\"\"What is told of a task: how it ended, the lines that it showed, and the tasks that it started.\"\"\"
+    \"\"\"The record of a task: how it ended, the lines that it showed, and the tasks that it started.\"\"\"
 
     def __init__(self, name):
         self.name = name[:-1] if name.endswith(\"_\") else name
@@ -187,7 +187,7 @@ def rows_of(note, indices=()):
 
 
 async def run_watched(root, part, told):
-    \"\"\"Runs the root task, and tells how each task ended, or what is so at the limit.\"\"\"
+    \"\"\"Runs the root task and prints how each task ended, or which tasks are unfinished at the limit.\"\"\"
     note = Note(\"\")
     current_note.set(note)
 
@@ -207,7 +207,7 @@ async def run_watched(root, part, told):
 
 
 def run_once(root, part, seed=None):
-    \"\"\"Runs the job under a seed of Trio's scheduler, if there is one, and tells how each task ended.\"\"\"
+    \"\"\"Runs the job under a seed of Trio's scheduler, if there is one, and prints how each task ended.\"\"\"
     if seed is not None:
         trio._core._run._ALLOW_DETERMINISTIC_SCHEDULING = True
         trio._core._run._r.seed(seed)
