@@ -3,7 +3,7 @@ use Rattle.std.proofs.Common.{◌≡◌, refl, arith, ℕ, zero, suc, ◌+◌, �
 use Rattle.job_tokens.specs.declared.token.Token.{Token}
 use Rattle.job_edits.specs.Fresh.{occurs, numbered, fresh_from}
 
--- A try ends at a word that no token is.
+-- A try that ends at a word that no token is.
 pub ends : (tries n : ℕ) (word name : List ℕ) (ts : List Token) → 0 < tries → name ≡ numbered word n → occurs name ts ≡ false →
     fresh_from tries n word ts ≡ name
 ends zero n word name ts some same none = let e : ⊥ = omega (arith, some) in absurd e

@@ -1,10 +1,10 @@
--- A text with changes: pieces in the place of some of its bytes, and all other bytes as they were.
+-- A text with changes: pieces in place of some of its bytes, and all other bytes unchanged.
 use Rattle.std.specs.Prelude.{ℕ, ◌-◌, List, [], ◌∷◌, ◌++◌, take, drop, codes, decimal}
 use Rattle.job_edits.specs.declared.change.Piece.{Piece}
 use Rattle.job_edits.specs.declared.change.Piece.TheVariants.{Raise, ThenRaise, Forever, Cancel, OpenScope, Close, Number, Sleep, ThenSleep, OpenRepeat}
 use Rattle.job_edits.specs.declared.change.Change.{Change}
 
--- how a piece is written; the semicolon after the step that it stands in, or the brace after it, is the author's
+-- how a piece is written; the semicolon after the step, or the brace, is that of the original text
 abbrev pub piece_text : Piece → List ℕ
 piece_text (Raise name) = codes "raise " ++ name
 piece_text (ThenRaise name) = codes "; raise " ++ name
@@ -17,7 +17,7 @@ piece_text (Sleep n) = codes "sleep " ++ decimal n
 piece_text (ThenSleep n) = codes " sleep " ++ decimal n ++ codes ";"
 piece_text (OpenRepeat n) = codes "repeat " ++ decimal n ++ codes " { "
 
--- the text from a place on, with changes from there on, in the order of their places
+-- the text from a place on, with the changes from there on, in the order of their places
 abbrev pub changed_from : ℕ → List ℕ → List Change → List ℕ
 changed_from at text [] = drop at text
 changed_from at text (c ∷ cs) = take (c.from - at) (drop at text) ++ piece_text c.piece ++ changed_from c.to text cs

@@ -1,4 +1,4 @@
--- The starts of several copies of a task in a job text, found among its tokens: `start NAME over N`.
+-- Each `start NAME over N` of a job text, found among its tokens.
 use Rattle.std.specs.Prelude.{ℕ, List, [], ◌∷◌, Option, Some, None}
 use Rattle.job_tokens.specs.declared.token.Token.{Token}
 use Rattle.job_tokens.specs.Shapes.{word_in}
@@ -7,12 +7,12 @@ use Rattle.job_syntax.specs.declared.keyword.Keyword.TheVariants as keyword
 use Rattle.job_edits.specs.Waiting.{first_number, keyword_in}
 use Rattle.job_edits.specs.declared.copied.CopiedStart.{CopiedStart}
 
--- how many copies, by the keyword after the name and the tokens after that
+-- how many copies are started, given the keyword after the name and the tokens after it
 abbrev pub count_by : Option Keyword → List Token → Option ℕ
 count_by (Some keyword.Over) ts = first_number ts
 count_by _ ts = None
 
--- the same by the tokens after the name
+-- the same, given the tokens after the name
 abbrev pub count_in : List Token → Option ℕ
 count_in [] = None
 count_in (t ∷ ts) = count_by (keyword_in (word_in t.shape)) ts
@@ -22,12 +22,12 @@ copied from (Some name) (Some count) = Some (record { from = from; name = name; 
 copied from (Some name) None = None
 copied from None count = None
 
--- by the tokens after the keyword `start`, which is at a place
+-- given the place of the keyword `start` and the tokens after it
 abbrev pub copied_from : ℕ → List Token → Option CopiedStart
 copied_from from [] = None
 copied_from from (t ∷ ts) = copied from (word_in t.shape) (count_in ts)
 
--- what a keyword at a place begins, by the tokens after it
+-- what begins with a keyword at a place, given the tokens after it
 abbrev pub copied_by : ℕ → Option Keyword → List Token → Option CopiedStart
 copied_by from (Some keyword.Start) ts = copied_from from ts
 copied_by from _ ts = None
@@ -36,7 +36,7 @@ abbrev pub with_copied : Option CopiedStart → List CopiedStart → List Copied
 with_copied None others = others
 with_copied (Some c) others = c ∷ others
 
--- the starts of several copies in a text, in the order of their places, by its tokens
+-- the starts of several copies in a text, in the order of their places
 abbrev pub copied_in : List Token → List CopiedStart
 copied_in [] = []
 copied_in (t ∷ ts) = with_copied (copied_by t.at (keyword_in (word_in t.shape)) ts) (copied_in ts)

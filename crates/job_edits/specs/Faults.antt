@@ -1,4 +1,4 @@
--- The faults of a waiting step, and the changes of the text that each of them is.
+-- The faults of a waiting step, and the changes of the text that make them.
 use Rattle.std.specs.Prelude.{ℕ, List, [], ◌∷◌, ◌++◌, Option, Some, None, codes}
 use Rattle.job_tokens.specs.declared.token.Token.{Token}
 use Rattle.job_tokens.specs.declared.token.Mark.TheVariants.{Open}
@@ -17,7 +17,8 @@ use Rattle.job_edits.specs.Fresh.{fresh}
 
 -- ---- which faults
 
--- the faults of a step: a `need` can only miss; what never ends does not fail late, and what takes no time fails in no other way late
+-- the faults of a step: a `need` can only miss; a step that never ends does not fail late, and neither does one that takes no
+-- time
 abbrev pub faults_of : Wait → List Fault
 faults_of (Sleep n) = Fails ∷ FailsLate ∷ Hangs ∷ Cancelled ∷ []
 faults_of Checkpoint = Fails ∷ Hangs ∷ Cancelled ∷ []
@@ -47,8 +48,8 @@ abbrev pub last_place : ℕ → List Token → ℕ
 last_place at [] = at
 last_place at (t ∷ ts) = last_place t.at ts
 
--- The block of a job begins at its first brace and ends at its last token. The scope around its steps and the exception that tells
--- whether a step is reached have names that the text does not have.
+-- The block of a job begins at its first brace and ends at its last token. The scope that encloses its steps, and the exception
+-- that shows whether a fault is reached, get names that are meant to be new in the text (`fresh`).
 abbrev pub plan_of : List ℕ → List Token → Plan
 plan_of name tokens =
     record {
@@ -76,11 +77,11 @@ changes_by plan step Cancelled =
     ∷ inserted plan.closing piece.Close ∷ []
 changes_by plan step (Misses name) = instead step (piece.Raise name) ∷ []
 
--- the changes that a fault of a step is
+-- the changes of the text that make the fault of a step
 abbrev pub changes_of : Plan → Variant → List Change
 changes_of plan v = changes_by plan v.step v.fault
 
--- The change that tells whether a fault is reached: an exception of a name of its own is raised where the fault stands.
+-- The change that shows whether a fault is reached: the exception `reached` is raised there.
 abbrev pub probe_by : Plan → Waiting → Fault → Change
 probe_by plan step Fails = instead step (piece.Raise plan.reached)
 probe_by plan step FailsLate = inserted step.to (piece.ThenRaise plan.reached)
@@ -91,7 +92,7 @@ probe_by plan step (Misses name) = instead step (piece.Raise plan.reached)
 abbrev pub probe_of : Plan → Variant → Change
 probe_of plan v = probe_by plan v.step v.fault
 
--- the name that a fault raises, where it raises one
+-- the name of the exception that a fault raises, or `None`
 abbrev pub raised_by : Plan → Fault → Option (List ℕ)
 raised_by plan Fails = Some plan.name
 raised_by plan FailsLate = Some plan.name

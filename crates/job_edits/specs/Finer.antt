@@ -1,4 +1,4 @@
--- A job text in finer ticks, and with one place moved by a hair.
+-- A job text in finer ticks, and with one site moved by a hair.
 use Rattle.std.specs.Prelude.{ℕ, ◌+◌, ◌-◌, ◌*◌, ◌==◌, min, max, nat_le, if◌then◌else◌, List, [], ◌∷◌, ◌++◌, Option, Some, None}
 use Rattle.job_edits.specs.declared.change.Piece.TheVariants as piece
 use Rattle.job_edits.specs.declared.change.Change.{Change}
@@ -15,7 +15,7 @@ use Rattle.job_edits.specs.Numbers.{set_to}
 
 -- ---- how much finer
 
--- the number of ticks at a place; 0 where none is
+-- the number of ticks at a site, or 0 if there is none
 abbrev pub ticks_of : Moment → ℕ
 ticks_of (Sleep n) = n.value
 ticks_of (After name n) = n.value
@@ -36,20 +36,20 @@ finer_by most =
     else if nat_le (most * 10) 1000000000 then Some (record { factor = 10; hair = 1 })
     else None
 
--- the same for a text: by its greatest number of ticks
+-- the same for a text: by its maximum number of ticks
 abbrev pub finer_for : List Site → Option Finer
 finer_for sites = finer_by (most_ticks sites)
 
 -- ---- finer ticks
 
--- numbers and places end below two to the 64
+-- numbers and places are capped at the maximum `u64`
 abbrev pub capped : ℕ → ℕ
 capped n = min n 18446744073709551615
 
 abbrev pub ticks_by : Finer → Number → ℕ
 ticks_by finer n = capped (n.value * finer.factor)
 
--- A number of ticks is multiplied; a `pace` is made so many times.
+-- A number of ticks is multiplied; a `pace` is repeated.
 abbrev pub finer_at : Finer → ℕ → Moment → List Change
 finer_at finer from (Sleep n) = set_to n (ticks_by finer n) ∷ []
 finer_at finer from (After name n) = set_to n (ticks_by finer n) ∷ []
@@ -62,7 +62,7 @@ abbrev pub finer_all : Finer → List Site → List Change
 finer_all finer [] = []
 finer_all finer (s ∷ ss) = finer_at finer s.from s.moment ++ finer_all finer ss
 
--- the digit of the first line that tells the format
+-- the digit of the first line that is the number of the format
 abbrev pub in_format_2 : Change
 in_format_2 = record { from = 9; to = 10; piece = piece.Number 2 }
 
@@ -71,7 +71,7 @@ finer_changes finer sites = in_format_2 ∷ finer_all finer sites
 
 -- ---- a hair
 
--- a number of ticks may be a hair less, if it is not 0, or a hair more; all else can only take a hair more
+-- a number of ticks may be a hair less, if it is not 0, or a hair more; everything else can only take a hair more
 abbrev pub hairs_by : ℕ → List Hair
 hairs_by ticks = if ticks == 0 then Later ∷ [] else Earlier ∷ Later ∷ []
 
@@ -82,7 +82,7 @@ abbrev pub shifts_with : Site → List Hair → List Shift
 shifts_with site [] = []
 shifts_with site (h ∷ hs) = record { site = site; hair = h } ∷ shifts_with site hs
 
--- each hair of each place, in the order of places
+-- each shift of each site, in the order of the sites
 abbrev pub shifts_of : List Site → List Shift
 shifts_of [] = []
 shifts_of (s ∷ ss) = shifts_with s (hairs_of s.moment) ++ shifts_of ss
@@ -91,7 +91,8 @@ abbrev pub moved : Finer → Number → Hair → ℕ
 moved finer n Earlier = ticks_by finer n - finer.hair
 moved finer n Later = capped (ticks_by finer n + finer.hair)
 
--- A number of ticks is moved; a `checkpoint` sleeps for a hair, and so do a `pace` after its end and a task at its start.
+-- A number of ticks is moved; in place of a `checkpoint` there is a sleep of a hair; a `pace` sleeps a hair after its
+-- end, and a task at its start.
 abbrev pub shifted_at : Finer → Hair → ℕ → Moment → List Change
 shifted_at finer hair from (Sleep n) = set_to n (moved finer n hair) ∷ []
 shifted_at finer hair from (After name n) = set_to n (moved finer n hair) ∷ []
@@ -101,7 +102,7 @@ shifted_at finer hair from (Pace lines to) =
     inserted from (piece.OpenRepeat finer.factor) ∷ inserted (capped (to + 1)) piece.Close ∷ inserted (capped (to + 1)) (piece.ThenSleep finer.hair) ∷ []
 shifted_at finer hair from (Start name opening) = inserted (capped (opening + 1)) (piece.ThenSleep finer.hair) ∷ []
 
--- the place that is moved by a hair, or another one
+-- a site, which may be the one that is moved by a hair
 abbrev pub shifted_or_finer : Finer → Shift → Site → List Change
 shifted_or_finer finer shift site =
     if site.from == shift.site.from then shifted_at finer shift.hair site.from site.moment else finer_at finer site.from site.moment
@@ -110,6 +111,6 @@ abbrev pub shifted_all : Finer → Shift → List Site → List Change
 shifted_all finer shift [] = []
 shifted_all finer shift (s ∷ ss) = shifted_or_finer finer shift s ++ shifted_all finer shift ss
 
--- finer ticks, and one place moved by a hair
+-- finer ticks, and one site moved by a hair
 abbrev pub shifted_changes : Finer → Shift → List Site → List Change
 shifted_changes finer shift sites = in_format_2 ∷ shifted_all finer shift sites

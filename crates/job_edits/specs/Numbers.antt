@@ -1,4 +1,4 @@
--- The numbers of a job text whose values can be tried out: the deadline of a scope or nursery, and the number at a place.
+-- The numbers of a job text whose values can be changed: the deadline of a scope or nursery, and the number at a place.
 use Rattle.std.specs.Prelude.{ℕ, ◌+◌, ◌==◌, Bool, false, nat_lt, if◌then◌else◌, List, [], ◌∷◌, length, Option, Some, None, decimal}
 use Rattle.std.specs.Str.{bytes_eq}
 use Rattle.job_tokens.specs.declared.token.Token.{Token}
@@ -12,7 +12,8 @@ use Rattle.job_edits.specs.Waiting.{keyword_in, first_name}
 
 -- ---- a number
 
--- A number from a place on, in as many bytes as it has digits. The place after it is below two to the 64: the text is in memory.
+-- A number that begins at a place and has as many bytes as its value has digits. The place after it is below 2 to the 64, since
+-- the text is in memory.
 abbrev pub number_from : ℕ → Option ℕ → Option Number
 number_from at None = None
 number_from at (Some n) =
@@ -23,7 +24,7 @@ number_from at (Some n) =
 abbrev pub number_of : Token → Option Number
 number_of t = number_from t.at (number_in t.shape)
 
--- the number that stands at a place
+-- the number at a place
 abbrev pub number_at : ℕ → List Token → Option Number
 number_at place [] = None
 number_at place (t ∷ ts) = if t.at == place then number_of t else number_at place ts
@@ -45,7 +46,7 @@ abbrev pub deadline_in : List Token → Option Number
 deadline_in [] = None
 deadline_in (t ∷ ts) = deadline_if (keyword_in (word_in t.shape)) ts
 
--- the deadline of a block, by the tokens after its name
+-- the deadline of a block, given the tokens after its name
 abbrev pub after_name : List Token → Option Number
 after_name [] = None
 after_name (t ∷ ts) = deadline_in ts
@@ -58,7 +59,7 @@ block_if (Some keyword.Scope) ts = first_name ts
 block_if (Some keyword.Nursery) ts = first_name ts
 block_if _ ts = None
 
--- the name of the scope or nursery that a token begins, by the tokens after it
+-- the name of the scope or nursery that begins at a token, given the tokens after it
 abbrev pub block_at : Token → List Token → Option (List ℕ)
 block_at t ts = block_if (keyword_in (word_in t.shape)) ts
 
@@ -75,13 +76,13 @@ abbrev pub blocks_in : List Token → List (List ℕ)
 blocks_in [] = []
 blocks_in (t ∷ ts) = with_name (block_at t ts) (blocks_in ts)
 
--- the deadline of the first scope or nursery of that name, where it has one
+-- the deadline of the first scope or nursery with this name, if it has one
 abbrev pub deadline_of : List ℕ → List Token → Option Number
 deadline_of name [] = None
 deadline_of name (t ∷ ts) = if is_name name (block_at t ts) then after_name ts else deadline_of name ts
 
 -- ---- the change
 
--- another number in its place
+-- another number in place of this one
 abbrev pub set_to : Number → ℕ → Change
 set_to number n = record { from = number.from; to = number.to; piece = piece.Number n }

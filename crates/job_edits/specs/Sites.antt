@@ -1,4 +1,4 @@
--- The places of a job text where time passes, or may, found among its tokens: a keyword begins each.
+-- The sites of a job text, where time passes or may pass, found among its tokens: a keyword begins each.
 use Rattle.std.specs.Prelude.{ℕ, List, [], ◌∷◌, ◌++◌, Option, Some, None, codes, decimal}
 use Rattle.std.specs.Option.{option_map}
 use Rattle.job_tokens.specs.declared.token.Token.{Token}
@@ -12,21 +12,21 @@ use Rattle.job_edits.specs.declared.site.Moment.{Moment}
 use Rattle.job_edits.specs.declared.site.Moment.TheVariants.{Sleep, After, At, Checkpoint, Pace, Start}
 use Rattle.job_edits.specs.declared.site.Site.{Site}
 
--- ---- what stands there
+-- ---- what is there
 
--- a deadline of the scope or nursery of a name, by its keyword and the tokens after that
+-- the deadline of the scope or nursery with this name, given the keyword of the deadline and the tokens after it
 abbrev pub deadline_by : List ℕ → Option Keyword → List Token → Option Moment
 deadline_by name (Some keyword.After) ts = option_map (λ n. After name n) (number_first ts)
 deadline_by name (Some keyword.At) ts = option_map (λ n. At name n) (number_first ts)
 deadline_by name _ ts = None
 
--- the same by the tokens after the name
+-- the same, given the tokens after the name
 abbrev pub deadline_named : Option (List ℕ) → List Token → Option Moment
 deadline_named None ts = None
 deadline_named (Some name) [] = None
 deadline_named (Some name) (t ∷ ts) = deadline_by name (keyword_in (word_in t.shape)) ts
 
--- the same by the tokens from the name on
+-- the same, given the tokens from the name on
 abbrev pub deadline_from : List Token → Option Moment
 deadline_from [] = None
 deadline_from (t ∷ ts) = deadline_named (word_in t.shape) ts
@@ -41,7 +41,7 @@ started (Some name) (Some opening) = Some (Start name opening)
 started (Some name) None = None
 started None opening = None
 
--- what a keyword begins, by the tokens after it
+-- what begins with a keyword, given the tokens after it
 abbrev pub moment_by : Keyword → List Token → Option Moment
 moment_by keyword.Sleep ts = option_map (λ n. Sleep n) (number_first ts)
 moment_by keyword.Scope ts = deadline_from ts
@@ -61,12 +61,12 @@ abbrev pub with_site : ℕ → Option Moment → List Site → List Site
 with_site from None others = others
 with_site from (Some m) others = record { from = from; moment = m } ∷ others
 
--- the places of a text where time passes, in their order, by its tokens
+-- the sites of a text, in the order of their places
 abbrev pub sites_in : List Token → List Site
 sites_in [] = []
 sites_in (t ∷ ts) = with_site t.at (moment_if (keyword_in (word_in t.shape)) ts) (sites_in ts)
 
--- ---- how it is shown
+-- ---- how it is printed
 
 abbrev pub moment_text : Moment → List ℕ
 moment_text (Sleep n) = codes "sleep " ++ decimal n.value

@@ -39,7 +39,7 @@ abbrev pub need_in : List Token → Option Wait
 need_in [] = None
 need_in (t ∷ ts) = need_for (text_in t.shape) ts
 
--- what the step waits for that a keyword begins, by the tokens after the keyword
+-- what the step that begins with a keyword waits for, given the tokens after the keyword
 abbrev pub wait_of : Keyword → List Token → Option Wait
 wait_of keyword.Sleep ts = option_map (λ n. Sleep n) (first_number ts)
 wait_of keyword.Checkpoint ts = Some Checkpoint
@@ -48,9 +48,9 @@ wait_of keyword.Pace ts = option_map (λ n. Pace n) (first_number ts)
 wait_of keyword.Need ts = need_in ts
 wait_of _ ts = None
 
--- ---- where it stands
+-- ---- its place
 
--- the place of the first of these tokens that is such a mark
+-- the place of the first of these tokens that is the given mark
 abbrev pub is_mark : Mark → Option Mark → Option ℕ → ℕ → Option ℕ
 is_mark mark None rest at = rest
 is_mark Open (Some Open) rest at = Some at
@@ -78,7 +78,7 @@ abbrev pub keyword_in : Option (List ℕ) → Option Keyword
 keyword_in None = None
 keyword_in (Some word) = keyword_of word
 
--- the waiting step that a token begins, by the tokens after it
+-- the waiting step that begins at a token, given the tokens after it
 abbrev pub waiting_at : Token → List Token → Option Waiting
 waiting_at t ts = waiting_for t.at (wait_if (keyword_in (word_in t.shape)) ts) ts
 
@@ -86,14 +86,14 @@ abbrev pub with_waiting : Option Waiting → List Waiting → List Waiting
 with_waiting None others = others
 with_waiting (Some w) others = w ∷ others
 
--- the waiting steps of a text, in the order of their places, by its tokens
+-- the waiting steps of a text, in the order of their places
 abbrev pub waiting_in : List Token → List Waiting
 waiting_in [] = []
 waiting_in (t ∷ ts) = with_waiting (waiting_at t ts) (waiting_in ts)
 
--- ---- how it is shown
+-- ---- how it is printed
 
--- a waiting step as it is shown: its tokens, with a space between two of them
+-- a waiting step as it is printed: its tokens, with a space between two of them
 abbrev pub wait_text : Wait → List ℕ
 wait_text (Sleep n) = codes "sleep " ++ decimal n
 wait_text Checkpoint = codes "checkpoint"

@@ -7,41 +7,43 @@ use std::alloc::{AllocError, Global};
 /// What a change puts into a job text.
 #[derive(Clone, Copy)]
 pub enum Piece {
-    /// A step that raises an exception of this name, in the place of another step.
+    /// A step that raises an exception with this name, in place of another step.
     Raise(Name),
-    /// The same after another step, before its semicolon.
+    /// A step that raises an exception with this name, after another step and before the semicolon of that step.
     ThenRaise(Name),
-    /// A step that waits forever, in the place of another step.
+    /// A step that waits forever, in place of another step.
     Forever,
-    /// A step that cancels the scope of this name, before another step.
+    /// A step that cancels the scope with this name, before another step.
     Cancel(Name),
-    /// The start of a block whose first step is the scope of this name, before the brace of that block.
+    /// The start of a block whose first step is a scope with this name, before the opening brace of a block. That block becomes
+    /// the body of the scope.
     OpenScope(Name),
-    /// A closing brace, before another one.
+    /// A closing brace. It comes before another closing brace, or after a step.
     Close,
-    /// A number, in the place of another one.
+    /// A number, in place of another number.
     Number(u64),
-    /// A step that sleeps so many ticks, in the place of another step.
+    /// A step that sleeps for the given number of ticks, in place of another step. The semicolon of that step follows it.
     Sleep(u64),
-    /// The same with its semicolon, after another step or at the start of a block.
+    /// A step that sleeps for the given number of ticks, with its semicolon, after another step or at the start of a block.
     ThenSleep(u64),
-    /// The start of a `repeat` of so many passes, before a step.
+    /// The start of a `repeat` with the given number of passes, before a step.
     OpenRepeat(u64),
 }
 
-/// A change of a text: a piece in the place of the bytes from one place up to another.
+/// A change of a text: a piece in place of the bytes from one place up to another. Places are in bytes from the start of the
+/// original text.
 #[derive(Clone, Copy)]
 pub struct Change {
-    /// The place of the first byte that is left out, in the author's text.
+    /// The place of the first byte that is left out.
     pub from: usize,
-    /// The place after the last byte that is left out: none is, where it is the same.
+    /// The place after the last byte that is left out. If it equals `from`, no byte is left out.
     pub to: usize,
-    /// What stands in their place.
+    /// What is put in place of these bytes.
     pub piece: Piece,
 }
 
-/// A text with these changes, which are to stand in the order of their places: each piece in its place, and all other bytes of the text.
-/// Want of memory is the only error.
+/// Returns the text with these changes: each piece is at its place, and all other bytes of the text are unchanged. The changes
+/// must be in the order of their places and must not overlap. The only error is that memory was refused.
 pub fn changed_text(alloc: Global, text: &[u8], changes: &[Change]) -> Result<Vec<u8>, AllocError>
     ensures { IfOk result (λ out. out.items ≡ changed text.now changes.now) }
 {
@@ -56,14 +58,14 @@ pub fn changed_text(alloc: Global, text: &[u8], changes: &[Change]) -> Result<Ve
     Ok(out)
 }
 
-// The bytes from a place on.
+// Returns the bytes from a place on.
 fn rest_from(text: &[u8], at: usize) -> &[u8]
     ensures { result.now ≡ drop at text.now }
 {
     text.split_at(at.min(text.len())).1
 }
 
-// Appends the bytes from one place up to another: none where that is earlier.
+// Appends the bytes from one place up to another, or nothing if `to` is before `from`.
 fn push_between(out: &mut Vec<u8>, text: &[u8], from: usize, to: usize) -> Result<(), AllocError>
     ensures { OnOk result (out.new.items ≡ out.old.items ++ take (to - from) (drop from text.now)) }
 {
@@ -115,7 +117,7 @@ fn push_number(alloc: Global, out: &mut Vec<u8>, n: u64) -> Result<(), AllocErro
     out.extend_from_slice(digits.as_bytes())
 }
 
-// Appends some words, and a name.
+// Appends some words and a name.
 fn push_named(out: &mut Vec<u8>, words: &[u8], name: Name) -> Result<(), AllocError>
     ensures { OnOk result (out.new.items ≡ out.old.items ++ (words.now ++ name)) }
 {

@@ -12,15 +12,16 @@ use std::alloc::{AllocError, Global};
 /// A `start NAME over N` of a job text.
 #[derive(Clone, Copy)]
 pub struct CopiedStart {
-    /// The place of the keyword `start`, counted from the start of the text.
+    /// The place of the keyword `start`, in bytes from the start of the text.
     pub from: usize,
     /// The name of the tasks that it starts.
     pub name: Name,
-    /// How many it starts.
+    /// The number of tasks that it starts.
     pub count: u64,
 }
 
-/// Each `start NAME over N` of a job text, in the order of their places, by the text's tokens. Want of memory is the only error.
+/// Returns each `start NAME over N` of the job text with these tokens, in the order of their places. The only error is that
+/// memory was refused.
 pub fn copied_starts(alloc: Global, tokens: &[Token]) -> Result<Vec<CopiedStart>, AllocError>
     ensures { IfOk result (λ starts. starts.items ≡ copied_in tokens.now) }
 {
@@ -33,7 +34,7 @@ pub fn copied_starts(alloc: Global, tokens: &[Token]) -> Result<Vec<CopiedStart>
     Ok(starts)
 }
 
-// Appends the start of copies that a token begins, where it begins one, by the tokens after it.
+// Appends the start of copies that begins at this token, if there is one. `others` are the tokens after it.
 fn push_copied(
     starts: &mut Vec<CopiedStart>,
     token: Token,
@@ -49,7 +50,7 @@ fn push_copied(
     Ok(())
 }
 
-// The start of copies that a token begins, by the tokens after it.
+// Returns the start of copies that begins at this token, if there is one. `others` are the tokens after it.
 fn copied_at(token: Token, others: &[Token]) -> Option<CopiedStart>
     ensures { result ≡ copied_by token.at (keyword_in (word_in token.shape)) others.now }
 {
@@ -60,7 +61,7 @@ fn copied_at(token: Token, others: &[Token]) -> Option<CopiedStart>
     }
 }
 
-// A start of copies, by the place of its keyword and the tokens after that.
+// Returns the start of copies whose keyword is at `from`. `tokens` are the tokens after the keyword.
 fn copied_from(from: usize, tokens: &[Token]) -> Option<CopiedStart>
     ensures { result ≡ copied_from from tokens.now }
 {
@@ -70,7 +71,7 @@ fn copied_from(from: usize, tokens: &[Token]) -> Option<CopiedStart>
     Some(CopiedStart { from, name, count })
 }
 
-// How many copies are started, by the tokens after the name.
+// Returns how many copies are started. `tokens` are the tokens after the name.
 fn count_in(tokens: &[Token]) -> Option<u64>
     ensures { result ≡ count_in tokens.now }
 {
@@ -78,7 +79,7 @@ fn count_in(tokens: &[Token]) -> Option<u64>
     count_by(keyword_in(*token), others)
 }
 
-// How many copies are started, by the keyword after the name and the tokens after that.
+// Returns how many copies are started, given the keyword after the name and the tokens after that keyword.
 fn count_by(keyword: Option<Keyword>, tokens: &[Token]) -> Option<u64>
     ensures { result ≡ count_by keyword tokens.now }
 {

@@ -6,18 +6,18 @@ use job_tokens::Token;
 use job_tree::Name;
 use std::alloc::{AllocError, Global};
 
-/// What is wrong at a waiting step.
+/// What goes wrong at a waiting step.
 #[derive(Clone, Copy)]
 pub enum Fault {
-    /// An exception is raised in its place.
+    /// An exception is raised in place of the step.
     Fails,
-    /// An exception is raised after it.
+    /// An exception is raised after the step.
     FailsLate,
-    /// It never ends.
+    /// The step never ends.
     Hangs,
-    /// The whole job is cancelled from outside during it.
+    /// The whole job is cancelled from outside during the step.
     Cancelled,
-    /// A `need` finds no line, and raises the exception of this name.
+    /// A `need` finds no line, and raises the exception with this name.
     Misses(Name),
 }
 
@@ -26,13 +26,14 @@ pub enum Fault {
 pub struct Variant {
     /// The step.
     pub step: Waiting,
-    /// What is wrong at it.
+    /// What goes wrong at it.
     pub fault: Fault,
 }
 
-/// Each fault of each waiting step of a job text, in the order of the steps' places, by the text's tokens. A step has each kind of
-/// fault at most once: a `sleep` and a `pace` can fail, fail late, hang and be cancelled; a `checkpoint` the same but fail late, since it
-/// takes no time; a `forever` can fail and be cancelled; a `need` can only miss. Want of memory is the only error.
+/// Returns each fault of each waiting step of the job text with these tokens, in the order of the places of the steps. A step
+/// has each kind of fault at most once: a `sleep` and a `pace` can fail, fail late, hang and be cancelled; a `checkpoint` can
+/// do the same except fail late, since it takes no time; a `forever` can fail and be cancelled; a `need` can only miss. The
+/// only error is that memory was refused.
 pub fn variants(alloc: Global, tokens: &[Token]) -> Result<Vec<Variant>, AllocError>
     ensures { IfOk result (λ variants. variants.items ≡ variants_in tokens.now) }
 {

@@ -4,25 +4,26 @@ ghost use Rattle.job_edits.specs.Finer.{finer_by, finer_for, most_ticks, ticks_o
 use crate::number::Number;
 use crate::site::{Moment, Site};
 
-/// How much finer the ticks of a changed job text are than the author's.
+/// How much finer the ticks of a changed job text are than those of the original text.
 #[derive(Clone, Copy, Debug, PartialEq, Eq)]
 pub struct Finer {
-    /// How many of the finer ticks are one of the author's.
+    /// How many of the finer ticks make one original tick.
     pub factor: u64,
-    /// A hair, in finer ticks.
+    /// The length of a hair, in finer ticks: a tenth of the factor.
     pub hair: u64,
 }
 
 impl Finer {
-    /// How much finer the ticks of a text with these places may be: 1000 times, 100 times or 10 times, whichever is the first for which
-    /// no number of ticks is above 1,000,000,000; a hair is a tenth of that. None where one would be above it even at 10 times.
+    /// Returns how much finer the ticks of a text with these sites may be. The factor is the first of 1000, 100 and 10 for
+    /// which no number of ticks exceeds 1,000,000,000; the hair is a tenth of it. Returns `None` if a number of ticks would
+    /// exceed that even with the factor 10.
     pub fn of(sites: &[Site]) -> Option<Finer>
         ensures { result ≡ finer_for sites.now }
     {
         by_most(most_ticks(sites))
     }
 
-    // A number of the author's ticks, in finer ticks.
+    // Returns a number of original ticks in finer ticks.
     pub(crate) fn ticks(self, number: Number) -> u64
         ensures { result ≡ ticks_by self number }
     {
@@ -30,7 +31,7 @@ impl Finer {
     }
 }
 
-// How much finer ticks may be where none of their numbers is greater.
+// Returns how much finer the ticks may be if `most` is the maximum number of ticks.
 fn by_most(most: u64) -> Option<Finer>
     ensures { result ≡ finer_by most }
 {
@@ -51,7 +52,7 @@ fn by_most(most: u64) -> Option<Finer>
     }
 }
 
-// The greatest number of ticks at these places.
+// Returns the maximum number of ticks at these sites.
 fn most_ticks(sites: &[Site]) -> u64
     ensures { result ≡ most_ticks sites.now }
 {
@@ -64,7 +65,7 @@ fn most_ticks(sites: &[Site]) -> u64
     most
 }
 
-// The number of ticks at a place; 0 where none is.
+// Returns the number of ticks at a site, or 0 if there is none.
 pub(crate) fn ticks_of(moment: Moment) -> u64
     ensures { result ≡ ticks_of moment }
 {

@@ -5,7 +5,9 @@ use job_tokens::Token;
 use job_tree::Name;
 use std::alloc::{AllocError, Global};
 
-// The first of `word`, `word_1`, `word_2`, .. that no token is. A job text has fewer words than numbers are tried.
+// Returns the first of `word`, `word_1`, `word_2` and so on that is not a token of the text. As many numbers are
+// tried as the text has tokens, so one of the names is new if `word` is short; this is tested, not proved. The only
+// error is that memory was refused.
 pub(crate) fn fresh(alloc: Global, word: Name, tokens: &[Token]) -> Result<Name, AllocError>
     ensures { IfOk result (λ name. name ≡ fresh word tokens.now) }
 {
@@ -25,7 +27,7 @@ pub(crate) fn fresh(alloc: Global, word: Name, tokens: &[Token]) -> Result<Name,
     numbered(alloc, word, n)
 }
 
-// Whether some token is this word.
+// Returns whether some token is this word.
 fn occurs(word: Name, tokens: &[Token]) -> bool
     ensures { result ≡ occurs word tokens.now }
 {
@@ -37,7 +39,7 @@ fn occurs(word: Name, tokens: &[Token]) -> bool
     false
 }
 
-// A word with a number after it, or the word alone where that is too long for a word.
+// Returns the word with `_` and a number after it, or the word alone if that would be too long for a word.
 fn numbered(alloc: Global, word: Name, n: usize) -> Result<Name, AllocError>
     ensures { IfOk result (λ name. name ≡ numbered word n) }
 {

@@ -1,12 +1,13 @@
 //! Changes of a job text at its steps.
 //!
-//! The layer promises that a changed text has new pieces at their places and all other bytes of the author's text (`specs/Changes.antt`);
-//! that `waiting_steps` finds each step of a job text that waits, with its place (`specs/Waiting.antt`); and which changes of the text each
-//! fault of such a step is (`specs/Faults.antt`). `sites` finds each place where time passes, or may, and `finer_changes` and
-//! `shifted_changes` are the changes that make the text's ticks finer, and move one place by a hair (`specs/Sites.antt`, `specs/Finer.antt`);
-//! `copied_starts` finds each `start .. over` (`specs/Copied.antt`). `number_at` and `deadline_of` find a number of the text by its place, or
-//! by the scope or nursery whose deadline it is, and `Number::set_to` is the change that puts another number in its place
-//! (`specs/Numbers.antt`). The layer stands on `job_tokens` for the tokens of the text and on `job_syntax` for keywords.
+//! A changed text has new pieces at their places, and all other bytes of the original text (`specs/Changes.antt`).
+//! `waiting_steps` finds each step of a job text that waits, with its place (`specs/Waiting.antt`), and `Plan::changes` returns
+//! the changes of the text that make a fault of such a step (`specs/Faults.antt`). `sites` finds each place where time passes
+//! or may pass; `finer_changes` and `shifted_changes` are the changes that make the ticks of the text finer, and move one place
+//! by a hair (`specs/Sites.antt`, `specs/Finer.antt`). `copied_starts` finds each `start .. over` (`specs/Copied.antt`).
+//! `number_at` and `deadline_of` find a number of the text by its place, or as the deadline of a scope or nursery;
+//! `Number::set_to` is the change that puts another number in its place (`specs/Numbers.antt`). The crate uses `job_tokens` for
+//! the tokens of the text and `job_syntax` for keywords.
 #![tactic(auto)]
 
 mod change;

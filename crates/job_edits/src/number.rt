@@ -11,7 +11,7 @@ use std::alloc::{AllocError, Global};
 /// A number of a job text, whose value can be changed.
 #[derive(Clone, Copy, Debug, PartialEq, Eq)]
 pub struct Number {
-    /// The place of its first digit, counted from the start of the text.
+    /// The place of its first digit, in bytes from the start of the text.
     pub from: usize,
     /// The place after its last digit.
     pub to: usize,
@@ -22,9 +22,9 @@ pub struct Number {
 /// Which number of a job text is meant.
 #[derive(Clone, Copy)]
 pub enum Target {
-    /// The deadline of the scope or nursery of this name.
+    /// The deadline of the first scope or nursery with this name.
     DeadlineOf(Name),
-    /// The number whose first digit is at a line and a column, both counted from 1.
+    /// The number whose first digit is at this line and column. Both are counted from 1.
     At {
         /// The line.
         line: usize,
@@ -34,7 +34,7 @@ pub enum Target {
 }
 
 impl Number {
-    /// The change of the text that puts another number in its place.
+    /// Returns the change of the text that puts another number in place of this one.
     pub fn set_to(self, value: u64) -> Change
         ensures { result ≡ set_to self value }
     {
@@ -46,8 +46,9 @@ impl Number {
     }
 }
 
-/// The number of a job text that stands at a place, by the text's tokens: none where no token begins there, or one that is no number in the range of numbers. Want of
-/// memory is the only error.
+/// Returns the number at a place of the job text with these tokens. Returns `None` if no token begins there, or if that token
+/// is not a number with a value (a number with a leading zero or above 1,000,000,000 has none). The only error is that memory
+/// was refused.
 pub fn number_at(
     alloc: Global,
     place: usize,
@@ -63,8 +64,8 @@ pub fn number_at(
     Ok(None)
 }
 
-/// The deadline of the scope or nursery of a name, by the text's tokens: none where no scope or nursery has that name, or it has no
-/// deadline. Want of memory is the only error.
+/// Returns the deadline of the first scope or nursery with this name in the job text with these tokens. Returns `None` if no
+/// scope or nursery has this name, or if the first one that has it has no deadline. The only error is that memory was refused.
 pub fn deadline_of(
     alloc: Global,
     name: Name,
@@ -82,8 +83,8 @@ pub fn deadline_of(
     Ok(None)
 }
 
-/// The names of the scopes and nurseries of a job text, in the order of their places, by the text's tokens. Want of memory is the only
-/// error.
+/// Returns the names of the scopes and nurseries of the job text with these tokens, in the order of their places. The only
+/// error is that memory was refused.
 pub fn block_names(alloc: Global, tokens: &[Token]) -> Result<Vec<Name>, AllocError>
     ensures { IfOk result (λ names. names.items ≡ blocks_in tokens.now) }
 {
@@ -96,7 +97,7 @@ pub fn block_names(alloc: Global, tokens: &[Token]) -> Result<Vec<Name>, AllocEr
     Ok(names)
 }
 
-// The number that a token is, where it is one.
+// Returns the number that a token is, if it is one.
 fn number_of(alloc: Global, token: Token) -> Result<Option<Number>, AllocError>
     ensures { IfOk result (λ number. number ≡ number_of token) }
 {
@@ -111,7 +112,7 @@ fn number_of(alloc: Global, token: Token) -> Result<Option<Number>, AllocError>
     Ok(Some(Number { from, to, value }))
 }
 
-// The number that the first token is, where it is one.
+// Returns the number that the first token is, if it is one.
 pub(crate) fn number_first(alloc: Global, tokens: &[Token]) -> Result<Option<Number>, AllocError>
     ensures { IfOk result (λ number. number ≡ number_first tokens.now) }
 {
@@ -121,7 +122,7 @@ pub(crate) fn number_first(alloc: Global, tokens: &[Token]) -> Result<Option<Num
     number_of(alloc, *token)
 }
 
-// The number of a deadline, by its keyword and the tokens after it.
+// Returns the number of a deadline, given its keyword and the tokens after the keyword.
 fn deadline_if(
     alloc: Global,
     keyword: Option<Keyword>,
@@ -136,7 +137,7 @@ fn deadline_if(
     }
 }
 
-// The number of the deadline that the first token begins, where it begins one.
+// Returns the number of the deadline that begins with the first token, if there is one.
 fn deadline_in(alloc: Global, tokens: &[Token]) -> Result<Option<Number>, AllocError>
     ensures { IfOk result (λ number. number ≡ deadline_in tokens.now) }
 {
@@ -146,7 +147,7 @@ fn deadline_in(alloc: Global, tokens: &[Token]) -> Result<Option<Number>, AllocE
     deadline_if(alloc, keyword_in(*token), others)
 }
 
-// The number of the deadline of a scope or nursery, by the tokens from its name on.
+// Returns the number of the deadline of a scope or nursery. The first token is its name.
 fn after_name(alloc: Global, tokens: &[Token]) -> Result<Option<Number>, AllocError>
     ensures { IfOk result (λ number. number ≡ after_name tokens.now) }
 {
@@ -156,7 +157,7 @@ fn after_name(alloc: Global, tokens: &[Token]) -> Result<Option<Number>, AllocEr
     deadline_in(alloc, others)
 }
 
-// The name of a scope or nursery, by its keyword and the tokens after it.
+// Returns the name of a scope or nursery, given its keyword and the tokens after the keyword.
 fn block_if(keyword: Option<Keyword>, tokens: &[Token]) -> Option<Name>
     ensures { result ≡ block_if keyword tokens.now }
 {
@@ -167,14 +168,14 @@ fn block_if(keyword: Option<Keyword>, tokens: &[Token]) -> Option<Name>
     }
 }
 
-// The name of the scope or nursery that a token begins, by the tokens after it.
+// Returns the name of the scope or nursery that begins at this token, if there is one. `others` are the tokens after it.
 fn block_at(token: Token, others: &[Token]) -> Option<Name>
     ensures { result ≡ block_at token others.now }
 {
     block_if(keyword_in(token), others)
 }
 
-// Appends the name of the scope or nursery that a token begins, where it begins one, by the tokens after it.
+// Appends the name of the scope or nursery that begins at this token, if there is one. `others` are the tokens after it.
 fn push_block(names: &mut Vec<Name>, token: Token, others: &[Token]) -> Result<(), AllocError>
     ensures { OnOk result (names.new.items ≡ names.old.items ++ with_name (block_at token others.now) []) }
 {

@@ -12,23 +12,26 @@ use job_tokens::{Mark, Token};
 use job_tree::Name;
 use std::alloc::{AllocError, Global};
 
-/// What the changes of a job text need beside the step that they are made at.
+/// What the changes of a job text need besides the step at which they are made. Places are in bytes from the start of the text.
 #[derive(Clone, Copy)]
 pub struct Plan {
     /// The name of the exception that a faulty step raises.
     pub name: Name,
-    /// The name of the scope around all steps of the job, which the text does not have.
+    /// The name of the scope that encloses all steps of the job: the first of `outside`, `outside_1` and so on that is not in
+    /// the text. That there is such a name is tested, not proved.
     pub outside: Name,
-    /// The name of the exception that tells whether a fault is reached, which the text does not have.
+    /// The name of the exception that shows whether a fault is reached: the first of `reached`, `reached_1` and so on that is
+    /// not in the text. That there is such a name is tested, not proved.
     pub reached: Name,
-    /// The place of the brace that opens the job.
+    /// The place of the brace that opens the block of the job.
     pub opening: usize,
-    /// The place of the brace that closes the job.
+    /// The place of the brace that closes the block of the job.
     pub closing: usize,
 }
 
 impl Plan {
-    /// The plan for a job text of these tokens, with the name of the exception that a faulty step raises. Want of memory is the only error.
+    /// Makes the plan for the job text with these tokens. `name` is the name of the exception that a faulty step raises. The
+    /// only error is that memory was refused.
     pub fn of(alloc: Global, name: Name, tokens: &[Token]) -> Result<Plan, AllocError>
         ensures { IfOk result (λ plan. plan ≡ plan_of name tokens.now) }
     {
@@ -41,7 +44,7 @@ impl Plan {
         })
     }
 
-    /// The changes of the text that a fault of a step is. Want of memory is the only error.
+    /// Returns the changes of the text that make the fault of the variant. The only error is that memory was refused.
     pub fn changes(&self, alloc: Global, variant: Variant) -> Result<Vec<Change>, AllocError>
         ensures { IfOk result (λ changes. changes.items ≡ changes_of self.now variant) }
     {
@@ -56,7 +59,7 @@ impl Plan {
         }
     }
 
-    // The changes with which the whole job is cancelled before a step.
+    // Returns the changes that cancel the whole job before a step.
     fn cancelled(&self, alloc: Global, step: Waiting) -> Result<Vec<Change>, AllocError>
         ensures { IfOk result (λ changes. changes.items ≡ changes_by self.now step Cancelled) }
     {
@@ -67,7 +70,7 @@ impl Plan {
         Ok(changes)
     }
 
-    /// The change that tells whether a fault is reached: an exception of a name of its own is raised where the fault stands.
+    /// Returns the change that shows whether the fault of the variant is reached: the exception `reached` is raised there.
     pub fn probe(&self, variant: Variant) -> Change
         ensures { result ≡ probe_of self.now variant }
     {
@@ -80,7 +83,7 @@ impl Plan {
         }
     }
 
-    /// The name of the exception that a fault raises: none where it raises none.
+    /// Returns the name of the exception that a fault raises, or `None` if it raises none.
     pub fn raised(&self, fault: Fault) -> Option<Name>
         ensures { result ≡ raised_by self.now fault }
     {
@@ -92,7 +95,7 @@ impl Plan {
     }
 }
 
-// The first of a word, and this word with numbers after it, that no token is.
+// Returns the first of the word, and the word with numbers after it, that is not a token. Requires that `word` is a word.
 fn fresh_word(alloc: Global, word: &[u8], tokens: &[Token]) -> Result<Name, AllocError>
     requires { IsTrue (is_word word.now) }
     ensures { IfOk result (λ name. name ≡ fresh word.now tokens.now) }
@@ -103,7 +106,7 @@ fn fresh_word(alloc: Global, word: &[u8], tokens: &[Token]) -> Result<Name, Allo
     fresh(alloc, name, tokens)
 }
 
-// The place of the last token.
+// Returns the place of the last token, or 0 if there is none.
 fn last_place(tokens: &[Token]) -> usize
     ensures { result ≡ last_place 0 tokens.now }
 {
@@ -114,7 +117,7 @@ fn last_place(tokens: &[Token]) -> usize
     at
 }
 
-// The change that puts a piece in the place of a step, up to the semicolon after it.
+// Returns the change that puts a piece in place of a step, up to the semicolon of the step.
 fn instead(step: Waiting, piece: Piece) -> Change
     ensures { result ≡ instead step piece }
 {
@@ -125,7 +128,7 @@ fn instead(step: Waiting, piece: Piece) -> Change
     }
 }
 
-// The change that puts a piece before a place, and leaves nothing out.
+// Returns the change that puts a piece before a place, and leaves nothing out.
 fn inserted(at: usize, piece: Piece) -> Change
     ensures { result ≡ inserted at piece }
 {
@@ -136,7 +139,7 @@ fn inserted(at: usize, piece: Piece) -> Change
     }
 }
 
-// A change alone: this piece in the place of the bytes from one place up to another.
+// Returns a single change: this piece in place of the bytes from one place up to another.
 fn one(alloc: Global, from: usize, to: usize, piece: Piece) -> Result<Vec<Change>, AllocError>
     ensures { IfOk result (λ changes. changes.items ≡ record { from = from; to = to; piece = piece } ∷ []) }
 {

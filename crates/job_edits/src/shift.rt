@@ -10,7 +10,7 @@ use crate::number::Number;
 use crate::site::{Moment, Site};
 use std::alloc::{AllocError, Global};
 
-/// In which direction a place is moved by a hair.
+/// In which direction a site is moved by a hair.
 #[derive(Clone, Copy, Debug, PartialEq, Eq)]
 pub enum Hair {
     /// It takes a hair less.
@@ -19,17 +19,17 @@ pub enum Hair {
     Later,
 }
 
-/// A place of a job text that is moved by a hair.
+/// A site of a job text that is moved by a hair.
 #[derive(Clone, Copy)]
 pub struct Shift {
-    /// The place.
+    /// The site.
     pub site: Site,
-    /// In which direction.
+    /// The direction.
     pub hair: Hair,
 }
 
-/// Each hair of each place of a job text, in the order of places: a number of ticks is moved in both directions, but a 0 only to later; all
-/// else only to later. Want of memory is the only error.
+/// Returns each shift of each site, in the order of the sites. A number of ticks is moved in both directions, or only later if
+/// it is 0; everything else is moved only later. The only error is that memory was refused.
 pub fn shifts(alloc: Global, sites: &[Site]) -> Result<Vec<Shift>, AllocError>
     ensures { IfOk result (λ shifts. shifts.items ≡ shifts_of sites.now) }
 {
@@ -40,7 +40,7 @@ pub fn shifts(alloc: Global, sites: &[Site]) -> Result<Vec<Shift>, AllocError>
     Ok(shifts)
 }
 
-// Appends each hair of a place.
+// Appends each shift of a site.
 fn push_shifts(shifts: &mut Vec<Shift>, site: &Site) -> Result<(), AllocError>
     ensures { OnOk result (shifts.new.items ≡ shifts.old.items ++ shifts_with site.now (hairs_of site.now.moment)) }
 {
@@ -50,7 +50,7 @@ fn push_shifts(shifts: &mut Vec<Shift>, site: &Site) -> Result<(), AllocError>
     push_shift(shifts, site, Hair::Later)
 }
 
-// Appends a hair of a place.
+// Appends one shift of a site.
 fn push_shift(shifts: &mut Vec<Shift>, site: &Site, hair: Hair) -> Result<(), AllocError>
     ensures { OnOk result (shifts.new.items ≡ shifts.old.items ++ record { site = site.now; hair = hair } ∷ []) }
 {
@@ -63,7 +63,8 @@ fn push_shift(shifts: &mut Vec<Shift>, site: &Site, hair: Hair) -> Result<(), Al
     Ok(())
 }
 
-/// The changes that give a job text finer ticks, in format 2. Want of memory is the only error.
+/// Returns the changes that give a job text finer ticks, in format 2. `sites` are all the sites of the text. The only error is
+/// that memory was refused.
 pub fn finer_changes(alloc: Global, finer: Finer, sites: &[Site]) -> Result<Vec<Change>, AllocError>
     ensures { IfOk result (λ changes. changes.items ≡ finer_changes finer sites.now) }
 {
@@ -75,7 +76,8 @@ pub fn finer_changes(alloc: Global, finer: Finer, sites: &[Site]) -> Result<Vec<
     Ok(changes)
 }
 
-/// The changes that give a job text finer ticks, in format 2, and move one of its places by a hair. Want of memory is the only error.
+/// Returns the changes that give a job text finer ticks, in format 2, and move one of its sites by a hair. `sites` are all the
+/// sites of the text. The only error is that memory was refused.
 pub fn shifted_changes(
     alloc: Global,
     finer: Finer,
@@ -92,7 +94,7 @@ pub fn shifted_changes(
     Ok(changes)
 }
 
-// Appends the changes of a place, which may be the one that is moved by a hair.
+// Appends the changes of a site, which may be the one that is moved by a hair.
 fn push_shifted_or_finer(
     changes: &mut Vec<Change>,
     finer: Finer,
@@ -108,7 +110,7 @@ fn push_shifted_or_finer(
     }
 }
 
-// Appends the changes that make the ticks of a place finer.
+// Appends the changes that make the ticks of a site finer.
 fn push_finer(changes: &mut Vec<Change>, finer: Finer, site: &Site) -> Result<(), AllocError>
     ensures { OnOk result (changes.new.items ≡ changes.old.items ++ finer_at finer site.now.from site.now.moment) }
 {
@@ -122,7 +124,7 @@ fn push_finer(changes: &mut Vec<Change>, finer: Finer, site: &Site) -> Result<()
     }
 }
 
-// Appends the changes that make the ticks of a place finer, and move it by a hair.
+// Appends the changes that make the ticks of a site finer, and move it by a hair.
 fn push_shifted(
     changes: &mut Vec<Change>,
     finer: Finer,
@@ -148,7 +150,7 @@ fn push_shifted(
     }
 }
 
-// Appends the changes that make a step so many times.
+// Appends the changes that repeat a step once for each finer tick of an original tick.
 fn push_repeat(
     changes: &mut Vec<Change>,
     finer: Finer,
@@ -162,7 +164,7 @@ fn push_repeat(
     push_after(changes, to, Piece::Close)
 }
 
-// Appends the change that puts another number in the place of one.
+// Appends the change that puts another number in place of one.
 fn push_number(changes: &mut Vec<Change>, number: Number, value: u64) -> Result<(), AllocError>
     ensures { OnOk result (changes.new.items ≡ changes.old.items ++ set_to number value ∷ []) }
 {
@@ -177,7 +179,7 @@ fn push_after(changes: &mut Vec<Change>, at: usize, piece: Piece) -> Result<(), 
     push(changes, after, after, piece)
 }
 
-// A number of ticks in finer ones, moved by a hair.
+// Returns a number of ticks in finer ticks, moved by a hair.
 fn moved(finer: Finer, number: Number, hair: Hair) -> u64
     ensures { result ≡ moved finer number hair }
 {
@@ -188,7 +190,7 @@ fn moved(finer: Finer, number: Number, hair: Hair) -> u64
     }
 }
 
-// Appends a change: this piece in the place of the bytes from one place up to another.
+// Appends a change: this piece in place of the bytes from one place up to another.
 fn push(changes: &mut Vec<Change>, from: usize, to: usize, piece: Piece) -> Result<(), AllocError>
     ensures { OnOk result (changes.new.items ≡ changes.old.items ++ record { from = from; to = to; piece = piece } ∷ []) }
 {

@@ -11,12 +11,12 @@ use job_tokens::{Mark, Token};
 use job_tree::Name;
 use std::alloc::{AllocError, Global};
 
-/// What stands at a place of a job text where time passes, or may.
+/// What is at a site.
 #[derive(Clone, Copy)]
 pub enum Moment {
-    /// `sleep`: so many ticks.
+    /// A `sleep` for this number of ticks.
     Sleep(Number),
-    /// The deadline of the scope or nursery of this name, so many ticks after its entry.
+    /// The deadline of the scope or nursery with this name, this number of ticks after it was entered.
     After(Name, Number),
     /// The deadline of the scope of this name, at this tick.
     At(Name, Number),
@@ -50,8 +50,8 @@ pub struct Site {
     pub moment: Moment,
 }
 
-/// The places of a job text where time passes, or may, in their order, by the text's tokens: each `sleep`, `checkpoint` and `pace`, each
-/// scope and nursery with a deadline, and each `start`. Want of memory is the only error.
+/// Returns the sites of the job text with these tokens, in the order of their places: each `sleep`, `checkpoint` and `pace`,
+/// each scope and nursery with a deadline, and each `start`. The only error is that memory was refused.
 pub fn sites(alloc: Global, tokens: &[Token]) -> Result<Vec<Site>, AllocError>
     ensures { IfOk result (λ sites. sites.items ≡ sites_in tokens.now) }
 {
@@ -64,7 +64,7 @@ pub fn sites(alloc: Global, tokens: &[Token]) -> Result<Vec<Site>, AllocError>
     Ok(sites)
 }
 
-// Appends the place that a token begins, where it begins one, by the tokens after it.
+// Appends the site that begins at this token, if there is one. `others` are the tokens after it.
 fn push_site(
     alloc: Global,
     sites: &mut Vec<Site>,
@@ -85,7 +85,7 @@ fn push_site(
     Ok(())
 }
 
-// What a keyword begins, by the tokens after it.
+// Returns what begins at a keyword. `others` are the tokens after the keyword.
 fn moment_by(
     alloc: Global,
     keyword: Keyword,
@@ -103,7 +103,7 @@ fn moment_by(
     }
 }
 
-// A `sleep`, by the tokens after the keyword.
+// Returns a `sleep`, given the tokens after the keyword.
 fn sleep_in(alloc: Global, others: &[Token]) -> Result<Option<Moment>, AllocError>
     ensures { IfOk result (λ moment. moment ≡ moment_by keyword.Sleep others.now) }
 {
@@ -113,7 +113,7 @@ fn sleep_in(alloc: Global, others: &[Token]) -> Result<Option<Moment>, AllocErro
     }
 }
 
-// A `checkpoint`, by the tokens after the keyword.
+// Returns a `checkpoint`, given the tokens after the keyword.
 fn checkpoint_in(others: &[Token]) -> Option<Moment>
     ensures { result ≡ moment_by keyword.Checkpoint others.now }
 {
@@ -121,7 +121,7 @@ fn checkpoint_in(others: &[Token]) -> Option<Moment>
     Some(Moment::Checkpoint { to })
 }
 
-// A `pace`, by the tokens after the keyword.
+// Returns a `pace`, given the tokens after the keyword.
 fn pace_in(others: &[Token]) -> Option<Moment>
     ensures { result ≡ moment_by keyword.Pace others.now }
 {
@@ -130,7 +130,7 @@ fn pace_in(others: &[Token]) -> Option<Moment>
     Some(Moment::Pace { lines, to })
 }
 
-// A `start`, by the tokens after the keyword.
+// Returns a `start`, given the tokens after the keyword.
 fn start_in(others: &[Token]) -> Option<Moment>
     ensures { result ≡ moment_by keyword.Start others.now }
 {
@@ -139,7 +139,7 @@ fn start_in(others: &[Token]) -> Option<Moment>
     Some(Moment::Start { name, opening })
 }
 
-// The deadline of a scope or nursery, by the tokens from its name on.
+// Returns the deadline of a scope or nursery, given the tokens from its name on.
 fn deadline_from(alloc: Global, tokens: &[Token]) -> Result<Option<Moment>, AllocError>
     ensures { IfOk result (λ moment. moment ≡ deadline_from tokens.now) }
 {
@@ -155,7 +155,7 @@ fn deadline_from(alloc: Global, tokens: &[Token]) -> Result<Option<Moment>, Allo
     deadline_by(alloc, name, keyword_in(*token), others)
 }
 
-// The deadline of the scope or nursery of a name, by its keyword and the tokens after that.
+// Returns the deadline of the scope or nursery with this name, given the keyword of the deadline and the tokens after it.
 fn deadline_by(
     alloc: Global,
     name: Name,
@@ -179,8 +179,8 @@ fn deadline_by(
     }
 }
 
-/// Appends what stands at a place, as it is shown: `sleep 5`, `limit after 5` or `limit at 5` for the deadline of `limit`, `checkpoint`, `pace 5`
-/// or `start reader`. Want of memory is the only error.
+/// Appends what is at a site, as it is printed: `sleep 5`, `limit after 5` or `limit at 5` for the deadline of `limit`,
+/// `checkpoint`, `pace 5` or `start reader`. The only error is that memory was refused.
 pub fn push_moment(alloc: Global, out: &mut Vec<u8>, moment: Moment) -> Result<(), AllocError>
     ensures { OnOk result (out.new.items ≡ out.old.items ++ moment_text moment) }
 {

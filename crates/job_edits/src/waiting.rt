@@ -10,22 +10,22 @@ use std::alloc::{AllocError, Global};
 /// What a waiting step waits for.
 #[derive(Clone, Copy)]
 pub enum Wait {
-    /// `sleep`: so many ticks.
+    /// `sleep`: for this number of ticks.
     Sleep(u64),
-    /// `checkpoint`: takes no time, and sees a cancellation.
+    /// `checkpoint`: takes no time, and checks whether the task is cancelled.
     Checkpoint,
-    /// `forever`: a cancellation.
+    /// `forever`: until the task is cancelled.
     Forever,
-    /// `pace`: one tick for so many lines of the task's part of the input.
+    /// `pace`: one tick for this number of lines of the task's part of the input.
     Pace(u64),
-    /// `need`: a line that contains a string, or it raises an exception of this name.
+    /// `need`: a line that contains this string. If there is none, it raises an exception with this name.
     Need(Text, Name),
 }
 
 /// A waiting step of a job text.
 #[derive(Clone, Copy)]
 pub struct Waiting {
-    /// The place of its first byte, counted from the start of the text.
+    /// The place of its first byte, in bytes from the start of the text.
     pub from: usize,
     /// The place of the semicolon after it.
     pub to: usize,
@@ -33,7 +33,8 @@ pub struct Waiting {
     pub wait: Wait,
 }
 
-/// The waiting steps of a job text, in the order of their places, by the text's tokens. Want of memory is the only error.
+/// Returns the waiting steps of the job text with these tokens, in the order of their places: each `sleep`, `checkpoint`,
+/// `forever`, `pace` and `need`. The only error is that memory was refused.
 pub fn waiting_steps(alloc: Global, tokens: &[Token]) -> Result<Vec<Waiting>, AllocError>
     ensures { IfOk result (λ steps. steps.items ≡ waiting_in tokens.now) }
 {
@@ -46,7 +47,7 @@ pub fn waiting_steps(alloc: Global, tokens: &[Token]) -> Result<Vec<Waiting>, Al
     Ok(steps)
 }
 
-// Appends the waiting step that a token begins, where it begins one, by the tokens after it.
+// Appends the waiting step that begins at this token, if there is one. `others` are the tokens after it.
 fn push_step(steps: &mut Vec<Waiting>, token: Token, others: &[Token]) -> Result<(), AllocError>
     ensures { OnOk result (steps.new.items ≡ steps.old.items ++ with_waiting (waiting_at token others.now) []) }
 {
@@ -61,7 +62,7 @@ fn push_step(steps: &mut Vec<Waiting>, token: Token, others: &[Token]) -> Result
     Ok(())
 }
 
-// What the step waits for that a token begins, by the tokens after it.
+// Returns what the step that begins at this token waits for. `others` are the tokens after it.
 fn wait_at(token: Token, others: &[Token]) -> Option<Wait>
     ensures { result ≡ wait_if (keyword_in (word_in token.shape)) others.now }
 {
@@ -69,14 +70,14 @@ fn wait_at(token: Token, others: &[Token]) -> Option<Wait>
     wait_of(keyword, others)
 }
 
-// The keyword that a token is, where it is one.
+// Returns the keyword that a token is, if it is one.
 pub(crate) fn keyword_in(token: Token) -> Option<Keyword>
     ensures { result ≡ keyword_in (word_in token.shape) }
 {
     Keyword::of(token.shape.word()?)
 }
 
-// What the step waits for that a keyword begins, by the tokens after the keyword.
+// Returns what the step that begins with this keyword waits for. `others` are the tokens after the keyword.
 fn wait_of(keyword: Keyword, others: &[Token]) -> Option<Wait>
     ensures { result ≡ wait_of keyword others.now }
 {
@@ -90,7 +91,7 @@ fn wait_of(keyword: Keyword, others: &[Token]) -> Option<Wait>
     }
 }
 
-// A `need` by its string and the name after it.
+// Returns a `need`, given its string and the name after it.
 fn need_in(tokens: &[Token]) -> Option<Wait>
     ensures { result ≡ need_in tokens.now }
 {
@@ -100,7 +101,7 @@ fn need_in(tokens: &[Token]) -> Option<Wait>
     Some(Wait::Need(text, name))
 }
 
-// The number that the first token is.
+// Returns the number that the first token is, if it is one.
 pub(crate) fn first_number(tokens: &[Token]) -> Option<u64>
     ensures { result ≡ first_number tokens.now }
 {
@@ -108,7 +109,7 @@ pub(crate) fn first_number(tokens: &[Token]) -> Option<u64>
     token.shape.number()
 }
 
-// The name that the first token is.
+// Returns the name that the first token is, if it is one.
 pub(crate) fn first_name(tokens: &[Token]) -> Option<Name>
     ensures { result ≡ first_name tokens.now }
 {
@@ -116,7 +117,7 @@ pub(crate) fn first_name(tokens: &[Token]) -> Option<Name>
     token.shape.word()
 }
 
-// The place of the first of these tokens that is such a mark.
+// Returns the place of the first of these tokens that is the given mark.
 pub(crate) fn first_mark(mark: Mark, tokens: &[Token]) -> Option<usize>
     ensures { result ≡ first_mark mark tokens.now }
 {
@@ -128,7 +129,8 @@ pub(crate) fn first_mark(mark: Mark, tokens: &[Token]) -> Option<usize>
     None
 }
 
-/// Appends a waiting step as it is shown: its tokens, with a space between two of them. Want of memory is the only error.
+/// Appends a waiting step as it is printed: its tokens, with a space between two of them. The only error is that memory
+/// was refused.
 pub fn push_wait(alloc: Global, out: &mut Vec<u8>, wait: Wait) -> Result<(), AllocError>
     ensures { OnOk result (out.new.items ≡ out.old.items ++ wait_text wait) }
 {
@@ -146,7 +148,7 @@ pub fn push_wait(alloc: Global, out: &mut Vec<u8>, wait: Wait) -> Result<(), All
     }
 }
 
-// Appends some words, and a number.
+// Appends some words and a number.
 pub(crate) fn push_counted(
     alloc: Global,
     out: &mut Vec<u8>,
