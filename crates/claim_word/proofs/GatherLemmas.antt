@@ -1,4 +1,4 @@
--- The passes that come back, joined into one, the last one first.
+-- The tickets that are returned, joined into one, the last one first.
 use Rattle.std.proofs.Common.{◌≡◌, ℕ, zero, suc, ◌+◌, ◌<◌, ◌≤◌, List, [], ◌∷◌, ◌++◌, slice_index, true, cond, nat_eq, length, slice_index_or, sum_by, count_by, All, Any, refl, sym, ap, ◌∙◌, subst, arith, length-append, min}
 use Rattle.std.proofs.lemmas.Bool.{ltb-true}
 use Rattle.std.proofs.lemmas.List.Sums.{sum_by-cons, sum_by-append, sum_by_push}
@@ -20,14 +20,14 @@ drawn_in i passes = sum_by (λ pass. count_by (nat_eq i) (drawn_by pass)) passes
 abbrev pub told_in : List Pass → ℕ
 told_in passes = sum_by (λ pass. pass.seat.me.0.nones) passes
 
--- what one hand has, and what the passes that are left have, is what all passes had
+-- one hand and the tickets that are left together have what all tickets had
 pub record Gathered (v : Hand) (left all : List Pass) : Type 0 where
   pub some : 0 < v.parts
   pub parts : v.parts + length left ≡ length all
   pub drawn : (i : ℕ) → count_by (nat_eq i) v.drawn + drawn_in i left ≡ drawn_in i all
   pub nones : v.nones + told_in left ≡ told_in all
 
--- the last of the passes and those before it have together what all passes had
+-- the last ticket and those before it together have what all tickets had
 pub gather_first : (left : List Pass) (pass : Pass) → pass.seat.me.0.parts ≡ 1 → Gathered pass.seat.me.0 left (left ++ pass ∷ [])
 gather_first left pass one =
     record {
@@ -37,7 +37,7 @@ gather_first left pass one =
       nones = let push = sum_by_push (λ (p : Pass). p.seat.me.0.nones) left pass in omega arith;
     }
 
--- the last of the passes that are left is joined: the hand and the others still have what all had
+-- the last of the tickets that are left is joined: the hand and the others still have what all had
 pub gather_next : (v : Hand) (left all : List Pass) (pass : Pass) → pass.seat.me.0.parts ≡ 1 → Gathered v (left ++ pass ∷ []) all →
     Gathered (both_hands v pass.seat.me.0) left all
 gather_next v left all pass one before =
@@ -56,7 +56,7 @@ gather_next v left all pass one before =
           omega arith);
     }
 
--- where one of the passes was told, they were told something together
+-- where one of the tickets got `None`, the tickets together got at least one
 told_at : (passes : List Pass) (k : ℕ) (pass : Pass) → k < length passes → slice_index_or passes k pass ≡ pass → was_told pass ≡ true →
     0 < told_in passes
 told_at [] k pass within is told = absurd (omega arith)
@@ -69,16 +69,16 @@ told_at (p ∷ ps) (suc k) pass within is told =
     let sum = sum_by-cons (λ (q : Pass). q.seat.me.0.nones) p ps in
     omega arith
 
--- how often a number stands in a list, as clauses say it
+-- how often a number occurs in a list, as contracts say it
 pub times_count : (x : ℕ) (xs : List ℕ) → times x xs ≡ count_by (nat_eq x) xs
 times_count x [] = refl
 times_count x (y ∷ ys) = ap (λ n. cond (nat_eq x y) 1 0 + n) (times_count x ys) ∙ sym (sum_by-cons (λ z. cond (nat_eq x z) 1 0) y ys)
 
--- where some pass was told that no request is left, the passes were told so together at least once
+-- where some ticket got `None`, the tickets together got it at least once
 pub told_once : (passes : List Pass) → Any (λ pass. was_told pass ≡ true) passes → 0 < told_in passes
 told_once passes any = told_at passes any.0 any.1 any.2 any.3 any.4
 
--- what is true of a list is true of its last and of those before
+-- what is true of a list is true of its last element and of those before
 pub all_front : {X : Type 0} (P : X → Type 0) (xs : List X) (y : X) → All P (xs ++ y ∷ []) → All P xs × P y
 all_front P [] y each = ((λ k d within. absurd (omega arith)), each 0 y (omega arith))
 all_front P (x ∷ xs) y each =
@@ -89,7 +89,7 @@ first_word : (words : List ℕ) (word : ℕ) → get_elem? words 0 ≡ some word
 first_word [] word at = absurd (some-ne-none word (sym at))
 first_word (w ∷ ws) word at = some-injective w word at
 
--- what is known once all passes are back
+-- what is known once all tickets are returned
 pub record Settled (requests word : ℕ) (all : List Pass) : Type 0 where
   pub count : min word requests ≡ requests
   pub each_once : (i : ℕ) → i < requests → drawn_in i all ≡ 1
@@ -113,7 +113,7 @@ none_left : (v : Hand) (left all : List Pass) → length left ≡ 0 → Gathered
 none_left v [] all none gathered = gathered
 none_left v (p ∷ ps) all none gathered = absurd (omega arith)
 
--- once all passes are back and one was told that none is left, each request was drawn once and nothing else
+-- once all tickets are returned and one got `None`, each request was drawn once and nothing else
 pub settled : (counts : Counts) (id : ℕ) (v : Hand) (words : List ℕ) (slots : List (Unit {0})) (word : ℕ) (left all : List Pass) →
     Final (Seen (Kept counts) id v) words slots → get_elem? words 0 ≡ some word → length left ≡ 0
     → Gathered v left all → length all ≡ counts.passes → Any (λ pass. was_told pass ≡ true) all → Settled counts.requests word all

@@ -14,13 +14,13 @@ fair_set : (requests : ℕ) (hands : List Hand) (i : ℕ) (w : Hand) → ((j : �
 fair_set requests hands i w each mine j u at =
     ⊎_elim (λ here. subst (Fair requests) here.1 mine) (λ there. each j u there.1) (at_set hands i j w u at)
 
--- all hands are fair after one came
+-- all hands are fair after one was added
 fair_push : (requests : ℕ) (hands : List Hand) (w : Hand) → ((j : ℕ) (u : Hand) → get_elem? hands j ≡ some u → Fair requests u) →
     Fair requests w → (j : ℕ) (u : Hand) → get_elem? (hands ++ w ∷ []) j ≡ some u → Fair requests u
 fair_push requests hands w each mine j u at =
     ⊎_elim (λ there. each j u there) (λ here. subst (Fair requests) here mine) (at_snoc hands w u j at)
 
--- at the start one hand stands for all passes, and nothing was claimed
+-- at the start one hand stands for all tickets, and nothing was claimed
 pub starts : (requests passes : ℕ) → Claimed requests passes 0 (hand requests passes [] 0 ∷ [])
 starts requests passes =
     record {
@@ -36,7 +36,7 @@ starts requests passes =
         (record { nones = omega arith; most = λ some. refl; empty = λ none. refl })
     one (suc i) v at = absurd (some-ne-none v (sym at))
 
--- what each hand was told is bounded by the passes
+-- how often each hand got `None` is bounded by the tickets
 pub nones_few : (requests passes word : ℕ) (hands : List Hand) → Claimed requests passes word hands → word - requests ≤ passes
 nones_few requests passes word hands rule =
     let few = total-le (λ v. v.nones) (λ v. v.parts) hands (λ i v at. (rule.fair i v at).nones) in
@@ -44,7 +44,7 @@ nones_few requests passes word hands rule =
     let parts = rule.parts in
     omega arith
 
--- a pass is cut off a hand that stands for more than one
+-- a ticket is split off a hand that stands for more than one
 pub splits : (requests passes word : ℕ) (hands : List Hand) (i : ℕ) (v : Hand) → Claimed requests passes word hands →
     get_elem? hands i ≡ some v → 1 < v.parts → v.nones ≡ 0 → Claimed requests passes word (set hands i (one_less v) ++ new_hand v ∷ [])
 splits requests passes word hands i v rule at more untold =
@@ -123,7 +123,7 @@ draws_number requests passes word hands i v rule at some_part left =
       fair = fair_set requests hands i w rule.fair (record { nones = fair.nones; most = fair.most; empty = λ none. absurd (omega arith) });
     }
 
--- a hand is told that none is left
+-- a hand gets `None`
 pub draws_none : (requests passes word : ℕ) (hands : List Hand) (i : ℕ) (v : Hand) → Claimed requests passes word hands →
     get_elem? hands i ≡ some v → 0 < v.parts → v.nones ≡ 0 → requests ≤ word
     → Claimed requests passes (word + 1) (set hands i (hand v.most v.parts v.drawn (v.nones + 1)))
@@ -157,7 +157,7 @@ drawn_before requests passes word hands i v rule at =
     let none = rule.no_other x (omega arith) in
     omega arith)
 
--- a hand takes in another
+-- a hand is joined to another
 pub joins : (requests passes word : ℕ) (hands : List Hand) (i j : ℕ) (v w : Hand) → Claimed requests passes word hands →
     get_elem? hands i ≡ some v → 0 < v.parts → get_elem? (set hands i (both_hands v w)) j ≡ some w
     → get_elem? hands j ≡ some w → Claimed requests passes word (set (set hands i (both_hands v w)) j spent_hand)
@@ -195,13 +195,13 @@ joins requests passes word hands i j v w rule at some_part then there =
           (record { nones = omega arith; most = λ some. absurd (omega arith); empty = λ none. refl });
     }
 
--- the hand that stands for all passes knows the word, and has drawn each number below it once
+-- the hand that stands for all tickets determines the word, and has drawn each number below it once
 pub record Knows (requests word : ℕ) (v : Hand) : Type 0 where
   pub once : (x : ℕ) → x < min word requests → times x v.drawn ≡ 1
   pub no_other : (x : ℕ) → min word requests ≤ x → times x v.drawn ≡ 0
   pub nones : v.nones ≡ word - requests
 
--- the hand that stands for all passes drew what the word counted, and was told of each claim past the requests
+-- the hand that stands for all tickets drew what the word counted, and got `None` for each further claim
 pub knows_all : (requests passes word : ℕ) (hands : List Hand) (i : ℕ) (v : Hand) → Claimed requests passes word hands →
     get_elem? hands i ≡ some v → v.parts ≡ passes → Knows requests word v
 knows_all requests passes word hands i v rule at all =

@@ -1,4 +1,4 @@
--- What the calls of the table ask of a claim, of a cut and of a join.
+-- What the calls of the table require of a claim, of a split and of a join.
 use Rattle.std.proofs.Common.{◌≡◌, ℕ, ◌+◌, ◌%◌, ◌<◌, ◌≤◌, List, [], ◌∷◌, ◌++◌, set, length, slice_index, refl, sym, ◌∙◌, subst, inl, inr, arith, length-set, get_or-set_same}
 use Rattle.std.proofs.lemmas.Bool.{cases_lt}
 use mathlib.Core.Option.{none}
@@ -18,7 +18,7 @@ placed counts s n id me w wide rule = (
       (sym (get_or-set_same s.words 0 n 0 (omega arith))) rule,
 )
 
--- a claim may be made with a pass that was not told that none is left
+-- a claim may be made with a ticket that has not got `None`
 pub claims_allowed : (counts : Counts) (slots id : ℕ) (me : Me (Unit {0}) Hand) → me.0.parts ≡ 1 → me.0.nones ≡ 0 →
     counts.requests ≤ 4000000 → counts.passes ≤ 64
     → Allows (Kept counts) slots id me 0 (λ n. (n + 1) % 18446744073709551616) (Draws (step slots 0 1 0 none) me)
@@ -57,12 +57,12 @@ claims_allowed counts slots id me one untold few_requests few_passes s rule home
           )
     ]
 
--- a pass may be cut off a hand that stands for more than one
+-- a ticket may be split off a hand that stands for more than one
 pub cuts_allowed : (counts : Counts) (id : ℕ) (v : Hand) → 1 < v.parts → v.nones ≡ 0 → Splits (Kept counts) id v (one_less v) (new_hand v)
 cuts_allowed counts id v more untold s rule at =
     (rule.0, splits counts.requests counts.passes (slice_index s.words 0) s.views id v rule.1 at more untold)
 
--- a hand that stands for a pass may take in another
+-- another hand may be joined to a hand that stands for a ticket
 pub joins_allowed : (counts : Counts) (id : ℕ) (v : Hand) (other : ℕ) (w : Hand) → 0 < v.parts →
     Joins (Kept counts) id v other w (both_hands v w) spent_hand
 joins_allowed counts id v other w some_part s rule at apart there = (
@@ -71,7 +71,7 @@ joins_allowed counts id v other w some_part s rule at apart there = (
       (sym (set_else s.views id other (both_hands v w) apart) ∙ there),
 )
 
--- what the closed table shows of the hand that stands for all passes
+-- what the closed table states of the hand that stands for all tickets
 pub closed_knows : (counts : Counts) (id : ℕ) (v : Hand) (words : List ℕ) (slots : List (Unit {0})) →
     Final (Seen (Kept counts) id v) words slots → v.parts ≡ counts.passes → Knows counts.requests (slice_index words 0) v
 closed_knows counts id v words slots final all =

@@ -1,4 +1,4 @@
--- How often a number stands in lists, and what hands add up to.
+-- How often a number occurs in lists, and sums over hands.
 use Rattle.std.proofs.Common.{◌≡◌, ℕ, zero, suc, ◌+◌, ◌<◌, ◌≤◌, List, [], ◌∷◌, ◌++◌, cond, set, All, refl, sym, ap, inl, inr, arith}
 use Rattle.std.proofs.lemmas.Bool.{cases_lt, eq-eqb, ne_eqb}
 use mathlib.Core.Option.{some, some-injective, some-ne-none}
@@ -6,20 +6,20 @@ use lib.ListN.{get_elem?}
 use Rattle.claim_word.specs.declared.rule.Hand.{Hand}
 use Rattle.claim_word.specs.Rule.{times, total}
 
--- a number stands once in the list of it alone
+-- a number occurs once in the list of only that number
 pub times-here : (x : ℕ) → times x (x ∷ []) ≡ 1
 times-here x = ap (λ b. cond b 1 0 + 0) (eq-eqb x x refl)
 
--- it does not stand in the list of another number alone
+-- it does not occur in the list of only another number
 pub times-else : (x y : ℕ) → (x ≡ y → ⊥) → times x (y ∷ []) ≡ 0
 times-else x y other = ap (λ b. cond b 1 0 + 0) (ne_eqb x y other)
 
--- in two lists together it stands as often as in the first and in the second
+-- it occurs in two lists joined as often as in the first and in the second together
 pub times-append : (x : ℕ) (xs ys : List ℕ) → times x (xs ++ ys) ≡ times x xs + times x ys
 times-append x [] ys = omega arith
 times-append x (z ∷ zs) ys = let rest = times-append x zs ys in omega arith
 
--- where no number from n on stands in a list, all of it is below n
+-- where no number from n on occurs in a list, all of it is below n
 pub below_all : (n : ℕ) (xs : List ℕ) → ((x : ℕ) → n ≤ x → times x xs ≡ 0) → All (λ j. j < n) xs
 below_all n [] none k d within = absurd (omega arith)
 below_all n (y ∷ ys) none zero d within =
@@ -55,7 +55,7 @@ at_most_total f [] i v at = absurd (some-ne-none v (sym at))
 at_most_total f (x ∷ xs) zero v at = let same : f x ≡ f v = ap f (some-injective x v at) in omega arith
 at_most_total f (x ∷ xs) (suc i) v at = let rest = at_most_total f xs i v at in omega arith
 
--- one total is at most another where it is so for each hand
+-- one total is at most another where this holds for each hand
 pub total-le : (f g : Hand → ℕ) (hands : List Hand) → ((i : ℕ) (v : Hand) → get_elem? hands i ≡ some v → f v ≤ g v) →
     total f hands ≤ total g hands
 total-le f g [] each = omega arith
@@ -64,7 +64,7 @@ total-le f g (x ∷ xs) each =
     let rest = total-le f g xs (λ i v at. each (suc i) v at) in
     omega arith
 
--- hands that stand for no pass have nothing
+-- hands that stand for no ticket have nothing
 pub total-none : (f : Hand → ℕ) (hands : List Hand) → total (λ v. v.parts) hands ≡ 0 →
     ((i : ℕ) (v : Hand) → get_elem? hands i ≡ some v → v.parts ≡ 0 → f v ≡ 0) → total f hands ≡ 0
 total-none f [] none each = refl
@@ -73,7 +73,7 @@ total-none f (x ∷ xs) none each =
     let rest = total-none f xs (omega arith) (λ i v at. each (suc i) v at) in
     omega arith
 
--- the hand that stands for all passes has everything
+-- the hand that stands for all tickets has everything
 pub total-alone : (f : Hand → ℕ) (hands : List Hand) (i : ℕ) (v : Hand) → get_elem? hands i ≡ some v →
     total (λ u. u.parts) hands ≡ v.parts → ((j : ℕ) (u : Hand) → get_elem? hands j ≡ some u → u.parts ≡ 0 → f u ≡ 0) → total f hands ≡ f v
 total-alone f [] i v at all each = absurd (some-ne-none v (sym at))

@@ -1,26 +1,26 @@
--- What clauses say of claims and passes.
+-- What contracts see of claims and tickets.
 use Rattle.std.specs.Prelude.{◌≡◌, ℕ, List, [], Bool, nat_lt}
 use Rattle.claim_word.specs.declared.batch.Claims.{Claims}
 use Rattle.claim_word.specs.declared.worker.Pass.{Pass}
 
--- how many requests there are
+-- the number of requests
 abbrev pub requests_of : Claims → ℕ
 requests_of claims = claims.requests
 
--- how many passes were made
+-- the number of tickets that were created
 abbrev pub passes_of : Claims → ℕ
 passes_of claims = claims.word.shared.key.passes
 
--- the numbers that a pass drew, the first one first
+-- the numbers that a ticket drew, in the order in which it drew them
 abbrev pub drawn_by : Pass → List ℕ
 drawn_by pass = pass.seat.me.0.drawn
 
--- whether a pass was told that no request is left
+-- whether a ticket got `None`, which says that no request is left
 abbrev pub was_told : Pass → Bool
 was_told pass = nat_lt 0 pass.seat.me.0.nones
 
--- The pass is one of those that were made with these claims: it is of their table, stands for one pass, and knows the
--- number of requests.
+-- The ticket is one of those that were created with these claims: it belongs to their table, stands for one ticket, and
+-- has the number of requests.
 pub record IsPassOf (claims : Claims) (pass : Pass) : Type 0 where
   pub table : pass.seat.table_id ≡ claims.word.shared.table_id
   pub slots : pass.seat.me.1 ≡ []

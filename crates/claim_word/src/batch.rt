@@ -4,7 +4,7 @@ use crate::rule::{Counts, Cut, Draw, Gather, Word};
 use crate::worker::Pass;
 use std::alloc::{AllocError, Global};
 
-/// The requests of a batch, to be claimed one by one by several threads.
+/// The numbers of a batch of requests, which several threads draw one by one. Shared by reference.
 #[derive(Drop)]
 pub struct Claims {
     word: Word,
@@ -18,7 +18,9 @@ pub struct Claims {
 impl Claims {
     ghost use Rattle.claim_word.specs.Claims.{requests_of, passes_of, IsPassOf, drawn_by, was_told};
 
-    /// Claims for so many requests, and so many passes, which have drawn nothing yet.
+    /// Creates claims for the numbers from 0 up to `requests`, which is left out, and the given number of tickets, which
+    /// have drawn nothing yet. The caller must ensure that there are at most 4,000,000 requests and from 1 to 64 tickets.
+    /// Returns `AllocError` if memory is refused.
     pub fn new(
         alloc: Global,
         requests: usize,
@@ -48,7 +50,11 @@ impl Claims {
         Ok((Claims { word, requests }, made))
     }
 
-    /// The number of the next request that nobody claimed, or none where all were claimed, of which the pass is then told.
+    /// Draws the next number that no ticket has drawn yet. Returns `None` if all numbers are drawn, and the ticket must not
+    /// claim again after that. The numbers that one ticket draws are increasing.
+    ///
+    /// The caller must ensure that the ticket was created with these claims and has not got `None` yet. Does not allocate
+    /// and does not wait.
     pub fn claim(&self, pass: &mut Pass) -> Option<usize>
         requires same { IsPassOf self.now pass.old }
         requires untold { was_told pass.old ≡ false }
@@ -66,7 +72,9 @@ impl Claims {
         }
     }
 
-    /// The number of requests, once all passes are back, at least one of which was told that nothing is left.
+    /// Ends the claims and returns the number of requests. The contract states that the tickets together have drawn each
+    /// number exactly once. The caller must pass all tickets that were created with these claims, of which at least one
+    /// must have got `None`.
     pub fn close(self, passes: Vec<Pass>) -> u64
         requires all { (vec_len passes ≡ passes_of self) × All (IsPassOf self) passes.items }
         requires told { Any (λ pass. was_told pass ≡ true) passes.items }

@@ -1,9 +1,9 @@
-//! The numbers of a batch's requests, claimed one by one by several threads.
+//! The numbers of a batch of requests, drawn one by one by several threads.
 //!
-//! A batch has so many requests, numbered from 0, and so many passes. Who holds a pass claims the next number with one
-//! `fetch_add` on one shared word, and is told once that nothing is left. Whatever the schedule, each number is drawn by
-//! exactly one pass, once. That is shown when all passes come back and the claims are closed. No lock, no waiting, and no
-//! memory but what `Claims::new` takes.
+//! A batch has a number of requests, numbered from 0, and a number of tickets. The holder of a ticket draws the next number
+//! with one `fetch_add` on one shared word, and gets `None` once when no number is left. For every schedule, each number is
+//! drawn by exactly one ticket, once. This is stated when all tickets are returned and the claims are closed. There is no
+//! lock and no waiting, and only `Claims::new` allocates.
 #![tactic(auto)]
 
 mod batch;

@@ -1,11 +1,12 @@
-//! What the word and the passes keep between any two steps, and what each step does to a pass. Facts alone: no code runs.
+//! What holds of the shared word and the tickets between any two steps, and what each step does to a ticket. These are only
+//! facts for proofs: no code runs.
 
 use atomic_table::{Join, Play, Split, Table, TableRule};
 use std::alloc::Global;
 use std::collections::LinkedList;
 
-/// What a pass knows: how many requests there are, how many passes it stands for, which numbers it drew, and how often it
-/// was told that none is left. No value of it is made.
+/// What proofs know of a ticket: how many requests there are (`most`), how many tickets it stands for (`parts`), which
+/// numbers it drew, and how often it got `None`. No value of this type is created at run time.
 pub struct Hand {
     pub most: u64,
     pub parts: u64,
@@ -13,7 +14,7 @@ pub struct Hand {
     pub nones: u64,
 }
 
-/// How many requests and passes there are.
+/// The number of requests and the number of tickets.
 #[derive(Drop)]
 pub struct Counts {
     pub requests: u64,
@@ -31,7 +32,7 @@ impl TableRule<(), Hand, Counts> for EachOnce {
     ghost first = { first_hand };
 }
 
-/// One more pass is cut off, which has drawn nothing.
+/// The step that splits off one more ticket, which has drawn nothing.
 pub struct Cut;
 
 impl Split<Hand> for Cut {
@@ -42,7 +43,7 @@ impl Split<Hand> for Cut {
     ghost right = { new_hand };
 }
 
-/// A number is drawn, or the pass is told that none is left.
+/// The step that draws a number, or returns that none is left.
 pub struct Draw;
 
 impl Play<(), Hand> for Draw {
@@ -51,7 +52,7 @@ impl Play<(), Hand> for Draw {
     ghost then = { Draws };
 }
 
-/// A pass takes in what another drew.
+/// The step that joins another ticket, with the numbers that it drew, to a ticket.
 pub struct Gather;
 
 impl Join<Hand> for Gather {

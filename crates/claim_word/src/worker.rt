@@ -1,7 +1,8 @@
 use crate::rule::Hand;
 use atomic_table::Seat;
 
-/// A worker's right to claim, and the numbers that it drew. It takes no bytes, and cannot be copied.
+/// A ticket: the right of one thread to draw numbers. It cannot be copied and takes no bytes at run time. Contracts see the
+/// numbers that it drew.
 #[derive(Drop)]
 pub struct Pass {
     pub(crate) seat: Seat<(), Hand>,
