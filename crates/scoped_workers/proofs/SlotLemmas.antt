@@ -10,11 +10,11 @@ use Rattle.scoped_workers.specs.declared.slot.Slot.{Slot}
 use Rattle.scoped_workers.specs.declared.slot.Content.TheVariants.{Done}
 use Rattle.scoped_workers.specs.Slots.{Computes, IsComputed, AreComputed, IsFilled, AreAnswers, done}
 
--- the first slots hold what their requests came to
+-- the first slots hold the results of their requests
 abbrev pub ComputedBelow : ℕ → List Request → List Slot → Type 0
 ComputedBelow k requests row = (i : ℕ) (q : Request) (s : Slot) → i < k → IsComputed (slice_index_or requests i q) (slice_index_or row i s)
 
--- one request more is computed
+-- one more request is computed
 pub computed-one_more : (requests : List Request) (row : List Slot) (k : ℕ) (request : Request) (slot : Slot) → k < length requests →
     k < length row → request ≡ slice_index_or requests k request → ComputedBelow k requests row → IsComputed request slot
     → ComputedBelow (k + 1) requests (slice_set row k slot)
@@ -30,7 +30,7 @@ computed-one_more requests row k request slot inside within is below this i q s 
     (subst (λ r. IsComputed r slot) asked this))
     (cases_lt i k)
 
--- one answer more is taken out
+-- one more answer is taken out
 pub taken-one_more : (answers more : List Answer) (rest left row : List Slot) (slot : Slot) (answer taken : Answer) →
     map done answers ++ rest ≡ row → rest ≡ slot ∷ left → slot.content ≡ Done answer → taken ≡ answer → more ≡ answers ++ taken ∷ [] →
     map done more ++ left ≡ row
@@ -40,12 +40,12 @@ taken-one_more answers more rest left row slot answer taken before next holds is
     ∙ append_assoc (map done answers) (done taken ∷ []) left
     ∙ ap (λ s. map done answers ++ (s ∷ left)) (sym this) ∙ ap (λ slots. map done answers ++ slots) (sym next) ∙ before
 
--- what is left of a full row is full
+-- the rest of a full row is full
 pub filled-rest : (rest left : List Slot) (slot : Slot) → rest ≡ slot ∷ left → All IsFilled rest → All IsFilled left
 filled-rest rest left slot next all k d less =
     subst (λ slots. IsFilled (slice_index_or slots (suc k) d)) next (all (suc k) d (omega (arith, ap length next)))
 
--- a slot that holds what its request came to isn't empty
+-- a slot that holds the result of its request is not empty
 computed-filled : (request : Request) (slot : Slot) → IsComputed request slot → IsFilled slot
 computed-filled request slot holds none = subst (Computes request) none holds
 
@@ -56,7 +56,7 @@ computed-filled-all [] row paired computed k d less = absurd (omega arith)
 computed-filled-all (request ∷ requests) row paired computed k d less =
     computed-filled (slice_index_or (request ∷ requests) k request) (slice_index_or row k d) (computed k request d less)
 
--- a row that was lent whole is what the calls left
+-- a row that was borrowed as a whole is what the calls left
 pub written-whole : {X : Type 0} (n : ℕ) (row rest : List X) → length row ≡ n → take n (row ++ rest) ≡ row
 written-whole n row rest whole = take-append-le n row rest (omega arith) ∙ take_all n row (omega arith)
 

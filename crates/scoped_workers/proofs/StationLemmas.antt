@@ -1,4 +1,4 @@
--- The answers of a station, and of all stations together.
+-- The answers of a worker, and of all workers together.
 use Rattle.std.proofs.Common.{◌≡◌, ◌≢◌, ℕ, ◌+◌, ◌<◌, ◌≤◌, max, Bool, true, cond, nat_eq, List, [], ◌∷◌, ◌++◌, map, All, Any, length, slice_index_or, slice_set, sum_by, count_by, refl, sym, ap, ◌∙◌, subst, arith, get_or-set_same, get_or-set_other}
 use mathlib.Core.Logic.{dite}
 use native.Mathlib.Decide.{ℕ_discrete}
@@ -15,12 +15,12 @@ use Rattle.scoped_workers.specs.declared.station.Numbered.{Numbered}
 use Rattle.scoped_workers.specs.Slots.{Answers, IsComputed, AreComputed, done}
 use Rattle.scoped_workers.specs.Stations.{number, IsRight, AreDrawn, AreGathered, HaveAnswers}
 
--- one more than the greatest number
+-- one more than the maximum number
 abbrev pub top : List ℕ → ℕ
 top [] = 0
 top (x ∷ xs) = max (x + 1) (top xs)
 
--- where all numbers are below one, so is the greatest
+-- where all numbers are below a bound, so is the maximum
 pub top-at_most : (xs : List ℕ) (n : ℕ) → All (λ x. x < n) xs → top xs ≤ n
 top-at_most [] n all = omega arith
 top-at_most (x ∷ xs) n all =
@@ -28,12 +28,12 @@ top-at_most (x ∷ xs) n all =
     let rest = top-at_most xs n (All-tail (λ y. y < n) x xs all) in
     omega arith
 
--- a number that comes in is at most the greatest
+-- a number in the list is at most the maximum
 pub top-push : (xs : List ℕ) (n : ℕ) → n + 1 ≤ top (xs ++ n ∷ [])
 top-push [] n = omega arith
 top-push (x ∷ xs) n = let rest = top-push xs n in omega arith
 
--- one request more is drawn and answered
+-- one more request is drawn and answered
 pub drawn-one_more : (requests : List Request) (drawn drawn_then : List ℕ) (answered then : List Numbered) (i : ℕ) (request : Request)
     (answer : Answer) → AreDrawn requests drawn answered → i < length requests → request ≡ slice_index_or requests i request
     → Answers request answer → drawn_then ≡ drawn ++ i ∷ [] → then ≡ answered ++ record { number = i; answer = answer } ∷ [] →
@@ -47,7 +47,7 @@ drawn-one_more requests drawn drawn_then answered then i request answer before i
           (inside, λ q. subst (λ r. Answers r answer) (is ∙ get_or_default requests i request q inside) right));
     }
 
--- one station more is gathered
+-- the answers of one more worker are collected
 pub gathered-one_more : (requests : List Request) (passes passes_then : List Pass) (pass : Pass) (answered then its : List Numbered) →
     AreGathered requests passes answered → AreDrawn requests (drawn_by pass) its
     → passes_then ≡ passes ++ pass ∷ [] → then ≡ answered ++ its → AreGathered requests passes_then then
@@ -65,17 +65,17 @@ gathered-one_more requests passes passes_then pass answered then its before draw
           left ∙ omega arith ∙ sym right;
     }
 
--- each slot holds what its request came to, but those whose answers are still to come
+-- each slot holds the result of its request, except those with answers still to come
 abbrev pub ComputedBut : List Request → List Numbered → List Slot → Type 0
 ComputedBut requests left row = (i : ℕ) (q : Request) (s : Slot) → i < length requests → count_by (nat_eq i) (map number left) ≡ 0 →
     IsComputed (slice_index_or requests i q) (slice_index_or row i s)
 
--- another number doesn't count
+-- another number is not counted
 count-other : (i other : ℕ) (xs : List ℕ) → i ≢ other → count_by (nat_eq i) (other ∷ xs) ≡ count_by (nat_eq i) xs
 count-other i other xs ne = sum_by-cons (λ x. cond (nat_eq i x) 1 0) other xs
     ∙ ap (λ (b : Bool). cond b 1 0 + count_by (nat_eq i) xs) (ne_eqb i other ne) ∙ omega arith
 
--- one answer more is placed
+-- one more answer is placed
 pub placed-one_more : (requests : List Request) (rest left : List Numbered) (numbered : Numbered) (row then : List Slot) →
     length row ≡ length requests → rest ≡ numbered ∷ left → IsRight requests numbered → ComputedBut requests rest row
     → then ≡ slice_set row numbered.number (done numbered.answer) → ComputedBut requests left then
@@ -106,7 +106,7 @@ pub gathered-all : (requests : List Request) (passes : List Pass) (answered : Li
 gathered-all requests passes answered gathered once =
     record { right = gathered.right; each = λ i inside. let same = gathered.each i in let one = once i inside in omega arith }
 
--- the first of several passes was told what all were told
+-- where all of several tickets got `None`, the first did
 pub told-first : (passes : List Pass) → 0 < length passes → All (λ pass. was_told pass ≡ true) passes →
     Any (λ pass. was_told pass ≡ true) passes
 told-first [] some all = absurd (omega arith)

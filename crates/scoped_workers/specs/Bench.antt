@@ -1,4 +1,4 @@
--- What clauses read of a bench.
+-- What contracts see of a bench.
 use Rattle.std.specs.Prelude.{List}
 use Rattle.line_kernels.specs.declared.request.Request.{Request}
 use Rattle.scoped_workers.specs.declared.slot.Slot.{Slot}

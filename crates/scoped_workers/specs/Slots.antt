@@ -1,4 +1,4 @@
--- What a slot holds once its request was computed, and the answers to a list of requests.
+-- What a slot holds after its request was computed, and the answers to a list of requests.
 use Rattle.std.specs.Prelude.{◌≡◌, ◌≢◌, ℕ, ◌<◌, List, length, slice_index_or}
 use Rattle.line_kernels.specs.declared.request.Request.{Request}
 use Rattle.line_kernels.specs.declared.answers.Answer.{Answer}
@@ -7,26 +7,26 @@ use Rattle.scoped_workers.specs.declared.slot.Slot.{Slot}
 use Rattle.scoped_workers.specs.declared.slot.Content.{Content}
 use Rattle.scoped_workers.specs.declared.slot.Content.TheVariants.{Empty, Done, NoMemory}
 
--- the answer to a request is that of its kernel on its part
+-- this is the answer to a request: that of its kernel on its part
 abbrev pub Answers : Request → Answer → Type 0
 Answers request answer = IsAnswer request.kernel request.part answer
 
--- the answer to a request, or nothing where memory was refused
+-- the content of the slot of a request that was computed: its answer, or `NoMemory`
 abbrev pub Computes : Request → Content → Type 0
 Computes request Empty = ⊥
 Computes request (Done answer) = Answers request answer
 Computes request NoMemory = Unit {0}
 
--- what stands in the slot of a request that was computed
+-- the slot of a request that was computed
 abbrev pub IsComputed : Request → Slot → Type 0
 IsComputed request slot = Computes request slot.content
 
--- the slot of each request holds what that request came to
+-- the slot of each request holds its result
 abbrev pub AreComputed : List Request → List Slot → Type 0
 AreComputed requests row = (i : ℕ) (q : Request) (s : Slot) → i < length row →
     IsComputed (slice_index_or requests i q) (slice_index_or row i s)
 
--- the answer at each place is that of the request there
+-- there are as many answers as requests, and the answer at each place is that of the request there
 pub record AreAnswers (requests : List Request) (answers : List Answer) : Type 0 where
   pub count : length answers ≡ length requests
   pub each : (i : ℕ) (q : Request) (a : Answer) → i < length requests → Answers (slice_index_or requests i q) (slice_index_or answers i a)

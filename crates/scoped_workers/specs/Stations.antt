@@ -1,4 +1,4 @@
--- The stations of the workers, and the answers that they hand back.
+-- The workers, and the answers that they return.
 use Rattle.std.specs.Prelude.{◌≡◌, ℕ, ◌<◌, true, false, List, [], ◌∷◌, ◌++◌, length, map, All, sum_by, count_by, nat_eq, slice_index_or}
 use Rattle.line_kernels.specs.declared.request.Request.{Request}
 use Rattle.line_kernels.specs.declared.answers.Answer.{Answer}
@@ -13,7 +13,7 @@ use Rattle.scoped_workers.specs.Slots.{Answers}
 abbrev pub number : Numbered → ℕ
 number numbered = numbered.number
 
--- the answer is that to the request of its number
+-- the answer is that of the request with its number
 abbrev pub IsRight : List Request → Numbered → Type 0
 IsRight requests numbered = (numbered.number < length requests)
     × ((q : Request) → Answers (slice_index_or requests numbered.number q) numbered.answer)
@@ -23,32 +23,32 @@ pub record AreDrawn (requests : List Request) (drawn : List ℕ) (answered : Lis
   pub numbers : map number answered ≡ drawn
   pub right : All (IsRight requests) answered
 
--- the station's pass is one of these claims, and it has drawn and answered nothing
+-- the worker's ticket is one of these claims, and the worker has drawn and answered nothing
 pub record IsFresh (claims : Claims) (station : Station) : Type 0 where
   pub pass : IsPassOf claims station.pass
   pub untold : was_told station.pass ≡ false
   pub drawn : drawn_by station.pass ≡ []
   pub answered : station.answered.items ≡ []
 
--- nothing was left for the station's pass, and unless memory was refused there, each number that it drew has its answer
+-- the worker's ticket got `None`, and unless memory was refused for the worker, each number that it drew has its answer
 pub record IsFinished (requests : List Request) (claims : Claims) (station : Station) : Type 0 where
   pub pass : IsPassOf claims station.pass
   pub told : was_told station.pass ≡ true
   pub answered : station.refused ≡ false → AreDrawn requests (drawn_by station.pass) station.answered.items
 
--- one request more is answered at the station, or memory was refused there
+-- the worker has answered one more request, or memory was refused for it
 pub record IsNoted (request : Request) (i : ℕ) (before after : Station) : Type 0 where
   pub pass : after.pass ≡ before.pass
   pub kept : after.refused ≡ false → before.refused ≡ false
   pub more : after.refused ≡ false → (answer : Answer) × Answers request answer
       × (after.answered.items ≡ before.answered.items ++ record { number = i; answer = answer } ∷ [])
 
--- the answers are right, and there are as many to each request as the passes drew its number
+-- the answers are right, and each request has as many answers as the number of times that the tickets drew it
 pub record AreGathered (requests : List Request) (passes : List Pass) (answered : List Numbered) : Type 0 where
   pub right : All (IsRight requests) answered
   pub each : (i : ℕ) → count_by (nat_eq i) (map number answered) ≡ sum_by (λ pass. count_by (nat_eq i) (drawn_by pass)) passes
 
--- the answers are right, and each request has one
+-- the answers are right, and each request has at least one
 pub record HaveAnswers (requests : List Request) (answered : List Numbered) : Type 0 where
   pub right : All (IsRight requests) answered
   pub each : (i : ℕ) → i < length requests → 0 < count_by (nat_eq i) (map number answered)

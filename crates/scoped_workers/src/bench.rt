@@ -5,7 +5,7 @@ use crate::slot::{Content, Slot};
 use line_kernels::{Request, answer};
 use std::alloc::Global;
 
-/// Requests, and a row of slots lent for their answers: slot `i` is for request `i`.
+/// Requests, and a borrowed row of slots for their answers. Slot `i` is for request `i`.
 #[derive(Drop)]
 pub struct Bench<'b, 'a> {
     requests: &'b [Request<'a>],
@@ -16,7 +16,7 @@ pub struct Bench<'b, 'a> {
 impl<'b, 'a> Bench<'b, 'a> {
     ghost use Rattle.scoped_workers.specs.Bench.{requests_of, row_of};
 
-    /// Pairs request `i` with slot `i`. The caller sees to it that there are as many of both.
+    /// Pairs request `i` with slot `i`. The caller must ensure that there are as many slots as requests.
     pub fn new(requests: &'b [Request<'a>], row: &'b mut [Slot<'a>]) -> Bench<'b, 'a>
         requires { length requests.now ≡ length row.old }
         ensures requests { requests_of result ≡ requests.now }
@@ -26,7 +26,7 @@ impl<'b, 'a> Bench<'b, 'a> {
         Bench { requests, row }
     }
 
-    /// Puts a slot's content at a place. The caller sees to it that the place is below the number of slots.
+    /// Replaces slot `i`. The caller must ensure that `i` is less than the number of slots.
     pub fn put(&mut self, i: usize, slot: Slot<'a>)
         requires { i < length (row_of self.old) }
         ensures requests { requests_of self.new ≡ requests_of self.old }
@@ -36,7 +36,8 @@ impl<'b, 'a> Bench<'b, 'a> {
         self.row[i] = slot;
     }
 
-    /// The first `n` requests with their slots, and the others with theirs. The caller sees to it that there are as many.
+    /// Returns two benches: the first `n` requests with their slots, and the others with theirs. The caller must ensure that
+    /// there are at least `n` requests.
     pub fn cut(self, n: usize) -> (Bench<'b, 'a>, Bench<'b, 'a>)
         requires { n ≤ length (row_of self) }
         ensures first { (requests_of result.0 ≡ take n (requests_of self.entry)) × (row_of result.0 ≡ take n (row_of self.entry)) }
@@ -57,7 +58,8 @@ impl<'b, 'a> Bench<'b, 'a> {
         )
     }
 
-    /// Computes each request in turn. Its slot then has its answer, or `NoMemory` where memory was refused.
+    /// Computes each request in turn. The slot of each request then holds its answer, or `NoMemory` if memory was refused for
+    /// that request.
     pub fn fill(self, alloc: Global)
         ensures count { length self.exit.1.0.now ≡ length (requests_of self.entry) }
         ensures computed { AreComputed (requests_of self.entry) self.exit.1.0.now }
@@ -67,7 +69,7 @@ impl<'b, 'a> Bench<'b, 'a> {
     }
 }
 
-// Computes requests in turn, each into its slot.
+// Computes requests in turn, and stores each result in its slot.
 fn compute<'a>(alloc: Global, requests: &[Request<'a>], row: &mut [Slot<'a>])
     requires { length row.old ≡ length requests.now }
     ensures count { length row.new ≡ length row.old }
@@ -78,7 +80,7 @@ fn compute<'a>(alloc: Global, requests: &[Request<'a>], row: &mut [Slot<'a>])
     }
 }
 
-// The slot of a request that was computed.
+// Computes a request, and returns its slot.
 fn computed<'a>(alloc: Global, request: &Request<'a>) -> Slot<'a>
     ensures { IsComputed request.now result }
 {

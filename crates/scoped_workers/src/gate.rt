@@ -1,9 +1,11 @@
-/// What a worker calls round each request that it computes, for tests that want to see workers at work.
+/// Functions that a worker calls before and after each request that it computes. The program shows its progress with a
+/// gate, and tests use one to observe the workers.
 pub trait Gate {
-    /// Called before request `i` is computed.
+    /// Called before the request with number `i` in the batch is computed, by the worker that computes it.
     fn before(&self, i: usize);
 
-    /// Called after request `i` was computed.
+    /// Called after the request with number `i` in the batch was computed, or memory was refused for it, by the worker that
+    /// computed it.
     fn after(&self, i: usize);
 }
 

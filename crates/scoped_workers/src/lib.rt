@@ -2,7 +2,7 @@
 //!
 //! The layer promises that `work` answers each request as its kernel does (`line_kernels`), in the order of the requests,
 //! for every number of workers and every gate. The workers draw the numbers of the requests (`claim_word`), so that no worker
-//! waits while a request is left. It stands on these two crates and on the scoped threads of std.
+//! waits while a request is left. It uses these two crates and the scoped threads of std.
 #![tactic(auto)]
 
 mod bench;

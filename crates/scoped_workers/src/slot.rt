@@ -3,14 +3,14 @@ use line_kernels::Answer;
 /// A place for the answer to one request.
 #[derive(Drop)]
 pub struct Slot<'a> {
-    /// What is in it.
+    /// What the slot holds.
     pub content: Content<'a>,
 }
 
 /// What a slot holds.
 #[derive(Drop)]
 pub enum Content<'a> {
-    /// Nothing yet.
+    /// Nothing. No request was computed for this slot yet.
     Empty,
     /// The answer to the slot's request.
     Done(Answer<'a>),

@@ -7,14 +7,14 @@ use claim_word::{Claims, Pass};
 use line_kernels::{Answer, Request, answer};
 use std::alloc::Global;
 
-// The answer to the request of a number.
+// An answer, and the number of its request in the batch.
 #[derive(Drop)]
 pub(crate) struct Numbered<'a> {
     pub(crate) number: usize,
     pub(crate) answer: Answer<'a>,
 }
 
-// Where one worker works: its pass, what it answered, and whether memory was refused there.
+// The state of one worker: its ticket, its answers, and whether memory was refused for it.
 #[derive(Drop)]
 pub(crate) struct Station<'a> {
     pub(crate) pass: Pass,
@@ -23,7 +23,7 @@ pub(crate) struct Station<'a> {
 }
 
 impl<'a> Station<'a> {
-    // A station at which nothing was answered yet.
+    // Creates a worker that has answered nothing yet.
     pub(crate) fn new(alloc: Global, pass: Pass) -> Station<'a>
         ensures pass { result.pass ≡ pass }
         ensures answered { result.answered.items ≡ [] }
@@ -36,7 +36,7 @@ impl<'a> Station<'a> {
         }
     }
 
-    // Draws requests until none is left, and computes each, with the gate round it.
+    // Draws requests until none is left, and computes each. Calls the gate before and after each request.
     pub(crate) fn run<G: Gate>(
         &mut self,
         alloc: Global,
@@ -55,7 +55,7 @@ impl<'a> Station<'a> {
         }
     }
 
-    // Computes a request, and keeps its answer with its number, or that memory was refused.
+    // Computes a request, and stores its answer with its number, or that memory was refused.
     fn note(&mut self, alloc: Global, number: usize, request: &Request<'a>)
         ensures { IsNoted request.entry.now number self.old self.new }
     {

@@ -12,13 +12,15 @@ use std::alloc::{AllocError, Global};
 use std::thread;
 use std::thread::Threads;
 
-/// Answers each request, in at most so many worker threads and no more than there are requests; a single worker is the
-/// calling thread. Each worker draws the next request until none is left. The gate is called round each request, by the
-/// worker that computes it.
+/// Answers each request, and returns the answers in the order of the requests. Uses at most `workers` threads, and no more
+/// than there are requests. A single worker runs in the calling thread. Each worker draws the next request until none is
+/// left. The worker that computes a request calls the gate before and after it.
 ///
-/// A request for which memory is refused makes the whole answer that, after all workers were joined. Where a thread
-/// cannot be started another does its work. The caller sees to it that there are 1 to 64 workers and at most 4,000,000
-/// requests.
+/// If a thread cannot be started, another one does its work. The caller must ensure that there are from 1 to 64 workers and
+/// at most 4,000,000 requests.
+///
+/// Returns `AllocError` if memory is refused for a request or for this call itself. All threads that were started are joined
+/// before it returns.
 pub fn work<'a, R: Threads + Sync, G: Gate + Sync>(
     rt: &R,
     alloc: Global,
@@ -41,7 +43,7 @@ pub fn work<'a, R: Threads + Sync, G: Gate + Sync>(
     answers(alloc, row)
 }
 
-// The answers to all requests, by so many workers, as they come.
+// Returns the answers to all requests, computed by this many workers, grouped by worker.
 fn draw_all<'a, R: Threads + Sync, G: Gate + Sync>(
     rt: &R,
     alloc: Global,
@@ -70,7 +72,7 @@ fn draw_all<'a, R: Threads + Sync, G: Gate + Sync>(
     Ok(answered)
 }
 
-// A station for each pass.
+// Creates a worker for each ticket.
 fn stations_of<'a>(
     alloc: Global,
     claims: &Claims,
@@ -87,7 +89,7 @@ fn stations_of<'a>(
     Ok(stations)
 }
 
-// The stations once their workers have drawn all requests.
+// Runs the workers until they have drawn all requests, and returns them.
 fn run_all<'a, R: Threads + Sync, G: Gate + Sync>(
     rt: &R,
     alloc: Global,
@@ -106,7 +108,7 @@ fn run_all<'a, R: Threads + Sync, G: Gate + Sync>(
     stations
 }
 
-// Runs each station, in a thread of its own if there are several.
+// Runs each worker, in a thread of its own if there are several.
 fn run_each<'a, R: Threads + Sync, G: Gate + Sync>(
     rt: &R,
     alloc: Global,
@@ -137,7 +139,7 @@ fn run_each<'a, R: Threads + Sync, G: Gate + Sync>(
     );
 }
 
-// What all stations hand back.
+// The tickets and answers of all workers, and whether memory was refused for at least one of them.
 #[derive(Drop)]
 struct Gathered<'a> {
     passes: Vec<Pass>,
@@ -146,7 +148,7 @@ struct Gathered<'a> {
 }
 
 impl<'a> Gathered<'a> {
-    // Takes in what one station hands back.
+    // Adds the ticket and the answers of one worker.
     fn take(&mut self, station: Station<'a>) -> Result<(), AllocError>
         ensures passes { IfOk result (λ _. self.new.passes.items ≡ self.old.passes.items ++ station.entry.pass ∷ []) }
         ensures answered { IfOk result (λ _. self.new.answered.items ≡ self.old.answered.items ++ station.entry.answered.items) }
@@ -164,7 +166,7 @@ impl<'a> Gathered<'a> {
     }
 }
 
-// Gathers what the stations hand back.
+// Collects the tickets and the answers of the workers.
 fn gather<'a>(
     alloc: Global,
     requests: &[Request<'a>],
@@ -211,7 +213,7 @@ fn put<'a>(row: &mut [Slot<'a>], number: usize, answer: Answer<'a>)
     };
 }
 
-// So many empty slots.
+// Returns this many empty slots.
 fn empty_row<'a>(alloc: Global, count: usize) -> Result<Vec<Slot<'a>>, AllocError>
     ensures { IfOk result (λ row. row.items ≡ replicate count empty) }
 {
@@ -224,7 +226,7 @@ fn empty_row<'a>(alloc: Global, count: usize) -> Result<Vec<Slot<'a>>, AllocErro
     Ok(row)
 }
 
-// The answers of a row of which no slot is empty.
+// Returns the answers in a row of slots of which none is empty, or `AllocError` if memory was refused for a slot.
 fn answers<'a>(alloc: Global, row: Vec<Slot<'a>>) -> Result<Vec<Answer<'a>>, AllocError>
     requires { All IsFilled row.items }
     ensures { IfOk result (λ answers. map done answers.items ≡ row.entry.items) }
