@@ -166,7 +166,7 @@ found_signed before after old new (Some key) label own froms labels at signed =
     subst (λ (o : Option Label). Acts old.tick (scoping_of before old) (signs_to o old.tick) (scoping_of after new)) (sym at.1.1)
     (one_signed before after old new key at.1.0 own froms labels (at.0 ∙ at.1.1) signed)
 
--- the innermost scope of who failed
+-- the innermost scope, by a task or body that failed
 pub home_signed : (before after : Task) (old new : World) (exc : Option Exc) (froms : Table) (st : Stack) (ps : List Place) →
     after.own.items ≡ before.own.items →
     after.froms.items ≡ before.froms.items → label_at new ≡ label_at old → AreAt (label_at old) froms st ps →

@@ -47,7 +47,7 @@ use Rattle.task_machine.proofs.Tooks.{blocks_pushed, took_onward, took_end, took
 
 -- ---- a task of which some part was taken
 
--- it stands where it stood, while it is in the same scopes
+-- it has the same state as before, while it is in the same scopes
 pub stands_as : (frames : List Frame) (task before : Task) (world : World) (froms : Table) (numbers : Numbers) (stopped : Option Stopped)
     (ps : List Place) →
     scope_of before ≡ scope_of task →
@@ -129,7 +129,7 @@ abbrev key_in : List ℕ → List Block
 key_in [] = []
 key_in (id ∷ ns) = a_nursery id ∷ []
 
--- the blocks among frames whose nurseries have their keys as numbers, in front of others
+-- the blocks among frames whose nurseries have their keys as numbers, followed by others
 abbrev pub blocks_onto : List rest.Frame → List Block → List Block
 blocks_onto [] bs = bs
 blocks_onto (rest.steps_left ss ∷ fs) bs = blocks_onto fs bs
@@ -154,7 +154,7 @@ onto_keys (Try handler cleanup ∷ fs) outer bs = onto_keys fs (frame_of own_key
 onto_keys (Handler others cleanup ∷ fs) outer bs = onto_keys fs (frame_of own_keys (Handler others cleanup) ∷ outer) bs
 onto_keys (Cleanup outcome ∷ fs) outer bs = onto_keys fs (frame_of own_keys (Cleanup outcome) ∷ outer) bs
 
--- Frames tell their blocks. So what a clause says of frames for all numbers says which blocks there are.
+-- Frames determine their blocks. So a clause about frames for all numbers determines the blocks.
 pub blocks_by : (fs : List Frame) → blocks_onto (frames_of own_keys fs) [] ≡ blocks_of fs
 blocks_by fs = onto_keys fs [] [] ∙ append-nil (blocks_of fs)
 

@@ -51,7 +51,8 @@ pub frames_put : (frames : List Frame) (task before : Task) (first : Step) (a : 
     frames_of numbers before.frames.items ≡ rest.steps_left (steps_of a.left.now) ∷ frames_of numbers a.outer
 frames_put frames task before first a numbers = frames_pushed numbers a.outer before.frames.items (Steps a.left) a.held
 
--- where the task is inside the frames round its steps, as the definitions read it from them, is where it is inside its passes
+-- where the task is inside the frames that enclose its steps, as the definitions compute it from them, is where it is inside
+-- its passes
 pub inside_is : (frames : List Frame) (task before : Task) (first : Step) (a : AtStep frames task before first) (numbers : Numbers) →
     inside (frames_of numbers a.outer) (here_of before) ≡ here_inside before
 inside_is frames task before first a numbers =
@@ -59,7 +60,7 @@ inside_is frames task before first a numbers =
     (ap (λ (gs : List rest.Frame). path_in gs before.label.indices) (sym (frames_put frames task before first a numbers))
     ∙ path_inside numbers before.frames.items before.label.indices)
 
--- what the definitions do by the step is their step; its scope, if it enters one, has a name that is none of those round it
+-- what the definitions do for the step is their step; its scope, if it enters one, has a name that no enclosing one has
 pub takes_on : (frames : List Frame) (first : Step) (task before after : Task) (old new : World) (goes : Moved) →
     (a : AtStep frames task before first) →
     ((froms : Table) (numbers : Numbers) (ps : List Place) (count : ℕ) → Stands frames before old froms numbers None ps →
@@ -101,7 +102,7 @@ takes_sleeps frames first task before after world goes ticks a is stays sleep =
     (took_sleep frames before after world goes froms numbers None ps ticks stands stays (blocks_put frames task before first a)
     (λ at. sleep froms numbers world.book (frames_of numbers before.frames.items) ps at)))
 
--- a `sleep`, where the code stops or goes on as a sleep of its ticks does, is the definitions' step
+-- a `sleep`, if the code stops or continues as a sleep of its ticks does, is the definitions' step
 pub takes_sleep : (frames : List Frame) (first : Step) (task before after : Task) (world : World) (goes : Moved) (ticks : ℕ) →
     AtStep frames task before first →
     first ≡ code.Sleep ticks →
@@ -115,7 +116,7 @@ takes_sleep frames first task before after world goes ticks a is stays sleep =
     (λ froms here ss fs ps count. ap (λ (s : Step). step_on froms world.tick here
     (step_in s) ss fs ps count) is) stays sleep
 
--- a `checkpoint`, where the code goes on as a sleep of no tick does, is the definitions' step
+-- a `checkpoint`, if the code continues as a sleep of no tick does, is the definitions' step
 pub takes_checkpoint : (frames : List Frame) (first : Step) (task before after : Task) (world : World) (goes : Moved) →
     AtStep frames task before first → first ≡ code.Checkpoint →
     after ≡ record before { halt = after.halt } →
@@ -127,7 +128,7 @@ takes_checkpoint frames first task before after world goes a is stays sleep =
     takes_sleeps frames first task before after world goes 0 a (λ froms here ss fs ps count.
     ap (λ (s : Step). step_on froms world.tick here (step_in s) ss fs ps count) is) stays sleep
 
--- a `forever`, where the code stops or goes on as a sleep up to the farthest tick does, is the definitions' step
+-- a `forever`, if the code stops or continues as a sleep until the farthest tick does, is the definitions' step
 pub takes_forever : (frames : List Frame) (first : Step) (task before after : Task) (world : World) (goes : Moved) (ticks : ℕ) →
     AtStep frames task before first → first ≡ code.Forever →
     ticks ≡ far - world.tick → after ≡ record before { halt = after.halt } →
@@ -192,7 +193,7 @@ takes_find frames first task before after world goes text needle a is sought sta
     ap (λ (s : Step). step_on froms world.tick here (step_in s) ss fs ps count) is
     ∙ ap (λ (bytes : List ℕ). halts (asking (ask.find bytes) ask.shows) (rest.steps_left ss ∷ fs) ps) (sym sought)) stays asks
 
--- a `head`, where the code stops to ask for so many first lines, is the definitions' step
+-- a `head`, if the code stops to ask for this number of first lines, is the definitions' step
 pub takes_head : (frames : List Frame) (first : Step) (task before after : Task) (world : World) (goes : Moved) (n : ℕ) →
     AtStep frames task before first → first ≡ code.Head n →
     after ≡ record before { halt = after.halt } →
@@ -233,7 +234,7 @@ takes_need frames first task before after world goes text name needle a is sough
 
 -- ---- an exception is raised, and a scope cancelled
 
--- a `raise`, where the code goes on with the exception of its name, is the definitions' step
+-- a `raise`, if the code continues with the exception of its name, is the definitions' step
 pub takes_raise : (frames : List Frame) (first : Step) (task before : Task) (world : World) (goes : Moved) (name : List ℕ) →
     AtStep frames task before first → first ≡ code.Raise name →
     ((numbers : Numbers) (book : NurseryBook) (fs : List rest.Frame) (ps : List Place) →
@@ -364,7 +365,7 @@ takes_start frames fs id first task before old new name body a is within apart w
     (in_body fs a.outer before.frames.items id a.left a.held within)
     (blocks_put frames task before first a) apart world starts modest))
 
--- and so many over the cuts of its part
+-- and one for each of the cuts of its part
 pub takes_start_over : (frames fs : List Frame) (id : ℕ) (first : Step) (task before : Task) (old new : World) (name : List ℕ) (k : ℕ)
     (body : tree.Steps) →
     (a : AtStep frames task before first) →

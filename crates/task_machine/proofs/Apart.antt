@@ -1,4 +1,4 @@
--- No nursery stands twice among the blocks of a task.
+-- No nursery occurs twice among the blocks of a task.
 use Rattle.std.proofs.Common.{◌≡◌, ◌≢◌, inl, inr, ℕ, Option, Some, None, List, [], ◌∷◌, ◌++◌, refl, ap, sym, ◌∙◌, subst, Bor}
 use Rattle.std.proofs.lemmas.List.{append-nil}
 use Rattle.std.proofs.lemmas.List.Elements.{All-head, All-tail}
@@ -93,7 +93,8 @@ pub apart_awaited : (fs : List Frame) (part : Part) (home : Option ℕ) (own : L
     FitsIn fs part home own n tree labels book (Some id) → HasBlock id (blocks_of fs) → ⊥
 apart_awaited fs part home own n tree labels book id h has = apart_waits labels book (blocks_of fs) own id h.opened has
 
--- of frames inside which a nursery's body stands innermost, with frames inside it that are no blocks
+-- for frames in which a nursery's body is the innermost block, with frames inside it that are no
+-- blocks
 pub apart_body : (fs gs : List Frame) (part : Part) (home : Option ℕ) (own : List Own) (n : ℕ) (tree : Tree) (labels : Labels)
     (book : NurseryBook) (id : ℕ) →
     FitsIn gs part home own n tree labels book None → blocks_of gs ≡ blocks_of (fs ++ Nursery id ∷ []) → HasBlock id (blocks_of fs) → ⊥
@@ -101,7 +102,7 @@ apart_body fs gs part home own n tree labels book id h same has =
     apart_inner labels book (blocks_of fs) own id (subst (λ (bs : List Block). Opened labels book bs own None)
     (same ∙ blocks_append fs (Nursery id ∷ [])) h.opened) has
 
--- and of a task whose steps are such a body's
+-- and for a task whose steps are those of such a body
 pub apart_steps : (fs outer gs : List Frame) (steps : Bor (List Step)) (part : Part) (home : Option ℕ) (own : List Own) (n : ℕ)
     (tree : Tree) (labels : Labels)
     (book : NurseryBook) (id : ℕ) →

@@ -1,4 +1,4 @@
--- Children that begin at their places, among more of them.
+-- Children that begin at their places, among others.
 use Rattle.std.proofs.Common.{inl, inr, ℕ, Option, List, [], ◌∷◌, ◌++◌}
 use Rattle.nursery_book.specs.declared.book.NurseryBook.{NurseryBook}
 use Rattle.task_turns.specs.Midway.{Begun}

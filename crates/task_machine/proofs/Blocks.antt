@@ -95,7 +95,8 @@ opened_waits labels book (c ∷ bs) (x ∷ own) id o h e n = (
 
 -- ---- a change of the world
 
--- What stays of a world but for one scope: the labels of others, and the nurseries of others whose body runs.
+-- What stays the same in a world except for one scope: the labels of others, and the nurseries of others whose
+-- body runs.
 pub record StaysBut (labels more : Labels) (old new : NurseryBook) (key : ℕ) : Type 0 where
   pub named : (other : ℕ) → other ≢ key → more other ≡ labels other
   pub nurseries : (id : ℕ) (n : Members) → nursery_at old id ≡ Some n → n.scope ≢ key → nursery_at new id ≡ Some n
@@ -158,7 +159,7 @@ runs_in_waits book (a_nursery x ∷ bs) id zero (inr r) = inr (runs_in_waits boo
 runs_in_waits book (a_scope ∷ bs) id (suc i) r = runs_in_waits book bs id i r
 runs_in_waits book (a_nursery x ∷ bs) id (suc i) r = runs_in_waits book bs id i r
 
--- behind the last block nothing runs but in the nursery that is waited for
+-- after the last block nothing runs except in the nursery that is waited for
 pub runs_behind : (book : NurseryBook) (bs : List Block) (i : ℕ) (waits : Option ℕ) → length bs ≤ i → RunsIn book bs i waits →
     HasRunning book waits
 runs_behind book [] i waits long r = r

@@ -42,7 +42,7 @@ pub record IsBody (fs : List Frame) : Type 0 where
   pub id : ℕ
   pub at : InBody fs id
 
--- where the frame round the innermost one is a nursery's, the task is in the body of that
+-- if the frame that encloses the innermost one is a nursery's, the task is in the body of that
 pub is_body : (fs : List Frame) → IsTrue (in_body (frames_behind (frames_of (λ id. []) fs))) → IsBody fs
 is_body [] b = absurd (let e : false ≡ true = b in cc)
 is_body (f ∷ []) b = absurd (let e : false ≡ true = b in cc)
@@ -69,7 +69,7 @@ at_two : (outer : List Frame) (y x : Frame) → slice_get (outer ++ y ∷ x ∷ 
 at_two [] y x = refl
 at_two (z ∷ outer) y x = at_two outer y x
 
--- the last frame but one is that of the nursery whose body the task is in
+-- the second to last frame is that of the nursery whose body the task is in
 pub body_at : (fs : List Frame) (id : ℕ) → InBody fs id → slice_get fs (length fs - 2) ≡ Some (Nursery id)
 body_at fs id b =
     ap (λ (xs : List Frame). slice_get xs (length fs - 2)) b.is
@@ -92,7 +92,7 @@ body_block labels book [] cs id (o ∷ own) waits h = by_nursery (nursery_at boo
 body_block labels book (b ∷ bs) cs id [] waits h = absurd h
 body_block labels book (b ∷ bs) cs id (o ∷ own) waits h = body_block labels book bs cs id own waits h.2
 
--- a nursery whose body a task is in stands in the book, and its body runs
+-- a nursery whose body a task is in is in the book, and its body runs
 pub body_runs : (labels : Labels) (book : NurseryBook) (fs : List Frame) (id : ℕ) (own : List Own) → InBody fs id →
     Opened labels book (blocks_of fs) own None → HasNursery book id (λ n. n.body ≡ None)
 body_runs labels book fs id own b h =
@@ -101,11 +101,12 @@ body_runs labels book fs id own b h =
     (ap blocks_of b.is ∙ blocks_append b.outer (Nursery id ∷ b.top ∷ [])
     ∙ ap (λ (bs : List Block). blocks_of b.outer ++ bs) (blocks_append (Nursery id ∷ []) (b.top ∷ []))) h)
 
--- what stands there
+-- the frame there
 pub body_frame : (fs xs : List Frame) (b : IsBody fs) (f : Frame) → xs ≡ fs → f ≡ get_or xs (length xs - 2) f → f ≡ Nursery b.id
 body_frame fs xs b f same at = at ∙ ap (λ (ys : List Frame). get_or ys (length ys - 2) f) same
     ∙ get_or_from_slice_get fs (length fs - 2) (Nursery b.id) f (body_at fs b.id b.at)
 
--- a frame that is that of the nursery round the task, and that of a key: the task is in the body of the nursery of the key
+-- a frame that is that of the nursery that encloses the task, and that of a key: the task is in the body of the nursery
+-- with the key
 pub body_id : (fs : List Frame) (b : IsBody fs) (f : Frame) (id : ℕ) → f ≡ Nursery b.id → f ≡ Nursery id → InBody fs id
 body_id fs b f id e g = subst (λ (k : ℕ). InBody fs k) (let h : Nursery b.id ≡ Nursery id = sym e ∙ g in let i : b.id ≡ id = cc in i) b.at

@@ -1,4 +1,4 @@
--- A scope round a task that is cancelled by its name.
+-- A scope that encloses a task and is cancelled by its name.
 use Rattle.std.proofs.Common.{◌≡◌, inl, inr, ℕ, Option, Some, None, List, [], ◌∷◌, ◌++◌, append_assoc, refl, ap, sym, ◌∙◌, subst}
 use Rattle.std.specs.Prelude.{IsSome}
 use Rattle.std.specs.Option.{option_map, unwrap_or}
@@ -50,7 +50,8 @@ round_after old new key t (Some p) h = ap (λ (o : Option Stack). unwrap_or o []
     by_stack None = refl
     by_stack (Some st) = refl
 
--- where a scope of the name was found and signed, the froms of the places are lowered by the sign of its label
+-- if a scope of the name was found and signed, the froms of the enclosing scopes are lowered by the sign of
+-- its label
 pub cancels_at : (labels more : Labels) (old new : Tree) (scope : Option ℕ) (name : List ℕ) (key t : ℕ) → more ≡ labels →
     ((at : ℕ) → stack_of new at ≡ option_map (after_cancel key t) (stack_of old at)) →
     scope_named labels name (outer_of old scope) ≡ Some key →
@@ -69,7 +70,7 @@ cancels_at labels more old new scope name key t same after found froms ps own a 
     (subst (λ (o : Option Label). AreAt labels (froms_after froms (signs_to o t)) (after_cancel key t (outer_of old scope)) ps) (sym at.1.1)
     signed))
 
--- where no scope has the name, nothing is signed and the places stay as they are
+-- if no scope has the name, nothing is signed and the enclosing scopes stay as they are
 pub cancels_none : (labels : Labels) (st : Stack) (name : List ℕ) (t : ℕ) → scope_named labels name st ≡ None →
     (froms : Table) (ps : List Place) →
     AreAt labels froms st ps → AreAt labels (froms_after froms (signs_to (label_among name ps) t)) st ps

@@ -29,7 +29,7 @@ same_outer (a ∷ xs) (b ∷ ys) x y e =
     let more : xs ++ x ∷ [] ≡ ys ++ y ∷ [] = cc in
     ap (λ (z : Frame). z ∷ xs) first ∙ ap (λ (zs : List Frame). b ∷ zs) (same_outer xs ys x y more)
 
--- a `start`, where the code starts its children in the nursery whose body the task is in, is the definitions' step
+-- a `start`, if the code starts its children in the nursery whose body the task is in, is the definitions' step
 pub takes_children : (frames : List Frame) (first : Step) (task before : Task) (old new : World) (name : List ℕ) (over : Option ℕ)
     (body : Steps) → Fits before.frames.items before old None →
     AtStep frames task before first → first ≡ code.Start name over body → new ≡ record old { book = new.book; started = new.started } →

@@ -1,4 +1,4 @@
--- The nurseries of a task with the keys of their scopes, and how a task stopped, for a crew of tasks.
+-- The nurseries of a task with the keys of their scopes, and how a task stopped, for all tasks of the program together.
 use Rattle.std.proofs.Common.{◌≡◌, ◌⊎◌, inl, inr, ℕ, Option, Some, None, List, [], ◌∷◌, ◌++◌, append_assoc, refl, sym, subst}
 use Rattle.std.specs.Prelude.{IsSome}
 use Rattle.std.specs.Option.{IsSomeAnd}
@@ -26,9 +26,8 @@ use Rattle.task_machine.specs.Stops.{Numbers, IsHalt, IsTold}
 
 -- ---- nurseries with the keys of their scopes
 
--- Frames, innermost first, and the keys of the scopes round them: each scope and nursery has its key, and a nursery has the
--- children that are
--- numbered where it stands in the book, with a fact of both.
+-- Frames, innermost first, and the keys of the scopes that enclose them: each scope and nursery has its key, and a nursery
+-- has the children that are numbered at its key in the book, with a fact about both.
 abbrev pub Keyed : (ℕ → ℕ → Type 0) → Numbers → List rest.Frame → List ℕ → Type 0
 Keyed P now [] ks = Unit {0}
 Keyed P now (rest.steps_left ss ∷ fs) ks = Keyed P now fs ks
@@ -102,7 +101,7 @@ keyed_by P now labels book fs own waits ks has h = keyed_onto P now labels book 
 
 -- ---- how a task stopped
 
--- who stopped at its end told so
+-- a task that stopped at its end returned so
 pub told_end : (numbers : Numbers) (book : NurseryBook) (part : Part) (stop : Stop) (halt : Halt) (u : ℕ) (e : Option Exc) →
     IsHalt numbers book halt (at_end u e) →
     IsTold part stop halt (at_end u e) → (exc : Option held.Exc) × (stop ≡ Ended exc)
@@ -123,7 +122,7 @@ WaitsAs numbers waits (asleep n since) = waits ≡ None
 WaitsAs numbers waits (awaiting children ended exc) = (id : ℕ) × (waits ≡ Some id) × (numbers id ≡ children)
 WaitsAs numbers waits (at_end u e) = waits ≡ None
 
--- a task that stopped to wait for children waits for their nursery by its halt, and any other for none
+-- a task that stopped to wait for children waits for their nursery by its blocked state, and any other for none
 pub halt_waits : (numbers : Numbers) (book : NurseryBook) (halt : Halt) (stopped : Stopped) → IsHalt numbers book halt stopped →
     WaitsAs numbers (waits_of halt) stopped
 halt_waits numbers book ToBegin to_begin h = refl

@@ -1,4 +1,4 @@
--- A scope that is entered inside the places of a task.
+-- A scope that is entered inside the scopes and nurseries that enclose a task.
 use Rattle.std.proofs.Common.{◌≡◌, ◌≢◌, ℕ, Bool, Option, Some, None, List, [], ◌∷◌, ◌++◌, append_assoc, refl, ap, sym, ◌∙◌, subst}
 use Rattle.std.specs.Option.{unwrap_or}
 use Rattle.exc_groups.specs.Exceptions.{Label}

@@ -1,4 +1,4 @@
--- A block that is left, and the sign of who fails.
+-- A block that is left, and the sign of a task or body that fails.
 use Rattle.std.proofs.Common.{◌≡◌, inl, ℕ, Bool, not, Option, Some, None, List, [], ◌∷◌, refl, ap, sym, ◌∙◌, subst}
 use Rattle.std.proofs.lemmas.List.Elements.{All-nil, All-cons}
 use Rattle.std.specs.Prelude.{IsSome, true, false}
@@ -23,7 +23,7 @@ use Rattle.task_machine.specs.Standing.{AreNoted}
 use Rattle.task_machine.proofs.Cancels.{round_after}
 use Rattle.task_machine.proofs.Stacked.{one_of, signed_alike}
 
--- what goes on behind a block, by what was read of its place
+-- the exception that propagates after a block, by what was read of its place
 pub exc_goes_on : (kind : Kind) (l p : Label) (t u : ℕ) (b c : Bool) (left : Left) (e after : Option Exc) →
     after ≡ exc_after kind l t left → left ≡ left_with b e → l ≡ p →
     b ≡ c → t ≡ u → after ≡ exc_after kind p u (left_with c e)
@@ -48,7 +48,7 @@ leaving_noted input entry kind l p t u b c left e h s i j k m =
     by_tick : shown_at input t (left_as kind p (left_with c e).caught) ≡ shown_at input u (left_as kind p (left_with c e).caught)
     by_tick = ap (λ x. shown_at input x (left_as kind p (left_with c e).caught)) m
 
--- ---- who fails
+-- ---- a task or body that fails
 
 no_places : (labels : Labels) (froms : Table) (st : Stack) (key t : ℕ) → AreAt labels froms st [] →
     AreAt labels froms (after_cancel key t st) []
@@ -74,14 +74,14 @@ top_at tree scope key own within is_open =
     by_stack None f s = absurd (let g : false ≡ true = s in cc)
     by_stack (Some st) f s = own key st f
 
--- who fails signs for that
+-- a task or body that fails signs for that
 pub failed_at : (tree : Tree) (scope : Option ℕ) (key : ℕ) (o : Option held.Exc) (b : Bool) → is_some o ≡ not b → b ≡ false → IsOwn tree →
     scope ≡ Some key → IsSome (stack_of tree key) →
     key_failed (option_map exc_of o) (outer_of tree scope) ≡ Some key
 failed_at tree scope key None b h i own within is_open = absurd (let f : false ≡ true = h ∙ ap not i in cc)
 failed_at tree scope key (Some e) b h i own within is_open = top_at tree scope key own within is_open
 
--- the innermost place is signed by the scope of that
+-- the from of the innermost place is lowered by the sign for its scope
 pub fails_at : (labels more : Labels) (old new : Tree) (scope : Option ℕ) (key t : ℕ) (e : Exc) → more ≡ labels → IsOwn old →
     scope ≡ Some key → IsSome (stack_of old key) →
     ((at : ℕ) → stack_of new at ≡ option_map (after_cancel key t) (stack_of old at)) → (froms : Table) (ps : List Place) →
@@ -92,7 +92,8 @@ fails_at labels more old new scope key t e same own within is_open after froms p
     (subst (λ (st : Stack). AreAt labels (froms_after froms (signs_home (Some e) ps t)) st ps) (sym (round_after old new key t scope after))
     (signed_first labels froms (outer_of old scope) ps key t e (top_at old scope key own within is_open) names a))
 
--- who failed, as a test says, signs for the innermost scope: the from of the innermost place is lowered by that
+-- if a test says that the task or body failed, it signs for the innermost scope: the from of the innermost
+-- place is lowered by that
 pub fails_if : (labels more : Labels) (old new : Tree) (scope : Option ℕ) (key t : ℕ) (o : Option held.Exc) (b : Bool) → is_some o ≡ not b →
     b ≡ false → more ≡ labels → IsOwn old → scope ≡ Some key →
     IsSome (stack_of old key) → ((at : ℕ) → stack_of new at ≡ option_map (after_cancel key t) (stack_of old at)) →

@@ -29,7 +29,7 @@ found_here labels name tree id own whole named =
     let b = begins tree id own whole in
     rw (b.stack, b.own, named) refl
 
--- it has not, and the search goes on at its parent
+-- it has not, and the search continues at its parent
 pub found_outwards : (labels : Labels) (name : List ℕ) (tree : Tree) (id : ℕ) (parent : Option ℕ) → IsOwn tree → IsOpen tree id →
     is_named name (labels id) ≡ false → ForSome (stack_of tree id) (λ stack. outer_of tree parent ≡ behind_own stack) →
     scope_named labels name (outer_of tree (Some id)) ≡ scope_named labels name (outer_of tree parent)

@@ -121,7 +121,7 @@ pub head_among : (ks : List ℕ) (k : ℕ) → head_of ks ≡ Some k → IsAmong
 head_among [] k e = absurd (let f : None ≡ Some k = e in cc)
 head_among (x ∷ ks) k e = inl (sym (one_of x k e))
 
--- what is round the scope that was left stays open
+-- what encloses the scope that was left stays open
 pub round_open : (old new : Tree) → IsChain old → IsOwn old → IsApart old → (home : Option ℕ) (os : List Own) (o : Own) →
     ForSome home (IsOpen old) → Top old home os o →
     OthersKeep old new o.id → ForSome (last_or home (ids os)) (IsOpen new)

@@ -71,7 +71,7 @@ path_onto numbers (Cleanup outcome ∷ fs) outer path = path_onto numbers fs (fr
 pub path_inside : (numbers : ℕ → List ℕ) (fs : List Frame) (path : List ℕ) → path_in (frames_of numbers fs) path ≡ passes_onto fs path
 path_inside numbers fs path = path_onto numbers fs [] path
 
--- the path inside frames that are behind others is their path on that of the others
+-- the path inside frames that are inside others is their path on that of the others
 pub path_append : (fs gs : List Frame) (path : List ℕ) → passes_onto (fs ++ gs) path ≡ passes_onto gs (passes_onto fs path)
 path_append [] gs path = refl
 path_append (Steps steps ∷ fs) gs path = path_append fs gs path

@@ -203,14 +203,14 @@ fits_entered fs gs b part home own o n old new labels more book after name level
 
 -- ---- a scope that is left
 
--- where the places of all scopes of a task are below a number, so are those without the last
+-- if the places of all scopes of a task are below a number, so are those without the last
 pub first_below : (n : ℕ) (own : List Own) (o : Own) → All (λ (x : Own). x.at < n) (own ++ o ∷ []) → All (λ (x : Own). x.at < n) own
 first_below n [] o a = All-nil (λ (x : Own). x.at < n)
 first_below n (x ∷ own) o a =
     All-cons (λ (y : Own). y.at < n) x own (All-head (λ (y : Own). y.at < n) x (own ++ o ∷ []) a)
     (first_below n own o (All-tail (λ (y : Own). y.at < n) x (own ++ o ∷ []) a))
 
--- what is round the innermost scope stays open when that is closed
+-- what encloses the innermost scope stays open when that is closed
 behind_open : (old new : Tree) → IsChain old → IsOwn old → IsApart old → (home : Option ℕ) (os : List Own) (o : Own) → Top old home os o →
     OthersKeep old new o.id → (key : ℕ) →
     IsAmong key (keys_of (outer_of old home)) → IsOpen new key

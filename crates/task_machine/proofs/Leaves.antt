@@ -53,7 +53,7 @@ same_last : (tree : Tree) (a b : Option ℕ) (ks : List ℕ) → outer_of tree a
 same_last tree a b [] e = e
 same_last tree a b (k ∷ ks) e = refl
 
--- what is round the scope that is left
+-- what encloses the scope that is left
 pub round_last : (tree : Tree) → IsChain tree → IsOwn tree → (home : Option ℕ) (os : List Own) (x : Own) (l : Level ℕ) (ls : Stack) →
     stack_of tree x.id ≡ Some (l ∷ ls) →
     keys_of ls ≡ keys_in os ++ keys_of (outer_of tree home) → outer_of tree (last_or home (ids os)) ≡ ls
@@ -94,7 +94,7 @@ same_behind labels more tree key label whole before (l ∷ ls) u stack short cha
         let h : length (l ∷ ls) ≡ length whole = ap length g in
         omega (arith, short, h)
 
--- a stack is the same places where its scopes keep their labels
+-- a stack has the same places if its scopes keep their labels
 pub same_labels : (labels more : Labels) (froms : Table) (st : Stack) (ps : List Place) → SameOn labels more st → AreAt labels froms st ps →
     AreAt more froms st ps
 same_labels labels more froms [] [] same a = tt
@@ -104,7 +104,8 @@ same_labels labels more froms (l ∷ ls) (p ∷ ps) same a = (sym same.0 ∙ a.0
 
 -- ---- the scope that is left, at the top of its stack
 
--- a scope that a task opened is open, and round it are those that it opened before, then those round its home
+-- a scope that a task opened is open, and is enclosed by those that it opened before, then by those that
+-- enclose its home
 pub record Top (tree : Tree) (home : Option ℕ) (os : List Own) (x : Own) : Type 0 where
   pub level : Level ℕ
   pub behind : Stack
@@ -119,7 +120,8 @@ length_keys (l ∷ ls) = ap suc (length_keys ls)
 tail_of : (a b : ℕ) (xs ys : List ℕ) → a ∷ xs ≡ b ∷ ys → xs ≡ ys
 tail_of a b xs ys e = cc
 
--- the last scope that a task opened has the others of the task round it, then those round its home
+-- the last scope that a task opened is enclosed by the others of the task, then by those that enclose its
+-- home
 pub top_of : (tree : Tree) → IsChain tree → IsOwn tree → (home : Option ℕ) (own os : List Own) (x : Own) → own ≡ os ++ x ∷ [] →
     IsOpen tree x.id → OwnFirst tree home own →
     last_or home (ids own) ≡ Some x.id → Top tree home os x
@@ -141,7 +143,7 @@ top_of tree chain owns home own os x pushed opened first last = by_stack (stack_
     by_stack (Some []) e = absurd (let f : None ≡ Some x.id = owns x.id [] e in cc)
     by_stack (Some (l ∷ ls)) e = by_level l ls e
 
--- the scopes that the task still has are those round it
+-- the scopes that the task still has are those that enclose it
 pub first_after : (old new : Tree) (home : Option ℕ) (os : List Own) (x : Own) → OthersKeep old new x.id → Top old home os x →
     OwnFirst new home os
 first_after old new home os x others top =
@@ -155,7 +157,7 @@ first_after old new home os x others top =
     ∙ ap keys_of top.round ∙ top.keys
     ∙ ap (λ (st : Stack). keys_in os ++ keys_of st) (sym (keeps_outer old new x.id top.level top.behind others top.at home m))
 
--- and its places those round the one that is left
+-- and its places are those that enclose the one that is left
 pub places_after : (labels more : Labels) (old new : Tree) (home : Option ℕ) (os : List Own) (x : Own) (label : Option Label) →
     IsChain old → OthersKeep old new x.id →
     Updates labels more x.id label → (top : Top old home os x) → (froms : Table) (ps : List Place) → AreAt labels froms top.behind ps →

@@ -21,7 +21,7 @@ pub sleeps_by : (labels : Labels) (froms : Table) (st : scopes.Stack) (ps : List
     b ≡ seen st t → (P : Move → Type 0) → P (falls_asleep b n t fs ps) → P (sleeps froms n t fs ps)
 sleeps_by labels froms st ps n t fs b a e P p = subst (λ (x : Bool). P (falls_asleep x n t fs ps)) (e ∙ seen_at labels froms st ps t a) p
 
--- one of no tick goes on
+-- a sleep of no tick continues
 pub sleeps_on : (n t : ℕ) (fs : List Frame) (ps : List Place) → n ≡ 0 →
     (let o = falls_asleep false n t fs ps in (None ≡ o.exc) × (o.stopped ≡ None))
 sleeps_on zero t fs ps e = (refl, refl)

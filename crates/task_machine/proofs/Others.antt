@@ -1,4 +1,4 @@
--- Scopes of other tasks round those of a task.
+-- Scopes of other tasks and scopes of a task that enclose one another.
 use Rattle.std.proofs.Common.{◌≡◌, ◌≢◌, ◌⊎◌, inl, inr, ℕ, zero, suc, Bool, true, false, ◌==◌, Option, Some, None, List, [], ◌∷◌, ◌++◌, length, refl, ap, sym, ◌∙◌, subst}
 use Rattle.std.proofs.lemmas.Bool.{eqb-true, eq-eqb}
 use Rattle.std.proofs.lemmas.List.Elements.{All-nil, All-cons, All-head, All-tail, All-append}
@@ -17,7 +17,7 @@ use Rattle.task_machine.proofs.Cancels.{open_round}
 use Rattle.task_machine.proofs.Leaves.{Top}
 use Rattle.task_machine.proofs.Stacked.{one_of}
 
--- ---- places in lists
+-- ---- indices in lists
 
 -- a key of the first of two lists is in both together
 pub among_left : (k : ℕ) (ks ms : List ℕ) → IsAmong k ks → IsAmong k (ks ++ ms)
@@ -58,7 +58,7 @@ level_at key (l ∷ ls) (inr i) =
     let at = level_at key ls i in
     record { before = l ∷ at.before; level = at.level; behind = at.behind; is = ap (λ (st : Stack). l ∷ st) at.is; named = at.named }
 
--- what holds of each level of a stack holds of each behind some of them
+-- what holds for each level of a stack holds for each after the first of them
 pub all_behind : (P : Level ℕ → Type 0) (before st : Stack) → All P (before ++ st) → All P st
 all_behind P [] st a = a
 all_behind P (l ∷ before) st a = all_behind P before st (All-tail P l (before ++ st) a)
@@ -68,7 +68,7 @@ all_else key [] never = All-nil (λ (l : Level ℕ). l.label ≢ key)
 all_else key (l ∷ ls) never = All-cons (λ (m : Level ℕ). m.label ≢ key) l ls (λ e. never (inl (sym e)))
     (all_else key ls (λ i. never (inr i)))
 
--- a scope of a task has the same place with one more behind them
+-- a scope of a task has the same index if one more is added after them
 pub got_before : (own : List Own) (o x : Own) (i : ℕ) → slice_get own i ≡ Some x → slice_get (own ++ o ∷ []) i ≡ Some x
 got_before [] o x i e = absurd (let f : None ≡ Some x = e in cc)
 got_before (y ∷ own) o x zero e = e
@@ -101,7 +101,7 @@ others_last key (y ∷ own) o a = others_last key own o (All-tail (λ (x : Own).
 
 -- ---- the innermost scope of a task is left only when no other task's scope is inside
 
--- of the task's own scopes none has the last one round it
+-- none of the task's own scopes is enclosed by the last one
 not_mine : (tree : Tree) → IsChain tree → IsOwn tree → IsApart tree → (home : Option ℕ) (os : List Own) (o : Own) → Top tree home os o →
     (other : ℕ) (st : Stack) →
     IsAmong other (keys_in os) → stack_of tree other ≡ Some st → All (λ (l : Level ℕ). l.label ≢ o.id) st
@@ -121,7 +121,7 @@ not_mine tree chain owns apart home os o top other st i e =
     one_stack : (a b : Stack) → Some a ≡ Some b → a ≡ b
     one_stack a b f = cc
 
--- no open scope has a task's last one round it, where no child of the task runs in there
+-- no open scope is enclosed by a task's last one, if no child of the task runs inside that
 pub innermost_of : (tree : Tree) (book : NurseryBook) → IsChain tree → IsOwn tree → IsApart tree →
     (home : Option ℕ) (bs : List Block) (os : List Own) (o : Own) (waits : Option ℕ) →
     Top tree home os o → OthersRun tree book bs (os ++ o ∷ []) waits → (RunsIn book bs (length os) waits → ⊥) → IsInnermost tree o.id
@@ -132,7 +132,7 @@ innermost_of tree book chain owns apart home bs os o waits top run quiet other s
         (λ i. quiet (run other st e (others_but other os o a (λ f. differs (sym f))) (length os) o (got_last os o) i))
     by_owner (inr i) = not_mine tree chain owns apart home os o top other st i e
 
--- ---- what becomes of the others
+-- ---- the others after a change
 
 -- a scope is entered: it is in no other task's stack
 pub others_entered : (old new : Tree) (book more : NurseryBook) → IsChain old → (bs : List Block) (own : List Own) (b : Block) (o : Own) →

@@ -1,4 +1,5 @@
--- What a stack of open scopes shows is what its places show with the world's froms, and stays so.
+-- What a stack of open scopes shows is what its places (the enclosing scopes and nurseries) show with the world's
+-- froms, and stays so.
 use Rattle.std.proofs.Common.{◌≡◌, ◌⊎◌, inl, inr, ℕ, ◌+◌, Bool, true, false, ◌&&◌, ◌||◌, not, Option, Some, None, List, [], ◌∷◌, refl, ap, sym, ◌∙◌, subst, ◌==◌, if◌then◌else◌}
 use Rattle.std.proofs.lemmas.Bool.{eqb-true, eq-eqb}
 use Rattle.std.specs.Str.{bytes_eq}
@@ -20,7 +21,7 @@ use Rattle.task_machine.specs.Stacked.{AreAt, IsKey, Alone, SameOn, FoundAs}
 pub one_of : {A : Type 0} (a b : A) → Some a ≡ Some b → a ≡ b
 one_of a b e = cc
 
--- the same is seen from a stack and from its places
+-- the same is seen on a stack and on its places
 pub sight_at : (labels : Labels) (froms : Table) (st : scopes.Stack) (ps : List Place) → AreAt labels froms st ps →
     sight st ≡ sight (stack_at froms ps)
 sight_at labels froms [] [] a = refl
@@ -32,7 +33,7 @@ sight_at labels froms (l ∷ ls) (p ∷ ps) a = by_level l.shield p.shield l.fro
         (if b then x else earlier x u) ≡ (if c then y else earlier y v)
     by_level b c x y e f g = cc
 
--- what is seen of a stack in a tick is what is seen of its places with the world's froms
+-- what is seen on a stack in a tick is what is seen on its places with the world's froms
 pub seen_at : (labels : Labels) (froms : Table) (st : scopes.Stack) (ps : List Place) (t : ℕ) → AreAt labels froms st ps →
     seen st t ≡ seen (stack_at froms ps) t
 seen_at labels froms st ps t a = ap (λ (x : Tick). reached x t) (sight_at labels froms st ps a)
@@ -48,7 +49,7 @@ catches_at labels froms l ls p ps t a = both l.from (froms p.label) l.shield p.s
 
 -- ---- the scope of a name
 
--- the innermost scope of a name in a stack has the innermost label of that name among the places, or neither is there
+-- the innermost scope of a name in a stack has the innermost label of that name among the places, or neither exists
 pub named_at : (labels : Labels) (froms : Table) (name : List ℕ) (st : scopes.Stack) (ps : List Place) → AreAt labels froms st ps →
     FoundAs labels (scope_named labels name st) (label_among name ps)
 named_at labels froms name [] [] a = refl
@@ -76,7 +77,7 @@ named_is_in labels name (l ∷ ls) key e = by_name (is_named name (labels l.labe
 
 -- ---- what a turn does to the scopes
 
--- a scope has the key that is signed just where its place has the label
+-- a scope has the key that is signed exactly if its place has the label
 same_test : (labels : Labels) (l : Level ℕ) (p : Place) (key : ℕ) (label : Label) → labels key ≡ Some label →
     (labels l.label ≡ Some label → l.label ≡ key) →
     labels l.label ≡ Some p.label → (l.label == key) ≡ same_label p.label label
@@ -160,7 +161,7 @@ opened_at labels more froms st ps key label shield d named same new a = (
 
 -- ---- names that are apart
 
--- a label that is known among places has a name that is there
+-- a label that is known among places has a name that is among theirs
 pub known_name : (label : Label) (ps : List Place) → Known label (labels_of ps) → IsName label.name (names_at ps)
 known_name label [] k = absurd k
 known_name label (p ∷ ps) (inl e) = inl (ap (λ (l : Label). l.name) e)
@@ -186,7 +187,7 @@ key_known labels froms (l ∷ ls) [] key label named i a = absurd a
 key_known labels froms (l ∷ ls) (p ∷ ps) key label named (inl e) a = inl (one_of label p.label (sym named ∙ ap labels e ∙ a.0))
 key_known labels froms (l ∷ ls) (p ∷ ps) key label named (inr i) a = inr (key_known labels froms ls ps key label named i a.3)
 
--- where places have names of their own, no other scope of the stack has the label of one
+-- if places have different names, no other scope of the stack has the label of one
 pub alone_at : (labels : Labels) (froms : Table) (st : scopes.Stack) (ps : List Place) (key : ℕ) (label : Label) → labels key ≡ Some label →
     IsKey key st →
     OwnNames (names_at ps) → AreAt labels froms st ps → Alone labels key label st

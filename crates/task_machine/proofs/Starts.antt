@@ -20,7 +20,7 @@ home_is : (id place scope len n : ℕ) → place ≡ len → scope ≡ n →
     (let h : Home = record { nursery = id; place = place; scope = scope } in h) ≡ record { nursery = id; place = len + 0; scope = n }
 home_is id place scope len n e f = (let g : place ≡ len + 0 = omega (arith, e) in cc)
 
--- one child is started, at the place that the book gives it
+-- one child is started, at the place that the book assigns
 pub starts_one : (old new : World) (id : ℕ) (label : Label) (part : Part) (body : Steps) (task : Task) (scope place : ℕ) →
     HasNursery old.book id (λ n. scope ≡ n.scope) →
     HasNursery old.book id (λ n. place ≡ length n.children) → Changes old.book new.book id with_start →

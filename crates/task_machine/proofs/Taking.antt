@@ -149,7 +149,7 @@ begun_append numbers book blocks waits (t ∷ ts) us (b ∷ bs) cs h k = (h.0, b
 
 -- ---- nurseries that grew
 
--- what stands in a list stands in a longer one
+-- what is in a list is in a longer one
 got_longer : {A : Type 0} (xs ys : List A) (i : ℕ) (x : A) → slice_get xs i ≡ Some x → slice_get (xs ++ ys) i ≡ Some x
 got_longer [] ys i x e = absurd (let f : None ≡ Some x = e in cc)
 got_longer (y ∷ xs) ys zero x e = e
@@ -188,7 +188,7 @@ grown_then : (o : Option Nursery) (a b : Nursery) (ns ms ks : List ℕ) → Grow
 grown_then None a b ns ms ks h k = absurd k
 grown_then (Some c) a b ns ms ks h k = grown_twice a b c ns ms ks h k
 
--- a task that goes on waits for no nursery, so one that it has is among its blocks
+-- a task that continues waits for no nursery, so one that it has is among its blocks
 goes_with : (id : ℕ) (bs : List Block) → HasNurseryOf id bs None → HasBlock id bs
 goes_with id bs (inl h) = h
 goes_with id bs (inr e) = absurd (let f : None ≡ Some id = e in cc)
@@ -259,14 +259,14 @@ all_begun_on gs between after mid new blocks waits grow kept (t ∷ ts) (b ∷ b
   all_begun_on gs between after mid new blocks waits grow kept ts bs h.1,
 )
 
--- how the second of two moves goes on is how both do
+-- how the second of two moves continues is how both do
 moves_then : (numbers : Numbers) (book : NurseryBook) (was part : Part) (goes : Moved) (halt : Halt) (o q : Move) → part ≡ was →
     MovesAs numbers book part goes halt q →
     MovesAs numbers book was goes halt (then_move None o q)
 moves_then numbers book was part (On exc) halt o q e h = h
 moves_then numbers book was part (Stops stop) halt o q e h = (h.0, subst (λ (p : Part). StopsAs numbers book p stop halt q.stopped) e h.1)
 
--- a move after which the task goes on, and another from where it led: the move of both, with the numbers of the second
+-- a move after which the task continues, and another from where it led: the move of both, with the numbers of the second
 took_both : (fs : List Frame) (before mid after : Task) (old w new : World) (exc : Option held.Exc) (goes : Moved) (froms : Table)
     (numbers : Numbers) (o q : Move) →
     (first : Took fs before mid old w (On exc) froms numbers o) →
@@ -366,7 +366,7 @@ took_both fs before mid after old w new exc goes froms numbers o q first second 
               (subst (λ (t : ℕ). Acts t (scoping_of mid w) q.made (scoping_of after new)) tick second.acts);
         }
 
--- A move of the code after which the task goes on, and another from where it led, are the move of both.
+-- A move of the code after which the task continues, and another from where it led, are the move of both.
 pub took_then : (fs : List Frame) (before mid after : Task) (old w new : World) (exc : Option held.Exc) (goes : Moved) (froms : Table)
     (numbers : Numbers) (o q : Move) →
     (first : Took fs before mid old w (On exc) froms numbers o) →
@@ -376,9 +376,9 @@ took_then fs before mid after old w new exc goes froms numbers o q first second 
     subst (λ (s : Option Stopped). Took fs before after old new goes froms numbers (then_move s o q)) (sym first.moves.1)
     (took_both fs before mid after old w new exc goes froms numbers o q first second part tick).0
 
--- ---- where a task stands after a step
+-- ---- the state of a task after a step
 
--- a task stands where a step led, whether it goes on or stops
+-- a task has the state to which a step led, whether it continues or stops
 pub stands_where : (fs : List Frame) (before after : Task) (old new : World) (froms : Table) (numbers : Numbers) (ps : List Place) (t : ℕ)
     (here : Here) →
     Stands fs before old froms numbers None ps → (count : ℕ) (exc : Option Exc) (goes : Moved) →
@@ -398,7 +398,7 @@ stands_where fs before after old new froms numbers ps t here stands count exc go
       own = names.own;
     }
 
--- and one that goes on is in the middle of its turn there
+-- and one that continues is in the middle of its turn there
 pub stands_after : (fs : List Frame) (before after : Task) (old new : World) (froms : Table) (numbers : Numbers) (ps : List Place) (t : ℕ)
     (here : Here) →
     Stands fs before old froms numbers None ps → (count : ℕ) (exc : Option Exc) (goes : Option held.Exc) →
@@ -484,8 +484,8 @@ one_more n froms t here m gs exc frames raised going =
     (step (record { frames = o.frames; places = o.places; exc = e; count = m.count + length o.begun }))) raised
     ∙ sym (turn_snoc n froms t here m)
 
--- A turn of so many steps, and a step from where it led, are the turn of one step more, and the task stands where they led, with the same
--- numbers, whether it goes on or stops.
+-- A turn of some steps, and a step from where it led, are the turn with one step more, and the task has the state to which they
+-- led, with the same numbers, whether it continues or stops.
 pub goes_and_stands : (n : ℕ) (fs : List Frame) (before mid after : Task) (old w new : World) (exc : Option held.Exc) (goes : Moved)
     (froms : Table) (numbers : Numbers)
     (t : ℕ) (here : Here) (ps : List Place) (count : ℕ) (exc0 : Option Exc) →

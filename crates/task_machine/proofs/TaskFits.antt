@@ -57,7 +57,7 @@ pub record Laws (world : World) : Type 0 where
 
 -- ---- a nursery that is settled
 
--- a task whose nursery is settled may leave the scope of that
+-- a task whose nursery is settled may leave its scope
 pub ready_awaits : (self : Task) (world : World) (id since : ℕ) → Laws world → self.halt ≡ Awaits id since →
     WakesFrom self.halt self.part world.book Settled →
     Fits self.frames.items self world (waits_of self.halt) → Ready (home_scope self) self.own.items world.scopes (label_at world)
@@ -310,7 +310,7 @@ pub modest_with : (fs : List Frame) (f : Frame) (task : Task) (world : World) �
     AreModestFrames (frame_of (λ id. []) f ∷ frames_of (λ id. []) fs)
 modest_with fs f task world h = subst AreModestFrames (frames_push (λ id. []) fs f) h.modest
 
--- each `start` in the frames with one more stands directly in a nursery
+-- each `start` in the frames with one more is directly in a nursery
 pub starts_with : (fs : List Frame) (f : Frame) (task : Task) (world : World) → Fits (fs ++ f ∷ []) task world None →
     StartsFit (frame_of (λ id. []) f ∷ frames_of (λ id. []) fs)
 starts_with fs f task world h = subst StartsFit (frames_push (λ id. []) fs f) h.starts
@@ -326,7 +326,7 @@ steps_longer fs f ss e =
     (let g = ap frames_length (frames_push (λ id. []) fs f ∙ ap (λ (x : rest.Frame). x ∷ frames_of (λ id. []) fs) e) in let k =
     turn_some ss in omega (arith, g, k))
 
--- another frame in the place of the innermost one, neither of them a block
+-- another frame instead of the innermost one, neither of them a block
 pub pushed_fits : (fs : List Frame) (f g : Frame) (before after : Task) (world : World) → blocks_of (f ∷ []) ≡ [] →
     block_in g (blocks_of fs) ≡ blocks_of fs → Fits (fs ++ f ∷ []) before world None →
     blocks_of after.frames.items ≡ block_in g (blocks_of fs) → frames_of (λ id. []) after.frames.items ≡ frame_of (λ id. []) g
@@ -349,7 +349,7 @@ pub popped_fits : (before : Task) (fs : List Frame) (f g : Frame) (world : World
 popped_fits before fs f g world items same h =
     subst (λ (x : Frame). Fits (fs ++ x ∷ []) before world None) same (subst (λ (xs : List Frame). Fits xs before world None) items h)
 
--- how many steps a turn has to go with its innermost frame told apart, whatever that is known as
+-- how many steps are left to a turn, with its innermost frame given separately
 pub popped_length : (all fs : List Frame) (f g : Frame) → all ≡ fs ++ f ∷ [] → f ≡ g →
     frames_length (frames_of (λ id. []) all) ≡ frames_length (frame_of (λ id. []) g ∷ frames_of (λ id. []) fs)
 popped_length all fs f g items same =
@@ -481,7 +481,8 @@ try_shorter (tree.except name body) cleanup fs ps (Some e) = by_match (keep (nam
     by_match None r = omega arith
     by_match (Some x) r = omega arith
 
--- what holds of a task is kept when the body of a `try` ends: its handler, its cleanup or what is behind it is left
+-- what holds of a task is kept when the body of a `try` ends: its handler, its cleanup or what comes after it is
+-- left
 pub tried_fits : (h : tree.Handled) (k : tree.Cleaned) (fs : List Frame) (f : Frame) (exc after_exc : Option Exc) (before after : Task)
     (world : World) → blocks_of (f ∷ []) ≡ [] →
     frame_of (λ id. []) f ≡ rest.in_try h k → Fits (fs ++ f ∷ []) before world None →

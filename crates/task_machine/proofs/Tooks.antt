@@ -60,7 +60,7 @@ has_more id (a_scope ∷ bs) cs h = has_more id bs cs h
 has_more id (a_nursery key ∷ bs) cs (inl e) = inl e
 has_more id (a_nursery key ∷ bs) cs (inr h) = inr (has_more id bs cs h)
 
--- a nursery among blocks is among them behind others
+-- a nursery among blocks is also among them when others precede them
 pub has_last : (id : ℕ) (bs cs : List Block) → HasBlock id cs → HasBlock id (bs ++ cs)
 has_last id [] cs h = h
 has_last id (a_scope ∷ bs) cs h = has_last id bs cs h
@@ -170,7 +170,7 @@ took_quiet frames before after old new goes froms numbers o numbered book starte
 
 -- ---- moves of the task alone
 
--- the task goes on: at the end of a block, at a `try`, its handler or its cleanup, and where it raises
+-- the task continues: at the end of a block, at a `try`, its handler or its cleanup, and where it raises
 pub took_onward : (frames : List Frame) (before after : Task) (world : World) (exc : Option held.Exc) (froms : Table) (numbers : Numbers)
     (stopped : Option Stopped)
     (ps : List Place) (o : Move) →
@@ -187,7 +187,7 @@ took_onward frames before after world exc froms numbers stopped ps o stands stay
     stands.places) (refl, refl) refl
     (same_acts world.tick (scoping_of before world) (scoping_of after world) (ap (λ (t : Task). scoping_of t world) stays)))
 
--- the task stops, or goes on, with another halt
+-- the task stops, or continues, with another blocked state
 pub took_halts : (frames : List Frame) (before after : Task) (world : World) (goes : Moved) (froms : Table) (numbers : Numbers)
     (stopped : Option Stopped) (ps : List Place) (o : Move) →
     Stands frames before world froms numbers stopped ps → after ≡ record before { frames = after.frames; halt = after.halt } →
@@ -222,7 +222,7 @@ falls_alone true n t fs ps = record { frames = refl; places = refl; made = refl;
 falls_alone false zero t fs ps = record { frames = refl; places = refl; made = refl; begun = refl; waits = tt }
 falls_alone false (suc n) t fs ps = record { frames = refl; places = refl; made = refl; begun = refl; waits = tt }
 
--- a task that stops or goes on as the sleep of the definitions does makes that move
+-- a task that stops or continues as the sleep of the definitions does makes that move
 pub took_sleep : (frames : List Frame) (before after : Task) (world : World) (goes : Moved) (froms : Table) (numbers : Numbers)
     (stopped : Option Stopped) (ps : List Place)
     (ticks : ℕ) →
@@ -251,7 +251,7 @@ pub quiet_signs : (input : List ℕ) (label : Option Label) (t : ℕ) → shown_
 quiet_signs input None t = refl
 quiet_signs input (Some l) t = refl
 
--- the sign of who fails is not shown
+-- the sign of a task or body that fails is not shown
 pub quiet_home : (input : List ℕ) (exc : Option Exc) (ps : List Place) (t : ℕ) → shown_made input (signs_home exc ps t) ≡ []
 quiet_home input None ps t = refl
 quiet_home input (Some e) [] t = refl
@@ -309,7 +309,7 @@ took_end before after old new exc goes froms numbers stopped ps stands empty goe
 
 -- ---- blocks that are left
 
--- a block is left that has these places round it
+-- a block is left that is enclosed by these places
 pub took_leaves : (frames : List Frame) (before after : Task) (old new : World) (k : meaning.Kind) (exc : Option Exc)
     (goes : Option held.Exc) (froms : Table) (numbers : Numbers)
     (p : Place)
@@ -343,7 +343,7 @@ took_leaves frames before after old new k exc goes froms numbers p ps x started 
       acts = acts _;
     }
 
--- nothing is in the places of a scope that is placed nowhere
+-- a scope frame has a place, so the list of places is not empty
 by_place : (P : List Place → Type 0) (fail : Bool) (gs : List rest.Frame) (ps : List Place) → Placed (rest.in_scope fail ∷ gs) ps →
     ((p : Place) (qs : List Place) → ps ≡ p ∷ qs →
     P (p ∷ qs)) → P ps
@@ -453,11 +453,11 @@ body_grown n m exc ns e =
       numbers = sym (append-nil ns);
     })
 
--- what stands at a key, as a fact of it
+-- what is at a key, as a fact about it
 pub is_at : (o : Option Members) (n : Members) → o ≡ Some n → IsSomeAnd o (λ m. m ≡ n)
 is_at o n e = subst (λ (p : Option Members). IsSomeAnd p (λ m. m ≡ n)) (sym e) refl
 
--- nothing is in the places of a nursery that is placed nowhere
+-- a nursery frame has a place, so the list of places is not empty
 by_nursery_place : (P : List Place → Type 0) (kids : List ℕ) (gs : List rest.Frame) (ps : List Place) →
     Placed (rest.in_nursery kids ∷ gs) ps →
     ((p : Place) (qs : List Place) → ps ≡ p ∷ qs → P (p ∷ qs)) → P ps

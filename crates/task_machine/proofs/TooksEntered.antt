@@ -73,7 +73,7 @@ entered_blocks fs gs exit top body block e =
     ∙ ap (λ (bs : List Block). blocks_of (exit ∷ []) ++ bs)
     (no_block top body block) ∙ append-nil (blocks_of (exit ∷ [])))
 
--- a scope is entered, whose name is none of those round it
+-- a scope is entered, whose name no enclosing one has
 pub took_scope : (frames : List Frame) (before after : Task) (old new : World) (froms : Table) (numbers : Numbers)
     (stopped : Option Stopped) (ps : List Place) (label : Label)
     (shield fail : Bool)
@@ -156,7 +156,7 @@ pub frames_others : (numbers more : Numbers) (fs : List Frame) → ((key : ℕ) 
     frames_of more fs ≡ frames_of numbers fs
 frames_others numbers more fs same = onto_others numbers more fs [] same
 
--- a nursery is entered, whose name is none of those round it: no child was started in it
+-- a nursery is entered, whose name no enclosing one has: no child was started in it
 pub took_nursery : (me : ℕ) (frames : List Frame) (before after : Task) (old new : World) (froms : Table) (numbers : Numbers)
     (stopped : Option Stopped) (ps : List Place)
     (label : Label)

@@ -53,9 +53,9 @@ use Rattle.task_machine.proofs.TooksEntered.{entered_frames, entered_blocks, wit
 abbrev pub here_inside : Task → Here
 here_inside task = record (here_of task) { path = path_of task }
 
--- ---- places in lists
+-- ---- indices in lists
 
--- what stands in the second of two lists
+-- what is in the second of two lists
 pub got_behind : {A : Type 0} (xs ys : List A) (i j : ℕ) → j ≡ length xs + i → slice_get (xs ++ ys) j ≡ slice_get ys i
 got_behind [] ys i j e = ap (slice_get ys) (let f : j ≡ i = omega (arith, e) in f)
 got_behind (x ∷ xs) ys i zero e = absurd (omega (arith, e))
@@ -77,7 +77,7 @@ home_in h = option_map (λ (x : Home). (x.nursery, x.place)) h
 one_number : (a b : ℕ) → Some a ≡ Some b → a ≡ b
 one_number a b h = cc
 
--- the number of a child by its place
+-- the number of a child at its place
 pub numbered_at : (first k i : ℕ) → i < k → slice_get (numbered first k) i ≡ Some (first + i)
 numbered_at first zero i less = absurd (omega (arith, less))
 numbered_at first (suc k) i less = by_order (λ lt. numbered_at first k i lt) (nat_lt i k) refl
@@ -111,13 +111,13 @@ all_running zero = All-nil (λ (e : End). e ≡ None)
 all_running (suc k) = All-append (λ (e : End). e ≡ None) (running k) (None ∷ []) (all_running k)
     (All-cons (λ (e : End). e ≡ None) None [] refl (All-nil (λ (e : End). e ≡ None)))
 
--- a place behind the first so many, and what stands there
+-- an index after the first ones, and what is there
 pub record GotBehind (first : ℕ) (ys : List ℕ) (at x : ℕ) : Type 0 where
   pub place : ℕ
   pub behind : at ≡ first + place
   pub got : slice_get ys place ≡ Some x
 
--- what stands in two lists stands in one of them
+-- what is in two lists is in one of them
 got_either : (xs ys : List ℕ) (at x : ℕ) → slice_get (xs ++ ys) at ≡ Some x → (slice_get xs at ≡ Some x) ⊎ GotBehind (length xs) ys at x
 got_either [] ys at x e = inr (record { place = at; behind = omega arith; got = e })
 got_either (y ∷ xs) ys zero x e = inl e
@@ -274,7 +274,7 @@ took_starts frames fs id left task old new froms numbers stopped ps n ends added
         ∙ ap (λ (x : ℕ). length n.children + x) long
         ∙ sym (length-append n.children ends)
 
--- a child that was started is the one that began, by its place
+-- a child that was started is the one that began, at its place
 begun_child : (more : Numbers) (book : NurseryBook) (blocks : List Block) (waits : Option ℕ) (task : Task) (label : Label) (input : List ℕ)
     (range : Range) (body : tree.Steps)
     (id i : ℕ)
@@ -473,7 +473,7 @@ begins_over self id n name k body ps first (suc i) tasks c at number e =
             ))
         by_place (suc j) behind at_first = absurd (let f : None ≡ Some number = at_first in cc)
 
--- so many children are started
+-- the given number of children are started
 pub took_start_over : (frames fs : List Frame) (id : ℕ) (left : Bor (List Step)) (task : Task) (old new : World) (froms : Table)
     (numbers : Numbers) (stopped : Option Stopped)
     (ps : List Place)

@@ -1,4 +1,4 @@
--- A task that goes on where it stopped, as a move of the definitions.
+-- A task that continues from where it stopped, as a move of the definitions.
 use Rattle.std.proofs.Common.{◌≡◌, ◌≢◌, inl, ℕ, Option, Some, None, List, [], ◌∷◌, ◌++◌, map, length, refl, ap, sym, ◌∙◌, subst}
 use Rattle.std.proofs.lemmas.List.Elements.{All-nil, All-cons, All-head, All-tail}
 use Rattle.std.specs.Prelude.{All}
@@ -44,7 +44,7 @@ use Rattle.task_machine.proofs.Tooks.{not_grown, took_with, took_leaves, updated
 
 -- ---- a nursery that is settled
 
--- nothing is in the places of a nursery that is placed nowhere
+-- a nursery that is waited for has a place, so the list of places is not empty
 by_wait : (P : List Place → Type 0) (kids : List ℕ) (ended : ℕ) (exc : Option Exc) (gs : List rest.Frame) (ps : List Place) →
     PlacedStop (awaiting kids ended exc) gs ps →
     ((p : Place) (qs : List Place) → ps ≡ p ∷ qs → P (p ∷ qs)) → P ps
@@ -134,7 +134,7 @@ lines_slices input (l ∷ lines) a =
     All-cons (IsSlice input) (entries.Line l) (map entries.Line lines) (All-head (IsLineOf input) l lines a)
     (lines_slices input lines (All-tail (IsLineOf input) l lines a))
 
--- the task notes them, and goes on
+-- the task notes them, and continues
 pub took_lines : (frames : List Frame) (before after : Task) (world : World) (froms : Table) (numbers : Numbers) (stopped : Option Stopped)
     (ps : List Place) (spans : List Span)
     (lines : List Line) →

@@ -1,4 +1,4 @@
--- A turn goes on by one step more.
+-- A turn continues by one step more.
 use Rattle.std.proofs.Common.{◌≡◌, ℕ, zero, suc, ◌+◌, Option, None, List, length, sym, subst}
 use Rattle.std.specs.Option.{option_map}
 use Rattle.exc_groups.specs.Exceptions.{Exc}
@@ -17,7 +17,7 @@ use Rattle.task_machine.specs.Standing.{here_of, Stands, Took, StepsAs}
 use Rattle.task_machine.specs.Stops.{Numbers}
 use Rattle.task_machine.proofs.Taking.{took_nothing, goes_and_stands}
 
--- so many steps of a turn of a task with these frames
+-- the given number of steps of a turn of a task with these frames
 abbrev pub so_many : ℕ → Task → World → Option Exc → Table → Numbers → List Place → ℕ → Move
 so_many n task world exc froms numbers ps count =
     turn_of n froms world.tick (here_of task) (record {
@@ -28,7 +28,7 @@ so_many n task world exc froms numbers ps count =
           count;
     })
 
--- a task went on by some steps, and stands there
+-- a task continued by some steps, and is in this state
 pub record GoneOn (before after : Task) (old new : World) (first : Option Exc) (exc : Option held.Exc) (froms : Table) (numbers : Numbers)
     (ps : List Place) (count : ℕ) : Type 0 where
   pub steps : ℕ
@@ -46,7 +46,7 @@ pub record MoreGone (before after : Task) (old new : World) (first : Option Exc)
       (so_many n before old first froms numbers ps count).stopped
       (so_many n before old first froms numbers ps count).places
 
--- a task that went on by some steps of a turn and makes one more went so many and one
+-- a task that continued by some steps of a turn and makes one more continued by one more
 pub goes_further : (before mid after : Task) (old w new : World) (first : Option Exc) (exc : Option held.Exc) (goes : Moved) (froms : Table)
     (numbers : Numbers) (ps : List Place) (count : ℕ) →
     mid.part ≡ before.part → mid.label ≡ before.label → w.tick ≡ old.tick → (g : GoneOn before mid old w first exc froms numbers ps count) →
@@ -79,7 +79,7 @@ goes_further before mid after old w new first exc goes froms numbers ps count pa
     here : here_of mid ≡ here_of before
     here = cc
 
--- it goes on from there
+-- it continues from there
 pub goes_on : (before after : Task) (old new : World) (first : Option Exc) (exc : Option held.Exc) (froms : Table) (numbers : Numbers)
     (ps : List Place) (count n : ℕ) →
     MoreGone before after old new first (On exc) froms numbers ps count n → GoneOn before after old new first exc froms numbers ps count

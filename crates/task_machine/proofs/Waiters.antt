@@ -14,7 +14,7 @@ use Rattle.task_machine.specs.Waiters.{HadWaiter, SameWaiters, OpenedBy}
 use Rattle.task_machine.specs.declared.task.Task.{Task}
 use Rattle.task_machine.specs.declared.world.World.{World}
 
--- a nursery that stands there has its own waiter
+-- a nursery that is in the book has its own waiter
 itself : (book : NurseryBook) (id : ℕ) (n : Nursery) → nursery_at book id ≡ Some n → HadWaiter book id n.waiter
 itself book id n at = subst (λ (o : Option Nursery). IsSomeAnd o (λ m. m.waiter ≡ n.waiter)) (sym at) refl
 

@@ -45,9 +45,9 @@ use Rattle.task_machine.proofs.Tooks.{took_halts, took_sleep}
 use Rattle.task_machine.proofs.TooksWoken.{took_settled, took_lines}
 use Rattle.task_machine.proofs.Advances.{stands_as, took_as}
 
--- ---- where a task stopped, by what it goes on with
+-- ---- where a task stopped, by its blocked state
 
--- a task that goes on with what it asked a kernel stopped to ask that, for the same purpose
+-- a task that continues with an answer of a kernel stopped to ask for that, for the same purpose
 pub halts_asked : (numbers : Numbers) (book : NurseryBook) (kernel : Kernel) (purpose : Purpose) (stopped : Stopped) →
     IsHalt numbers book (Asked kernel purpose) stopped →
     stopped ≡ asking (kernel_in kernel) (purpose_in purpose)
@@ -64,7 +64,7 @@ pub record AwaitsSo (numbers : Numbers) (book : NurseryBook) (id since : ℕ) (s
   pub is : stopped ≡ awaiting (numbers id) since exc
   pub body : HasNursery book id (λ n. n.body ≡ Some exc)
 
--- a task that goes on when a nursery is settled stopped to wait for its children
+-- a task that continues when a nursery is settled stopped to wait for its children
 pub halts_awaits : (numbers : Numbers) (book : NurseryBook) (id since : ℕ) (stopped : Stopped) →
     IsHalt numbers book (Awaits id since) stopped → AwaitsSo numbers book id since stopped
 halts_awaits numbers book id since to_begin h = absurd h
@@ -76,7 +76,7 @@ halts_awaits numbers book id since (at_end u e) h = absurd h
 
 -- ---- a task that wakes
 
--- its halt was taken
+-- its blocked state was taken
 stands_taken : (frames : List Frame) (task before : Task) (world : World) (froms : Table) (numbers : Numbers) (stopped : Option Stopped)
     (ps : List Place) →
     before ≡ record task { halt = before.halt } → Stands frames task world froms numbers stopped ps →
@@ -92,7 +92,7 @@ took_taken frames task before after old new goes froms numbers o same took =
     took_as frames task before after old new goes froms numbers o (ap (λ (t : Task). t.part) same) (ap (λ (t : Task). t.entries.items) same)
     (ap (λ (t : Task). scoping_of t old) same) took
 
--- a wake that goes on, with that exception or well, wherever the task stopped
+-- a wake that continues, with this exception or none, wherever the task stopped
 wakes_onward : (task after : Task) (world : World) (exc : Option held.Exc) (w : Wake) → after ≡ record task { halt = after.halt } →
     ((froms : Table) (numbers : Numbers) (stopped : Stopped) (fs : List rest.Frame) (ps : List Place) →
     IsHalt numbers world.book task.halt stopped →

@@ -36,7 +36,7 @@ pub raised_is : (o : Option Nursery) (e : Option Exc) → IsSomeAnd o (λ n. e �
 raised_is None e h = absurd h
 raised_is (Some n) e h = sym h
 
--- lines that a kernel answered stand where they say
+-- lines that a kernel answered are where they say
 pub lines_at : (kernel : Kernel) (part : Part) (lines : List Line) → IsAnswer kernel part (answers.Lines lines) →
     AreLinesAt (buffer_of part) (map span_of lines) lines
 lines_at (Find needle) part lines a = record { places = refl; texts = a.texts }

@@ -1,4 +1,4 @@
--- A whole turn: the wake, and the steps behind it.
+-- A whole turn: the wake, and the steps after it.
 use Rattle.std.proofs.Common.{◌≡◌, inl, ℕ, zero, ◌+◌, Option, Some, None, List, length, refl, sym, subst}
 use Rattle.std.specs.Option.{option_map}
 use Rattle.exc_groups.specs.Exceptions.{Exc}
@@ -32,7 +32,7 @@ use Rattle.task_machine.specs.Stops.{Numbers, IsHalt, StopsAs}
 use Rattle.task_machine.specs.Waking.{WakesFrom, wake_in}
 use Rattle.task_machine.proofs.Taking.{took_then}
 
--- a wake that fits the halt can come of the stop
+-- a wake that fits the blocked state is possible after the stop
 pub can_wake : (halt : Halt) (part : Part) (book : NurseryBook) (numbers : Numbers) (w : Wake) (s : Stopped) → WakesFrom halt part book w →
     IsHalt numbers book halt s → CanWake (wake_in book halt w) s
 can_wake ToBegin part book numbers Begin to_begin f h = from_start
@@ -81,7 +81,7 @@ can_wake Over part book numbers Seen s f h = absurd f
 can_wake Over part book numbers (Answer a) s f h = absurd f
 can_wake Over part book numbers Settled s f h = absurd f
 
--- ---- where the task stands that goes on behind its wake
+-- ---- the state of a task that continues after its wake
 
 placed_on : (o : Move) (froms : Table) (t : ℕ) (here : Here) (count : ℕ) → o.stopped ≡ None →
     (let p = then_move o.stopped o (turn_of zero froms t here (record { frames = o.frames; places = o.places; exc = o.exc; count = count }))
@@ -102,7 +102,7 @@ names_on o froms t here count e h =
     let k = subst (λ (s : Option Stopped). StaysNew (then_move s o
     (turn_of zero froms t here (record { frames = o.frames; places = o.places; exc = o.exc; count = count })))) e h in (k.frames, k.own)
 
--- a task that woke and goes on stands in the middle of its turn, where the wake of the definitions leaves it
+-- a task that woke and continues is in the middle of its turn, where the wake of the definitions leaves it
 pub wake_stands : (task after : Task) (old new : World) (exc : Option held.Exc) (froms : Table) (numbers : Numbers) (ps : List Place)
     (count : ℕ) (stopped : Stopped) (w : wakes.Wake) → CanWake w stopped →
     Stands task.frames.items task old froms numbers (Some stopped) ps →

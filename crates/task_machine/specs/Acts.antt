@@ -1,4 +1,4 @@
--- What a task does to scopes: what it and its world have of them, and how that changes as events are made.
+-- What a task does to scopes: what it and its world hold of them, and how that changes as events are made.
 use Rattle.std.specs.Prelude.{◌≡◌, ℕ, ◌||◌, Option, Some, None, List, [], ◌∷◌, ◌++◌, length, slice_get, slice_set}
 use Rattle.std.specs.Option.{ForSome, option_map}
 use Rattle.exc_groups.specs.Exceptions.{Label, Exc}
@@ -13,7 +13,7 @@ use Rattle.task_machine.specs.declared.world.World.{World}
 use Rattle.task_machine.specs.Labels.{Labels, Updates}
 use Rattle.task_machine.specs.Worlds.{label_at}
 
--- the open scopes of a world, their labels, and of a task the scopes that it opened, and its froms
+-- the open scopes of a world, their labels, and the scopes that a task opened, and its froms
 pub record Scoping : Type 0 where
   pub tree : Tree
   pub labels : Labels
@@ -23,7 +23,8 @@ pub record Scoping : Type 0 where
 abbrev pub scoping_of : Task → World → Scoping
 scoping_of task world = record { tree = world.scopes; labels = label_at world; own = task.own.items; froms = task.froms.items }
 
--- the scope of this key is cancelled in a tick: so it is in each stack, and each scope whose sight that lowers is marked as changed
+-- the scope with this key is cancelled in a tick: this changes it in each stack, and each scope whose effective deadline
+-- (`sight`) is lowered by it is marked as changed
 pub record Cancels (key tick : ℕ) (old new : Tree) : Type 0 where
   pub stacks : (other : ℕ) → stack_of new other ≡ option_map (after_cancel key tick) (stack_of old other)
   pub marks :
@@ -39,7 +40,7 @@ pub record Signs (tick : ℕ) (label : Label) (old new : Scoping) : Type 0 where
   pub own : new.own ≡ old.own
   pub froms : new.froms ≡ old.froms
 
--- a scope is opened with this label and deadline, the last that the task opened, with a place behind its froms
+-- a scope is opened with this label and deadline, the last that the task opened, with a new place at the end of its froms
 pub record Enters (label : Label) (deadline : Tick) (old new : Scoping) : Type 0 where
   pub scope : Own
   pub opened : new.own ≡ old.own ++ scope ∷ []
@@ -55,7 +56,7 @@ pub record Enters (label : Label) (deadline : Tick) (old new : Scoping) : Type 0
   pub marks : SameMarks old.tree new.tree
   pub labelled : Updates old.labels new.labels scope.id (Some label)
 
--- the last scope that the task opened is closed, which is round no other, and its from is kept at its place
+-- the last scope that the task opened is closed, which has no open children, and its from is kept at its place
 pub record Leaves (old new : Scoping) : Type 0 where
   pub scope : Own
   pub taken : old.own ≡ new.own ++ scope ∷ []
@@ -86,7 +87,7 @@ abbrev pub Signed : World → World → Option ℕ → Type 0
 Signed old new None = new.scopes ≡ old.scopes
 Signed old new (Some key) = Cancels key old.tick old.scopes new.scopes
 
--- who ends with an exception signs for the innermost scope
+-- a task or body that ends with an exception signs for the innermost scope
 abbrev pub key_failed : Option Exc → Stack → Option ℕ
 key_failed None st = None
 key_failed (Some e) st = own_label st

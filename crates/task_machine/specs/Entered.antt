@@ -23,20 +23,20 @@ use Rattle.task_machine.specs.Tasks.{scope_of, path_of}
 use Rattle.task_machine.specs.Worlds.{label_at}
 use Rattle.task_machine.specs.Stacked.{AreAt}
 
--- The places of the task were those of its scopes, and are with one more: its label is opened, with this deadline. None of
--- those round it has its name.
+-- The places of the task (the scopes and nurseries that enclose it) were those of its scopes, and are so with one more: its
+-- label is opened, with this deadline. No enclosing one has its name.
 abbrev pub EntersAt : World → World → Option ℕ → Option ℕ → Label → Bool → Tick → Type 0
 EntersAt before after outer inner label shield deadline =
     (froms : Table) (ps : List Place) → (IsName label.name (names_at ps) → ⊥) →
     AreAt (label_at before) froms (outer_of before.scopes outer) ps →
     AreAt (label_at after) (opened froms label deadline) (outer_of after.scopes inner) (record { label = label; shield = shield } ∷ ps)
 
--- the label of a scope that a task enters: behind its own indices come the numbers of the passes that it is in
+-- the label of a scope that a task enters: its own indices, followed by the numbers of the passes that it is in
 abbrev pub label_in : Task → List ℕ → Label
 label_in task name = record { name = name; indices = path_of task }
 
--- A scope was opened that was not open, inside those round the task: the last of its own, with a place behind its froms. Every
--- other scope stays, and keeps its label.
+-- A scope was opened that was not open, inside those that enclose the task: the last of its own, with a new place at the end
+-- of its froms. Every other scope stays, and keeps its label.
 pub record EntersOne (before after : Task) (old new : World) (label : Label) (deadline : Tick) : Type 0 where
   pub own : Own
   pub opened : after.own.items ≡ before.own.items ++ own ∷ []
@@ -71,7 +71,8 @@ pub record EntersNursery (me : ℕ) (before after : Task) (old new : World) (lab
   pub stands : book.Updates old.book new.book id (Some (opens scope me label))
   pub frames : EntersBlock before after (frame.Nursery id) body
 
--- The innermost scope of this name is signed, if there is one: the froms of the task's places are lowered by that sign.
+-- The innermost scope of this name is signed, if there is one: the froms of the scopes and nurseries that enclose the task are
+-- lowered by that sign.
 pub record CancelsAt (before after : World) (scope : Option ℕ) (name : List ℕ) : Type 0 where
   pub signed : Signed before after (scope_named (label_at before) name (outer_of before.scopes scope))
   pub lowered :

@@ -1,4 +1,4 @@
--- A block that a task leaves, and the cancellation that one makes who fails.
+-- Leaving a block, and the cancellation by a task or body that fails.
 use Rattle.std.specs.Prelude.{◌≡◌, ℕ, List, [], ◌∷◌, ◌++◌, Option}
 use Rattle.buffer_parts.specs.Part.{buffer_of}
 use Rattle.exc_groups.specs.Exceptions.{Exc}
@@ -22,8 +22,8 @@ use Rattle.task_machine.specs.Standing.{AreNoted}
 use Rattle.task_machine.specs.Tasks.{scope_of}
 use Rattle.task_machine.specs.Worlds.{label_at}
 
--- The innermost place is left with an exception: what it leaves of that by the froms goes on, it is noted, and the task is in the
--- places round it, with the same froms.
+-- The innermost scope or nursery is left with an exception: what remains of the exception by the froms propagates, the entry is
+-- noted, and the task is enclosed by the others, with the same froms.
 pub record ExitsFrom
     (before after : Task) (old new : World) (kind : meaning.Kind) (left : meaning.Left) (goes_on : Option Exc) (froms : Table) (p : Place)
     (ps : List Place) : Type 0
@@ -40,7 +40,7 @@ ExitsAt before after old new kind exc goes_on =
     ExitsFrom before after old new (kind_of kind) (left_with (catches (froms p.label) p.shield (stack_at froms ps) old.tick) exc) goes_on
     froms p ps
 
--- Who ends with an exception signs for the innermost scope, if there is one, and so lowers the from of the innermost place.
+-- A task or body that ends with an exception signs for the innermost scope, if there is one, and so lowers its from.
 pub record FailsAt (old new : World) (scope : Option ℕ) (exc : Option Exc) : Type 0 where
   pub signed : Signed old new (key_failed exc (outer_of old.scopes scope))
   pub lowered :

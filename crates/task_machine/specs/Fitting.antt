@@ -1,4 +1,4 @@
--- What holds of a task and its world between moves: what is left can run, and its scopes and nurseries are open.
+-- What holds of a task and its world between moves: the remaining steps can run, and its scopes and nurseries are open.
 use Rattle.std.specs.Prelude.{◌≡◌, ◌≢◌, ◌⊎◌, ℕ, zero, suc, ◌+◌, ◌<◌, ◌≤◌, false, List, [], ◌∷◌, ◌++◌, Option, Some, None, IsSome, All, length, map, slice_get}
 use Rattle.std.specs.Option.{ForSome, option_map}
 use Rattle.std.specs.List.{last_or}
@@ -29,7 +29,7 @@ use Rattle.task_machine.specs.Labels.{Labels}
 use Rattle.task_machine.specs.Tasks.{home_scope}
 use Rattle.task_machine.specs.Worlds.{label_at}
 
--- all numbers of the steps and of the passes left are in their ranges
+-- all numbers of the steps and of the passes that are left are in range
 abbrev pub AreModestFrames : List rest.Frame → Type 0
 AreModestFrames [] = Unit {0}
 AreModestFrames (rest.steps_left ss ∷ fs) = AreModest ss × AreModestFrames fs
@@ -40,7 +40,7 @@ AreModestFrames (rest.in_try handler cleanup ∷ fs) = IsModestHandler handler �
 AreModestFrames (rest.in_handler others cleanup ∷ fs) = IsModestCleanup cleanup × AreModestFrames fs
 AreModestFrames (rest.in_cleanup outcome ∷ fs) = AreModestFrames fs
 
--- each `start` left stands directly in a nursery
+-- each `start` that is left is directly in a nursery
 abbrev pub StartsFit : List rest.Frame → Type 0
 StartsFit [] = Unit {0}
 StartsFit (rest.steps_left ss ∷ fs) = StartsIn (in_body fs) ss × StartsFit fs
@@ -51,7 +51,7 @@ StartsFit (rest.in_try handler cleanup ∷ fs) = HandlerStarts handler × Cleanu
 StartsFit (rest.in_handler others cleanup ∷ fs) = CleanupStarts cleanup × StartsFit fs
 StartsFit (rest.in_cleanup outcome ∷ fs) = StartsFit fs
 
--- the frames round the innermost one
+-- the frames that enclose the innermost one
 abbrev pub frames_behind : List rest.Frame → List rest.Frame
 frames_behind [] = []
 frames_behind (f ∷ fs) = fs
@@ -92,7 +92,7 @@ block_in (Cleanup outcome) bs = bs
 abbrev pub AreOthers : ℕ → List Own → Type 0
 AreOthers key own = All (λ (o : Own). o.id ≢ key) own
 
--- a nursery stands in the book with the scope of this one that the task opened, and its label
+-- a nursery is in the book with the scope of this one that the task opened, and its label
 pub record IsMine (labels : Labels) (own : Own) (n : Members) : Type 0 where
   pub scope : n.scope ≡ own.id
   pub label : labels own.id ≡ Some n.label
@@ -104,19 +104,18 @@ IsAwaited labels book [] (Some id) = ⊥
 IsAwaited labels book (o ∷ own) None = ⊥
 IsAwaited labels book (o ∷ own) (Some id) = (own ≡ []) × HasNursery book id (λ n. IsMine labels o n × IsSome n.body)
 
--- a scope that the task opened is that of this block: it has a label, and a nursery stands in the book and its body runs
+-- a scope that the task opened is that of this block: it has a label, and a nursery is in the book and its body runs
 abbrev pub IsBlockOf : Labels → NurseryBook → Block → Own → Type 0
 IsBlockOf labels book a_scope o = IsSome (labels o.id)
 IsBlockOf labels book (a_nursery id) o = HasNursery book id (λ n. IsMine labels o n × (n.body ≡ None))
 
--- The scopes that the task opened are those of its blocks, outermost first, and behind them that of the nursery that it
--- waits for.
+-- The scopes that the task opened are those of its blocks, outermost first, followed by that of the nursery that it waits for.
 abbrev pub Opened : Labels → NurseryBook → List Block → List Own → Option ℕ → Type 0
 Opened labels book [] own waits = IsAwaited labels book own waits
 Opened labels book (b ∷ bs) [] waits = ⊥
 Opened labels book (b ∷ bs) (o ∷ own) waits = IsBlockOf labels book b o × AreOthers o.id own × Opened labels book bs own waits
 
--- a child of a nursery runs
+-- some child of a nursery runs
 abbrev pub AnyRuns : List End → Type 0
 AnyRuns [] = ⊥
 AnyRuns (None ∷ es) = Unit {0}
@@ -126,14 +125,14 @@ abbrev pub HasRunning : NurseryBook → Option ℕ → Type 0
 HasRunning book None = ⊥
 HasRunning book (Some id) = HasNursery book id (λ n. AnyRuns n.children)
 
--- the nursery of the block with so many before it, or one inside it, has a child that runs
+-- the nursery of the block at this index, or one inside it, has a child that runs
 abbrev pub RunsIn : NurseryBook → List Block → ℕ → Option ℕ → Type 0
 RunsIn book [] i waits = HasRunning book waits
 RunsIn book (a_scope ∷ bs) zero waits = RunsIn book bs zero waits
 RunsIn book (a_nursery id ∷ bs) zero waits = HasRunning book (Some id) ⊎ RunsIn book bs zero waits
 RunsIn book (b ∷ bs) (suc i) waits = RunsIn book bs i waits
 
--- the nursery that a task waits for which goes on so, if it does
+-- the nursery that a task in this blocked state waits for, if it does
 abbrev pub waits_of : Halt → Option ℕ
 waits_of ToBegin = None
 waits_of (Asked kernel purpose) = None
@@ -141,7 +140,7 @@ waits_of (Asleep ticks since) = None
 waits_of (Awaits id since) = Some id
 waits_of Over = None
 
--- a scope that another task opened has one of this task's round it only where a child of the task runs in there
+-- a scope that another task opened is enclosed by one of this task's only if a child of the task runs inside that
 abbrev pub OthersRun : Tree → NurseryBook → List Block → List Own → Option ℕ → Type 0
 OthersRun tree book bs own waits =
     (key : ℕ) (st : Stack) → stack_of tree key ≡ Some st → AreOthers key own → (i : ℕ) (o : Own) → slice_get own i ≡ Some o →
@@ -153,7 +152,7 @@ abbrev pub SameKeys : Tree → Tree → Type 0
 SameKeys old new = (key : ℕ) → option_map keys_of (stack_of new key) ≡ option_map keys_of (stack_of old key)
 
 -- What holds between moves of a task that is on this part, has these frames, opened these scopes inside its home's, and entered
--- so many, in a world with these scopes, labels and nurseries. It waits for a nursery, or not.
+-- the given number, in a world with these scopes, labels and nurseries. It waits for a nursery, or not.
 pub record FitsIn
     (frames : List Frame) (part : Part) (within : Option ℕ) (own : List Own) (entered : ℕ) (tree : Tree) (labels : Labels)
     (book : NurseryBook) (waits : Option ℕ) : Type 0

@@ -1,4 +1,4 @@
--- What the code holds of what a task has not finished, the innermost last, as frames, the innermost first.
+-- What the code holds of a task's unfinished blocks, the innermost last, as frames, the innermost first.
 use Rattle.std.specs.Prelude.{ℕ, List, [], ◌∷◌, ◌++◌, Option, Some, None}
 use Rattle.std.specs.Global.{Box}
 use Rattle.std.specs.Option.{option_map, option_copied}
@@ -9,7 +9,7 @@ use Rattle.job_meaning.specs.Rest as rest
 use Rattle.task_machine.specs.declared.frame.Frame.{Frame}
 use Rattle.task_machine.specs.declared.frame.Frame.TheVariants.{Steps, Scope, Nursery, Repeat, Try, Handler, Cleanup}
 
--- an exception that waits behind a pointer
+-- the exception in an optional box
 abbrev pub laid_aside : Option (Box held.Exc) → Option held.Exc
 laid_aside None = None
 laid_aside (Some aside) = Some aside.value
@@ -24,7 +24,7 @@ frame_of children (Try handler cleanup) = rest.in_try (handled_of (option_copied
 frame_of children (Handler others cleanup) = rest.in_handler (option_map exc_of (laid_aside others)) (cleaned_of cleanup.now)
 frame_of children (Cleanup outcome) = rest.in_cleanup (option_map exc_of (laid_aside outcome))
 
--- those held, inside the outer ones
+-- those that the code holds, inside the outer ones
 abbrev pub frames_onto : (ℕ → List ℕ) → List Frame → List rest.Frame → List rest.Frame
 frames_onto children [] outer = outer
 frames_onto children (f ∷ fs) outer = frames_onto children fs (frame_of children f ∷ outer)

@@ -8,7 +8,7 @@ use Rattle.exc_groups.specs.Exceptions.{Label}
 abbrev pub Labels : Type 0
 Labels = ℕ → Option Label
 
--- what stands at a place, and none behind the last
+-- what is at an index, and none after the last
 abbrev pub label_in : List (Option Label) → Labels
 label_in labels key = slice_index_or labels key None
 

@@ -1,4 +1,5 @@
--- What the open scopes of a world show is what the places of a task show with the world's froms, and stays so.
+-- What the open scopes of a world show is what the places of a task (the scopes and nurseries that enclose it) show with
+-- the world's froms, and stays so.
 use Rattle.std.specs.Prelude.{◌≡◌, ℕ, Bool, Some, List, ◌∷◌}
 use Rattle.exc_groups.specs.Exceptions.{Label}
 use Rattle.cancel_scopes.specs.Sight.{Tick, Level, seen, catches}
@@ -22,21 +23,21 @@ CatchAlike =
     AreAt labels froms (l ∷ ls) (p ∷ ps) →
     scopes.catches (l ∷ ls) t ≡ catches (froms p.label) p.shield (stack_at froms ps) t
 
--- a name finds the scope of the label that it finds among the places, and one of the stack
+-- a name finds the scope of the label that it finds among the places, and that scope is one of the stack
 abbrev pub FoundAlike : Type 0
 FoundAlike =
     (labels : Labels) (froms : Table) (name : List ℕ) (st : scopes.Stack) (ps : List Place) → AreAt labels froms st ps →
     FoundAs labels (scope_named labels name st) (label_among name ps) × ((key : ℕ) → scope_named labels name st ≡ Some key → IsKey key st)
 
--- A scope of the stack that is signed lowers the from of its label, where the places have names of their own: so no other
--- scope has its label.
+-- A scope of the stack that is signed lowers the from of its label, if the places have different names: so no other scope
+-- has its label.
 abbrev pub SignedAlike : Type 0
 SignedAlike =
     (labels : Labels) (froms : Table) (st : scopes.Stack) (ps : List Place) (key t : ℕ) (label : Label) → labels key ≡ Some label →
     IsKey key st →
     OwnNames (names_at ps) → AreAt labels froms st ps → AreAt labels (lowered froms label t) (scopes.after_cancel key t st) ps
 
--- a scope that is entered opens its label, where its name is none of those round it
+-- a scope that is entered opens its label, if no enclosing one has its name
 abbrev pub EnteredAlike : Type 0
 EnteredAlike =
     (labels more : Labels) (froms : Table) (st : scopes.Stack) (ps : List Place) (key : ℕ) (label : Label) (shield : Bool) (d : Tick) →

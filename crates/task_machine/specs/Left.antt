@@ -24,11 +24,11 @@ abbrev pub keys_in : List Own → List ℕ
 keys_in [] = []
 keys_in (o ∷ os) = keys_in os ++ o.id ∷ []
 
--- the scopes that a task opened are those round it, as far as its home
+-- the innermost scopes, as far as those of its home, are the ones that the task opened
 abbrev pub OwnFirst : Tree → Option ℕ → List Own → Type 0
 OwnFirst tree home own = keys_of (outer_of tree (last_or home (map (λ (o : Own). o.id) own))) ≡ keys_in own ++ keys_of (outer_of tree home)
 
--- The last scope is taken off and closed, which is round no other, and its from is kept at its place. Every other scope
+-- The last scope is removed and closed, which has no open children, and its from is kept at its place. Every other scope
 -- stays, and keeps its label.
 pub record LeavesOne (before after : Task) (old new : World) : Type 0 where
   pub last : Own
@@ -44,8 +44,8 @@ pub record LeavesOne (before after : Task) (old new : World) : Type 0 where
   pub marks : OtherMarksKeep old.scopes new.scopes last.id
   pub unlabelled : Updates (label_at old) (label_at new) last.id None
 
--- The innermost place is left: the task is in those round it, with the same froms, and the scope that was left catches as
--- its place does.
+-- The innermost scope or nursery is left: the task is enclosed by the others, with the same froms, and the scope that was
+-- left catches as its place does.
 pub record LeavesFrom (before after : World) (outer inner : Option ℕ) (closed : Closed) (froms : Table) (p : Place) (ps : List Place) : Type
     0 where
   pub label : closed.label ≡ p.label

@@ -1,4 +1,4 @@
--- What comes back of the parts that a world lends for writing.
+-- The state of a world after a mutable borrow of one of its parts.
 use Rattle.std.specs.Prelude.{[]}
 use Rattle.std.specs.Borrow.{Lends, MutBor, Fml}
 use Rattle.cancel_scopes.specs.Tree.{Tree}

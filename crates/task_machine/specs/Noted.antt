@@ -1,4 +1,4 @@
--- What clauses read of what tasks note.
+-- What clauses state about what tasks note.
 use Rattle.std.specs.Prelude.{ℕ, List}
 use Rattle.buffer_parts.specs.Part.{span_of, line_text, IsLineOf}
 use Rattle.job_meaning.specs.Meaning.{From}

@@ -1,4 +1,5 @@
--- The open scopes of a world, each with its label, and the places of a task among them.
+-- The open scopes of a world, each with its label, and the places of a task (the scopes and nurseries that enclose it)
+-- among them.
 use Rattle.std.specs.Prelude.{◌≡◌, ◌⊎◌, ℕ, Option, Some, None, List, [], ◌∷◌}
 use Rattle.exc_groups.specs.Exceptions.{Label}
 use Rattle.cancel_scopes.specs.Tree as scopes
@@ -6,8 +7,8 @@ use Rattle.job_meaning.specs.Log.{Table}
 use Rattle.task_turns.specs.Midway.{Place}
 use Rattle.task_machine.specs.Labels.{Labels}
 
--- A stack of open scopes is these places with the froms of a table: each scope has the place's label and shield, and is
--- cancelled from the tick that the table gives its label.
+-- A stack of open scopes corresponds to these places with the froms of a table: each scope has the place's label and
+-- shield, and is cancelled from the tick that the table has for its label.
 abbrev pub AreAt : Labels → Table → scopes.Stack → List Place → Type 0
 AreAt labels froms [] [] = Unit {0}
 AreAt labels froms [] (p ∷ ps) = ⊥
@@ -25,7 +26,7 @@ abbrev pub Alone : Labels → ℕ → Label → scopes.Stack → Type 0
 Alone labels key label [] = Unit {0}
 Alone labels key label (l ∷ ls) = (labels l.label ≡ Some label → l.label ≡ key) × Alone labels key label ls
 
--- the scopes of a stack have the same labels by both
+-- the scopes of a stack have the same labels in both
 abbrev pub SameOn : Labels → Labels → scopes.Stack → Type 0
 SameOn labels more [] = Unit {0}
 SameOn labels more (l ∷ ls) = (labels l.label ≡ more l.label) × SameOn labels more ls

@@ -1,4 +1,4 @@
--- Where a task stands between two moves, and what a move of the code makes of it.
+-- The state of a task between two moves, and what a move of the code does to it.
 use Rattle.std.specs.Prelude.{◌≡◌, ◌⊎◌, ℕ, List, [], ◌∷◌, ◌++◌, Option, Some, None, map, All, length, slice_get}
 use Rattle.std.specs.Borrow.{Bor}
 use Rattle.buffer_parts.specs.Part.{buffer_of, range_of}
@@ -53,11 +53,11 @@ HasBlock id [] = ⊥
 HasBlock id (a_scope ∷ bs) = HasBlock id bs
 HasBlock id (a_nursery key ∷ bs) = (id ≡ key) ⊎ HasBlock id bs
 
--- and one of a task with these blocks, which waits for this one or for none
+-- or is the nursery that a task with these blocks waits for
 abbrev pub HasNurseryOf : ℕ → List Block → Option ℕ → Type 0
 HasNurseryOf id bs waits = HasBlock id bs ⊎ (waits ≡ Some id)
 
--- what a task waits for after a move
+-- the nursery that a task waits for after a move
 abbrev pub waits_by : Moved → Halt → Option ℕ
 waits_by (On exc) halt = None
 waits_by (Stops stop) halt = waits_of halt
@@ -76,8 +76,9 @@ abbrev pub AllNumbered : Numbers → NurseryBook → List Frame → Option ℕ �
 AllNumbered numbers book fs waits = (id : ℕ) → HasNurseryOf id (blocks_of fs) waits →
     HasNursery book id (λ n. length (numbers id) ≡ length n.children)
 
--- A task with these frames, in the middle of a turn or where it stopped, is in these places with the froms of a table, and
--- numbered its children so. Each scope and nursery has its place, and no name stands twice among those round one another.
+-- A task with these frames, in the middle of a turn or where it stopped, is in these places (the scopes and nurseries that
+-- enclose it) with the froms of a table, and numbered its children so. Each scope and nursery has its place, and nested ones
+-- have different names.
 pub record Stands
     (frames : List Frame) (task : Task) (world : World) (froms : Table) (numbers : Numbers) (stopped : Option Stopped)
     (ps : List Place) : Type 0
@@ -88,7 +89,7 @@ pub record Stands
     pub new : NewIn (frames_of numbers frames) (places_behind stopped ps)
     pub own : OwnNames (names_at ps)
 
--- what is shown of the entries made, in order
+-- the entries among these events as they are shown, in order
 abbrev pub shown_made : List ℕ → List Event → List Shown
 shown_made input [] = []
 shown_made input (noted t e ∷ es) = shown_at input t e ∷ shown_made input es
@@ -96,12 +97,12 @@ shown_made input (signs l t ∷ es) = shown_made input es
 shown_made input (enters l t d ∷ es) = shown_made input es
 shown_made input (starts i l t ∷ es) = shown_made input es
 
--- the entries that a task noted are these, and their lines are slices of the input
+-- the entries that a task noted correspond to these events, and their lines are slices of the input
 pub record AreNoted (input : List ℕ) (entries : List Entry) (made : List Event) : Type 0 where
   pub shown : map entry_of entries ≡ shown_made input made
   pub slices : All (IsSlice input) entries
 
--- A task that was started is this child: it has to begin with its steps, and runs at its place of its nursery, which has its
+-- A task that was started is this child: it has not begun its steps, and runs at its place of its nursery, which has its
 -- number there.
 pub record IsBegun (numbers : Numbers) (book : NurseryBook) (bs : List Block) (waits : Option ℕ) (task : Task) (b : Begun) : Type 0 where
   pub here : here_of task ≡ b.here
@@ -123,7 +124,7 @@ AreBegun numbers book bs waits [] (c ∷ cs) = ⊥
 AreBegun numbers book bs waits (t ∷ ts) [] = ⊥
 AreBegun numbers book bs waits (t ∷ ts) (c ∷ cs) = IsBegun numbers book bs waits t c × AreBegun numbers book bs waits ts cs
 
--- a task that was started in this nursery has this place there, and began as the child of this number
+-- a task that was started in this nursery has this place there, and began as the child with this number
 abbrev pub BeginsAt : ℕ → ℕ → ℕ → List Task → List Begun → Type 0
 BeginsAt id place number [] bs = ⊥
 BeginsAt id place number (t ∷ ts) [] = ⊥
@@ -145,7 +146,7 @@ abbrev pub Grow : List Frame → Numbers → Numbers → NurseryBook → Nursery
 Grow fs numbers after old new = (id : ℕ) → HasBlock id (blocks_of fs) → (n : Nursery) → nursery_at old id ≡ Some n →
     HasNursery new id (λ m. Grown n m (numbers id) (after id))
 
--- a nursery whose scope is open, and none of those that the task opened
+-- a nursery whose scope is open, and is none of those that the task opened
 abbrev pub IsOfOther : List Own → Tree → Nursery → Type 0
 IsOfOther own tree n = IsOpen tree n.scope × AreOthers n.scope own
 
@@ -184,13 +185,13 @@ pub record Took
     pub numbered : AllNumbered numbers_after new.book after.frames.items (waits_by moved after.halt)
     -- a nursery of the task was one before, or was opened
     pub owned : Owns (blocks_of frames) before.own.items old.scopes old.book (blocks_of after.frames.items) (waits_by moved after.halt)
-    -- each number of a child stood there before, or is that of a child begun
+    -- each number of a child was there before, or is that of a child begun
     pub covered : Covers (blocks_of frames) numbers numbers_after (blocks_of after.frames.items) (waits_by moved after.halt) tasks o.begun
     -- the nurseries of other tasks stay as they are
     pub others : OthersStay (blocks_of frames) before.own.items old.scopes old.book new.book
     pub acts : Acts old.tick (scoping_of before old) o.made (scoping_of after new)
 
--- the same of each table of froms, of each numbering, and of places and counts, from where the task stood with these frames
+-- the same for each table of froms, each numbering, and any places and counts, from the state of the task with these frames
 abbrev pub Takes :
     List Frame → Task → Task → World → World → Moved → (Table → Numbers → List Place → ℕ → Move) → Type 0
 Takes frames before after old new moved move =
@@ -202,18 +203,18 @@ abbrev pub step_at : Task → World → List Frame → Option Exc → Table → 
 step_at task world frames exc froms numbers ps count =
     step_of froms world.tick (here_of task) (record { frames = frames_of numbers frames; places = ps; exc = exc; count = count })
 
--- one step of the code is that of the definitions
+-- one step of the code corresponds to that of the definitions
 abbrev pub StepsAs : Task → Task → World → World → Option Exc → Moved → Type 0
 StepsAs before after old new exc moved = Takes before.frames.items before after old new moved (step_at before old before.frames.items exc)
 
--- the same of a task whose innermost frame, the steps of a block, was taken off
+-- the same for a task whose innermost frame, the steps of a block, was removed
 abbrev pub BlockStepsAs : Bor (List held.Step) → Task → Task → World → World → Option Exc → Moved → Type 0
 BlockStepsAs steps before after old new exc moved =
     (frames : List Frame) (task : Task) → frames ≡ before.frames.items ++ code.Steps steps ∷ [] →
     before ≡ record task { frames = before.frames } →
     Takes frames task after old new moved (step_at task old frames exc)
 
--- The innermost frame of a task was taken off, which held this step first, and the steps that come after it were put back.
+-- The innermost frame of a task, which had this step first, was removed, and the steps after it were put back.
 pub record AtStep (frames : List Frame) (task before : Task) (first : held.Step) : Type 0 where
   pub outer : List Frame
   pub steps : Bor (List held.Step)
@@ -228,7 +229,7 @@ RunsAs before after old new first moved =
     (frames : List Frame) (task : Task) → AtStep frames task before first →
     Takes frames task after old new moved (step_at task old frames None)
 
--- steps of the code until it stops are so many of the definitions
+-- steps of the code until it stops correspond to the given number of steps of the definitions
 pub record TookSteps
     (before after : Task) (old new : World) (exc : Option Exc) (stop : Stop) (froms : Table) (numbers : Numbers) (ps : List Place)
     (count : ℕ) : Type 0
@@ -253,7 +254,7 @@ StopsAfter before after old new exc stop =
 abbrev pub wake_at : Task → World → wakes.Wake → Stopped → Table → Numbers → List Place → Move
 wake_at task world w stopped froms numbers ps = wake_of froms world.tick (here_of task) w stopped (frames_of numbers task.frames.items) ps
 
--- The code does what the wake does, wherever the task stopped that goes on with its halt.
+-- The code does what the wake of the definitions does, for each stop that the blocked state of the task corresponds to.
 abbrev pub Wakens : Task → Task → World → World → Moved → wakes.Wake → Type 0
 Wakens task after old new goes w =
     (froms : Table) (numbers : Numbers) (stopped : Stopped) (ps : List Place) →
@@ -265,7 +266,7 @@ Wakens task after old new goes w =
 abbrev pub TookTo : Task → Task → World → World → Stop → Table → Numbers → Move → Type 0
 TookTo before after old new stop = Took before.frames.items before after old new (Stops stop)
 
--- A turn of the code is one of the definitions, with so many steps at most.
+-- A turn of the code corresponds to one of the definitions, with at most the given number of steps.
 pub record TookTurn
     (before after : Task) (old new : World) (wake : Wake) (stop : Stop) (froms : Table) (numbers : Numbers) (stopped : Stopped)
     (ps : List Place) (count : ℕ) : Type 0

@@ -18,7 +18,7 @@ use Rattle.task_machine.specs.Frames.{frames_of}
 use Rattle.task_machine.specs.Stops.{Numbers}
 use Rattle.task_machine.specs.Tasks.{path_of}
 
--- a task that was started with this label on this range of an input: it has to begin with these steps, at this home
+-- a task that was started with this label on this range of an input: it has not begun these steps, at this home
 pub record IsChild (task : Task) (label : Label) (input : List ℕ) (range : Range) (body : Steps) (home : Home) : Type 0 where
   pub label_is : task.label ≡ label
   pub input_is : buffer_of task.part ≡ input
@@ -30,16 +30,16 @@ pub record IsChild (task : Task) (label : Label) (input : List ℕ) (range : Ran
   pub entries : task.entries.items ≡ []
   pub froms : task.froms.items ≡ []
 
--- so many children that run
+-- the given number of children that run
 abbrev pub running : ℕ → List End
 running zero = []
 running (suc k) = running k ++ None ∷ []
 
--- the home of the child with so many before it in a nursery
+-- the home of a child that is started in a nursery after the given number of other new ones
 abbrev pub home_at : ℕ → Nursery → ℕ → Home
 home_at id n before = record { nursery = id; place = length n.children + before; scope = n.scope }
 
--- A child was started: it runs in the nursery of this key, and nobody took it yet.
+-- A child was started: it runs in the nursery with this key, and was not taken yet.
 pub record StartsOne (old new : World) (id : ℕ) (label : Label) (part : Part) (body : Steps) : Type 0 where
   pub nursery : Nursery
   pub was : nursery_at old.book id ≡ Some nursery
@@ -57,7 +57,7 @@ AreChildren self id n name k body tasks (suc i) =
     (cut_of (buffer_of self.part) (range_of self.part) k i) body
     (home_at id n i)
 
--- so many of them were started
+-- the given number of them were started
 pub record StartsOver (self : Task) (old new : World) (id : ℕ) (name : List ℕ) (k : ℕ) (body : Steps) (i : ℕ) : Type 0 where
   pub nursery : Nursery
   pub was : nursery_at old.book id ≡ Some nursery

@@ -1,4 +1,4 @@
--- How the code stops, as a move of the definitions does.
+-- How the code stops, compared to a move of the definitions.
 use Rattle.std.specs.Prelude.{◌≡◌, ℕ, ◌+◌, List, Option, Some, None}
 use Rattle.std.specs.Option.{option_map}
 use Rattle.exc_groups.specs.Held.{exc_of}
@@ -19,7 +19,7 @@ use Rattle.task_machine.specs.declared.stop.Purpose.TheVariants.{Shows, Needs, P
 use Rattle.task_machine.specs.declared.stop.Moved.{Moved}
 use Rattle.task_machine.specs.declared.stop.Moved.TheVariants.{On, Stops}
 
--- what a kernel of the code asks, and for what
+-- the kernel that the code asks, and for what
 abbrev pub kernel_in : Kernel → ask.Kernel
 kernel_in (Find needle) = ask.find needle.now
 kernel_in (Head count) = ask.head count
@@ -32,11 +32,11 @@ purpose_in Shows = ask.shows
 purpose_in (Needs name) = ask.needs name
 purpose_in (Paces k) = ask.paces k
 
--- which numbers the children have that a task started in each nursery
+-- the numbers of the children that a task started in each nursery
 abbrev pub Numbers : Type 0
 Numbers = ℕ → List ℕ
 
--- what a task that stopped goes on with is this stop of the definitions
+-- the blocked state of a task corresponds to this stop of the definitions
 abbrev pub IsHalt : Numbers → NurseryBook → Halt → Stopped → Type 0
 IsHalt numbers book ToBegin to_begin = Unit {0}
 IsHalt numbers book (Asked kernel purpose) (asking k p) = (kernel_in kernel ≡ k) × (purpose_in purpose ≡ p)
@@ -46,7 +46,7 @@ IsHalt numbers book (Awaits nursery since) (awaiting children u exc) =
 IsHalt numbers book Over (at_end u e) = Unit {0}
 IsHalt numbers book _ _ = ⊥
 
--- what the caller is told of a stop, for a task on this part
+-- the stop that is returned to the caller, for a task on this part
 abbrev pub IsTold : Part → Stop → Halt → Stopped → Type 0
 IsTold part (Ask request) (Asked kernel purpose) stopped = (request.kernel ≡ kernel) × (request.part ≡ part)
 IsTold part (Sleep due) (Asleep ticks since) stopped = due ≡ since + ticks
@@ -58,7 +58,7 @@ abbrev pub StopsAs : Numbers → NurseryBook → Part → Stop → Halt → Opti
 StopsAs numbers book part stop halt None = ⊥
 StopsAs numbers book part stop halt (Some stopped) = IsHalt numbers book halt stopped × IsTold part stop halt stopped
 
--- the code goes on as a move does, with the same exception, or stops where it stops
+-- the code continues as a move does, with the same exception, or stops where it stops
 abbrev pub MovesAs : Numbers → NurseryBook → Part → Moved → Halt → Move → Type 0
 MovesAs numbers book part (On exc) halt o = (option_map exc_of exc ≡ o.exc) × (o.stopped ≡ None)
 MovesAs numbers book part (Stops stop) halt o = (o.exc ≡ None) × StopsAs numbers book part stop halt o.stopped

@@ -1,4 +1,4 @@
--- What clauses see of a task.
+-- What clauses state about a task.
 use Rattle.std.specs.Prelude.{ℕ, Option, List, map}
 use Rattle.std.specs.Option.{option_map}
 use Rattle.std.specs.List.{last_or}
@@ -11,7 +11,7 @@ use Rattle.task_machine.specs.Frames.{passes_onto}
 abbrev pub home_scope : Task → Option ℕ
 home_scope task = option_map (λ (h : Home). h.scope) task.home
 
--- the innermost scope round a task: the last that it opened itself, else that of its home nursery
+-- the innermost scope that encloses a task: the last that it opened itself, or else that of its home nursery
 abbrev pub scope_of : Task → Option ℕ
 scope_of task = last_or (home_scope task) (map (λ (o : Own). o.id) task.own.items)
 
@@ -19,6 +19,6 @@ scope_of task = last_or (home_scope task) (map (λ (o : Own). o.id) task.own.ite
 abbrev pub home_of : Task → Option (ℕ × ℕ)
 home_of task = option_map (λ (h : Home). (h.nursery, h.place)) task.home
 
--- the path of indices of what it enters or starts: its own, and behind them the numbers of the passes that it is in
+-- the path of indices of what it enters or starts: its own, followed by the numbers of the passes that it is in
 abbrev pub path_of : Task → List ℕ
 path_of task = passes_onto task.frames.items task.label.indices

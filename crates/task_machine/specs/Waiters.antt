@@ -1,10 +1,10 @@
--- Who waits for the nurseries that stand in the book after a move.
+-- Which tasks wait for the nurseries that are in the book after a move.
 use Rattle.std.specs.Prelude.{◌≡◌, ◌⊎◌, ℕ, Some}
 use Rattle.nursery_book.specs.Book.{nursery_at, HasNursery}
 use Rattle.nursery_book.specs.Nursery.{Nursery}
 use Rattle.nursery_book.specs.declared.book.NurseryBook.{NurseryBook}
 
--- a nursery with this waiter stood there before
+-- a nursery with this waiter was there before
 abbrev pub HadWaiter : NurseryBook → ℕ → ℕ → Type 0
 HadWaiter old id waiter = HasNursery old id (λ n. n.waiter ≡ waiter)
 

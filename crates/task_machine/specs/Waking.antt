@@ -1,4 +1,4 @@
--- How a task that stopped goes on, in the code.
+-- How a task that stopped continues, in the code.
 use Rattle.std.specs.Prelude.{◌≡◌, ◌≤◌, ◌^◌, true, Option, Some, None, map}
 use Rattle.buffer_parts.specs.Part.{span_of}
 use Rattle.buffer_parts.specs.declared.part.Part.{Part}
@@ -29,7 +29,7 @@ WakesFrom (Asked kernel purpose) part book (Answer answer) = IsAnswer kernel par
 WakesFrom (Awaits id since) part book Settled = HasNursery book id (λ n. is_settled n ≡ true)
 WakesFrom halt part book wake = ⊥
 
--- lines are slept by at least one a tick
+-- the divisor of a `pace` is in range
 abbrev pub IsModestPurpose : Purpose → Type 0
 IsModestPurpose Shows = Unit {0}
 IsModestPurpose (Needs name) = Unit {0}
@@ -43,7 +43,7 @@ IsModestHalt (Asleep ticks since) = ticks ≤ 2 ^ 40
 IsModestHalt (Awaits id since) = Unit {0}
 IsModestHalt Over = Unit {0}
 
--- an answer as the definitions have it
+-- an answer in the terms of the definitions
 abbrev pub answer_in : held.Answer → ask.Answer
 answer_in (answers.Lines lines) = ask.lines (map span_of lines)
 answer_in answers.Missing = ask.missing
@@ -61,7 +61,7 @@ settled_exc book (Asleep ticks since) = None
 settled_exc book (Awaits id since) = raised_in (nursery_at book id)
 settled_exc book Over = None
 
--- a wake as the definitions have it
+-- a wake in the terms of the definitions
 abbrev pub wake_in : NurseryBook → Halt → Wake → wakes.Wake
 wake_in book halt Begin = wakes.begins
 wake_in book halt Due = wakes.is_due

@@ -11,7 +11,8 @@ use cancel_scopes::stacks_are_chains;
 use job_tree::Name;
 
 impl<'a> Task<'a> {
-    // The scope or nursery of that name round the task is cancelled, from the next tick on.
+    // Cancels the innermost scope or nursery of that name that encloses the task, from the next
+    // tick on.
     pub(crate) fn cancel(&self, name: Name, world: &mut World<'a>)
         requires scope { ForSome (scope_of self.now) (IsOpen world.old.scopes) }
         requires tick { world.old.tick + 1 < 2 ^ 63 }

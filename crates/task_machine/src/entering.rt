@@ -23,7 +23,7 @@ use cancel_scopes::{ScopeId, stacks_are_chains};
 use job_tree::{Body, Deadline, Name};
 use std::alloc::AllocError;
 
-// A cancel scope or a nursery that is to be entered.
+// A cancel scope or a nursery to be entered.
 #[derive(Clone, Copy)]
 pub(crate) struct Block<'a> {
     pub(crate) name: Name,
@@ -33,7 +33,7 @@ pub(crate) struct Block<'a> {
 }
 
 impl<'a> Task<'a> {
-    // A scope is entered, inside those that the task is in. After an error the task and the world may only be dropped.
+    // Enters a scope, inside those that enclose the task. After an error the task and the world can only be dropped.
     pub(crate) fn enter(
         &mut self,
         name: Name,
@@ -63,7 +63,7 @@ impl<'a> Task<'a> {
         Ok(id)
     }
 
-    // A cancel scope is entered, and its body begins. After an error the task and the world may only be dropped.
+    // Enters a cancel scope and begins its body. After an error the task and the world can only be dropped.
     pub(crate) fn enter_scope(
         &mut self,
         block: Block<'a>,
@@ -88,8 +88,8 @@ impl<'a> Task<'a> {
         self.push(Frame::Steps(block.body.as_slice()))
     }
 
-    // A nursery is entered, which stands in the book then, and its body begins. After an error the task and the world
-    // may only be dropped.
+    // Enters a nursery, which is added to the book, and begins its body. After an error the task and the world can
+    // only be dropped.
     pub(crate) fn enter_nursery(
         &mut self,
         me: TaskId,

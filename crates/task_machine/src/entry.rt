@@ -2,36 +2,38 @@
 use buffer_parts::Line;
 use exc_groups::Label;
 
-/// What a task noted, in the order in which it did.
+/// What a task noted for the report. Entries are in the order in which it noted them.
 #[derive(Drop)]
 pub enum Entry<'a> {
     /// A line that a kernel answered, borrowed from the input.
     Line(Line<'a>),
     /// A cancel scope that the task left.
     Scope {
-        /// The scope's label, boxed: an entry for a line is not to have room for one.
+        /// The scope's label, boxed so that an entry for a line takes no space for one.
         label: Box<Label>,
-        /// The tick in which the task left it.
+        /// The tick in which the task left the scope.
         tick: u64,
-        /// Whether it took a `Cancelled` away.
+        /// Whether the scope caught a `Cancelled`.
         caught: bool,
     },
     /// A nursery that the task left.
     Nursery {
-        /// The nursery's label, boxed as a scope's.
+        /// The nursery's label, boxed as a scope's is.
         label: Box<Label>,
-        /// The tick in which its last member ended, and the task left it.
+        /// The tick in which its last member ended and the task left it.
         tick: u64,
-        /// Whether it took a `Cancelled` away.
+        /// Whether the nursery caught a `Cancelled`.
         caught: bool,
     },
 }
 
-/// From which tick a cancel scope or nursery was cancelled.
+/// A cancel scope or nursery, and the tick from which it was cancelled.
 #[derive(Drop)]
 pub struct ScopeFrom {
     /// The label of the scope or nursery.
     pub label: Label,
-    /// The tick from which its cancellation was seen: none for never.
+    /// The tick from which the scope or nursery itself was cancelled, by its deadline or by a
+    /// `cancel` or a failed member. It is not an effective deadline: cancellations of enclosing
+    /// scopes do not count. `None` if it never was cancelled, and until it is left.
     pub seen: Option<u64>,
 }

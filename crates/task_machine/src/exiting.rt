@@ -25,8 +25,8 @@ use nursery_book::NurseryId;
 use std::alloc::AllocError;
 
 impl<'a> Task<'a> {
-    // The innermost block with a scope is left with that exception, or well: it catches or not, and that is noted. After
-    // an error the task and the world may only be dropped.
+    // Leaves the innermost block with a scope, with this exception or none: it catches or not, and that is noted. After
+    // an error the task and the world can only be dropped.
     pub(crate) fn exit(
         &mut self,
         kind: Kind,
@@ -56,7 +56,8 @@ impl<'a> Task<'a> {
         Ok(exc)
     }
 
-    // Who ends with an exception cancels the innermost nursery round it, if there is one, from the next tick on.
+    // A task or body that ends with an exception cancels the innermost enclosing scope, if there is one, from the next
+    // tick on.
     fn fail(&self, exc: &Option<Exc>, world: &mut World<'a>)
         requires scope { ForSome (scope_of self.now) (IsOpen world.old.scopes) }
         requires tick { world.old.tick + 1 < 2 ^ 63 }

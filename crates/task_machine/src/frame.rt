@@ -2,14 +2,14 @@ use exc_groups::Exc;
 use job_tree::{Body, Handler, Step};
 use nursery_book::NurseryId;
 
-/// What a task has not finished. It is in one of them inside the other.
+/// An unfinished block of a task. The frames of a task are nested in each other.
 #[derive(Drop)]
 pub(crate) enum Frame<'a> {
     /// The steps of a block that were not begun.
     Steps(&'a [Step]),
     /// A cancel scope.
     Scope {
-        /// Whether it raises `TooSlow` where it caught a cancellation and nothing else is left.
+        /// Whether it raises `TooSlow` if it caught a cancellation and nothing else is left.
         fail: bool,
     },
     /// The body of a nursery.
@@ -28,26 +28,26 @@ pub(crate) enum Frame<'a> {
     },
     /// The body of a `try`.
     Try {
-        /// Its handler, if it has one that was not asked.
+        /// Its handler, if it has one that has not been tried.
         handler: Option<&'a Handler>,
         /// Its cleanup, if it has one.
         cleanup: &'a Option<Body>,
     },
     /// A handler.
     Handler {
-        /// What the split left for others.
+        /// The rest of the split, which the handler does not get.
         rest: Option<Box<Exc>>,
         /// The cleanup of its `try`, if it has one.
         cleanup: &'a Option<Body>,
     },
     /// A cleanup.
     Cleanup {
-        /// How the `try` came out before it.
+        /// The outcome of the `try` before its cleanup.
         outcome: Option<Box<Exc>>,
     },
 }
 
-// What stands in the free places of a short stack.
+// The value in the unused places of a short stack.
 impl<'a> Default for Frame<'a> {
     fn default() -> Frame<'a> {
         Frame::Scope { fail: false }

@@ -4,7 +4,7 @@ ghost use Rattle.task_machine.specs.Labels.{label_in, Updates};
 use exc_groups::Label;
 use std::alloc::AllocError;
 
-// The key has this label now, and every other key keeps its own.
+// Sets the label of the key. Every other key keeps its own.
 pub(crate) fn put_label(
     labels: &mut Vec<Option<Label>>,
     key: usize,
@@ -17,7 +17,7 @@ pub(crate) fn put_label(
     Ok(())
 }
 
-// Every key up to this one has a place, and keeps its label.
+// Every key up to this one has a place afterwards, and keeps its label.
 fn make_room(labels: &mut Vec<Option<Label>>, key: usize) -> Result<(), AllocError>
     ensures room { OnOk result (key < vec_len labels.new) }
     ensures keeps { OnOk result ((at : ℕ) → label_in labels.new.items at ≡ label_in labels.old.items at) }
@@ -28,7 +28,7 @@ fn make_room(labels: &mut Vec<Option<Label>>, key: usize) -> Result<(), AllocErr
     Ok(())
 }
 
-// Takes the key's label, which has none then. Every other key keeps its own.
+// Takes the label of the key, which has none afterwards. Every other key keeps its own.
 pub(crate) fn take_label(labels: &mut Vec<Option<Label>>, key: usize) -> Label
     requires { IsSome (label_in labels.old.items key) }
     ensures label { label_in labels.old.items key ≡ Some result }

@@ -4,8 +4,8 @@ ghost use Rattle.task_machine.specs.Frames.{laid_aside};
 use exc_groups::Exc;
 use std::alloc::{AllocError, Global};
 
-/// Lays an exception aside: it waits behind a pointer, where there is one, so that many places for one that seldom has one are
-/// small. Want of memory is the only error, and there is none where there is no exception.
+/// Boxes an exception, if there is one, so that a field for an optional exception that is rarely present takes little space.
+/// The only error is that memory was refused; it does not occur for `None`. `take_up` unboxes it.
 pub fn lay_aside(alloc: Global, exc: Option<Exc>) -> Result<Option<Box<Exc>>, AllocError>
     ensures { IfOk result (λ aside. laid_aside aside ≡ exc) }
 {
@@ -16,7 +16,7 @@ pub fn lay_aside(alloc: Global, exc: Option<Exc>) -> Result<Option<Box<Exc>>, Al
     Ok(Some(aside))
 }
 
-/// The exception that was laid aside. Takes no memory.
+/// Unboxes an exception that `lay_aside` boxed. Takes no memory.
 pub fn take_up(aside: Option<Box<Exc>>) -> Option<Exc>
     ensures { result ≡ laid_aside aside }
 {

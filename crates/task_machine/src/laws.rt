@@ -1,10 +1,11 @@
-//! The laws of scopes and places. Each function does nothing: its contract is the law.
+//! The laws of scopes and of the enclosing scopes and nurseries of a task (its places). Each function does nothing: its
+//! contract is the law.
 
 ghost use Rattle.task_machine.specs.Laws.{CatchAlike, EnteredAlike, FoundAlike, SeenAlike, SignedAlike};
 
-/// Where the open scopes round a task are its places, by their labels, shields and froms, the same is seen and caught by
-/// both, a name finds the same, and so they stay: a scope that is signed lowers the from of its label, and one that is
-/// entered opens its label.
+/// If the open scopes that enclose a task correspond to its places by their labels, shields and froms, both show the
+/// same cancellations, catch the same, and find the same scope by a name. They continue to correspond: cancelling a
+/// scope lowers the from of its label, and entering one opens its label.
 pub fn law_places()
     ensures seen { SeenAlike }
     ensures caught { CatchAlike }

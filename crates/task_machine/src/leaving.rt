@@ -19,7 +19,7 @@ pub(crate) struct Closed {
 }
 
 impl<'a> Task<'a> {
-    // The innermost scope of those that the task opened is left.
+    // Leaves the innermost of the scopes that the task opened.
     pub(crate) fn leave(&mut self, world: &mut World<'a>) -> Closed
         requires some { 0 < length self.old.own.items }
         requires open { ForSome (scope_of self.old) (IsOpen world.old.scopes) }

@@ -1,13 +1,13 @@
 //! Tasks and what they share, and a task's turn.
 //!
-//! A `Task` holds what it has not finished, the cancel scopes that it opened, innermost last, and what it noted. A `World`
-//! holds the tick, the cancel scopes with their labels, the nurseries, and the tasks that were started and that nobody took
-//! yet. A task that is woken (`Wake`) has a turn: it goes on until it stops (`Stop`).
+//! A `Task` holds its unfinished blocks, the cancel scopes that it opened, innermost last, and what it noted. A `World`
+//! holds the tick, the cancel scopes with their labels, the nurseries, and the started tasks that were not taken yet. A task
+//! that is woken (`Wake`) has a turn: it runs until it blocks or ends (`Stop`).
 //!
-//! The layer promises that a label belongs to the scope that was entered with it until that is left, that a name finds the
-//! innermost scope of that name, that a call of the world changes the parts that it names alone, and that a turn does to the
-//! task and the world what a turn of the definitions does (`task_turns`). It stands on the scope tree, on the book of
-//! nurseries, and on the jobs whose steps it borrows.
+//! The layer promises that a label belongs to the scope that was entered with it until that scope is left, that a name finds
+//! the innermost scope of that name, that a call of the world changes only the parts that it names, and that a turn does to
+//! the task and the world what a turn of the definitions does (`task_turns`). It uses the scope tree, the book of nurseries,
+//! and the jobs whose steps it borrows.
 #![tactic(auto)]
 
 mod cancelling;

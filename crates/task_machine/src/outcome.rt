@@ -15,7 +15,7 @@ use std::alloc::{AllocError, Global};
 pub(crate) enum Kind {
     /// A cancel scope.
     Scope {
-        /// Whether it raises `TooSlow` where it caught a cancellation and nothing else is left.
+        /// Whether it raises `TooSlow` if it caught a cancellation and nothing else is left.
         fail: bool,
     },
     /// A nursery.
@@ -60,16 +60,16 @@ impl Kind {
     }
 }
 
-// What leaving a block leaves of an exception.
+// The exception that remains when a block is left.
 #[derive(Drop)]
 pub(crate) struct Left {
     // Whether a `Cancelled` was caught.
     pub(crate) caught: bool,
-    // The exception that goes on.
+    // The exception that propagates.
     pub(crate) exc: Option<Exc>,
 }
 
-// A block that catches takes every `Cancelled` leaf away, and lets the rest go on.
+// A block that catches removes every `Cancelled` leaf, and lets the rest propagate.
 pub(crate) fn left_with(alloc: Global, catches: bool, exc: Option<Exc>) -> Result<Left, AllocError>
     ensures { IfOk result (λ left. left_of left ≡ left_with catches (option_map exc_of exc)) }
 {
@@ -90,7 +90,7 @@ pub(crate) fn left_with(alloc: Global, catches: bool, exc: Option<Exc>) -> Resul
     Ok(Left { caught, exc: rest })
 }
 
-// The exception behind a block: a `fail` scope that caught and has nothing left raises `TooSlow`.
+// The exception after a block: a `fail` scope that caught and has nothing left raises `TooSlow`.
 pub(crate) fn exc_after(
     alloc: Global,
     kind: Kind,
@@ -133,7 +133,7 @@ pub(crate) fn handler_exc(
     }))
 }
 
-// The exception behind a cleanup, whose own takes the place of the earlier one.
+// The exception after a cleanup, whose own exception replaces the earlier one.
 pub(crate) fn outcome_after(earlier: Option<Exc>, exc: Option<Exc>) -> Option<Exc>
     ensures { option_map exc_of result ≡ outcome_after (option_map exc_of earlier) (option_map exc_of exc) }
 {

@@ -23,7 +23,7 @@ use line_kernels::{Kernel, Request};
 use std::alloc::AllocError;
 
 impl<'a> Task<'a> {
-    // A sleep of so many ticks: a checkpoint, where a cancellation that is seen is raised.
+    // A sleep of `ticks` ticks: a checkpoint, which raises if a cancellation is seen.
     pub(crate) fn sleep(&mut self, ticks: u64, world: &World<'a>) -> Moved<'a>
         requires scope { ForSome (scope_of self.old) (IsOpen world.now.scopes) }
         requires ticks { ticks ≤ 2 ^ 40 }
@@ -46,7 +46,7 @@ impl<'a> Task<'a> {
         Moved::Stops(Stop::Sleep(since + ticks))
     }
 
-    // An exception of that name is raised.
+    // Raises an exception of that name.
     pub(crate) fn raise(&self, name: Name, world: &World<'a>) -> Result<Moved<'a>, AllocError>
         ensures on { IfOk result (λ moved. waits_by moved self.now.halt ≡ None) }
         ensures raises { IfOk result (λ moved. (numbers : Numbers) (book : Book) (fs : List Left) (ps : List Place) →
@@ -61,7 +61,7 @@ impl<'a> Task<'a> {
         })))
     }
 
-    // A kernel is asked for an answer on the task's part.
+    // Asks a kernel for an answer on the task's part.
     pub(crate) fn ask(&mut self, kernel: Kernel<'a>, purpose: Purpose) -> Moved<'a>
         ensures stays { self.new ≡ record self.old { halt = self.new.halt } }
         ensures halt { IsModestPurpose purpose → IsModestHalt self.new.halt }

@@ -36,8 +36,8 @@ impl<'a> Task<'a> {
         Ok(())
     }
 
-    // A pass has ended with that exception, or well: the next one begins, if it ended well and there is one. Gives the
-    // exception that the task goes on with.
+    // A pass has ended with this exception or none: the next one begins, if there was no exception and there is one.
+    // Returns the exception with which the task continues.
     pub(crate) fn next_pass(
         &mut self,
         pass: u64,
@@ -67,8 +67,8 @@ impl<'a> Task<'a> {
         Ok(None)
     }
 
-    // The label of that name for what is entered or started where the task is: behind its own indices come the numbers of
-    // the passes that it is in, outermost first.
+    // The label of that name for what is entered or started at this point of the task: its own indices, followed by the
+    // numbers of the passes that it is in, outermost first.
     pub(crate) fn label_here(&self, name: Name) -> Result<Label, AllocError>
         ensures { IfOk result (λ label. label ≡ label_in self.now name) }
     {

@@ -23,7 +23,7 @@ use smallvec::SmallVec;
 use std::alloc::{AllocError, Global};
 
 impl<'a> Task<'a> {
-    // A child that has to begin with a body, on its part.
+    // A child that will begin with a body, on its part.
     fn child(
         alloc: Global,
         label: Label,
@@ -56,7 +56,7 @@ impl<'a> Task<'a> {
         })
     }
 
-    // A child is started in a nursery of the task. After an error the world may only be dropped.
+    // Starts a child in a nursery of the task. After an error the world can only be dropped.
     pub(crate) fn start(
         &self,
         nursery: NurseryId,
@@ -81,7 +81,7 @@ impl<'a> Task<'a> {
         Ok(())
     }
 
-    // A child is started for each cut of the task's part.
+    // Starts a child for each cut of the task's part.
     pub(crate) fn start_over(
         &self,
         nursery: NurseryId,
@@ -105,7 +105,7 @@ impl<'a> Task<'a> {
         Ok(())
     }
 
-    // The children of a `start`: one on the task's part, or one for each of so many cuts.
+    // Starts the children of a `start`: one on the task's part, or one for each of `over` cuts.
     pub(crate) fn begin_children(
         &self,
         name: Name,
@@ -131,7 +131,7 @@ impl<'a> Task<'a> {
         Ok(())
     }
 
-    // The nursery in whose body the task is: the frame round the steps that it is in.
+    // The nursery in whose body the task is: the frame that encloses the steps that it is in.
     fn nursery(&self) -> NurseryId
         requires { IsTrue (in_body (frames_behind (frames_of (λ id. []) self.now.frames.items))) }
         ensures { InBody self.now.frames.items result }

@@ -3,38 +3,38 @@ use job_tree::Name;
 use line_kernels::{Answer, Kernel, Request};
 use nursery_book::NurseryId;
 
-/// How a task goes on.
+/// Why a task continues: the argument of `Task::turn`. It must fit the last `Stop` of the task.
 #[derive(Drop)]
 pub enum Wake<'a> {
-    /// It was started, and begins.
+    /// It was started, and has its first turn.
     Begin,
-    /// Its sleep is over.
+    /// Its sleep is due, and it sees no cancellation.
     Due,
-    /// It sees a cancellation in its sleep.
+    /// It sees a cancellation while it sleeps.
     Seen,
-    /// A kernel answered what it asked.
+    /// A kernel answered its request.
     Answer(Answer<'a>),
-    /// The body and all children of the nursery that it waits for have ended.
+    /// The nursery that it waits for is settled: its body and all its children have ended.
     Settled,
 }
 
-/// Where a turn of a task stopped.
+/// Why a task does not continue: where a turn stopped.
 #[derive(Drop)]
 pub enum Stop<'a> {
-    /// It asks a kernel for an answer on its part.
+    /// It requests an answer of a kernel on its part. It continues with `Wake::Answer`.
     Ask(Request<'a>),
-    /// It sleeps until this tick.
+    /// It sleeps until this tick. It continues with `Wake::Due` or `Wake::Seen`.
     Sleep(u64),
-    /// It waits for the children of a nursery.
+    /// It waits for the children of this nursery. It continues with `Wake::Settled`.
     Wait(NurseryId),
-    /// It ended, with that exception or well.
+    /// It ended, with this exception or none. It does not continue.
     Ended(Option<Exc>),
 }
 
-/// What a stopped task goes on with.
+/// The blocked state of a task: what it needs to continue.
 #[derive(Drop)]
 pub(crate) enum Halt<'a> {
-    /// It has to begin.
+    /// It has not begun.
     ToBegin,
     /// It asked a kernel for an answer.
     Asked {
@@ -45,7 +45,7 @@ pub(crate) enum Halt<'a> {
     },
     /// It sleeps.
     Asleep {
-        /// So many ticks.
+        /// The number of ticks.
         ticks: u64,
         /// From this tick on.
         since: u64,
@@ -61,21 +61,21 @@ pub(crate) enum Halt<'a> {
     Over,
 }
 
-/// What a task asks a kernel for.
+/// What a task does with a kernel's answer.
 #[derive(Clone, Copy)]
 pub(crate) enum Purpose {
     /// To show the lines.
     Shows,
-    /// To show the line, or to raise an exception of that name where there is none.
+    /// To show the line, or to raise an exception of that name if there is none.
     Needs(Name),
     /// To sleep the number of lines divided by this, rounded up.
     Paces(u64),
 }
 
-/// What a step of a turn leads to.
+/// The result of a step of a turn.
 #[derive(Drop)]
 pub(crate) enum Moved<'a> {
-    /// The task goes on, with that exception, or well.
+    /// The task continues, with this exception or none.
     On(Option<Exc>),
     /// It stops.
     Stops(Stop<'a>),

@@ -24,7 +24,7 @@ use std::alloc::{AllocError, Global};
 pub(crate) struct Own {
     /// The scope.
     pub(crate) id: ScopeId,
-    /// Its place among the task's froms.
+    /// Its index among the task's froms.
     pub(crate) at: usize,
 }
 
@@ -39,13 +39,13 @@ pub(crate) struct Home {
     pub(crate) scope: ScopeId,
 }
 
-/// A task of a job, whose steps and whose part of the input it borrows.
+/// A task of a job. It borrows the steps of the job and its part of the input.
 #[derive(Drop)]
 pub struct Task<'a> {
     pub(crate) alloc: Global,
     pub(crate) label: Label,
     pub(crate) part: Part<'a>,
-    // None for the root.
+    // `None` for the root.
     pub(crate) home: Option<Home>,
     // The innermost is the last.
     pub(crate) frames: SmallVec<Frame<'a>, 2>,
@@ -57,7 +57,9 @@ pub struct Task<'a> {
 }
 
 impl<'a> Task<'a> {
-    /// The root task of a job on a part of the input. It has to begin with the job's steps, and noted nothing.
+    /// Returns the root task of a job on a part of the input, which has at most `MOST_INPUT` bytes. All steps of the
+    /// job are left to do, it is in no nursery and no scope, and it has noted nothing. The only error is that memory
+    /// was refused.
     pub fn root(alloc: Global, job: &'a Job, part: Part<'a>) -> Result<Task<'a>, AllocError>
         requires { length (bytes_of (buffer_of part) (range_of part)) ≤ MOST_INPUT }
         ensures label { IfOk result (λ task. task.label ≡ record { name = job.now.name; indices = [] }) }
@@ -85,15 +87,15 @@ impl<'a> Task<'a> {
         })
     }
 
-    /// The task's label; the root's is the job's name.
+    /// Returns the task's label. That of the root is the name of the job.
     pub fn label(&self) -> &Label
         ensures { result.now ≡ self.now.label }
     {
         &self.label
     }
 
-    /// The innermost cancel scope round the task: the last that it opened itself and did not leave, else its home
-    /// nursery's, and none for a root that is in no scope.
+    /// Returns the innermost cancel scope that encloses the task: the last one that it opened and did not leave, or
+    /// else that of its home nursery; `None` for a root that is in no scope.
     pub fn scope(&self) -> Option<ScopeId>
         ensures { result ≡ scope_of self.now }
     {
@@ -113,7 +115,8 @@ impl<'a> Task<'a> {
         }
     }
 
-    /// The nursery in which the task was started, and its place there; none for the root.
+    /// Returns the nursery in which the task was started, and its place among that nursery's children; `None` for the
+    /// root.
     pub fn home(&self) -> Option<(NurseryId, Place)>
         ensures { result ≡ home_of self.now }
     {
@@ -123,22 +126,23 @@ impl<'a> Task<'a> {
         }
     }
 
-    /// What the task noted, in the order in which it did.
+    /// Returns what the task has noted so far, in the order in which it did.
     pub fn entries(&self) -> &[Entry<'a>]
         ensures { result.now ≡ self.now.entries.items }
     {
         self.entries.as_slice()
     }
 
-    /// The scopes and nurseries that the task opened, in that order, each with the tick from which it was cancelled.
+    /// Returns the scopes and nurseries that the task opened, in that order, each with the tick from which it was
+    /// cancelled. That tick is `None` until the scope or nursery is left.
     pub fn froms(&self) -> &[ScopeFrom]
         ensures { result.now ≡ self.now.froms.items }
     {
         self.froms.as_slice()
     }
 
-    /// What is left of a task that has ended: its label, what it noted, and the scopes and nurseries that it opened, as
-    /// `entries` and `froms` show them. Takes no memory.
+    /// Returns the label of a task that has ended, what it noted, and the scopes and nurseries that it opened, as
+    /// `label`, `entries` and `froms` do. Takes no memory.
     pub fn into_parts(self) -> (Label, Vec<Entry<'a>>, Vec<ScopeFrom>)
         ensures label { result.0 ≡ self.entry.label }
         ensures entries { result.1.items ≡ self.entry.entries.items }
@@ -153,7 +157,7 @@ impl<'a> Task<'a> {
         (label, entries, froms)
     }
 
-    // The task is in a frame inside the others.
+    // Adds a frame inside the others.
     pub(crate) fn push(&mut self, frame: Frame<'a>) -> Result<(), AllocError>
         ensures stays { OnOk result (self.new ≡ record self.old { frames = self.new.frames }) }
         ensures items { OnOk result (self.new.frames.items ≡ self.old.frames.items ++ frame.entry ∷ []) }

@@ -39,8 +39,8 @@ impl<'a> Task<'a> {
         self.push(Frame::Steps(body.as_slice()))
     }
 
-    // The body of a `try` has ended with that exception, or well: its handler runs if that matches, else its cleanup. Gives
-    // the exception that the task goes on with.
+    // The body of a `try` has ended with this exception or none: its handler runs if it matches, or else its cleanup.
+    // Returns the exception with which the task continues.
     pub(crate) fn end_try(
         &mut self,
         handler: Option<&'a Handler>,
@@ -76,7 +76,7 @@ impl<'a> Task<'a> {
         Ok(None)
     }
 
-    // A handler has ended with that exception, or well. Gives the exception that the task goes on with.
+    // A handler has ended with this exception or none. Returns the exception with which the task continues.
     pub(crate) fn end_handler(
         &mut self,
         rest: Option<Box<Exc>>,
@@ -93,7 +93,7 @@ impl<'a> Task<'a> {
         handler_exc(self.alloc, exc, take_up(rest))
     }
 
-    // Goes on behind the handler of a `try`.
+    // Continues after the handler of a `try`.
     fn without_handler(&mut self, cleanup: &'a Option<Body>) -> Result<(), AllocError>
         ensures stays { OnOk result (self.new ≡ record self.old { frames = self.new.frames }) }
         ensures blocks { OnOk result (blocks_of self.new.frames.items ≡ blocks_of self.old.frames.items) }

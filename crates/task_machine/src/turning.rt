@@ -31,13 +31,14 @@ use std::alloc::AllocError;
 const FAR: u64 = 1_099_511_627_776;
 
 impl<'a> Task<'a> {
-    /// One turn: the task goes on from a wake to its next stop, in the world's tick. `me` is the id by which it is known, which
-    /// a nursery that it opens keeps as its waiter's. The children that it starts wait in the world (`take_started`).
+    /// Executes one turn: the task continues from a wake to its next stop, in the world's tick. `me` is the id of this task,
+    /// which each nursery that it opens keeps as that of its waiter. Children that it starts are left in the world
+    /// (`take_started`).
     ///
-    /// The caller sees to it that the wake fits the stop: `Begin` comes first, `Due` or `Seen` after `Sleep`, after `Ask` the
-    /// answer to what was asked, and after `Wait` comes `Settled`, once that nursery is; that nothing comes after `Ended`; and
-    /// that the tick is at most 2 to the 62. Want of memory is the only error, after which the task and the world may only be
-    /// dropped.
+    /// The caller must ensure that the wake fits the last stop: `Begin` for the first turn, `Due` or `Seen` after `Sleep`, the
+    /// answer to the request after `Ask`, and `Settled` after `Wait` once that nursery is settled; that there is no turn after
+    /// `Ended`; that the scopes and nurseries of the task are open in the world; and that the tick is at most 2 to the 62. The
+    /// only error is that memory was refused, after which the task and the world can only be dropped.
     pub fn turn(
         &mut self,
         me: TaskId,
@@ -172,7 +173,7 @@ impl<'a> Task<'a> {
         }
     }
 
-    // The steps of a block: an exception skips what is left of them.
+    // The steps of a block: an exception skips the remaining ones.
     fn go_on(
         &mut self,
         me: TaskId,
@@ -214,7 +215,7 @@ impl<'a> Task<'a> {
         Ok(moved)
     }
 
-    // One step of a block, whose others are the innermost frame.
+    // One step of a block, the others of which are the innermost frame.
     fn run(
         &mut self,
         me: TaskId,

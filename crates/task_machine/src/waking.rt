@@ -27,7 +27,7 @@ use line_kernels::Answer;
 use std::alloc::AllocError;
 
 impl<'a> Task<'a> {
-    // What a task does first that wakes. After an error the task and the world may only be dropped.
+    // What a task does first when it wakes. After an error the task and the world can only be dropped.
     pub(crate) fn wake(
         &mut self,
         wake: Wake<'a>,
@@ -62,7 +62,7 @@ impl<'a> Task<'a> {
         }
     }
 
-    // The kernel's answer has come: its lines are noted, a line that is missing raises, and a count is slept by.
+    // Takes the kernel's answer: its lines are noted, a missing line raises, and a count determines a sleep.
     fn take_answer(
         &mut self,
         answer: Answer<'a>,
@@ -95,7 +95,7 @@ impl<'a> Task<'a> {
         }
     }
 
-    // There is no such line: who needs it raises.
+    // There is no such line: `need` raises.
     fn miss(&self, purpose: Purpose, world: &World<'a>) -> Result<Moved<'a>, AllocError>
         ensures waits { IfOk result (λ moved. waits_by moved self.now.halt ≡ None) }
         ensures wakes { IfOk result (λ moved. (kernel : Kernel) → self.now.halt ≡ Asked kernel purpose →
@@ -111,7 +111,7 @@ impl<'a> Task<'a> {
         }
     }
 
-    // There are so many lines: who paces sleeps by that.
+    // There are `count` lines: `pace` sleeps accordingly.
     fn pace(&mut self, count: u64, purpose: Purpose, world: &World<'a>) -> Moved<'a>
         requires scope { ForSome (scope_of self.old) (IsOpen world.now.scopes) }
         requires few { count ≤ MOST_INPUT }

@@ -16,16 +16,16 @@ use nursery_book::NurseryBook;
 use std::alloc::{AllocError, Global};
 use std::collections::VecDeque;
 
-/// What tasks share: the tick, the cancel scopes, each with its label, the nurseries, and the tasks that were started and
-/// that nobody took yet.
+/// What all tasks of a run share: the tick, the cancel scopes, each with its label, the nurseries, and the started tasks
+/// that were not taken yet.
 ///
-/// The caller sees to it that ticks are at most 4,611,686,018,427,387,904 (2 to the 62).
+/// Ticks are at most 4,611,686,018,427,387,904 (2 to the 62).
 #[derive(Drop)]
 pub struct World<'a> {
     pub(crate) alloc: Global,
     pub(crate) tick: u64,
     pub(crate) scopes: ScopeTree,
-    // By the keys of the scopes.
+    // Indexed by the keys of the scopes.
     pub(crate) labels: Vec<Option<Label>>,
     pub(crate) book: NurseryBook,
     pub(crate) started: VecDeque<Task<'a>>,
@@ -36,7 +36,7 @@ impl<'a> World<'a> {
     ghost use Rattle.task_machine.specs.Worlds.{label_at, TakesFirst};
     ghost use Rattle.task_machine.specs.Lending.{lends_scopes, lends_book};
 
-    /// A world at tick 0, in which nothing is open and nothing was started. Takes no memory.
+    /// Returns a world at tick 0, in which nothing is open and nothing was started. Takes no memory.
     pub fn new(alloc: Global) -> World<'a>
         ensures tick { result.tick ≡ 0 }
         ensures scopes { (key : ℕ) → stack_of result.scopes key ≡ None }
@@ -55,14 +55,14 @@ impl<'a> World<'a> {
         }
     }
 
-    /// The tick.
+    /// Returns the present tick.
     pub fn now(&self) -> u64
         ensures { result ≡ self.now.tick }
     {
         self.tick
     }
 
-    /// Sets the tick, to none that is earlier.
+    /// Sets the present tick, which must not be earlier than before, and at most 2 to the 62. Nothing else changes.
     pub fn set_now(&mut self, tick: u64)
         requires later { self.old.tick ≤ tick }
         requires bounded { tick ≤ 2 ^ 62 }
@@ -71,14 +71,14 @@ impl<'a> World<'a> {
         self.tick = tick;
     }
 
-    /// The cancel scopes.
+    /// Returns a reference to the tree of cancel scopes.
     pub fn scopes(&self) -> &ScopeTree
         ensures { result.now ≡ self.now.scopes }
     {
         &self.scopes
     }
 
-    /// The cancel scopes, for writing.
+    /// Returns a mutable reference to the tree of cancel scopes. Nothing else of the world changes.
     pub fn scopes_mut(&mut self) -> &mut ScopeTree
         ensures* writes_back { sem 𝓛 (lends_scopes self.entry result) }
         ensures value { result.now ≡ self.old.scopes }
@@ -86,14 +86,14 @@ impl<'a> World<'a> {
         &mut self.scopes
     }
 
-    /// The nurseries.
+    /// Returns a reference to the book of nurseries.
     pub fn book(&self) -> &NurseryBook
         ensures { result.now ≡ self.now.book }
     {
         &self.book
     }
 
-    /// The nurseries, for writing.
+    /// Returns a mutable reference to the book of nurseries. Nothing else of the world changes.
     pub fn book_mut(&mut self) -> &mut NurseryBook
         ensures* writes_back { sem 𝓛 (lends_book self.entry result) }
         ensures value { result.now ≡ self.old.book }
@@ -101,7 +101,8 @@ impl<'a> World<'a> {
         &mut self.book
     }
 
-    /// Takes the task that was started first of those that nobody took yet: none exactly where none is left.
+    /// Takes the first of the started tasks that were not taken yet, in the order in which they were started. Returns
+    /// `None` exactly if there is none.
     pub fn take_started(&mut self) -> Option<Task<'a>>
         ensures task { TakesFirst self.old.started.items result self.new.started.items }
         ensures rest { self.new ≡ record self.old { started = self.new.started } }
@@ -109,8 +110,8 @@ impl<'a> World<'a> {
         self.started.pop_front()
     }
 
-    // A cancel scope with that label is opened inside another, or as an outermost one. After an error the world may only
-    // be dropped.
+    // Opens a cancel scope with that label inside another, or as an outermost one. After an error the world can only be
+    // dropped.
     pub(crate) fn enter(
         &mut self,
         outer: Option<ScopeId>,
@@ -133,7 +134,8 @@ impl<'a> World<'a> {
         Ok(id)
     }
 
-    // Closes a cancel scope that is round no other, and gives its label and from when it was cancelled: none is never.
+    // Closes a cancel scope that has no open children. Returns its label and the tick from which it was cancelled, or
+    // `None` if it never was.
     pub(crate) fn leave(&mut self, id: ScopeId) -> (Label, Option<u64>)
         requires id { IsOpen self.old.scopes id }
         requires innermost { IsInnermost self.old.scopes id }
@@ -191,7 +193,7 @@ impl<'a> World<'a> {
         }
     }
 
-    // Whether a task in that scope sees a cancellation now; outside any scope it never does.
+    // Whether a task in that scope sees a cancellation now; a task in no scope never does.
     pub(crate) fn sees(&self, scope: Option<ScopeId>) -> bool
         requires { ForSome scope (IsOpen self.now.scopes) }
         ensures { result ≡ seen (outer_of self.now.scopes scope) self.now.tick }
