@@ -1,4 +1,4 @@
--- Columns that stop at the greatest number.
+-- Columns that are capped at the maximum `u64`.
 use Rattle.std.proofs.Common.{◌≡◌, ℕ, zero, suc, ◌+◌, ◌-◌, ◌<◌, leb, List, [], ◌∷◌, ◌++◌, length, refl, ap, ◌∙◌, arith}
 use Rattle.job_tokens.specs.Canon.{token}
 use Rattle.job_layout.specs.declared.spaced.Gap.{Gap}
@@ -16,7 +16,7 @@ pub column_append : (c : ℕ) (xs ys : List SpacedToken) → column_after c (xs 
 column_append c [] ys = refl
 column_append c (x ∷ xs) ys = column_append (column_behind c x.gap + length (token x.shape)) xs ys
 
--- the column behind the first of some tokens
+-- the column after the first of some tokens
 capped_first : (c d w : ℕ) (gap : Gap) → capped c ≡ capped d → capped (column_behind c gap + w) ≡ capped (column_behind d gap + w)
 capped_first c d w gaps.Joined e = omega (arith, e)
 capped_first c d w gaps.Space e = omega (arith, e)
@@ -37,14 +37,14 @@ capped_next c end w t ts is e =
 pub capped_fits : (n : ℕ) → leb (capped n) 80 ≡ leb n 80
 capped_fits n = grind arith
 
--- whether tokens fit, by the columns that are counted
+-- whether tokens fit, decided by the columns that are counted
 pub fits_by : (before ts : List SpacedToken) (column end : ℕ) → column ≡ capped (column_after 0 before) → end ≡ capped (column_after column ts) →
     leb end 80 ≡ fits before ts
 fits_by before ts column end is at =
     ap (λ (n : ℕ). leb n 80) (at ∙ capped_after column (column_after 0 before) ts (omega (arith, is)))
     ∙ capped_fits (column_after (column_after 0 before) ts)
 
--- the column that is kept, with one more token
+-- the column that is kept, after one more token
 pub next_by : (before : List SpacedToken) (t : SpacedToken) (column end : ℕ) → column ≡ capped (column_after 0 before) →
     end ≡ capped (capped (column_behind column t.gap) + length (token t.shape)) → end ≡ capped (column_after 0 (before ++ t ∷ []))
 next_by before t column end is at =

@@ -1,4 +1,4 @@
--- The formatted text of a job that some text spells, which spells it too.
+-- The formatted text of a job that some text spells also spells that job.
 use Rattle.std.proofs.Common.{◌≡◌, ℕ, ◌+◌, ◌≤◌, List, [], ◌∷◌, ◌++◌, length, drop, None, refl, sym, ap, subst, ◌∙◌, arith}
 use Rattle.std.proofs.lemmas.List.{length-append}
 use Rattle.job_tree.specs.declared.format.Format.{Format}
@@ -26,7 +26,7 @@ line_length : (format : Format) → length (first_line format) ≡ 11
 line_length One = refl
 line_length Two = refl
 
--- the job's tokens, laid out so that each is apart, are read again
+-- the tokens of a job, laid out so that they are apart, are read back
 laid_spells : (text : List ℕ) (job : Tree) (old : List Token) (ts : List SpacedToken) → IsOf text old job → PassesTokens old job →
     shapes_in ts ≡ pieces_shapes (job_pieces job) → AreApartBehind ts → 11 + length (spaced_text ts ++ 10 ∷ []) ≤ most_bytes →
     Spells (first_line job.format ++ (spaced_text ts ++ 10 ∷ [])) job
@@ -39,7 +39,7 @@ laid_spells text job old ts is_of found same apart le =
     headed_spells (11 + length body) body job old le (omega arith)
     (all_append (spaced_text ts) (10 ∷ []) (spaced_small ts written) refl) lexed.0 lexed.1 (lexed.2 ∙ shapes) is_of.1 found
 
--- the formatted text of a job that a text spells, which spells it too where it is no longer than a job text may be
+-- the formatted text of a job that a text spells also spells it, if it is at most as long as a job text may be
 pub formatted_spells : (text : List ℕ) (job : Tree) → Spells text job → length (formatted job) ≤ most_bytes → Spells (formatted job) job
 formatted_spells text job (old, is_of, none) le =
     let laid = job_lays job in
@@ -47,7 +47,7 @@ formatted_spells text job (old, is_of, none) le =
     laid_spells text job old (job_tokens job) is_of (passed text old job is_of none) laid.0 laid.1
     (omega (arith, le, length-append (first_line job.format) body, line_length job.format))
 
--- another job that it spells is the same
+-- another job that it spells is the same job
 pub formatted_again : (text : List ℕ) (job other : Tree) → Spells text job → length (formatted job) ≤ most_bytes → Spells (formatted job) other →
     formatted other ≡ formatted job
 formatted_again text job other spells le again = ap formatted (one_spelled (formatted job) other job again (formatted_spells text job spells le))
@@ -56,7 +56,7 @@ formatted_again text job other spells le again = ap formatted (one_spelled (form
 pub readable_within : (job : Tree) → IsReadable job → AreWithin 31 job.steps
 readable_within job (ts, is_of, none) = within (canon job) ts job is_of (none kind.Depth)
 
--- bytes that are the formatted text of a job
+-- bytes that are the formatted text of a job spell the job
 pub bytes_spell : (bytes : List ℕ) (job : Tree) → IsReadable job → bytes ≡ formatted job → length bytes ≤ most_bytes → Spells bytes job
 bytes_spell bytes job readable is le =
     subst (λ (text : List ℕ). Spells text job) (sym is) (formatted_spells (canon job) job readable (omega (arith, le, ap (length {A = ℕ}) is)))

@@ -1,4 +1,4 @@
--- Laid out tokens are the tokens of the job, each apart from the one before it.
+-- The tokens that are laid out are the tokens of the job, each apart from the one before it.
 use Rattle.std.proofs.Common.{◌≡◌, ℕ, ◌+◌, Bool, true, false, cond, List, [], ◌∷◌, ◌++◌, Option, Some, None, refl, sym, ap, ◌∙◌, append_assoc, append-nil}
 use Rattle.job_tree.specs.declared.deadline.Deadline.TheVariants.{Never, After, At}
 use Rattle.job_tree.specs.Tree.{Step, scope, nursery, start, repeat, attempt, Steps, stop, step, Handled, unhandled, except, Cleaned, uncleaned, finally, Tree}
@@ -19,7 +19,7 @@ use Rattle.job_layout.proofs.Lexes.{shapes_in, AreApart, AreApartBehind}
 abbrev Print : Type 0
 Print = List Piece → List Piece
 
--- From some tokens and what is left to print, to more tokens and less that is left; and the tokens stay apart behind the first.
+-- More tokens are laid out, so that less is left to print; and all tokens after the first stay apart.
 record Lays (old : List SpacedToken) (all : Print) (new : List SpacedToken) (left : Print) : Type 0 where
   pub same : (rest : List Piece) → shapes_in old ++ pieces_shapes (all rest) ≡ shapes_in new ++ pieces_shapes (left rest)
   pub apart : AreApartBehind old → AreApartBehind new
@@ -30,7 +30,7 @@ lays_none old print = record { same = λ rest. refl; apart = λ apart. apart }
 lays_both : (a b c : List SpacedToken) (p q r : Print) → Lays a p b q → Lays b q c r → Lays a p c r
 lays_both a b c p q r one two = record { same = λ rest. one.same rest ∙ two.same rest; apart = λ apart. two.apart (one.apart apart) }
 
--- ---- tokens behind others
+-- ---- tokens after others
 
 shapes_append : (xs ys : List SpacedToken) → shapes_in (xs ++ ys) ≡ shapes_in xs ++ shapes_in ys
 shapes_append [] ys = refl
@@ -45,7 +45,7 @@ behind_append [] [] p q = tt
 behind_append [] (y ∷ ys) p q = q.1
 behind_append (x ∷ xs) ys p q = apart_append xs ys p q
 
--- tokens that print the first of what is left
+-- tokens that print the first part of what is left
 lays_more : (old more : List SpacedToken) (all left : Print) →
     ((rest : List Piece) → pieces_shapes (all rest) ≡ shapes_in more ++ pieces_shapes (left rest)) → AreApart more →
     Lays old all (old ++ more) left
@@ -74,7 +74,7 @@ line_apart : (level : ℕ) (ss : List Shape) → AreApart (after_gap (gaps.Line 
 line_apart level [] = tt
 line_apart level (s ∷ ss) = (tt, spaced_apart ss)
 
--- the head of a step in front of other tokens is the head alone and those tokens
+-- the head of a step followed by other tokens is the head alone, followed by those tokens
 head_front : (s : Step) (rest : List Piece) → pieces_shapes (head_onto s rest) ≡ head_of s ++ pieces_shapes rest
 head_front (scope name Never false false body) rest = refl
 head_front (scope name Never false true body) rest = refl
@@ -150,7 +150,7 @@ fitting_prints body old (Some line) prints = by_test (fits old line)
     by_test true = prints
     by_test false = tt
 
--- the steps of a block, where their tokens are laid out behind any others
+-- the steps of a block, if their tokens are laid out after any others
 abbrev LaysSteps : Steps → (List SpacedToken → List SpacedToken) → Type 0
 LaysSteps body steps = (before : List SpacedToken) → Lays before (steps_pieces body) (steps before) (steps_pieces stop)
 

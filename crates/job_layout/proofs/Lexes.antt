@@ -1,4 +1,4 @@
--- Tokens are read again from their text with blanks between them.
+-- Tokens are read back from their text with blanks between them.
 use Rattle.std.proofs.Common.{◌≡◌, ℕ, zero, suc, ◌+◌, ◌-◌, ◌≤◌, Bool, true, false, cond, List, [], ◌∷◌, ◌++◌, length, drop, map, Some, refl, sym, ap, subst, ◌∙◌, append_assoc, append-nil, arith}
 use Rattle.std.specs.List.{prefix_len, list_all}
 use Rattle.std.proofs.lemmas.List.{length-append}
@@ -21,7 +21,7 @@ use Rattle.job_layout.specs.Spaced.{indent, gap_text, spaced_text}
 abbrev pub shapes_in : List SpacedToken → List Shape
 shapes_in ts = map (λ t. t.shape) ts
 
--- a token that is set off from a word before it, by its gap or because it begins with no byte of a word
+-- a token that is apart from a word before it: by its gap, or because it does not begin with a byte of a word
 abbrev pub IsApart : Gap → Shape → Type 0
 IsApart gaps.Joined s = is_wordlike s ≡ false
 IsApart gaps.Space s = Unit {0}
@@ -77,7 +77,7 @@ behind_first : (ts : List SpacedToken) → AreApart ts → AreApartBehind ts
 behind_first [] apart = tt
 behind_first (t ∷ ts) apart = apart.1
 
--- a token that can be written, and others behind it that are read again
+-- a token that can be written, followed by others that are read back
 one_more : (end : ℕ) (t : SpacedToken) (rest : List ℕ) (ss : List Shape) → IsWritable t.shape → StopsWord (is_wordlike t.shape) rest →
     length ((gap_text t.gap ++ token t.shape) ++ rest) ≤ end → LexesAs end rest ss
     → LexesAs end ((gap_text t.gap ++ token t.shape) ++ rest) (t.shape ∷ ss)
@@ -95,7 +95,7 @@ one_more end t rest ss is stops le others =
     omega (arith, ap (length {A = ℕ}) behind, len) in
     (record { at = end - length bytes; shape = s } ∷ others.0, (rest, found, place, others.1), ap (λ (x : List Shape). s ∷ x) others.2)
 
--- Tokens are read again from their text and the newline behind it, where each but the first is apart.
+-- Tokens are read back from their text, followed by a newline, if all of them after the first are apart.
 pub spaced_lexes : (end : ℕ) (ts : List SpacedToken) → AreWritable (shapes_in ts) → AreApartBehind ts →
     length (spaced_text ts ++ 10 ∷ []) ≤ end → LexesAs end (spaced_text ts ++ 10 ∷ []) (shapes_in ts)
 spaced_lexes end [] are apart le = ([], refl, refl)

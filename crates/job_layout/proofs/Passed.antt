@@ -1,4 +1,4 @@
--- A text with the tokens of a job that some text spells spells it too.
+-- A text with the tokens of a job that some text spells also spells that job.
 use Rattle.std.proofs.Common.{◌≡◌, ℕ, ◌+◌, ◌≤◌, Bool, true, false, cond, List, [], ◌∷◌, ◌++◌, length, take, drop, Option, Some, None, inl, inr, refl, sym, ap, subst, ◌∙◌, arith}
 use Rattle.std.specs.List.{prefix_len, list_all}
 use Rattle.std.proofs.lemmas.List.{length-append}
@@ -36,12 +36,12 @@ use Rattle.job_grammar.proofs.Passing.{format_is, none_of, small_enough, passes_
 no_some : (x : ℕ) → None ≡ Some x → ⊥
 no_some x e = cc
 
--- a test that went on
+-- a test that passed
 went_on : (b : Bool) (o : Option ℕ) (at : ℕ) → cond b o (Some at) ≡ None → (b ≡ true) × (o ≡ None)
 went_on true o at e = (refl, e)
 went_on false o at e = absurd (no_some at (sym e))
 
--- what the passes along tokens of a job find nothing in
+-- the checks along the tokens of a job find nothing
 pub record PassesTokens (ts : List Token) (job : Tree) : Type 0 where
   pub numbers : number_fault job.format None ts ≡ None
   pub depth : depth_fault 0 ts ≡ None
@@ -50,7 +50,7 @@ pub record PassesTokens (ts : List Token) (job : Tree) : Type 0 where
   pub reserved : reserved_in ts (roles_of job) ≡ None
   pub size : size_of job.steps ≤ most_steps job.format
 
--- it does not depend on their places
+-- this does not depend on the places of the tokens
 by_shapes : (ts us : List Token) (job : Tree) → shapes_of ts ≡ shapes_of us → PassesTokens ts job → PassesTokens us job
 by_shapes ts us job e old = record {
   numbers = numbers_by_shapes job.format None ts us e old.numbers;
@@ -73,7 +73,7 @@ passed text ts job is_of none = record {
   size = small_enough (most_steps job.format) (size_of job.steps) (λ lt. none kind.TooLarge 0 (ts, job, is_of, lt, refl));
 }
 
--- numbers in their ranges are written
+-- numbers in their ranges can be written
 writable : (format : Format) (before : Option Keyword) (s : Shape) → IsSpelled s → is_in_range format before s ≡ true → IsWritable s
 writable format before (shape.Word word) is in_range = is
 writable format before (shape.Number None) is in_range = absurd cc
@@ -113,7 +113,7 @@ passing_spells text ts job short ascii headed is_of found =
 pub short_enough : (text : List ℕ) → ((at : ℕ) → Finds kind.TooLong text at → ⊥) → length text ≤ most_bytes
 short_enough text never = elim (cases_lt most_bytes (length text)) [ inl lt ↦ absurd (never most_bytes (lt, refl)) | inr le ↦ le ]
 
--- what is known of a first line in front of other bytes
+-- what holds of a first line followed by other bytes
 record IsHeaded (format : Format) (body : List ℕ) : Type 0 where
   pub line : take 11 (first_line format ++ body) ≡ first_line format
   pub rest : drop 11 (first_line format ++ body) ≡ body
@@ -124,7 +124,7 @@ headed_by : (format : Format) (body : List ℕ) → IsHeaded format body
 headed_by One body = record { line = refl; rest = refl; long = length-append (first_line One) body; small = refl }
 headed_by Two body = record { line = refl; rest = refl; long = length-append (first_line Two) body; small = refl }
 
--- the first line, and tokens behind it
+-- the first line, followed by tokens
 pub headed_spells : (limit : ℕ) (body : List ℕ) (job : Tree) (old : List Token) → limit ≤ most_bytes → 11 + length body ≤ limit →
     list_all is_ascii body ≡ true
     → (ts : List Token) → Lexes (11 + length body) body ts None → shapes_of ts ≡ shapes_of old → AreTokensOf old job →

@@ -1,4 +1,4 @@
--- A token is read again from its text, whatever follows it.
+-- A token is read back from its text, whatever follows it.
 use Rattle.std.proofs.Common.{◌≡◌, ℕ, ◌<◌, ◌≤◌, Bool, true, false, cond, eqb, ◌&&◌, ◌||◌, leb, List, [], ◌∷◌, ◌++◌, length, Some, None, ◌⊎◌, inl, inr, refl, sym, ap, subst, ◌∙◌, arith}
 use Rattle.std.specs.List.{prefix_len, list_all}
 use Rattle.std.specs.Fmt.{decimal}
@@ -49,7 +49,7 @@ word_byte_not_blank b is = by_test (either_way (is_blank b))
         (blank_cases (λ x. is_word_byte x ≡ false) b refl refl refl refl blank))
     by_test (inr none) = none
 
--- bytes whose first is no blank
+-- the first byte is not a blank
 abbrev pub BeginsAToken : List ℕ → Type 0
 BeginsAToken [] = ⊥
 BeginsAToken (b ∷ bytes) = is_blank b ≡ false
@@ -63,7 +63,7 @@ mark_begins mark.Open = refl
 mark_begins mark.Close = refl
 mark_begins mark.Semicolon = refl
 
--- digits that begin so
+-- digits that begin in this way
 digits_begin : (ds rest : List ℕ) → 0 < length ds → list_all is_digit ds ≡ true → (b : ℕ) × (others : List ℕ) × (ds ≡ b ∷ others)
     × (is_digit b ≡ true)
 digits_begin [] rest some all = absurd (omega arith)

@@ -3,7 +3,7 @@ use Rattle.std.specs.Prelude.{ℕ, ◌-◌, ◌<◌, min}
 use Rattle.job_tree.specs.Tree.{Steps}
 use Rattle.job_syntax.specs.Depth.{AreWithin}
 
--- the greatest number in place of those above it
+-- the number, or the maximum `u64` if it is above that
 abbrev pub capped : ℕ → ℕ
 capped n = min n 18446744073709551615
 

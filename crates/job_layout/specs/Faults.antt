@@ -1,4 +1,4 @@
--- What the formatting of a text answers.
+-- The results of formatting a text.
 use Rattle.std.specs.Prelude.{◌≡◌, ℕ, ◌<◌, List, length}
 use Rattle.job_tree.specs.Tree.{Tree}
 use Rattle.job_grammar.specs.declared.fault.JobKind.{JobKind}
@@ -9,7 +9,7 @@ use Rattle.job_layout.specs.declared.fault.FormatFault.{FormatFault}
 use Rattle.job_layout.specs.declared.fault.FormatFault.TheVariants.{Refused, TooLong, NoMemory}
 use Rattle.job_layout.specs.Layout.{formatted}
 
--- a refusal of a text, or want of memory
+-- a refusal of a text, or that memory was refused
 abbrev pub fault_by : JobKind → JobFault → FormatFault
 fault_by kind.NoMemory fault = NoMemory
 fault_by _ fault = Refused fault
@@ -24,17 +24,17 @@ pub record IsFormatted (text bytes : List ℕ) : Type 0 where
   pub same : bytes ≡ formatted job
   pub again : Spells bytes job
 
--- a formatted text of so many bytes, which are more than a job text may have
+-- a formatted text of this number of bytes, which is more than a job text may have
 abbrev pub IsTooLong : Tree → ℕ → Type 0
 IsTooLong job bytes = (bytes ≡ length (formatted job)) × (most_bytes < length (formatted job))
 
--- of a job: a formatted text that is too long, or want of memory
+-- for a job: a formatted text that is too long, or that memory was refused
 abbrev pub IsFairFault : Tree → FormatFault → Type 0
 IsFairFault job (Refused fault) = ⊥
 IsFairFault job (TooLong bytes) = IsTooLong job bytes
 IsFairFault job NoMemory = Unit {0}
 
--- of a text: a refusal, the formatted text of its job that is too long, or want of memory
+-- for a text: a refusal, a formatted text of its job that is too long, or that memory was refused
 abbrev pub IsTextFault : List ℕ → FormatFault → Type 0
 IsTextFault text (Refused fault) = IsRefused text fault.kind fault.at
 IsTextFault text (TooLong bytes) = (job : Tree) × Spells text job × IsTooLong job bytes

@@ -1,4 +1,4 @@
--- The head of a step, its tokens in front of its semicolon or of its first block, and what follows it.
+-- The head of a step (its tokens before its semicolon or its first block), and what follows the head.
 use Rattle.std.specs.Prelude.{Bool, true, false, List, [], ◌∷◌}
 use Rattle.job_tree.specs.Tree.{Step, sleep, checkpoint, forever, pace, find, head, longest, need, raise, cancel, scope, nursery, start, repeat, attempt}
 use Rattle.job_tokens.specs.declared.token.Shape.{Shape}
@@ -6,7 +6,7 @@ use Rattle.job_syntax.specs.declared.keyword.Keyword.TheVariants as word
 use Rattle.job_syntax.specs.declared.role.Role.TheVariants as role
 use Rattle.job_syntax.specs.Pieces.{Piece, shapes_in, keyword, named, number, string, opens, ends, deadline_pieces, flag_pieces, over_pieces, steps_pieces, handler_pieces, cleanup_pieces}
 
--- the head in front of other tokens
+-- the head, followed by other tokens
 abbrev pub head_onto : Step → List Piece → List Piece
 head_onto (sleep ticks) rest = keyword word.Sleep ∷ number ticks ∷ rest
 head_onto checkpoint rest = keyword word.Checkpoint ∷ rest
@@ -30,7 +30,7 @@ head_onto (attempt body handler cleanup) rest = keyword word.Try ∷ rest
 abbrev pub head_of : Step → List Shape
 head_of s = shapes_in (head_onto s [])
 
--- what follows the head, in front of other tokens
+-- what follows the head, followed by other tokens
 abbrev pub tail_onto : Step → List Piece → List Piece
 tail_onto (scope name deadline shield fail body) rest = opens ∷ steps_pieces body rest
 tail_onto (nursery name deadline shield body) rest = opens ∷ steps_pieces body rest

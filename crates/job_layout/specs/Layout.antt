@@ -1,5 +1,5 @@
--- The layout of a job text: one step in a line, two spaces for each level. A block that is empty or holds one step without a block stands in
--- one line with what it belongs to, where it ends at column 80 or before.
+-- The layout of a job text: one step on each line, two spaces for each level. A block that is empty or holds a single step
+-- without a block is on one line with what it belongs to, if that line ends at column 80 or before.
 use Rattle.std.specs.Prelude.{ℕ, ◌+◌, Bool, true, false, nat_le, List, [], ◌∷◌, ◌++◌, Option, Some, None, if◌then◌else◌}
 use Rattle.job_tree.specs.Tree.{Step, scope, nursery, start, repeat, attempt, Steps, stop, step, Handled, unhandled, except, Cleaned, uncleaned, finally, Tree}
 use Rattle.job_tokens.specs.declared.token.Mark.TheVariants as mark
@@ -14,7 +14,7 @@ use Rattle.job_layout.specs.declared.spaced.SpacedToken.{SpacedToken}
 use Rattle.job_layout.specs.declared.layout.TheConstants.{MAX_COLUMNS}
 use Rattle.job_layout.specs.Spaced.{spaced_text, column_after, mark_after, spaced, after_gap}
 
--- ---- blocks in one line
+-- ---- blocks on one line
 
 abbrev pub opened : SpacedToken
 opened = mark_after gaps.Space mark.Open
@@ -26,7 +26,7 @@ abbrev pub plain_block : Bool → List Shape → Option (List SpacedToken)
 plain_block false head = None
 plain_block true head = Some (opened ∷ (spaced head ++ ended ∷ mark_after gaps.Space mark.Close ∷ []))
 
--- the tokens of a block in one line, where it can stand in one: `{}`, or `{ step; }`
+-- the tokens of a block on one line, if it may be on one line: `{}`, or `{ step; }`
 abbrev pub one_line : Steps → Option (List SpacedToken)
 one_line stop = Some (opened ∷ mark_after gaps.Joined mark.Close ∷ [])
 one_line (step s stop) = plain_block (is_plain s) (head_of s)
@@ -34,16 +34,16 @@ one_line (step s (step t ss)) = None
 
 -- ---- a job
 
--- tokens that end at column 80 or before, after those before them
+-- whether the tokens, after the ones before them, end at column 80 or before
 abbrev pub fits : List SpacedToken → List SpacedToken → Bool
 fits before ts = nat_le (column_after (column_after 0 before) ts) MAX_COLUMNS
 
--- a line where it fits
+-- a line, if it fits
 abbrev pub fitting : List SpacedToken → Option (List SpacedToken) → Option (List SpacedToken)
 fitting before None = None
 fitting before (Some line) = if fits before line then Some line else None
 
--- the line, or else the steps in lines of their own
+-- the line, or otherwise the steps on lines of their own
 abbrev pub line_or : ℕ → Option (List SpacedToken) → (List SpacedToken → List SpacedToken) → List SpacedToken → List SpacedToken
 line_or level (Some line) steps before = before ++ line
 line_or level None steps before = steps (before ++ opened ∷ []) ++ mark_after (gaps.Line level) mark.Close ∷ []
@@ -86,7 +86,7 @@ abbrev mutual
 abbrev pub with_step : ℕ → Step → List SpacedToken → List SpacedToken
 with_step level s before = with_rest level s (before ++ step_line level s)
 
--- the tokens of a job, behind its first line
+-- the tokens of a job, without its first line
 abbrev pub job_tokens : Tree → List SpacedToken
 job_tokens job = with_block 0 job.steps (with_steps 1 job.steps) (after_gap gaps.Joined (shapes_in (keyword word.Job ∷ named role.Given job.name ∷ [])))
 

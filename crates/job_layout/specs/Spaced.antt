@@ -1,4 +1,4 @@
--- Tokens with what stands between them, and the columns that they take.
+-- Tokens with what comes between them, and the columns that they take.
 use Rattle.std.specs.Prelude.{ℕ, zero, suc, ◌+◌, ◌*◌, List, [], ◌∷◌, ◌++◌, length, map}
 use Rattle.job_tokens.specs.declared.token.Mark.{Mark}
 use Rattle.job_tokens.specs.declared.token.Shape.{Shape}
@@ -23,13 +23,13 @@ abbrev pub spaced_text : List SpacedToken → List ℕ
 spaced_text [] = []
 spaced_text (t ∷ ts) = (gap_text t.gap ++ token t.shape) ++ spaced_text ts
 
--- the column at which a token begins, where the one before it ends at this column
+-- the column at which a token begins, if the token before it ends at this column
 abbrev pub column_behind : ℕ → Gap → ℕ
 column_behind column gaps.Joined = column
 column_behind column gaps.Space = column + 1
 column_behind column (gaps.Line level) = 2 * level
 
--- the column at which tokens end, where the one before them ends at this column
+-- the column at which tokens end, if the token before them ends at this column
 abbrev pub column_after : ℕ → List SpacedToken → ℕ
 column_after column [] = column
 column_after column (t ∷ ts) = column_after (column_behind column t.gap + length (token t.shape)) ts
@@ -42,11 +42,11 @@ with_gap gap shape = record { gap = gap; shape = shape }
 abbrev pub mark_after : Gap → Mark → SpacedToken
 mark_after gap mark = with_gap gap (shapes.Mark mark)
 
--- a space in front of each
+-- a space before each
 abbrev pub spaced : List Shape → List SpacedToken
 spaced ss = map (with_gap gaps.Space) ss
 
--- this gap in front of the first, and a space in front of each other
+-- the given gap before the first, and a space before each other token
 abbrev pub after_gap : Gap → List Shape → List SpacedToken
 after_gap gap [] = []
 after_gap gap (s ∷ ss) = with_gap gap s ∷ spaced ss

@@ -15,7 +15,7 @@ use job_syntax::Keyword;
 use job_tokens::{Mark, Shape};
 use std::alloc::{AllocError, Global};
 
-// The tokens of a job, behind its first line.
+// Returns the tokens of a job, without its first line.
 pub(crate) fn tokens_of(alloc: Global, job: &Job) -> Result<Vec<SpacedToken>, AllocError>
     ensures tokens { IfOk result (λ tokens. tokens.items ≡ job_tokens job.now) }
     ensures spelled { OnOk result (IsReadable job.now) }
@@ -28,7 +28,7 @@ pub(crate) fn tokens_of(alloc: Global, job: &Job) -> Result<Vec<SpacedToken>, Al
     Ok(layout.into_tokens())
 }
 
-// Words, with the gap in front of the first and a space in front of each other.
+// Appends words, with the given gap before the first and a space before each other word.
 fn push_words(
     layout: &mut Layout,
     alloc: Global,
@@ -42,7 +42,7 @@ fn push_words(
     Ok(())
 }
 
-// The steps of a block at a level, each in a line of its own.
+// Appends the steps of a block at a level, each on a line of its own.
 #[cycle(blocks)]
 fn push_steps(
     layout: &mut Layout,
@@ -72,7 +72,7 @@ fn push_step(layout: &mut Layout, alloc: Global, level: u64, step: &Step) -> Res
     Ok(())
 }
 
-// What follows the head of a step: its semicolon, or its blocks.
+// Appends what follows the head of a step: its semicolon, or its blocks.
 #[cycle(blocks)]
 fn push_rest(layout: &mut Layout, alloc: Global, level: u64, step: &Step) -> Result<(), AllocError>
     requires { IsWithin (32 - level) (step_of step.now) }
@@ -137,7 +137,7 @@ fn push_cleanup(
     Ok(())
 }
 
-// A block of a step at a level: in the line so far where it fits, or in lines of its own.
+// Appends a block of a step at a level: on the current line if it fits there, or on lines of its own.
 #[cycle(blocks)]
 fn push_block(
     layout: &mut Layout,
@@ -163,7 +163,7 @@ fn push_block(
     }
 }
 
-// The block in one line, where it can stand in one and fits into the line so far.
+// Returns the block on one line, if it may be on one line and fits on the current one.
 fn fitting(
     layout: &Layout,
     alloc: Global,

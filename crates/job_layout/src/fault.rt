@@ -5,14 +5,14 @@ ghost use Rattle.job_layout.specs.declared.fault.FormatFault.TheVariants.{NoMemo
 use job_grammar::{JobFault, JobKind};
 use std::alloc::AllocError;
 
-/// Why a text has no formatted text.
+/// Why a text could not be formatted.
 #[derive(Clone, Copy, Debug, PartialEq, Eq)]
 pub enum FormatFault {
-    /// The text is refused.
+    /// The text is refused, as it is by `read_job`.
     Refused(JobFault),
-    /// The formatted text would have so many bytes, which are more than a job text may have.
+    /// The formatted text would have this number of bytes, which is more than a job text may have.
     TooLong(usize),
-    /// A growth was refused.
+    /// Memory was refused.
     NoMemory,
 }
 

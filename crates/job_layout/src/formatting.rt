@@ -10,10 +10,10 @@ use crate::spaced::{SpacedToken, push_tokens};
 use job_grammar::{Format, Job, MOST_BYTES, first_line, read_job};
 use std::alloc::{AllocError, Global};
 
-/// Formats a job text: gives the formatted text of the job that it spells, as `format_job` does.
+/// Formats a job text: returns the formatted text of the job that the text spells, as `format_job` does.
 ///
-/// Fails with `Refused` exactly where the text is refused, and with `TooLong` exactly where the formatted text has more than 65,536 bytes, unless
-/// a growth is refused.
+/// The error is `Refused` exactly if the text is refused, and `TooLong` exactly if the formatted text has more than 65,536
+/// bytes. In either case it may instead be `NoMemory`, if memory is refused.
 pub fn format_text(alloc: Global, text: &[u8]) -> Result<Vec<u8>, FormatFault>
     ensures formatted { IfOk result (λ bytes. IsFormatted text.now bytes.items) }
     ensures fault { IfErr result (IsTextFault text.now) }
@@ -22,10 +22,11 @@ pub fn format_text(alloc: Global, text: &[u8]) -> Result<Vec<u8>, FormatFault>
     format_job(alloc, &job)
 }
 
-/// The formatted text of a job: two spaces for each level and one step in a line, but for a block that is empty or holds one step without a
-/// block, which stands in one line where it ends at column 80 or before. The text spells the same job in the same format.
+/// Returns the formatted text of a job, with two spaces for each level and one step on each line. A block that is empty, or
+/// that holds a single step without a block of its own, is on one line if that line ends at column 80 or before. The text
+/// spells the same job in the same format.
 ///
-/// Fails with `TooLong` exactly where that text has more than 65,536 bytes, unless a growth is refused. It is never refused.
+/// The error is `TooLong` exactly if that text has more than 65,536 bytes, unless memory is refused. It is never `Refused`.
 pub fn format_job(alloc: Global, job: &Job) -> Result<Vec<u8>, FormatFault>
     ensures formatted { IfOk result (λ text. text.items ≡ formatted job.now) }
     ensures spelled { IfOk result (λ text. Spells text.items job.now) }
@@ -39,7 +40,7 @@ pub fn format_job(alloc: Global, job: &Job) -> Result<Vec<u8>, FormatFault>
     Ok(text)
 }
 
-// The first line of a format, and the tokens behind it.
+// Returns the first line of a format, followed by the tokens and a newline.
 fn text_of(alloc: Global, format: Format, tokens: &[SpacedToken]) -> Result<Vec<u8>, AllocError>
     ensures { IfOk result (λ text. text.items ≡ first_line format ++ (spaced_text tokens.now ++ 10 ∷ [])) }
 {
@@ -49,7 +50,7 @@ fn text_of(alloc: Global, format: Format, tokens: &[SpacedToken]) -> Result<Vec<
     Ok(text)
 }
 
-// The format of a job's text.
+// Returns the format of a job's text.
 fn format_of(job: &Job) -> Format
     ensures { result ≡ job.now.format }
 {

@@ -11,7 +11,8 @@ use job_tokens::Shape;
 use job_tree::{Deadline, Name, Step};
 use std::alloc::AllocError;
 
-// Writes the tokens of a step in front of its semicolon or of its first block: its keyword, and what follows the keyword.
+// Appends the head of a step, which is its tokens before its semicolon or its first block: its keyword, and what follows
+// the keyword.
 pub(crate) fn push_head(shapes: &mut Vec<Shape>, step: &Step) -> Result<(), AllocError>
     ensures { OnOk result (Appends (head_onto (step_of step.now)) shapes.old.items shapes.new.items) }
 {
@@ -72,7 +73,7 @@ pub(crate) fn push_head(shapes: &mut Vec<Shape>, step: &Step) -> Result<(), Allo
     }
 }
 
-// Whether the step has no block.
+// Returns whether the step has no block.
 pub(crate) fn is_plain(step: &Step) -> bool
     ensures { result ≡ is_plain (step_of step.now) }
 {
@@ -86,7 +87,7 @@ pub(crate) fn is_plain(step: &Step) -> bool
     }
 }
 
-// Writes a keyword as a token.
+// Appends a keyword as a token.
 pub(crate) fn push_keyword(shapes: &mut Vec<Shape>, keyword: Keyword) -> Result<(), AllocError>
     ensures { OnOk result (shapes.new.items ≡ shapes.old.items ++ shape.Word (spelling keyword) ∷ []) }
 {
@@ -97,7 +98,7 @@ pub(crate) fn push_keyword(shapes: &mut Vec<Shape>, keyword: Keyword) -> Result<
     Ok(())
 }
 
-// A keyword and the token behind it.
+// Appends a keyword and the token after it.
 fn push_with(shapes: &mut Vec<Shape>, keyword: Keyword, operand: Shape) -> Result<(), AllocError>
     ensures { OnOk result (shapes.new.items ≡ shapes.old.items ++ shape.Word (spelling keyword) ∷ operand ∷ []) }
 {
@@ -106,7 +107,7 @@ fn push_with(shapes: &mut Vec<Shape>, keyword: Keyword, operand: Shape) -> Resul
     Ok(())
 }
 
-// Writes a keyword and a name behind it.
+// Appends a keyword and the name after it.
 pub(crate) fn push_named(
     shapes: &mut Vec<Shape>,
     keyword: Keyword,
@@ -117,7 +118,7 @@ pub(crate) fn push_named(
     push_with(shapes, keyword, Shape::Word(name))
 }
 
-// A keyword and the number behind it.
+// Appends a keyword and the number after it.
 fn push_counted(shapes: &mut Vec<Shape>, keyword: Keyword, count: u64) -> Result<(), AllocError>
     ensures { OnOk result (shapes.new.items ≡ shapes.old.items ++ shape.Word (spelling keyword) ∷ shape.Number (Some count) ∷ []) }
 {
@@ -134,7 +135,7 @@ fn push_deadline(shapes: &mut Vec<Shape>, deadline: Deadline) -> Result<(), Allo
     }
 }
 
-// A word that may stand or not.
+// Appends an optional keyword.
 fn push_flag(shapes: &mut Vec<Shape>, keyword: Keyword, stands: bool) -> Result<(), AllocError>
     ensures { OnOk result (Appends (flag_pieces keyword stands) shapes.old.items shapes.new.items) }
 {
@@ -144,7 +145,7 @@ fn push_flag(shapes: &mut Vec<Shape>, keyword: Keyword, stands: bool) -> Result<
     Ok(())
 }
 
-// How many copies are started.
+// Appends the number of copies that are started.
 fn push_over(shapes: &mut Vec<Shape>, over: Option<u64>) -> Result<(), AllocError>
     ensures { OnOk result (Appends (over_pieces over) shapes.old.items shapes.new.items) }
 {

@@ -5,8 +5,8 @@ ghost use Rattle.job_tree.specs.Tree.{Tree};
 ghost use Rattle.job_grammar.specs.Refusals.{Spells, most_bytes};
 ghost use Rattle.job_layout.specs.Layout.{formatted};
 
-/// The formatted text of a job that a text spells spells it too, where it is no longer than a job text may be. So formatting it again gives
-/// the same text.
+/// A law: the formatted text of a job that a text spells also spells that job, if it is at most as long as a job text may be.
+/// So formatting it again returns the same text. The function does nothing when it is called.
 pub fn law_formatted()
     ensures again { (text : List ℕ) (job : Tree) → Spells text job → length (formatted job) ≤ most_bytes → Spells (formatted job) job }
     ensures same { (text : List ℕ) (job other : Tree) → Spells text job → Spells (formatted job) other → formatted other ≡ formatted job }

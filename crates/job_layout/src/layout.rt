@@ -9,10 +9,10 @@ use job_tokens::Shape;
 use std::alloc::{AllocError, Global};
 use std::marker::Model;
 
-/// The column at which a block that stands in one line ends at the latest.
+/// The maximum column at which a block on one line may end.
 pub(crate) const MAX_COLUMNS: u64 = 80;
 
-// The tokens that are laid out so far. A contract sees it as these tokens.
+// The tokens that are laid out so far. In contracts, it is the list of these tokens.
 #[derive(Drop)]
 pub(crate) struct Layout {
     tokens: Vec<SpacedToken>,
@@ -34,7 +34,7 @@ impl Model for Layout {
 }
 
 impl Layout {
-    // No tokens. Takes no memory.
+    // Makes an empty layout. Does not allocate.
     pub(crate) fn new(alloc: Global) -> Layout
         ensures { result ≡ [] }
     {
@@ -44,7 +44,7 @@ impl Layout {
         }
     }
 
-    // One more token.
+    // Appends a token.
     pub(crate) fn push(&mut self, alloc: Global, gap: Gap, shape: Shape) -> Result<(), AllocError>
         ensures { OnOk result (self.new ≡ self.old ++ with_gap gap shape ∷ []) }
     {
@@ -55,7 +55,7 @@ impl Layout {
         Ok(())
     }
 
-    // More tokens.
+    // Appends tokens.
     pub(crate) fn extend(&mut self, alloc: Global, tokens: &[SpacedToken]) -> Result<(), AllocError>
         ensures { OnOk result (self.new ≡ self.old ++ tokens.now) }
     {
@@ -65,7 +65,7 @@ impl Layout {
         Ok(())
     }
 
-    // Whether the tokens, after those so far, end at the last column of a line or before.
+    // Returns whether these tokens, after the ones so far, end at the maximum column or before.
     pub(crate) fn fits(&self, alloc: Global, tokens: &[SpacedToken]) -> Result<bool, AllocError>
         ensures { IfOk result (λ fit. fit ≡ fits self.now tokens.now) }
     {
@@ -73,7 +73,7 @@ impl Layout {
         Ok(column <= MAX_COLUMNS)
     }
 
-    // The tokens.
+    // Returns the tokens.
     pub(crate) fn into_tokens(self) -> Vec<SpacedToken>
         ensures { result.items ≡ self }
     {
@@ -81,7 +81,7 @@ impl Layout {
     }
 }
 
-// The column at which the tokens end, where the one before them ends at the column.
+// Returns the column at which the tokens end, if the token before them ends at `column`.
 fn column_after(alloc: Global, column: u64, tokens: &[SpacedToken]) -> Result<u64, AllocError>
     ensures { IfOk result (λ end. end ≡ capped (column_after column tokens.now)) }
 {
@@ -94,7 +94,7 @@ fn column_after(alloc: Global, column: u64, tokens: &[SpacedToken]) -> Result<u6
     Ok(end)
 }
 
-// The column at which a token ends, where the one before it ends at the column.
+// Returns the column at which a token ends, if the token before it ends at `column`.
 fn end_of(alloc: Global, column: u64, next: &SpacedToken) -> Result<u64, AllocError>
     ensures { IfOk result (λ end. end ≡ capped (capped (column_behind column next.now.gap) + length (token next.now.shape))) }
 {
@@ -102,7 +102,7 @@ fn end_of(alloc: Global, column: u64, next: &SpacedToken) -> Result<u64, AllocEr
     Ok(column_behind(column, next.gap).saturating_add(width))
 }
 
-// The column at which a token begins, where the one before it ends at the column.
+// Returns the column at which a token begins, if the token before it ends at `column`.
 fn column_behind(column: u64, gap: Gap) -> u64
     ensures { result ≡ capped (column_behind column gap) }
 {

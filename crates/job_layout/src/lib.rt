@@ -1,8 +1,8 @@
-//! The layout of a job text: two spaces for each level, one step in a line.
+//! The layout of a job text: two spaces for each level, and one step on each line.
 //!
-//! The layer promises that `format_text` gives the text that `specs/Layout.antt` describes, and that this text spells the same job in the same
-//! format. So formatting a formatted text changes nothing (`law_formatted`). It stands on `job_grammar` for jobs and on `job_tokens` for the
-//! text of a token.
+//! `format_text` returns the text that `specs/Layout.antt` describes. This text spells the same job in the same format, so
+//! formatting a formatted text changes nothing (`law_formatted`). The crate uses `job_grammar` for jobs and `job_tokens` for
+//! the text of a token.
 #![tactic(auto)]
 
 mod blocks;

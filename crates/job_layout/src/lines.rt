@@ -12,7 +12,7 @@ use job_grammar::Step;
 use job_tokens::{Mark, Shape};
 use std::alloc::{AllocError, Global};
 
-// The tokens of a block in one line, where it can stand in one.
+// Returns the tokens of a block on one line, if it may be on one line.
 pub(crate) fn one_line(
     alloc: Global,
     steps: &[Step],
@@ -43,7 +43,7 @@ fn empty_block(alloc: Global) -> Result<Vec<SpacedToken>, AllocError>
     Ok(line)
 }
 
-// A block of one step that has no block.
+// Returns a block of one step that has no block of its own.
 fn block_of(alloc: Global, step: &Step) -> Result<Vec<SpacedToken>, AllocError>
     ensures { IfOk result (λ line. line.items ≡ mark_after gaps.Space mark.Open
         ∷ (spaced (head_of (step_of step.now)) ++ mark_after gaps.Joined mark.Semicolon ∷ mark_after gaps.Space mark.Close ∷ [])) }
@@ -67,7 +67,7 @@ fn push_mark(line: &mut Vec<SpacedToken>, gap: Gap, mark: Mark) -> Result<(), Al
     Ok(())
 }
 
-// The tokens of a step in front of its semicolon or of its first block.
+// Returns the tokens of a step before its semicolon or its first block.
 pub(crate) fn head_of(alloc: Global, step: &Step) -> Result<Vec<Shape>, AllocError>
     ensures { IfOk result (λ shapes. shapes.items ≡ head_of (step_of step.now)) }
 {
@@ -76,7 +76,7 @@ pub(crate) fn head_of(alloc: Global, step: &Step) -> Result<Vec<Shape>, AllocErr
     Ok(shapes)
 }
 
-// The tokens, with a space in front of each.
+// Appends the tokens, with a space before each.
 pub(crate) fn push_spaced(line: &mut Vec<SpacedToken>, shapes: &[Shape]) -> Result<(), AllocError>
     ensures { OnOk result (line.new.items ≡ line.old.items ++ spaced shapes.now) }
 {
@@ -89,7 +89,7 @@ pub(crate) fn push_spaced(line: &mut Vec<SpacedToken>, shapes: &[Shape]) -> Resu
     Ok(())
 }
 
-// The tokens, with the gap in front of the first and a space in front of each other.
+// Returns the tokens, with the given gap before the first and a space before each other token.
 pub(crate) fn after_gap(
     alloc: Global,
     gap: Gap,

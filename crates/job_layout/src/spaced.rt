@@ -5,25 +5,25 @@ ghost use Rattle.job_layout.specs.Spaced.{gap_text, spaced_text, indent};
 use job_tokens::{Shape, push_canon};
 use std::alloc::{AllocError, Global};
 
-// What stands between a token and the one before it.
+// What comes between a token and the one before it.
 #[derive(Clone, Copy, Debug, PartialEq, Eq)]
 pub(crate) enum Gap {
     // Nothing.
     Joined,
     // A space.
     Space,
-    // A newline, and two spaces for each of so many levels.
+    // A newline, and two spaces for each of the given number of levels.
     Line(u64),
 }
 
-// A token and what stands in front of it.
+// A token and what comes before it.
 #[derive(Clone, Copy)]
 pub(crate) struct SpacedToken {
     pub(crate) gap: Gap,
     pub(crate) shape: Shape,
 }
 
-// How many bytes the token has in a text.
+// Returns the number of bytes of the token in a text.
 pub(crate) fn width(alloc: Global, shape: Shape) -> Result<usize, AllocError>
     ensures { IfOk result (λ width. width ≡ length (token shape)) }
 {
@@ -32,7 +32,7 @@ pub(crate) fn width(alloc: Global, shape: Shape) -> Result<usize, AllocError>
     Ok(text.len())
 }
 
-// Writes the tokens at the end.
+// Appends the tokens.
 pub(crate) fn push_tokens(
     alloc: Global,
     out: &mut Vec<u8>,
