@@ -1,4 +1,4 @@
--- What a reading that is exact answers, with what is found in the job.
+-- The results of an exact reading, with what is found in the job.
 use Rattle.std.proofs.Common.{ℕ, List, inl, inr, refl, ap}
 use Rattle.std.specs.Prelude.{Result, Ok, Err, MatchResult}
 use Rattle.job_tree.specs.Tree.{Tree}
@@ -8,14 +8,15 @@ use Rattle.job_grammar.specs.Refusals.{Spells, IsRefused, IsFair, AnswersUnlessM
 use Rattle.job_grammar.proofs.Passing.{one_refusal}
 use Rattle.job_lint.specs.Linted.{IsOkUnlessMemory}
 
--- Of a text that spells a job the answer is well, or want of memory. What is found in a text says that it spells a job.
+-- For a text that spells a job, the result is `Ok`, or that memory was refused. What is found in a text shows that it
+-- spells a job.
 pub only_found : {X : Type 0} (text : List ℕ) (found : X → Type 0) (result : Result X JobFault) (job : Tree) →
     MatchResult result found (IsFair text) → Spells text job → IsOkUnlessMemory result
 only_found text found (Ok x) job fits spells = inl refl
 only_found text found (Err fault) job (inl memory) spells = inr (ap (λ (f : JobFault). Err f) memory)
 only_found text found (Err fault) job (inr refused) spells = absurd (spells.2 fault.kind fault.at refused.0)
 
--- of a text that is refused the answer is that refusal, or want of memory
+-- for a text that is refused, the result is that refusal, or that memory was refused
 pub exact_fault : {X : Type 0} (text : List ℕ) (found : X → Type 0) (result : Result X JobFault) (kind : JobKind) (at : ℕ) →
     MatchResult result found (IsFair text) → ((x : X) → found x → (job : Tree) × Spells text job) → IsRefused text kind at →
     AnswersUnlessMemory result (Err (record { at = at; kind = kind }))

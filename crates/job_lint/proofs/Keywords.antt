@@ -1,4 +1,4 @@
--- The opening keywords of a job, found along its tokens: those of its tree, where no name is a keyword.
+-- The opening keywords of a job, found along its tokens: if no name is a keyword, they are those of its tree.
 use Rattle.std.proofs.Common.{◌≡◌, ℕ, Bool, true, false, cond, ◌||◌, not, List, [], ◌∷◌, length, Option, Some, None, is_some, refl, sym, ap, ◌∙◌, arith}
 use Rattle.job_tree.specs.declared.deadline.Deadline.{Deadline}
 use Rattle.job_tree.specs.declared.deadline.Deadline.TheVariants.{Never, After, At}
@@ -29,11 +29,11 @@ unfolding keyword_of
 read_as_itself word.Job = refl
 read_as_itself _ = refl
 
--- a keyword in front of others
+-- a keyword, followed by others
 opening : (k : Keyword) (others : List Keyword) → kept_as (keyword_of (spelling k)) others ≡ cond (is_opening k) (k ∷ others) others
 opening k others = ap (λ (o : Option Keyword). kept_as o others) (read_as_itself k)
 
--- a word that is free is no keyword
+-- a word that is free is not a keyword
 no_keyword : (o : Option Keyword) (b : Bool) (others : List Keyword) → not (is_some o || b) ≡ true → kept_as o others ≡ others
 no_keyword None b others free = refl
 no_keyword (Some k) b others free = absurd cc
@@ -42,7 +42,7 @@ no_keyword_in : (o : Option Keyword) (b c : Bool) (others : List Keyword) → no
 no_keyword_in None b c others free = refl
 no_keyword_in (Some k) b c others free = absurd cc
 
--- a name in front of others, which may serve as what it is for
+-- a name that its role allows, followed by others
 given : (name : List ℕ) (others : List Keyword) → allows role.Given (shape.Word name) ≡ true → kept_as (keyword_of name) others ≡ others
 given name others free = no_keyword_in (keyword_of name) _ _ others free
 
@@ -57,7 +57,7 @@ handled name others free = no_keyword (keyword_of name) _ others free
 
 -- ---- along the tokens
 
--- each token may serve as what it is for
+-- each token is allowed in its role
 abbrev AllAllowed : List Piece → Type 0
 AllAllowed [] = Unit {0}
 AllAllowed (p ∷ ps) = (allows p.role p.shape ≡ true) × AllAllowed ps
@@ -66,7 +66,7 @@ same_shape : (t : Token) (p : Piece) (ts : List Token) (ps : List Piece) → sha
     (t.shape ≡ p.shape) × (shapes_of ts ≡ shapes_in ps)
 same_shape t p ts ps e = (cc, cc)
 
--- where no name is reserved each may
+-- if no name is reserved, each token is allowed in its role
 all_allowed : (ts : List Token) (ps : List Piece) → shapes_of ts ≡ shapes_in ps → reserved_in ts (roles_in ps) ≡ None → AllAllowed ps
 all_allowed [] [] e none = tt
 all_allowed [] (p ∷ ps) e none = absurd cc
@@ -88,7 +88,7 @@ keywords_along (t ∷ ts) (p ∷ ps) e =
     ap (λ (others : List Keyword). kept_by (word_in t.shape) others) (keywords_along ts ps two.1)
     ∙ ap (λ (s : Shape). kept_by (word_in s) (along ps)) two.0
 
--- as many places as keywords
+-- there are as many places as keywords
 as_many_kept : (o : Option Keyword) (at : ℕ) (places : List ℕ) (others : List Keyword) → length places ≡ length others →
     length (with_place (opens_as o) at places) ≡ length (kept_as o others)
 as_many_kept None at places others e = e
@@ -125,7 +125,7 @@ past_over : (o : Option ℕ) (rest : List Piece) → AllAllowed (over_pieces o r
 past_over None rest all = (refl, all)
 past_over (Some n) rest all = (opening word.Over (along rest), all.1.1)
 
--- a keyword in front of what is found
+-- a keyword before what is found
 behind : {found others : List Keyword} (k : Keyword) → found ≡ others → k ∷ found ≡ k ∷ others
 behind k e = ap (λ (ks : List Keyword). k ∷ ks) e
 

@@ -15,7 +15,7 @@ use Rattle.job_lint.specs.Fitting.{opening_keywords, keywords_of, AllStandAtKeyw
 use Rattle.job_lint.proofs.Keywords.{as_many_places, same_keywords}
 use Rattle.job_lint.proofs.Standing.{as_many, all_stand}
 
--- they reach to the end
+-- the tokens reach to the end of the text
 pub lexed_to_the_end : (text body : List ℕ) (job : Tree) (tokens : List Token) (fault : Option ℕ) (at : ℕ) → body ≡ drop 11 text →
     fault ≡ Some at → Spells text job → Lexes (length text) body tokens fault → ⊥
 lexed_to_the_end text body job tokens fault at rest some spells lexed =
@@ -34,13 +34,13 @@ keywords_of_text text job tokens (ts, is_of, none) lexed =
     none_of (reserved_in ts (roles_of job)) (λ at e. none kind.Reserved at (ts, job, is_of, e)) in
     subst (λ (us : List Token). opening_keywords us ≡ keywords_of job.steps []) same (same_keywords job ts is_of.1.1 free)
 
--- as many as are counted in the tree
+-- there are as many places as opening keywords in the tree
 pub keywords_have_places : (text : List ℕ) (job : Tree) (tokens : List Token) → Spells text job → HasTokens text tokens None →
     length (opening_places tokens) ≡ openings_of job.steps
 keywords_have_places text job tokens spells lexed =
     as_many_places tokens ∙ ap (length {A = Keyword}) (keywords_of_text text job tokens spells lexed) ∙ as_many job.steps
 
--- and each warning stands at one that it can be about
+-- each warning is at a keyword that it can be about
 pub warnings_stand : (text : List ℕ) (job : Tree) (tokens : List Token) → Spells text job → HasTokens text tokens None →
     AllStandAtKeywords (opening_places tokens) (opening_keywords tokens) (job_warnings (numbered_in (opening_places tokens)) job)
 warnings_stand text job tokens spells lexed =

@@ -1,4 +1,4 @@
--- Each warning stands at a keyword that it can be about.
+-- Each warning is at a keyword that it can be about.
 use Rattle.std.proofs.Common.{◌≡◌, ℕ, zero, suc, ◌+◌, Bool, true, false, ◌&&◌, not, List, [], ◌∷◌, ◌++◌, length, drop, Some, None, refl, sym, ap, ◌∙◌, append_assoc, arith}
 use Rattle.std.specs.Prelude.{slice_get, if◌then◌else◌}
 use Rattle.std.proofs.lemmas.List.{length-append}
@@ -19,7 +19,7 @@ Keywords = List Keyword
 
 -- ---- the keywords of a part of a job
 
--- so many, in front of others
+-- the keywords of a part are this many, followed by others
 abbrev Splits : Keywords → Keywords → ℕ → Type 0
 Splits all others n = (ks : Keywords) × (all ≡ ks ++ others) × (length ks ≡ n)
 
@@ -74,7 +74,7 @@ mutual
   split_cleaned uncleaned others = ([], refl, refl)
   split_cleaned (finally body) others = headed word.Finally _ others (openings_of body) (split_of body others)
 
--- a block has as many as are counted
+-- a block has as many keywords as are counted
 pub as_many : (ss : Steps) → length (keywords_of ss []) ≡ openings_of ss
 as_many ss =
     let one = split_of ss [] in
@@ -82,7 +82,7 @@ as_many ss =
 
 -- ---- numbers among all keywords
 
--- the keyword with a number, and those after it
+-- the keyword with this number, and those after it
 at_number : (all : Keywords) (n : ℕ) (k : Keyword) (others : Keywords) → drop n all ≡ k ∷ others →
     (slice_get all n ≡ Some k) × (drop (n + 1) all ≡ others)
 at_number [] zero k others e = absurd cc
@@ -92,7 +92,7 @@ at_number (x ∷ xs) (suc n) k others e =
     let same : suc n + 1 ≡ suc (n + 1) = omega arith in
     rw same (at_number xs n k others e)
 
--- those after a part
+-- the keywords after a part
 after_part : (all : Keywords) (n m : ℕ) (part others : Keywords) → drop n all ≡ part → Splits part others m → drop (n + m) all ≡ others
 after_part all n m part others e (ks, f, l) =
     sym (drop-drop m n all) ∙ ap (λ (x : Keywords). drop m x) (e ∙ f) ∙ ap (λ (x : ℕ). drop x (ks ++ others)) (sym l)
@@ -100,7 +100,7 @@ after_part all n m part others e (ks, f, l) =
 
 -- ---- what is found
 
--- a warning that may be given, in front of others
+-- an optional warning, followed by others
 with_if : (places : List ℕ) (keywords : Keywords) (b : Bool) (w : Warning) (others : List Warning) → StandsAtKeyword places keywords w →
     AllStandAtKeywords places keywords others → AllStandAtKeywords places keywords (with_warning (warn_if b w) others)
 with_if places keywords true w others stands all = (stands, all)
@@ -154,7 +154,7 @@ both_stand places keywords around unreachable n s others got all =
     with_if places keywords unreachable _ _ (n, own_keyword s, refl, got, begins s) (own_stands places keywords around n s others got all)
 
 mutual
-  -- by the keywords from a number on, which are those of the part and others
+  -- the same, given the keywords from a number on: those of the part, followed by others
   stand_of : (places : List ℕ) (keywords : Keywords) (around : Around) (unreachable : Bool) (n : ℕ) (ss : Steps) (more : Keywords)
       (others : List Warning) → drop n keywords ≡ keywords_of ss more → AllStandAtKeywords places keywords others →
       AllStandAtKeywords places keywords (warnings_of (numbered_in places) around unreachable n ss others)

@@ -11,7 +11,8 @@ use Rattle.job_lint.specs.Openings.{openings_of, openings_in, numbered_in}
 use Rattle.job_lint.specs.Warnings.{warnings_of, warnings_in, warnings_at, never_ends_well}
 use Rattle.job_lint.specs.Adding.{Adds}
 
--- Between two steps of a block: the number of the next keyword and the warnings so far, by the steps that are left.
+-- The state between two steps of a block: the number of the next keyword and the warnings so far, given the steps
+-- that are left.
 pub record AtStep (places : List ℕ) (around : Around) (number : ℕ) (all : Steps) (old : List Warning) (unreachable : Bool) (next : ℕ)
     (left : Steps) (now : List Warning) : Type 0 where
   pub count : next + openings_of left ≡ number + openings_of all
@@ -39,7 +40,7 @@ pub at_item : (places : List ℕ) (around : Around) (number : ℕ) (all : Steps)
 at_item places around number all old unreachable next ss i s now at lt is =
     subst (λ (left : Steps). AtStep places around number all old unreachable next left now) (steps_at ss i s lt is) at
 
--- the step that is next has a keyword, and those inside it, among the places
+-- the next step has places for its keyword and for those inside it
 pub room_at : (places : List ℕ) (around : Around) (number : ℕ) (all rest : Steps) (old : List Warning) (unreachable : Bool) (next : ℕ)
     (s : tree.Step) (now : List Warning) → AtStep places around number all old unreachable next (step s rest) now →
     number + openings_of all ≤ length places → next + 1 + openings_in s ≤ length places

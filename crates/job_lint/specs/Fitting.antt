@@ -46,12 +46,12 @@ own_keyword (repeat count body) = keyword.Repeat
 own_keyword (attempt body handler cleanup) = keyword.Try
 
 abbrev mutual
-  -- those of a block, in front of others
+  -- those of a block, followed by others
   pub keywords_of : Steps → List Keyword → List Keyword
   keywords_of stop others = others
   keywords_of (step s ss) others = own_keyword s ∷ keywords_in s (keywords_of ss others)
 
-  -- those of a step after its own
+  -- those of a step, after its own keyword
   pub keywords_in : Step → List Keyword → List Keyword
   keywords_in (sleep n) others = others
   keywords_in checkpoint others = others
@@ -109,7 +109,7 @@ abbrev pub is_except : Keyword → Bool
 is_except keyword.Except = true
 is_except _ = false
 
--- whether a kind of mistake is one of what a keyword begins
+-- whether a warning of this kind can be about a keyword
 abbrev pub fits : Lint → Keyword → Bool
 fits Unreachable k = begins_step k
 fits ExposedWait k = is_wait k
@@ -118,7 +118,7 @@ fits ShieldWithoutDeadline k = is_shieldable k
 fits IdleScope k = is_scope k
 fits IdleHandler k = is_except k
 
--- a warning stands at the place of an opening keyword that it can be about
+-- a warning is at the place of an opening keyword that it can be about
 abbrev pub StandsAtKeyword : List ℕ → List Keyword → Warning → Type 0
 StandsAtKeyword places keywords w =
     (n : ℕ) × (k : Keyword) × (w.at ≡ numbered_in places n) × (slice_get keywords n ≡ Some k) × (fits w.lint k ≡ true)

@@ -9,7 +9,7 @@ use Rattle.job_lint.specs.declared.warning.Warning.{Warning}
 use Rattle.job_lint.specs.Openings.{opening_places, numbered_in}
 use Rattle.job_lint.specs.Warnings.{job_warnings}
 
--- The warnings of the job that a text spells: each is at the place of its keyword among the text's tokens.
+-- The warnings of the job that a text spells. Each is at the place of its keyword among the tokens of the text.
 pub record AreWarnings (text : List ℕ) (found : List Warning) : Type 0 where
   pub job : Tree
   pub spells : Spells text job
@@ -17,6 +17,6 @@ pub record AreWarnings (text : List ℕ) (found : List Warning) : Type 0 where
   pub tokens_are : HasTokens text tokens None
   pub warnings : found ≡ job_warnings (numbered_in (opening_places tokens)) job
 
--- an answer, or want of memory
+-- an answer, or that memory was refused
 abbrev pub IsOkUnlessMemory : {X : Type 0} → Result X JobFault → Type 0
 IsOkUnlessMemory result = IsOk result ⊎ (result ≡ Err no_memory)

@@ -27,7 +27,7 @@ abbrev pub opens_by : Option (List ℕ) → Bool
 opens_by None = false
 opens_by (Some word) = opens_as (keyword_of word)
 
--- whether a token is an opening keyword: in a job that a text spells, no name is a keyword
+-- whether a token is an opening keyword; in a job that a text spells, no name is a keyword
 abbrev pub begins : Shape → Bool
 begins shape = opens_by (word_in shape)
 
@@ -40,7 +40,7 @@ abbrev pub opening_places : List Token → List ℕ
 opening_places [] = []
 opening_places (t ∷ ts) = with_place (begins t.shape) t.at (opening_places ts)
 
--- the place of the keyword with a number
+-- the place of the keyword with this number
 abbrev pub numbered_in : List ℕ → ℕ → ℕ
 numbered_in places number = slice_index places number
 
@@ -52,7 +52,7 @@ abbrev mutual
   openings_of stop = 0
   openings_of (step s ss) = 1 + openings_in s + openings_of ss
 
-  -- how many a step has after its own
+  -- how many opening keywords a step has after its own
   pub openings_in : Step → ℕ
   openings_in (sleep n) = 0
   openings_in checkpoint = 0

@@ -13,7 +13,7 @@ abbrev pub cancels : List ℕ → Step → Bool
 cancels name (cancel other) = bytes_eq name other
 cancels name _ = false
 
--- a `raise` of a name, or a `need` that raises it where it finds no line
+-- a `raise` with a name, or a `need` that raises it if it finds no line
 abbrev pub raises : List ℕ → Step → Bool
 raises name (raise other) = bytes_eq name other
 raises name (need text other) = bytes_eq name other
@@ -41,7 +41,8 @@ is_never Never = true
 is_never (After n) = false
 is_never (At n) = false
 
--- a wait is sought in no scope or nursery with a deadline, which bounds it; all else is sought everywhere
+-- a wait is not sought inside a scope or nursery with a deadline, which bounds it; everything else is sought
+-- everywhere
 abbrev pub is_entered : Sought → Deadline → Bool
 is_entered (Cancel name) deadline = true
 is_entered (Raise name) deadline = true
@@ -55,7 +56,7 @@ abbrev mutual
   has sought stop = false
   has sought (step s ss) = (is_sought sought s || has_inside sought s) || has sought ss
 
-  -- in the blocks of a step
+  -- the same in the blocks of a step
   pub has_inside : Sought → Step → Bool
   has_inside sought (sleep n) = false
   has_inside sought checkpoint = false

@@ -1,4 +1,4 @@
--- What is probably a mistake in a job, keyword by keyword.
+-- Probable mistakes in a job, keyword by keyword.
 use Rattle.std.specs.Prelude.{ℕ, ◌+◌, Bool, true, false, ◌&&◌, ◌||◌, not, List, [], ◌∷◌, Option, Some, None, codes, if◌then◌else◌}
 use Rattle.std.specs.Str.{bytes_eq}
 use Rattle.job_tree.specs.declared.deadline.Deadline.{Deadline}
@@ -10,7 +10,7 @@ use Rattle.job_lint.specs.declared.sought.Sought.TheVariants.{Cancel, Raise, Fai
 use Rattle.job_lint.specs.Seeking.{has, is_never}
 use Rattle.job_lint.specs.Openings.{openings_of, openings_in, handled_openings}
 
--- ---- what surrounds a block
+-- ---- what encloses a block
 
 -- the block of a job
 abbrev pub outside : Around
@@ -20,7 +20,7 @@ outside = record { cleanup = false; exposed = false }
 abbrev pub in_cleanup : Around
 in_cleanup = record { cleanup = true; exposed = true }
 
--- the block of a scope or nursery, with a shield or without
+-- the block of a scope or nursery, with or without a shield
 abbrev pub within : Bool → Around → Around
 within shield around = if shield then record { cleanup = around.cleanup; exposed = false } else around
 
@@ -33,7 +33,7 @@ abbrev pub with_warning : Option Warning → List Warning → List Warning
 with_warning None others = others
 with_warning (Some w) others = w ∷ others
 
--- what no step of the same block comes after
+-- the steps after this one in its block never run
 abbrev pub never_ends_well : Step → Bool
 never_ends_well forever = true
 never_ends_well (raise name) = true
@@ -42,18 +42,18 @@ never_ends_well _ = false
 abbrev pub unreachable_step : Bool → ℕ → Option Warning
 unreachable_step unreachable at = warn_if unreachable (record { at = at; lint = Unreachable; name = None })
 
--- a wait in a cleanup, with no shield in it around the wait
+-- a wait in a cleanup, enclosed by no shield inside the cleanup
 abbrev pub exposed_wait : Around → ℕ → Option Warning
 exposed_wait around at = warn_if around.exposed (record { at = at; lint = ExposedWait; name = None })
 
 abbrev pub raise_in_cleanup : Around → ℕ → Option Warning
 raise_in_cleanup around at = warn_if around.cleanup (record { at = at; lint = RaiseInCleanup; name = None })
 
--- a shield without a deadline that something waits in
+-- a shield without a deadline in which something waits
 abbrev pub endless_shield : List ℕ → Steps → ℕ → Option Warning
 endless_shield name body at = warn_if (has Wait body) (record { at = at; lint = ShieldWithoutDeadline; name = Some name })
 
--- a scope that nothing in it cancels by its name
+-- a scope that no `cancel` in it names
 abbrev pub idle_scope : List ℕ → Steps → ℕ → Option Warning
 idle_scope name body at = warn_if (not (has (Cancel name) body)) (record { at = at; lint = IdleScope; name = Some name })
 
@@ -64,15 +64,15 @@ scope_warning name deadline shield body at =
 abbrev pub nursery_warning : List ℕ → Deadline → Bool → Steps → ℕ → Option Warning
 nursery_warning name deadline shield body at = if is_never deadline && shield then endless_shield name body at else None
 
--- exceptions of a name are raised by a step of a block, or are `TooSlow` and raised by a scope with `fail`
+-- a step of a block raises exceptions with this name; or the name is `TooSlow`, and a scope in it has `fail`
 abbrev pub can_raise : List ℕ → Steps → Bool
 can_raise name body = has (Raise name) body || (bytes_eq name (codes "TooSlow") && has Fail body)
 
--- a handler of what the block of its `try` cannot raise
+-- a handler of exceptions that the block of its `try` cannot raise
 abbrev pub idle_handler : List ℕ → Steps → ℕ → Option Warning
 idle_handler name tried at = warn_if (not (can_raise name tried)) (record { at = at; lint = IdleHandler; name = Some name })
 
--- the warning at the keyword of a step, but for that the step is unreachable
+-- the warning at the keyword of a step, except the one that the step is unreachable
 abbrev pub own_warning : Around → ℕ → Step → Option Warning
 own_warning around at (sleep n) = exposed_wait around at
 own_warning around at checkpoint = exposed_wait around at
@@ -83,15 +83,15 @@ own_warning around at (scope name deadline shield fail body) = scope_warning nam
 own_warning around at (nursery name deadline shield body) = nursery_warning name deadline shield body at
 own_warning around at _ = None
 
--- both, in front of others
+-- both warnings, followed by others
 abbrev pub warnings_at : (unreachable : Bool) → Around → ℕ → Step → List Warning → List Warning
 warnings_at unreachable around at s others = with_warning (unreachable_step unreachable at) (with_warning (own_warning around at s) others)
 
 -- ---- keyword by keyword
 
 abbrev mutual
-  -- The warnings of a block, in front of others: by the place of each keyword, what surrounds the block, whether its first step is unreachable,
-  -- and the number of its first keyword.
+  -- The warnings of a block, followed by others, given the place of each keyword, what encloses the block, whether its first
+  -- step is unreachable, and the number of its first keyword.
   pub warnings_of : (place : ℕ → ℕ) → Around → (unreachable : Bool) → (number : ℕ) → Steps → List Warning → List Warning
   warnings_of place around unreachable number stop others = others
   warnings_of place around unreachable number (step s ss) others =
@@ -99,7 +99,7 @@ abbrev mutual
       (warnings_in place around (number + 1) s
       (warnings_of place around (never_ends_well s) (number + 1 + openings_in s) ss others))
 
-  -- those inside a step
+  -- the warnings inside a step
   pub warnings_in : (ℕ → ℕ) → Around → ℕ → Step → List Warning → List Warning
   warnings_in place around number (sleep n) others = others
   warnings_in place around number checkpoint others = others
@@ -122,7 +122,7 @@ abbrev mutual
       (handled_warnings place around (number + openings_of body) body handler
       (cleaned_warnings place (number + openings_of body + handled_openings handler) cleanup others))
 
-  -- those of the handler of a `try`, whose block is known
+  -- the warnings of the handler of a `try`, given the block of the `try`
   pub handled_warnings : (ℕ → ℕ) → Around → ℕ → Steps → Handled → List Warning → List Warning
   handled_warnings place around number tried unhandled others = others
   handled_warnings place around number tried (except name body) others =
@@ -132,6 +132,6 @@ abbrev mutual
   cleaned_warnings place number uncleaned others = others
   cleaned_warnings place number (finally body) others = warnings_of place in_cleanup false (number + 1) body others
 
--- the warnings of a job, by the place of each keyword
+-- the warnings of a job, given the place of each keyword
 abbrev pub job_warnings : (ℕ → ℕ) → Tree → List Warning
 job_warnings place job = warnings_of place outside false 0 job.steps []

@@ -1,17 +1,17 @@
 ghost use Rattle.std.specs.Prelude.{◌≡◌};
 ghost use Rattle.job_lint.specs.Warnings.{within, in_cleanup, outside};
 
-// What surrounds a block.
+// What encloses a block.
 #[derive(Clone, Copy)]
 pub(crate) struct Around {
-    // It is in a cleanup, at any depth.
+    // The block is in a cleanup, at any depth.
     pub cleanup: bool,
-    // It is in a cleanup, and in no shield that is in that cleanup.
+    // The block is in a cleanup, and in no shield that is inside that cleanup.
     pub exposed: bool,
 }
 
 impl Around {
-    // What surrounds the block of a scope or nursery, with a shield or without.
+    // Returns what encloses the block of a scope or nursery, with or without a shield.
     pub(crate) fn within(self, shield: bool) -> Around
         ensures { result ≡ within shield self }
     {
@@ -26,7 +26,7 @@ impl Around {
     }
 }
 
-// What surrounds the block of a cleanup.
+// Returns what encloses the block of a cleanup.
 pub(crate) fn in_cleanup() -> Around
     ensures { result ≡ in_cleanup }
 {
@@ -36,7 +36,7 @@ pub(crate) fn in_cleanup() -> Around
     }
 }
 
-// What surrounds the block of a job.
+// Returns what encloses the block of a job.
 pub(crate) fn outside() -> Around
     ensures { result ≡ outside }
 {

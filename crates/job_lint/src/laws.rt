@@ -6,7 +6,8 @@ ghost use Rattle.job_lint.specs.Openings.{openings_of, opening_places, numbered_
 ghost use Rattle.job_lint.specs.Warnings.{job_warnings};
 ghost use Rattle.job_lint.specs.Fitting.{opening_keywords, keywords_of, AllStandAtKeywords};
 
-/// The tokens of a text that spells a job have the opening keywords of its tree, in the same order, and each has a place.
+/// A law: the tokens of a text that spells a job have the opening keywords of its tree, in the same order, and each has a
+/// place. The function does nothing when it is called.
 pub fn law_keywords_have_places()
     ensures keywords { (text : List ℕ) (job : Tree) (tokens : List Token) → Spells text job → HasTokens text tokens None
         → opening_keywords tokens ≡ keywords_of job.steps [] }
@@ -14,8 +15,8 @@ pub fn law_keywords_have_places()
         → length (opening_places tokens) ≡ openings_of job.steps }
 {}
 
-/// Each warning of a job stands at the place of a keyword that it can be about: the warning of a handler at an `except`, that of a scope at a
-/// `scope`, and so on.
+/// A law: each warning of a job is at the place of a keyword that it can be about: the warning of a handler at an `except`,
+/// that of a scope at a `scope`, and so on. The function does nothing when it is called.
 pub fn law_warnings_stand_at_keywords()
     ensures { (text : List ℕ) (job : Tree) (tokens : List Token) → Spells text job → HasTokens text tokens None
         → AllStandAtKeywords (opening_places tokens) (opening_keywords tokens)

@@ -1,9 +1,10 @@
 //! Probable mistakes in a job, each with its place.
 //!
-//! The layer promises that `lints` finds in a job exactly what a definition over the job's tree finds (`specs/Warnings.antt`): steps that never run,
-//! cleanups that wait without a shield or raise, shields in which nothing outside can cancel a wait, scopes that nothing cancels, and handlers of what
-//! nothing raises; and that each place is that of the keyword in the text which the warning is about (`specs/Openings.antt`, `laws.rt`). It stands on
-//! `job_grammar` for the job that a text spells and on `job_tokens` for the places.
+//! `lints` finds in a job exactly what a definition over the tree of the job finds (`specs/Warnings.antt`): steps that never
+//! run, cleanups that wait without a shield or that raise, shields in which nothing outside can cancel a wait, scopes that
+//! nothing cancels, and handlers of exceptions that nothing raises. Each place is that of the keyword in the text which the
+//! warning is about (`specs/Openings.antt`, `laws.rt`). The crate uses `job_grammar` for the job that a text spells and
+//! `job_tokens` for the places.
 #![tactic(auto)]
 
 mod around;

@@ -13,23 +13,23 @@ use job_grammar::{FIRST_LINE_LENGTH, Job, JobFault, read_job};
 use job_tokens::{Lexed, Token, lex};
 use std::alloc::{AllocError, Global};
 
-/// The probable mistakes in the job that a text spells, in the order of the keywords that they are about, or why the text is refused.
-/// Want of memory is told as a refusal of the kind `NoMemory`.
+/// Returns the probable mistakes in the job that a text spells, in the order of the keywords that they are about. If the text
+/// is refused, the error is the refusal, as `read_job` returns it. If memory is refused, the error has the kind `NoMemory`.
 pub fn lints(alloc: Global, text: &[u8]) -> Result<Vec<Warning>, JobFault>
-    // What is found are the warnings of the job, each at its place.
+    // The warnings that are found are those of the job, each at its place.
     ensures found { IfOk result (λ warnings. AreWarnings text.now warnings.items) }
-    // What is refused has that fault at that place, and no fault of an earlier kind.
+    // A refusal is the fault at that place, and there is no fault of an earlier kind.
     ensures refused { IfErr result (IsFair text.now) }
-    // Of a text that spells a job the warnings are found, unless a growth is refused.
+    // If the text spells a job, its warnings are found, unless memory is refused.
     ensures only { (job : Tree) → Spells text.now job → IsOkUnlessMemory result }
-    // Where a refusal's condition holds it is that refusal, unless a growth is refused.
+    // If the condition of a refusal holds, that refusal is returned, unless memory is refused.
     ensures exact { (kind : JobKind) (at : ℕ) → IsRefused text.now kind at
         → AnswersUnlessMemory result (Err (record { at = at; kind = kind })) }
 {
     read_and_lint(alloc, text)
 }
 
-// The same, with what the clauses follow from.
+// The same, with a contract from which the clauses above follow.
 fn read_and_lint(alloc: Global, text: &[u8]) -> Result<Vec<Warning>, JobFault>
     ensures { MatchResult result (λ warnings. AreWarnings text.now warnings.items) (IsFair text.now) }
 {
@@ -38,7 +38,7 @@ fn read_and_lint(alloc: Global, text: &[u8]) -> Result<Vec<Warning>, JobFault>
     Ok(warnings)
 }
 
-// The warnings of the job that a text spells.
+// Returns the warnings of the job that a text spells.
 fn lints_of_job(alloc: Global, text: &[u8], job: &Job) -> Result<Vec<Warning>, AllocError>
     requires { Spells text.now job.now }
     ensures { IfOk result (λ warnings. AreWarnings text.now warnings.items) }
@@ -51,7 +51,7 @@ fn lints_of_job(alloc: Global, text: &[u8], job: &Job) -> Result<Vec<Warning>, A
     Ok(found)
 }
 
-// The tokens of a text that spells a job.
+// Returns the tokens of a text that spells a job.
 fn tokens_of(alloc: Global, text: &[u8], job: &Job) -> Result<Vec<Token>, AllocError>
     requires { Spells text.now job.now }
     ensures { IfOk result (λ tokens. HasTokens text.now tokens.items None) }
@@ -63,7 +63,7 @@ fn tokens_of(alloc: Global, text: &[u8], job: &Job) -> Result<Vec<Token>, AllocE
     }
 }
 
-// The bytes after the first line of a text.
+// Returns the bytes after the first line of a text.
 fn after_first_line(text: &[u8]) -> &[u8]
     ensures { result.now ≡ drop 11 text.now }
 {

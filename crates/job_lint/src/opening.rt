@@ -5,7 +5,7 @@ use job_syntax::Keyword;
 use job_tokens::{Shape, Token};
 use std::alloc::{AllocError, Global};
 
-// The places of the opening keywords of a text, in their order, by the text's tokens.
+// Returns the places of the opening keywords among these tokens, in order.
 pub(crate) fn opening_places(alloc: Global, tokens: &[Token]) -> Result<Vec<usize>, AllocError>
     ensures { IfOk result (λ places. places.items ≡ opening_places tokens.now) }
 {
@@ -18,7 +18,7 @@ pub(crate) fn opening_places(alloc: Global, tokens: &[Token]) -> Result<Vec<usiz
     Ok(places)
 }
 
-// Appends the place of a token, where it is an opening keyword.
+// Appends the place of a token, if the token is an opening keyword.
 fn push_place(places: &mut Vec<usize>, token: Token) -> Result<(), AllocError>
     ensures { OnOk result (places.new.items ≡ places.old.items ++ with_place (begins token.shape) token.at []) }
 {
@@ -29,7 +29,7 @@ fn push_place(places: &mut Vec<usize>, token: Token) -> Result<(), AllocError>
     Ok(())
 }
 
-// Whether a token is an opening keyword.
+// Returns whether a token is an opening keyword.
 fn begins(shape: Shape) -> bool
     ensures { result ≡ begins shape }
 {
@@ -42,7 +42,7 @@ fn begins(shape: Shape) -> bool
     }
 }
 
-// Whether a keyword begins a step, a handler or a cleanup.
+// Returns whether a keyword begins a step, a handler or a cleanup.
 fn is_opening(keyword: Keyword) -> bool
     ensures { result ≡ is_opening keyword }
 {

@@ -9,7 +9,7 @@ use crate::warning::{Lint, Warning};
 use job_tree::{Body, Deadline, Name, Step};
 use std::alloc::AllocError;
 
-// Appends the warnings at the keyword of a step: whether the step is unreachable is known.
+// Appends the warnings at the keyword of a step. `unreachable` says whether the step is unreachable.
 pub(crate) fn push_own(
     step: &Step,
     unreachable: bool,
@@ -38,7 +38,7 @@ pub(crate) fn push_found(
     Ok(())
 }
 
-// Whether the steps after this one in its block never run.
+// Returns whether the steps after this one in its block never run.
 pub(crate) fn never_ends_well(step: &Step) -> bool
     ensures { result ≡ never_ends_well (step_of step.now) }
 {
@@ -49,7 +49,7 @@ pub(crate) fn never_ends_well(step: &Step) -> bool
     }
 }
 
-// The warning at the keyword of a step, but for that it is unreachable.
+// Returns the warning at the keyword of a step, except the one that the step is unreachable.
 fn own_warning(step: &Step, around: Around, at: usize) -> Option<Warning>
     ensures { result ≡ own_warning around at (step_of step.now) }
 {
@@ -76,7 +76,7 @@ fn own_warning(step: &Step, around: Around, at: usize) -> Option<Warning>
     }
 }
 
-// The warning at a scope.
+// Returns the warning at a scope.
 fn scope_warning(
     name: Name,
     deadline: Deadline,
@@ -96,7 +96,7 @@ fn scope_warning(
     }
 }
 
-// The warning at a nursery.
+// Returns the warning at a nursery.
 fn nursery_warning(
     name: Name,
     deadline: Deadline,
@@ -113,7 +113,7 @@ fn nursery_warning(
     }
 }
 
-// The warning at a shield without a deadline.
+// Returns the warning at a shield without a deadline.
 fn endless_shield(name: Name, body: &Body, at: usize) -> Option<Warning>
     ensures { result ≡ endless_shield name body.now at }
 {
@@ -121,7 +121,7 @@ fn endless_shield(name: Name, body: &Body, at: usize) -> Option<Warning>
     warn_if(waits, at, Lint::ShieldWithoutDeadline, Some(name))
 }
 
-// The warning at a handler, by its name and the block of its `try`.
+// Returns the warning at a handler, given its name and the block of its `try`.
 pub(crate) fn idle_handler(name: Name, body: &Body, at: usize) -> Option<Warning>
     ensures { result ≡ idle_handler name body.now at }
 {
@@ -129,7 +129,7 @@ pub(crate) fn idle_handler(name: Name, body: &Body, at: usize) -> Option<Warning
     warn_if(is_idle, at, Lint::IdleHandler, Some(name))
 }
 
-// Whether something in a block can raise exceptions of a name.
+// Returns whether something in a block can raise exceptions with this name.
 fn can_raise(name: Name, body: &Body) -> bool
     ensures { result ≡ can_raise name body.now }
 {
@@ -138,7 +138,7 @@ fn can_raise(name: Name, body: &Body) -> bool
     has(steps, &Sought::Raise(name)) || (is_too_slow && has(steps, &Sought::Fail))
 }
 
-// A warning, where what it warns of holds.
+// Returns a warning, if what it warns of holds.
 fn warn_if(holds: bool, at: usize, lint: Lint, name: Option<Name>) -> Option<Warning>
     ensures { result ≡ warn_if holds (record { at = at; lint = lint; name = name }) }
 {

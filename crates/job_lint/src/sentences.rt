@@ -4,7 +4,8 @@ ghost use Rattle.job_lint.specs.Sentences.{sentence_of, sentence_for, idle_scope
 use crate::warning::{Lint, Warning};
 use std::alloc::{AllocError, Global};
 
-/// What a warning says to the user, in a sentence of ASCII with no newline. Want of memory is the only error.
+/// Returns what a warning says to the user: one sentence of ASCII without a newline. The only error is that memory
+/// was refused.
 pub fn sentence(alloc: Global, warning: &Warning) -> Result<Vec<u8>, AllocError>
     ensures { IfOk result (λ text. text.items ≡ sentence_of warning.now) }
 {

@@ -7,17 +7,17 @@ use job_tree::{Body, Deadline, Handler, Name, Step};
 // What is sought in a block.
 #[derive(Drop)]
 pub(crate) enum Sought {
-    // A `cancel` of that name.
+    // A `cancel` with this name.
     Cancel(Name),
-    // What raises an exception of that name: a `raise` or a `need`.
+    // A step that can raise an exception with this name: a `raise` or a `need`.
     Raise(Name),
     // A scope with `fail`.
     Fail,
-    // A step that waits, in no scope or nursery with a deadline.
+    // A step that waits and is not in a scope or nursery with a deadline.
     Wait,
 }
 
-// Whether a block has what is sought, at any depth.
+// Returns whether a block has what is sought, at any depth.
 #[cycle(seeking)]
 pub(crate) fn has(steps: &[Step], sought: &Sought) -> bool
     ensures { result ≡ has sought.now (steps_of steps.now) }
@@ -30,7 +30,7 @@ pub(crate) fn has(steps: &[Step], sought: &Sought) -> bool
     false
 }
 
-// Whether the blocks of a step have it.
+// Returns whether the blocks of a step have what is sought.
 #[cycle(seeking)]
 fn has_inside(step: &Step, sought: &Sought) -> bool
     ensures { result ≡ has_inside sought.now (step_of step.now) }
@@ -76,7 +76,7 @@ fn cleaned_has(cleanup: &Option<Body>, sought: &Sought) -> bool
     }
 }
 
-// Whether a step is what is sought.
+// Returns whether a step is what is sought.
 fn is_sought(step: &Step, sought: &Sought) -> bool
     ensures { result ≡ is_sought sought.now (step_of step.now) }
 {
@@ -88,7 +88,7 @@ fn is_sought(step: &Step, sought: &Sought) -> bool
     }
 }
 
-// Whether what is sought is also sought in a scope or nursery with that deadline.
+// Returns whether the search continues inside a scope or nursery with this deadline.
 fn is_entered(sought: &Sought, deadline: Deadline) -> bool
     ensures { result ≡ is_entered sought.now deadline }
 {

@@ -10,10 +10,10 @@ use crate::warning::Warning;
 use job_tree::{Body, Handler, Step};
 use std::alloc::AllocError;
 
-// Each of these appends the warnings of a part of a job, whose first keyword has a number, by the places of all keywords. The answer is the
-// number of the first keyword after the part.
+// Each of these functions appends the warnings of a part of a job. `number` is the number of the first keyword of the part, and
+// `places` are the places of all keywords. The result is the number of the first keyword after the part.
 
-// The warnings of the steps of a block.
+// Appends the warnings of the steps of a block.
 #[cycle(walking)]
 pub(crate) fn walk_steps(
     steps: &[Step],
@@ -36,7 +36,7 @@ pub(crate) fn walk_steps(
     Ok(next)
 }
 
-// The warnings inside a step, after its own keyword.
+// Appends the warnings inside a step, after its own keyword.
 #[cycle(walking)]
 fn walk_inside(
     step: &Step,
@@ -82,7 +82,7 @@ fn walk_inside(
     }
 }
 
-// The warnings of the handler of a `try`, where there is one, by the block of the `try`.
+// Appends the warnings of the handler of a `try`, if there is one. `tried` is the block of the `try`.
 #[cycle(walking)]
 fn walk_handler(
     handler: &Option<Handler>,
@@ -105,7 +105,7 @@ fn walk_handler(
     Ok(next)
 }
 
-// The warnings of the cleanup of a `try`, where there is one.
+// Appends the warnings of the cleanup of a `try`, if there is one.
 #[cycle(walking)]
 fn walk_cleanup(
     cleanup: &Option<Body>,

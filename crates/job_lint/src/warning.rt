@@ -3,30 +3,31 @@ use job_tree::Name;
 /// What is probably wrong at a place of a job.
 #[derive(Clone, Copy, Debug, PartialEq, Eq)]
 pub enum Lint {
-    /// A step right after a `forever` or a `raise` of the same block: it never runs.
+    /// A step directly after a `forever` or a `raise` in the same block. It never runs.
     Unreachable,
-    /// A `sleep`, `checkpoint`, `forever` or `pace` in a cleanup, with no shield around it that is in the cleanup too: it is cut off where the
-    /// task is cancelled.
+    /// A `sleep`, `checkpoint`, `forever` or `pace` in a cleanup that no shield inside the cleanup encloses. It is cut off if
+    /// the task is cancelled.
     ExposedWait,
-    /// A `raise` in a cleanup: its exception takes the place of the one that the cleanup began with.
+    /// A `raise` in a cleanup. Its exception replaces the one that the cleanup began with.
     RaiseInCleanup,
-    /// A scope or nursery with `shield` and no deadline in which something waits, and not inside a scope or nursery with a deadline in it: nothing
-    /// can cancel that wait from outside.
+    /// A scope or nursery with `shield` and without a deadline, with a wait in it that is not in an inner scope or nursery with
+    /// a deadline. Nothing outside can cancel that wait.
     ShieldWithoutDeadline,
-    /// A scope with neither a deadline nor `shield` that no `cancel` in it names: nothing cancels it.
+    /// A scope with neither a deadline nor `shield`, with no `cancel` in it that names it. So nothing cancels it.
     IdleScope,
-    /// A handler of exceptions that nothing in the block of its `try` raises, or of `TooSlow` where no scope in that block has `fail`: it never
-    /// runs.
+    /// A handler of exceptions that nothing in the block of its `try` raises, or of `TooSlow` if no scope in that block has
+    /// `fail`. It never runs.
     IdleHandler,
 }
 
 /// A probable mistake in a job text.
 #[derive(Clone, Copy)]
 pub struct Warning {
-    /// The place of the keyword that it is about, counted in bytes from the start of the text: of the step, or of the `except`.
+    /// The place of the keyword that the warning is about, in bytes from the start of the text: the first keyword of the step,
+    /// or the `except`.
     pub at: usize,
     /// What is probably wrong there.
     pub lint: Lint,
-    /// The name of the handler, or of the scope or nursery: none where the warning is about a step.
+    /// The name of the handler, scope or nursery, or `None` if the warning is about another step.
     pub name: Option<Name>,
 }
