@@ -18,7 +18,7 @@ pub excs_of-append : (es fs : List Exc) → excs_of (es ++ fs) ≡ appended (exc
 excs_of-append [] fs = refl
 excs_of-append (e ∷ es) fs = ap (part (exc_of e)) (excs_of-append es fs)
 
--- one more part behind the first so many
+-- one more part after the first ones
 pub excs_of-take : (es : List Exc) (i : ℕ) (d : Exc) → i < length es →
     excs_of (take (i + 1) es) ≡ appended (excs_of (take i es)) (part (exc_of (slice_index_or es i d)) no_parts)
 excs_of-take [] i d h = absurd (omega arith)
@@ -54,7 +54,7 @@ weight_in-at [] i d h = absurd (omega arith)
 weight_in-at (e ∷ es) zero d h = omega (arith, weight_of-some (excs_of es))
 weight_in-at (e ∷ es) (suc i) d h = omega (arith, weight_in-at es i d (omega arith))
 
--- a copy of the next part behind copies of those before it
+-- a copy of the next part after copies of those before it
 pub copied_more : (parts copies new : List Exc) (i : ℕ) (x copy : Exc) → i < length parts → excs_of copies ≡ excs_of (take i parts) →
     exc_of copy ≡ exc_of x → x ≡ slice_index_or parts i x → new ≡ copies ++ copy ∷ [] → excs_of new ≡ excs_of (take (i + 1) parts)
 copied_more parts copies new i x copy h before same at e =
@@ -78,7 +78,7 @@ appended-none : (es : Excs) → appended es no_parts ≡ es
 appended-none no_parts = refl
 appended-none (part e es) = ap (part e) (appended-none es)
 
--- the next part leaves something
+-- the next part has a leaf left
 pub pruned_some : (test : Tree → Bool) (parts left new : List Exc) (i : ℕ) (x y : Exc) (o : Option Exc) → i < length parts →
     excs_of left ≡ pruned_parts test (excs_of (take i parts)) → option_map exc_of o ≡ pruned test (exc_of x) → o ≡ Some y →
     x ≡ slice_index_or parts i x → new ≡ left ++ y ∷ [] → excs_of new ≡ pruned_parts test (excs_of (take (i + 1) parts))
@@ -88,7 +88,7 @@ pruned_some test parts left new i x y o h before is some at e =
     ∙ ap (λ es. appended es (part (exc_of y) no_parts)) before
     ∙ sym (pruned_next test parts i x (Some (exc_of y)) h (ap (option_map exc_of) (sym some) ∙ is) at)
 
--- the next part vanishes
+-- the next part has no leaf left
 pub pruned_none : (test : Tree → Bool) (parts left new : List Exc) (i : ℕ) (x : Exc) (o : Option Exc) → i < length parts →
     excs_of left ≡ pruned_parts test (excs_of (take i parts)) → option_map exc_of o ≡ pruned test (exc_of x) → o ≡ None →
     x ≡ slice_index_or parts i x → new ≡ left → excs_of new ≡ pruned_parts test (excs_of (take (i + 1) parts))

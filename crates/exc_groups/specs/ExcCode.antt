@@ -1,4 +1,4 @@
--- A code of the parts of a group as lists of marks, by which a contract tells two groups apart.
+-- An encoding of the parts of a group as lists of marks, with which a contract can compare two groups.
 use Rattle.std.specs.Prelude.{◌≡◌, ℕ, zero, suc, List, [], ◌∷◌, refl}
 use Rattle.std.specs.Coded.{Coded, code_by, coded×, coded_ℕ, coded_list}
 use Rattle.std.proofs.Common.{ap, ◌∙◌}
@@ -10,7 +10,7 @@ label_code =
     code_by (List ℕ × List ℕ) (coded× (coded_list coded_ℕ) (coded_list coded_ℕ))
     (λ l. (l.name, l.indices)) (λ p. record { name = p.0; indices = p.1 }) (λ _. refl)
 
--- A mark: which kind of exception, a name, a label and a tick.
+-- A mark: the kind of an exception, a name, a label and a tick.
 pub record Mark : Type 0 where
   pub kind : ℕ
   pub name : List ℕ
@@ -32,7 +32,7 @@ abbrev whose_mark : Whose → Mark
 whose_mark (by_nursery label) = marked 4 [] label 0
 whose_mark by_handler = marked 5 [] no_label 0
 
--- the parts of a group as marks, each in front of what it takes
+-- the parts of a group as marks, each in front of the marks of its own parts
 abbrev mutual
   marks_of : Excs → List Mark → List Mark
   marks_of no_parts rest = marked 0 [] no_label 0 ∷ rest
@@ -69,7 +69,7 @@ read_whose : (w : Whose) (ms : List Mark) → read_marks (whose_mark w ∷ ms) �
 read_whose (by_nursery label) ms = refl
 read_whose by_handler ms = refl
 
--- what was written as marks is read back
+-- parts that were written as marks are read back unchanged
 mutual
   pub read_parts : (es : Excs) (rest : List Mark) → read_marks (marks_of es rest) ≡ es ∷ read_marks rest
   read_parts no_parts rest = refl
@@ -85,7 +85,7 @@ abbrev first_parts : List Excs → Excs
 first_parts [] = no_parts
 first_parts (es ∷ others) = es
 
--- the code of the parts of a group
+-- the encoding of the parts of a group
 abbrev pub excs_code : Coded Excs
 excs_code =
     code_by (List Mark) (coded_list mark_code) (λ es. marks_of es []) (λ ms. first_parts (read_marks ms))

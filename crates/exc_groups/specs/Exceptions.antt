@@ -1,12 +1,13 @@
 -- Exceptions and exception groups (PEP 654), and the labels that they carry.
 use Rattle.std.specs.Prelude.{ℕ, Bool, true, false, ◌||◌, Option, Some, None, List, [], ◌∷◌}
 
--- which task, scope or nursery: its name, and the index of each `start .. over` that it stands in, outermost first
+-- the label of a task, scope or nursery: its name, and one index for each copy of a `start .. over` and each pass of a
+-- `repeat` that it is in, outermost first
 pub record Label : Type 0 where
   pub name : List ℕ
   pub indices : List ℕ
 
--- who made a group: a nursery, or a handler that raised
+-- the origin of a group: a nursery, or a handler that raised
 pub data Whose : Type 0 where
   by_nursery : (label : Label) → Whose
   by_handler : Whose
@@ -28,12 +29,12 @@ abbrev pub parts_of : List Exc → Excs
 parts_of [] = no_parts
 parts_of (e ∷ es) = part e (parts_of es)
 
--- the group of some exceptions: none where there is none
+-- the group of some exceptions, or `None` where there are no exceptions
 abbrev pub group_of : Whose → Excs → Option Exc
 group_of whose no_parts = None
 group_of whose (part e es) = Some (group whose (part e es))
 
--- whether some leaf is `Cancelled`
+-- whether at least one leaf is `Cancelled`
 abbrev mutual
   pub holds_cancelled : Exc → Bool
   holds_cancelled cancelled = true

@@ -1,4 +1,4 @@
--- The exceptions that the code holds, as trees.
+-- The exceptions of the code, seen as trees.
 use Rattle.std.specs.Prelude.{List, [], ◌∷◌}
 use Rattle.exc_groups.specs.declared.exc.Exc.{Exc}
 use Rattle.exc_groups.specs.declared.exc.Exc.TheVariants.{Cancelled, Raised, TooSlow, Group}

@@ -1,4 +1,4 @@
--- When two labels are the same.
+-- When two labels are equal.
 use Rattle.std.specs.Prelude.{Bool, ◌&&◌}
 use Rattle.std.specs.Str.{bytes_eq}
 use Rattle.std.specs.Cmp.{IsEquivalence, on_equiv, and_equiv}

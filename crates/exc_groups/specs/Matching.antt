@@ -1,4 +1,4 @@
--- What to split by, as the code holds it.
+-- What the code splits by, as the definitions see it.
 use Rattle.std.specs.Prelude.{Bool, true, false, not}
 use Rattle.exc_groups.specs.declared.wanted.Match.{Match}
 use Rattle.exc_groups.specs.declared.wanted.Match.TheVariants.{Name, Cancelled}

@@ -1,10 +1,10 @@
--- Splitting an exception (PEP 654, `split`): the leaves that match and the others. Nesting stays, and a group that
--- became empty vanishes.
+-- Splitting an exception, as `split` of PEP 654 does: the leaves that match and the others. Nesting is kept, and a group
+-- that became empty is dropped.
 use Rattle.std.specs.Prelude.{ℕ, Bool, true, false, not, Option, Some, None, List, codes}
 use Rattle.std.specs.Str.{bytes_eq}
 use Rattle.exc_groups.specs.Exceptions.{Exc, cancelled, raised, too_slow, group, Excs, no_parts, part, group_of}
 
--- what to split by: a name of exceptions, or `Cancelled`
+-- what to split by: the name of exceptions, or `Cancelled`
 pub data Wanted : Type 0 where
   named : (name : List ℕ) → Wanted
   is_cancelled : Wanted
@@ -13,7 +13,7 @@ pub data Wanted : Type 0 where
 abbrev pub too_slow_name : List ℕ
 too_slow_name = codes "TooSlow"
 
--- whether a leaf matches; a group is no leaf
+-- whether a leaf matches; a group is not a leaf, so it never matches
 abbrev pub matches : Wanted → Exc → Bool
 matches (named n) (raised name task tick) = bytes_eq n name
 matches (named n) (too_slow scope tick) = bytes_eq n too_slow_name
@@ -29,7 +29,7 @@ abbrev pub leaf_if : Bool → Exc → Option Exc
 leaf_if true e = Some e
 leaf_if false e = None
 
--- an exception cut down to the leaves that pass a test
+-- an exception reduced to the leaves that pass a test, or `None` where none does
 abbrev mutual
   pub pruned : (Exc → Bool) → Exc → Option Exc
   pruned test cancelled = leaf_if (test cancelled) cancelled

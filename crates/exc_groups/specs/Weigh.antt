@@ -1,4 +1,4 @@
--- How large an exception is: more than each of its parts.
+-- The weight of an exception, which is greater than that of each of its parts.
 use Rattle.std.specs.Prelude.{ℕ, ◌+◌}
 use Rattle.exc_groups.specs.Exceptions.{Exc, cancelled, raised, too_slow, group, Excs, no_parts, part}
 

@@ -5,7 +5,7 @@ use crate::exc::{Exc, Parts, Whose};
 use std::alloc::{AllocError, Global};
 
 impl Whose {
-    // An equal value.
+    // Returns an equal value, or `AllocError` if memory is refused.
     pub(crate) fn copy(&self, alloc: Global) -> Result<Whose, AllocError>
         ensures { IfOk result (λ whose. whose_of whose ≡ whose_of self.now) }
     {
@@ -17,7 +17,7 @@ impl Whose {
 }
 
 impl Exc {
-    /// An equal exception.
+    /// Returns an equal exception, or `AllocError` if memory is refused.
     pub fn copy(&self, alloc: Global) -> Result<Exc, AllocError>
         ensures { IfOk result (λ exc. exc_of exc ≡ exc_of self.now) }
     {
@@ -25,7 +25,7 @@ impl Exc {
     }
 }
 
-// An equal exception, a group with equal parts.
+// Returns an equal exception. The copy of a group has equal parts.
 #[cycle(copying)]
 fn copy_of(alloc: Global, exc: &Exc) -> Result<Exc, AllocError>
     ensures { IfOk result (λ copy. exc_of copy ≡ exc_of exc.now) }
@@ -52,7 +52,7 @@ fn copy_of(alloc: Global, exc: &Exc) -> Result<Exc, AllocError>
     }
 }
 
-// Equal exceptions, in order.
+// Returns equal exceptions, in order.
 #[cycle(copying)]
 fn copies_of(alloc: Global, parts: &[Exc]) -> Result<Vec<Exc>, AllocError>
     ensures { IfOk result (λ copies. excs_of copies.items ≡ excs_of parts.now) }

@@ -4,22 +4,22 @@ use crate::label::Label;
 use job_tree::Name;
 use std::marker::Model;
 
-/// Who made a group of exceptions.
+/// The origin of a group of exceptions: who made it.
 #[derive(Drop)]
 pub enum Whose {
-    /// The nursery of that label, at its end.
+    /// The nursery with that label, at its end.
     Nursery(Label),
-    /// A handler that raised while a rest of the split went on.
+    /// A handler that raised while the rest of the split exception continued.
     Handler,
 }
 
-/// An exception, or a group of at least one (PEP 654).
+/// An exception, or a group of at least one exception, as in PEP 654.
 #[derive(Drop)]
 #[cycle(exc)]
 pub enum Exc {
-    /// What a checkpoint raises where a cancellation is seen.
+    /// What a checkpoint raises if the task sees a cancellation.
     Cancelled,
-    /// What `raise` or `need` raised.
+    /// What a `raise` or a `need` raised.
     Raised {
         /// The name that was raised.
         name: Name,
@@ -28,23 +28,23 @@ pub enum Exc {
         /// The tick in which it was raised.
         tick: u64,
     },
-    /// What a `fail` scope raised as it caught its cancellation.
+    /// What a `fail` scope raised when it caught its cancellation.
     TooSlow {
-        /// The scope.
+        /// The label of the scope.
         scope: Label,
         /// The tick in which the scope was left.
         tick: u64,
     },
-    /// A group.
+    /// A group of exceptions.
     Group {
-        /// Who made it.
+        /// The origin of the group: who made it.
         whose: Whose,
-        /// Its parts, in order.
+        /// The parts of the group, in order. There is at least one.
         parts: Parts,
     },
 }
 
-/// The parts of a group, in order. A contract sees them as the parts of a tree.
+/// The parts of a group, in order. A contract sees them as the parts of a tree of exceptions.
 #[derive(Drop)]
 #[cycle(exc)]
 pub struct Parts {
@@ -74,21 +74,21 @@ impl Model for Parts {
 impl Parts {
     ghost use Rattle.exc_groups.specs.Held.{excs_of};
 
-    /// These exceptions as parts. Takes no memory.
+    /// Creates the parts from a vector of exceptions. Does not allocate.
     pub fn new(excs: Vec<Exc>) -> Parts
         ensures { result ≡ excs_of excs.items }
     {
         Parts { excs }
     }
 
-    /// The parts, in order.
+    /// Returns the parts as a slice, in order.
     pub fn as_slice(&self) -> &[Exc]
         ensures { excs_of result.now ≡ self.now }
     {
         self.excs.as_slice()
     }
 
-    /// The parts as the list that they were made of. Takes no memory.
+    /// Returns the parts as a vector, in order. Does not allocate.
     pub fn into_vec(self) -> Vec<Exc>
         ensures { excs_of result.items ≡ self }
     {

@@ -11,8 +11,8 @@ use std::alloc::{AllocError, Global};
 use std::hash::{Hash, Hasher};
 use std::marker::Model;
 
-/// Which task, scope or nursery: its name, and the index of each `start .. over` that it stands in, outermost first.
-/// It is printed as `p.1`.
+/// The label of a task, scope or nursery of a run: its name, and one index for each copy of a `start .. over` and each
+/// pass of a `repeat` that it is in, outermost first. It is printed as `p.1`.
 #[derive(Drop)]
 pub struct Label {
     name: Name,
@@ -31,7 +31,8 @@ impl Model for Label {
 }
 
 impl Label {
-    /// The label of what stands in no `start .. over`. Takes no memory.
+    /// Creates a label with this name and no index, for what is in no copy of a `start .. over` and in no pass of a
+    /// `repeat`. Does not allocate.
     pub fn new(alloc: Global, name: Name) -> Label
         ensures { result ≡ record { name = name; indices = [] } }
     {
@@ -41,28 +42,28 @@ impl Label {
         }
     }
 
-    /// The name.
+    /// Returns the name.
     pub fn name(&self) -> Name
         ensures { result ≡ self.now.name }
     {
         self.name
     }
 
-    /// The indices, outermost first.
+    /// Returns the indices of copies and of passes, outermost first.
     pub fn indices(&self) -> &[u64]
         ensures { result.now ≡ self.now.indices }
     {
         self.indices.as_slice()
     }
 
-    /// An equal label.
+    /// Returns an equal label, or `AllocError` if memory is refused.
     pub fn copy(&self, alloc: Global) -> Result<Label, AllocError>
         ensures { IfOk result (λ label. label ≡ self.now) }
     {
         self.named(alloc, self.name)
     }
 
-    /// The label of that name with the same indices.
+    /// Returns the label with `name` and the same indices, or `AllocError` if memory is refused.
     pub fn named(&self, alloc: Global, name: Name) -> Result<Label, AllocError>
         ensures { IfOk result (λ label. label ≡ record { name = name; indices = self.now.indices }) }
     {
@@ -70,7 +71,7 @@ impl Label {
         Ok(Label { name, indices })
     }
 
-    /// The label with one more index, innermost.
+    /// Returns the label with one more index, which is the innermost, or `AllocError` if memory is refused.
     pub fn indexed(self, index: u64) -> Result<Label, AllocError>
         ensures { IfOk result (λ label. label ≡ record { name = self.name; indices = self.indices ++ index ∷ [] }) }
     {

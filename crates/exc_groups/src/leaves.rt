@@ -9,8 +9,9 @@ use crate::exc::{Exc, Parts, Whose};
 use crate::wanted::Match;
 use std::alloc::{AllocError, Global};
 
-/// Splits an exception (PEP 654, `split`): the part with the leaves that match, and the rest with the others. Nesting
-/// stays, and a group that became empty vanishes.
+/// Splits an exception, as `split` of PEP 654 does. Returns first the part with the leaves that match, and then the part
+/// with the other leaves. Either is `None` if it has no leaf. Nesting is kept, and a group that became empty is dropped.
+/// Returns `AllocError` if memory is refused.
 pub fn split(
     alloc: Global,
     exc: Exc,
@@ -24,7 +25,8 @@ pub fn split(
     Ok((kept, dropped))
 }
 
-/// The group of these exceptions: none where there are none. Takes no memory.
+/// Returns the group of these exceptions with the origin `whose`, or `None` if there are no exceptions. A single
+/// exception is wrapped in a group too. Does not allocate.
 pub fn group(whose: Whose, parts: Vec<Exc>) -> Option<Exc>
     ensures { option_map exc_of result ≡ group_of (whose_of whose) (excs_of parts.items) }
 {
@@ -37,7 +39,7 @@ pub fn group(whose: Whose, parts: Vec<Exc>) -> Option<Exc>
     })
 }
 
-/// Whether some leaf is `Cancelled`. Takes no memory.
+/// Returns whether at least one leaf is `Cancelled`. Does not allocate.
 #[cycle(holds)]
 pub fn holds_cancelled(exc: &Exc) -> bool
     ensures { result ≡ holding (exc_of exc.now) }
@@ -49,7 +51,7 @@ pub fn holds_cancelled(exc: &Exc) -> bool
     }
 }
 
-// Whether some leaf of some part is `Cancelled`.
+// Returns whether at least one leaf of the parts is `Cancelled`.
 #[cycle(holds)]
 fn some_holds_cancelled(parts: &[Exc]) -> bool
     ensures { result ≡ hold_cancelled (excs_of parts.now) }
@@ -64,7 +66,7 @@ fn some_holds_cancelled(parts: &[Exc]) -> bool
     false
 }
 
-// Whether a leaf matches; a group is no leaf.
+// Returns whether a leaf matches. A group is not a leaf, so it never matches.
 fn is_match(exc: &Exc, wanted: &Match) -> bool
     ensures { result ≡ matching (wanted_of wanted.now) (exc_of exc.now) }
 {
@@ -78,7 +80,7 @@ fn is_match(exc: &Exc, wanted: &Match) -> bool
     }
 }
 
-// One side of a split: the leaves that match where `keeps`, and else the others.
+// Returns one side of a split: the leaves that match if `keeps`, and the other leaves otherwise.
 #[cycle(prune)]
 fn prune(alloc: Global, exc: &Exc, wanted: &Match, keeps: bool) -> Result<Option<Exc>, AllocError>
     ensures { IfOk result (λ left. option_map exc_of left ≡ pruned (side keeps (wanted_of wanted.now)) (exc_of exc.now)) }
@@ -94,7 +96,7 @@ fn prune(alloc: Global, exc: &Exc, wanted: &Match, keeps: bool) -> Result<Option
     }
 }
 
-// The same side of each part, without those that vanish.
+// Returns the same side of each part, without the parts that have no leaf left.
 #[cycle(prune)]
 fn prune_parts(
     alloc: Global,

@@ -1,7 +1,7 @@
 //! Exceptions and exception groups (PEP 654): labels, leaves, groups, and the split by a name or by `Cancelled`.
 //!
-//! The layer promises that contracts of the layers above see an exception as a tree (`specs/Exceptions.antt`). It
-//! stands on `job_tree` for names.
+//! The layer promises that the contracts of the layers above see an exception as a tree (`specs/Exceptions.antt`). It
+//! uses `job_tree` for names, and `smallvec`.
 #![tactic(auto)]
 
 mod copy;

@@ -1,9 +1,9 @@
 use job_tree::Name;
 
-/// What to split an exception by.
+/// Which leaves of an exception a split selects.
 #[derive(Clone, Copy)]
 pub enum Match {
-    /// The leaves of that name; a `TooSlow` leaf has the name `TooSlow`.
+    /// The leaves with that name. A `TooSlow` leaf has the name `TooSlow`.
     Name(Name),
     /// The `Cancelled` leaves.
     Cancelled,
