@@ -1,4 +1,4 @@
--- Ticks of keys in a map and in their order.
+-- Ticks of keys in a map and in the sorted set.
 use Rattle.std.proofs.Common.{◌≡◌, ◌≢◌, ◌⊎◌, ℕ, ◌<◌, ◌≤◌, List, [], ◌∷◌, Option, Some, None, true, false, refl, ap, sym, ◌∙◌, inl, inr, arith, eq-eqb, Bor}
 use Rattle.std.proofs.lemmas.List.{get_or-set_same, get_or-set_other}
 use Rattle.std.proofs.lemmas.Bool.{cases_eq, cases_lt, ne_eqb, eqb-true}
@@ -34,7 +34,7 @@ cases_cmp a b =
           ]
     ]
 
--- a key is found by no other
+-- a key is not found under another key
 at_other : (a b : ℕ) → b ≢ a → is_at (nat_cmp a) b ≡ false
 at_other a b apart =
     elim (cases_cmp a b) [
@@ -43,7 +43,7 @@ at_other a b apart =
       | inr (inr more) ↦ rw (cmp-greater a b more) refl
     ]
 
--- a tick with a key is found by no other tick, and by no other key
+-- a tick with a key is not found under another key tick, and by no other key
 at_other_tick : (tick key later other : ℕ) → later ≢ tick → is_at (pair_cmp (tick, key)) (later, other) ≡ false
 at_other_tick tick key later other apart =
     elim (cases_cmp tick later) [
@@ -60,7 +60,7 @@ at_other_key tick key later other apart =
       | inr (inr more) ↦ rw (cmp-greater tick later more) refl
     ]
 
--- what is not above comes later, or at the same tick with a key that is not less
+-- a pair that is not before another has a later tick, or the same tick with a key that is not less
 tick_upto : (tick key later other : ℕ) → is_gt (pair_cmp (tick, key) (later, other)) ≡ false → tick ≤ later
 tick_upto tick key later other upto =
     elim (cases_cmp tick later) [
@@ -90,7 +90,7 @@ is_tick-is : (o : Option ℕ) (tick : ℕ) → is_tick o tick ≡ true → o ≡
 is_tick-is None tick e = absurd (cc)
 is_tick-is (Some own) tick e = ap Some (eqb-true own tick e)
 
--- what stands at a key's place is written anew
+-- the entry at a key's place is replaced
 pub set_at : (ticks : List (Option ℕ)) (key : ℕ) (now tick : Option ℕ) → key < length ticks → now ≡ tick →
     Puts ticks (slice_set ticks key now) key tick
 set_at ticks key now tick room is =
@@ -99,7 +99,7 @@ set_at ticks key now tick room is =
       others = λ other apart. get_or-set_other ticks key other now None apart;
     }
 
--- A map and an order that agree still do after a change at one key and one tick, if they agree there and the key's other ticks stay.
+-- A map and a sorted set that agree still do after a change at one key and one tick, if they agree there and the key's other ticks stay.
 agree_but : (ticks later_ticks : List (Option ℕ)) (order later_order : BTreeSet (ℕ × ℕ)) (key tick : ℕ) → Agree ticks order
     → ((other : ℕ) → other ≢ key → tick_in later_ticks other ≡ tick_in ticks other)
     → ((p : ℕ × ℕ) → is_at (pair_cmp (tick, key)) p ≡ false → contains pair_cmp later_order p ≡ contains pair_cmp order p)
@@ -167,7 +167,7 @@ agree_moved ticks later_ticks order more later_order key old tick agree has apar
               ]
         ]
 
--- a key's tick is taken away
+-- a key's tick is removed
 pub agree_removed : (ticks later_ticks : List (Option ℕ)) (order later_order : BTreeSet (ℕ × ℕ)) (key tick : ℕ) → Agree ticks order →
     Some tick ≡ tick_in ticks key → sorted.Updates pair_cmp order later_order (tick, key) false →
     Puts ticks later_ticks key None → Agree later_ticks later_order
@@ -176,12 +176,12 @@ agree_removed ticks later_ticks order later_order key tick agree has pairs keys 
     (pairs.1 ∙ rw keys.changed refl)
     (λ later late. rw (← has, keys.changed) (is_tick-other tick later late))
 
--- each key's tick stays, and so does the order
+-- every key keeps its tick, and the sorted set stays the same
 pub agree_same : (ticks later_ticks : List (Option ℕ)) (order later_order : BTreeSet (ℕ × ℕ)) → Agree ticks order → IsSame ticks later_ticks →
     later_order ≡ order → Agree later_ticks later_order
 agree_same ticks later_ticks order later_order agree same stays key tick = rw (stays, same key) (agree key tick)
 
--- nothing in the order: no key has a tick
+-- nothing in the sorted set: no key has a tick
 none_first : (ticks : List (Option ℕ)) (order : BTreeSet (ℕ × ℕ)) → Agree ticks order → order.keys ≡ [] → HasNone ticks
 none_first ticks order agree empty key = none_at (tick_in ticks key) refl
   where
@@ -194,7 +194,7 @@ none_first ticks order agree empty key = none_at (tick_in ticks key) refl
         cc
         )
 
--- the least of the order: its first tick and key
+-- the least pair of the sorted set: its first tick and key
 is_first : (ticks : List (Option ℕ)) (order : BTreeSet (ℕ × ℕ)) (first : ℕ × ℕ) → Agree ticks order → contains pair_cmp order first ≡ true →
     sorted.IsLowerBound pair_cmp order first → IsFirst ticks first.0 first.1
 is_first ticks order first agree among below =
@@ -206,7 +206,7 @@ is_first ticks order first agree among below =
       least = λ other later has by. key_upto first.0 first.1 later other (upto other later has) by;
     }
 
--- what `first` answers
+-- what `first` returns
 pub first_seen : (ticks : List (Option ℕ)) (order : BTreeSet (ℕ × ℕ)) (o : Option (Bor (ℕ × ℕ))) → Agree ticks order →
     IsSome o ↔ (0 < length order.keys) → IfSome o (λ k. IsTrue (contains pair_cmp order k.now)) →
     IfSome o (λ k. sorted.IsLowerBound pair_cmp order k.now) → MatchOption (option_copied o) (HasNone ticks)

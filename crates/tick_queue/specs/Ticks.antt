@@ -1,4 +1,4 @@
--- What clauses see of a queue: a map from keys to ticks, as the ticks at their keys' places.
+-- What contracts see of a queue: a map from keys to ticks, as a list with the tick of each key at the key's place.
 use Rattle.std.specs.Prelude.{◌≡◌, ◌≢◌, ℕ, ◌≤◌, List, Option, Some, None}
 use Rattle.std.specs.Prelude.{slice_index_or}
 
@@ -10,16 +10,16 @@ tick_in q key = slice_index_or q key None
 abbrev pub HasNone : List (Option ℕ) → Type 0
 HasNone q = (key : ℕ) → tick_in q key ≡ None
 
--- each key's tick stays
+-- every key keeps its tick
 abbrev pub IsSame : List (Option ℕ) → List (Option ℕ) → Type 0
 IsSame old new = (key : ℕ) → tick_in new key ≡ tick_in old key
 
--- the key's tick is this now, and every other key keeps its own
+-- the key now has this tick, or none, and every other key keeps its own
 pub record Puts (old new : List (Option ℕ)) (key : ℕ) (tick : Option ℕ) : Type 0 where
   pub changed : tick_in new key ≡ tick
   pub others : (other : ℕ) → other ≢ key → tick_in new other ≡ tick_in old other
 
--- the key has this tick, no key has an earlier one, and none of those that have it is less
+-- the key has this tick, no key has an earlier one, and no key that has the same tick is less
 pub record IsFirst (q : List (Option ℕ)) (tick key : ℕ) : Type 0 where
   pub has : tick_in q key ≡ Some tick
   pub earliest : (other later : ℕ) → tick_in q other ≡ Some later → tick ≤ later

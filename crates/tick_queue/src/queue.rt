@@ -5,12 +5,12 @@ use std::alloc::{AllocError, Global};
 use std::collections::BTreeSet;
 use std::marker::Model;
 
-/// At most one tick for each key, found by the key and by the tick.
+/// A map with at most one tick for each key, which can be searched by key and by tick.
 #[derive(Drop)]
 pub struct TickQueue {
-    // The tick of each key, at the key's place: a key past the end has none.
+    // The tick of each key, at the key's place. A key past the end has no tick.
     ticks: Vec<Option<u64>>,
-    // The same ticks with their keys: the earliest tick first, and of one tick's keys the least first.
+    // The same ticks with their keys, sorted by tick, and then by key.
     order: BTreeSet<(u64, usize)>,
 }
 
@@ -29,7 +29,7 @@ impl Model for TickQueue {
 impl TickQueue {
     ghost use Rattle.tick_queue.specs.Ticks.{tick_in, HasNone, IsFirst, Puts};
 
-    /// A queue in which no key has a tick. Takes no memory.
+    /// Creates a queue in which no key has a tick. Does not allocate.
     pub fn new(alloc: Global) -> TickQueue
         ensures { HasNone result }
     {
@@ -39,7 +39,8 @@ impl TickQueue {
         }
     }
 
-    /// Gives a key its tick. On want of memory nothing changes. The caller sees to it that the key has no tick yet.
+    /// Sets the tick of a key. The caller must ensure that the key has no tick yet. Returns `AllocError` if memory is refused;
+    /// every key then keeps its tick.
     pub fn add(&mut self, key: usize, tick: u64) -> Result<(), AllocError>
         requires { tick_in self.old key ≡ None }
         ensures ok { OnOk result (Puts self.old self.new key (Some tick)) }
@@ -48,7 +49,8 @@ impl TickQueue {
         self.set(key, tick)
     }
 
-    /// Gives a key this tick in place of the one that it has, if it has one. On want of memory nothing changes.
+    /// Sets the tick of a key, in place of the one that it has, if it has one. Returns `AllocError` if memory is refused; every
+    /// key then keeps its tick.
     pub fn set(&mut self, key: usize, tick: u64) -> Result<(), AllocError>
         ensures ok { OnOk result (Puts self.old self.new key (Some tick)) }
         ensures err { OnErr result (IsSame self.old self.new) }
@@ -63,7 +65,7 @@ impl TickQueue {
         Ok(())
     }
 
-    /// Takes the key's tick away, if it has one. Takes no memory.
+    /// Removes the tick of a key, if it has one. Does not allocate.
     pub fn remove(&mut self, key: usize)
         ensures { Puts self.old self.new key None }
     {
@@ -76,7 +78,7 @@ impl TickQueue {
         self.order.remove(&(tick, key));
     }
 
-    /// The earliest tick with the least of its keys: none where no key has a tick.
+    /// Returns the earliest tick and the least key that has it, or `None` if no key has a tick.
     pub fn first(&self) -> Option<(u64, usize)>
         ensures { MatchOption result (HasNone self.now) (λ first. IsFirst self.now first.0 first.1) }
     {
@@ -84,7 +86,7 @@ impl TickQueue {
     }
 }
 
-// Gives the key a place, with no tick where it had none. On want of memory nothing changes.
+// Extends the table so that the key has a place in it. No key's tick changes. Returns `AllocError` if memory is refused.
 fn grow_to(ticks: &mut Vec<Option<u64>>, key: usize) -> Result<(), AllocError>
     ensures room { OnOk result (key < length ticks.new.items) }
     ensures same { IsSame ticks.old.items ticks.new.items }
