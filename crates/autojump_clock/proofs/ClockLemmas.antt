@@ -1,4 +1,4 @@
--- What the clock's jump meets.
+-- What the jump of the clock returns.
 use Rattle.std.proofs.Common.{◌≡◌, ℕ, Option, Some, None, min, refl, ap, ◌∙◌, inl, inr, arith}
 use Rattle.std.proofs.lemmas.Bool.{cases_lt}
 use Rattle.tick_queue.specs.Ticks.{IsFirst}

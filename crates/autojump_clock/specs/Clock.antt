@@ -1,5 +1,5 @@
--- What clauses see of the clock: its tick, its limit, and a map from the keys of tasks to the ticks at which their
--- timers are due. No clause says how the clock keeps that map.
+-- What contracts see of the clock: its tick, its limit, and a map from the keys of tasks to the ticks at which their
+-- timers are due. No contract says how the clock stores that map.
 use Rattle.std.specs.Prelude.{◌≡◌, ◌≢◌, ◌⊎◌, ℕ, ◌<◌, ◌≤◌, List, Option, Some, None}
 use Rattle.tick_queue.specs.Ticks.{tick_in}
 
@@ -8,7 +8,7 @@ pub record Clock : Type 0 where
   pub limit : ℕ
   pub timers : List (Option ℕ)
 
--- the clock's tick
+-- the current tick of the clock
 abbrev pub now_of : Clock → ℕ
 now_of c = c.tick
 
@@ -20,36 +20,36 @@ limit_of c = c.limit
 abbrev pub due_of : Clock → ℕ → Option ℕ
 due_of c task = tick_in c.timers task
 
--- some task has a timer
+-- at least one task has a timer
 abbrev pub HasTimer : Clock → Type 0
 HasTimer c = (task : ℕ) × (due : ℕ) × (due_of c task ≡ Some due)
 
--- each timer is due later than a tick
+-- every timer is due later than this tick
 abbrev pub AllLater : Clock → ℕ → Type 0
 AllLater c tick = (task due : ℕ) → due_of c task ≡ Some due → tick < due
 
--- the clock's tick and limit stay
+-- the clock's tick and limit stay the same
 pub record SameTime (old new : Clock) : Type 0 where
   pub now : now_of new ≡ now_of old
   pub limit : limit_of new ≡ limit_of old
 
--- nothing changed: the tick, the limit and each task's timer stay
+-- nothing changed: the tick, the limit and every task's timer stay the same
 pub record IsUnchanged (old new : Clock) : Type 0 where
   pub time : SameTime old new
   pub timers : (task : ℕ) → due_of new task ≡ due_of old task
 
--- the task's timer is this now, and every other task keeps its own
+-- the task now has this timer, or none, and every other task keeps its own
 pub record Updates (old new : Clock) (task : ℕ) (timer : Option ℕ) : Type 0 where
   pub changed : due_of new task ≡ timer
   pub others : (other : ℕ) → other ≢ task → due_of new other ≡ due_of old other
 
--- t is the next tick: the least of the ticks at which timers are due and of the next cancellation's
+-- t is the next tick: the earliest of the ticks at which timers are due and of the tick of the next cancellation
 pub record IsNext (c : Clock) (next_cancel : Option ℕ) (t : ℕ) : Type 0 where
   pub is_one : (next_cancel ≡ Some t) ⊎ ((task : ℕ) × (due_of c task ≡ Some t))
   pub by_cancel : (cancel : ℕ) → next_cancel ≡ Some cancel → t ≤ cancel
   pub by_timers : (task due : ℕ) → due_of c task ≡ Some due → t ≤ due
 
--- The clock jumped to t: it is the next tick and at most the limit. The timers and the limit stay.
+-- The clock jumped to t, which is the next tick and at most the limit. The timers and the limit stay the same.
 pub record JumpsTo (old : Clock) (next_cancel : Option ℕ) (t : ℕ) (new : Clock) : Type 0 where
   pub next : IsNext old next_cancel t
   pub within : t ≤ limit_of old
@@ -57,14 +57,14 @@ pub record JumpsTo (old : Clock) (next_cancel : Option ℕ) (t : ℕ) (new : Clo
   pub limit : limit_of new ≡ limit_of old
   pub timers : (task : ℕ) → due_of new task ≡ due_of old task
 
--- The clock met its limit: the next tick is later. Nothing changed.
+-- The next tick is later than the clock's limit. Nothing changed.
 pub record MeetsLimit (old : Clock) (next_cancel : Option ℕ) (new : Clock) : Type 0 where
   pub next : ℕ
   pub is_next : IsNext old next_cancel next
   pub late : limit_of old < next
   pub unchanged : IsUnchanged old new
 
--- A due task was taken: no other task that is due has a lesser key. Its timer goes.
+-- A task that was due was taken: no other task that is due has a lesser key. Its timer was removed.
 pub record TakesDue (old : Clock) (task : ℕ) (new : Clock) : Type 0 where
   pub due : ℕ
   pub had : due_of old task ≡ Some due

@@ -6,16 +6,16 @@ use std::alloc::{AllocError, Global};
 use std::marker::Model;
 use tick_queue::TickQueue;
 
-/// What the clock did once every task was blocked.
+/// What `MockClock::jump` did.
 #[derive(Clone, Copy, Debug, PartialEq, Eq)]
 pub enum Jump {
-    /// It jumped to that tick.
+    /// The clock jumped to this tick.
     To(u64),
-    /// It stands, since the next tick is past its limit.
+    /// The next tick is later than the limit. Nothing changed.
     Limit,
 }
 
-/// A clock in whole ticks, with at most one timer a task. It moves by `jump` alone.
+/// A clock in whole ticks, with at most one timer for each task. Only `jump` changes its tick.
 #[derive(Drop)]
 pub struct MockClock {
     tick: u64,
@@ -32,7 +32,7 @@ impl Model for MockClock {
 
     ghost view = { λ c. record { tick = c.tick; limit = c.limit; timers = c.timers } };
 
-    // Whatever is due is due now, so the first of the timers is the least task that is due.
+    // A timer that is due is due at the current tick, so the first timer is that of the least task that is due.
     ghost invariant = { λ c. NoneBefore c.timers c.tick };
 }
 
@@ -40,7 +40,7 @@ impl MockClock {
     ghost use Rattle.autojump_clock.specs.Clock.{now_of, limit_of, due_of, HasTimer, AllLater, SameTime, IsUnchanged, Updates, TakesDue, NoneDue};
     ghost use Rattle.autojump_clock.specs.Answers.{Jumps};
 
-    /// A clock at tick 0 that jumps to no tick past the limit. No task has a timer. Takes no memory.
+    /// Creates a clock at tick 0 that jumps to no tick later than `limit`. No task has a timer. Does not allocate.
     pub fn new(alloc: Global, limit: u64) -> MockClock
         ensures now { now_of result ≡ 0 }
         ensures limit { limit_of result ≡ limit }
@@ -53,15 +53,16 @@ impl MockClock {
         }
     }
 
-    /// The tick.
+    /// Returns the current tick.
     pub fn now(&self) -> u64
         ensures { result ≡ now_of self.now }
     {
         self.tick
     }
 
-    /// Gives the task a timer that is due at that later tick. On want of memory nothing changes. The caller sees to it that
-    /// the task has no timer yet, and that the tick is below 2 to the 63.
+    /// Sets a timer for a task, due at the tick `due`. The caller must ensure that the task has no timer yet, that `due` is
+    /// later than the current tick, and that it is below 2 to the 63. Returns `AllocError` if memory is refused; nothing
+    /// changes then.
     pub fn sleep_until(&mut self, task: TaskId, due: u64) -> Result<(), AllocError>
         requires awake { due_of self.old task ≡ None }
         requires later { now_of self.old < due }
@@ -74,7 +75,8 @@ impl MockClock {
         Ok(())
     }
 
-    /// Takes the task's timer away, as where a cancellation wakes it. The caller sees to it that it has one. Takes no memory.
+    /// Removes the timer of a task, for example because a cancellation wakes it. The caller must ensure that the task has a
+    /// timer. Does not allocate.
     pub fn wake(&mut self, task: TaskId)
         requires { IsSome (due_of self.old task) }
         ensures timers { Updates self.old self.new task None }
@@ -83,9 +85,12 @@ impl MockClock {
         self.timers.remove(task.key());
     }
 
-    /// Jumps to the next tick, once every task is blocked: the least of the ticks at which timers are due and of the
-    /// next cancellation's. Stands where that is past the limit. The caller sees to it that no timer is due, that there is a
-    /// timer, and that the next cancellation is later than the tick. Takes no memory.
+    /// Jumps to the next tick, which is the earliest of the ticks at which timers are due and of `next_cancel`, the tick of the
+    /// next cancellation (`None` is never). To be called when every task is blocked. Returns `Jump::Limit`, and changes
+    /// nothing, if the next tick is later than the limit.
+    ///
+    /// The caller must ensure that there is a timer, that no timer is due yet, and that `next_cancel` is later than the current
+    /// tick. Does not allocate.
     pub fn jump(&mut self, next_cancel: Option<u64>) -> Jump
         requires none_due { AllLater self.old (now_of self.old) }
         requires some { HasTimer self.old }
@@ -101,8 +106,8 @@ impl MockClock {
         Jump::To(next)
     }
 
-    /// Takes away the timer of the task of the least key among those that are due, and tells the task: none exactly
-    /// where no timer is due by now. Takes no memory.
+    /// Removes the timer of the task with the least key among those that are due by now, and returns the task. Returns `None`,
+    /// and changes nothing, if no timer is due. Does not allocate.
     pub fn take_due(&mut self) -> Option<TaskId>
         ensures { MatchOption result (NoneDue self.old self.new) (λ task. TakesDue self.old task self.new) }
     {
@@ -117,7 +122,7 @@ impl MockClock {
     }
 }
 
-// The earlier of a tick and the next cancellation's.
+// Returns the earlier of a tick and the tick of the next cancellation.
 fn earlier(due: u64, next_cancel: Option<u64>) -> u64
     ensures { result ≡ earlier_of next_cancel due }
 {

@@ -2,7 +2,7 @@ ghost use Rattle.std.specs.Prelude.{◌≡◌};
 
 use std::marker::Model;
 
-/// Which task: a key that its scheduler gave it. A contract sees an id as that key.
+/// The id of a task: the key that its scheduler gave it. A contract sees an id as that key.
 #[derive(Clone, Copy, Debug, PartialEq, Eq)]
 pub struct TaskId {
     key: usize,
@@ -19,14 +19,14 @@ impl Model for TaskId {
 }
 
 impl TaskId {
-    /// The task of that key.
+    /// Returns the id of the task with this key.
     pub fn of(key: usize) -> TaskId
         ensures { result ≡ key }
     {
         TaskId { key }
     }
 
-    /// The key that the task is known by.
+    /// Returns the key of the task.
     pub fn key(self) -> usize
         ensures { result ≡ self }
     {
