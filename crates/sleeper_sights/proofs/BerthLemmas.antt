@@ -1,4 +1,4 @@
--- Tasks in a table of berths and in the lists of their scopes.
+-- Tasks in the table of slots and in the lists of their scopes.
 use Rattle.std.proofs.Common.{◌≡◌, ◌≢◌, ℕ, ◌+◌, ◌-◌, ◌<◌, ◌≤◌, List, [], ◌∷◌, ◌++◌, length, get_or, map, slice_set, zero, suc, Option, Some, None, refl, sym, ap, subst, ◌∙◌, inl, inr, arith, eq-eqb}
 use Rattle.std.proofs.lemmas.Bool.{cases_eq, cases_lt, ne_eqb}
 use Rattle.std.proofs.lemmas.List.{get_or-set_same, get_or-set_other, get_or_past, get_or_read, nil_from_length, length-set}
@@ -13,13 +13,13 @@ use Rattle.sleeper_sights.specs.declared.berths.Berth.{Berth}
 use Rattle.cancel_scopes.proofs.PlaceLemmas.{Removed, placed-push, placed-removed, removed, some_same}
 use Rattle.sleeper_sights.proofs.PlaceLemmas.{placed-same, moved_is}
 
--- what clauses see of a table
+-- what contracts see of a table
 pub scope_seen : (berths : List (Option Berth)) (task : ℕ) → scope_at (map scope_of berths) task ≡ scope_of (berth_at berths task)
 scope_seen [] task = refl
 scope_seen (b ∷ berths) zero = refl
 scope_seen (b ∷ berths) (suc task) = scope_seen berths task
 
--- where each task keeps its berth, each is seen to sleep in the scope in which it did
+-- where each task keeps its slot, contracts see each sleep in the scope in which it did
 pub same_seen : (old new : List (Option Berth)) → SameBerths old new → IsSame (map scope_of old) (map scope_of new)
 same_seen old new same task = scope_seen new task ∙ ap scope_of (same task) ∙ sym (scope_seen old task)
 
@@ -36,7 +36,7 @@ under_none : (scope : ℕ) (o : Option Berth) → scope_of o ≡ None → place_
 under_none scope None e = refl
 under_none scope (Some berth) e = absurd (cc)
 
--- who has a place under a scope sleeps there
+-- a task that has a place under a scope sleeps there
 pub under_is : (scope : ℕ) (o : Option Berth) (place : ℕ) → place_under scope o ≡ Some place → scope_of o ≡ Some scope
 under_is scope None place e = absurd (cc)
 under_is scope (Some berth) place e =
@@ -45,12 +45,12 @@ under_is scope (Some berth) place e =
       | inr apart ↦ absurd (let none : place_under scope (Some berth) ≡ None = rw (ne_eqb berth.scope scope apart) refl in cc)
     ]
 
--- who sleeps in a scope has a place under it
+-- a task that sleeps in a scope has a place under it
 pub under_has : (scope : ℕ) (o : Option Berth) → scope_of o ≡ Some scope → (place : ℕ) × (place_under scope o ≡ Some place)
 under_has scope None e = absurd (cc)
 under_has scope (Some berth) e = (berth.place, rw (eq-eqb berth.scope scope (some_same berth.scope scope e)) refl)
 
--- a berth that is written
+-- a slot that is written
 written : (berths : List (Option Berth)) (task : ℕ) (o : Option Berth) → task < length berths → berth_at (slice_set berths task o) task ≡ o
 written berths task o within = get_or-set_same berths task o None within
 
@@ -58,7 +58,7 @@ unwritten : (berths : List (Option Berth)) (task other : ℕ) (o : Option Berth)
     berth_at (slice_set berths task o) other ≡ berth_at berths other
 unwritten berths task other o differs = get_or-set_other berths task other o None differs
 
--- a task with a berth is in the table
+-- a task with a slot is in the table
 pub is_within : (berths : List (Option Berth)) (task scope : ℕ) → scope_of (berth_at berths task) ≡ Some scope → task < length berths
 is_within berths task scope e =
     elim (cases_lt task (length berths)) [
@@ -95,7 +95,7 @@ module _ {Z : Type 0} where
   has_list (l ∷ lists) zero place inside = omega arith
   has_list (l ∷ lists) (suc scope) place inside = omega (arith, has_list lists scope place inside)
 
-  -- a list that was written as it was
+  -- a list that was written back unchanged
   pub tasks_again : (lists : List (Vec ℕ Z)) (scope : ℕ) (v w : Vec ℕ Z) → scope < length lists → v ≡ get_or lists scope v →
       w.items ≡ v.items → SameTasks lists (slice_set lists scope w)
   tasks_again lists scope v w within read same other =
@@ -117,7 +117,7 @@ module _ {Z : Type 0} where
         (tasks_same scope);
   }
 
-  -- a task that comes last in the list of its scope
+  -- a task that is appended to the list of its scope
   pub placed_added : (berths : List (Option Berth)) (lists : List (Vec ℕ Z)) (task : ℕ) (berth : Berth) (v w : Vec ℕ Z) →
       AllPlaced berths lists → scope_of (berth_at berths task) ≡ None → task < length berths → berth.scope < length lists →
       v ≡ get_or lists berth.scope v → w.items ≡ v.items ++ task ∷ [] → berth.place ≡ length v.items →
@@ -165,7 +165,7 @@ module _ {Z : Type 0} where
           ∙ ap Some (last ∙ sym (ap length tasks)))
           (λ other apart. ap (place_under berth.scope) (unwritten berths task other (Some berth) apart)))
 
--- where tasks sleep after it
+-- where tasks sleep after a change
 pub puts_added : (berths more : List (Option Berth)) (task : ℕ) (berth : Berth) → SameBerths berths more → task < length more →
     Puts (map scope_of berths) (map scope_of (slice_set more task (Some berth))) task (Some berth.scope)
 puts_added berths more task berth same within = record {
@@ -176,7 +176,7 @@ puts_added berths more task berth same within = record {
       ∙ sym (scope_seen berths other);
 }
 
--- A task that slept in a berth, and what is left of the list of its scope without it
+-- A task that slept in a slot, and the list of its scope without it
 pub record Leaves {Z : Type 0} (berths : List (Option Berth)) (lists : List (Vec ℕ Z)) (task : ℕ) (berth : Berth) (v w : Vec ℕ Z) : Type 0
   where
     pub kept : AllPlaced berths lists
@@ -184,7 +184,7 @@ pub record Leaves {Z : Type 0} (berths : List (Option Berth)) (lists : List (Vec
     pub read : v ≡ get_or lists berth.scope v
     pub taken : Removed v.items w.items berth.place
 
--- its berth has no task any more, or the last of its scope
+-- its slot has no task any more, or the last task of its scope
 pub record Clears {Z : Type 0} (berths later : List (Option Berth)) (task : ℕ) (berth : Berth) (w : Vec ℕ Z) : Type 0 where
   pub gone : berth_at later task ≡ None
   pub moved : berth.place < length w.items → berth_at later (get_or w.items berth.place 0) ≡ Some berth
@@ -194,7 +194,7 @@ module _ {Z : Type 0} (berths : List (Option Berth)) (lists : List (Vec ℕ Z)) 
   own_place : berth_at berths task ≡ Some berth → place_under berth.scope (berth_at berths task) ≡ Some berth.place
   own_place slept = ap (place_under berth.scope) slept ∙ under_own berth
 
-  -- so it is in the table of berths
+  -- so it is in the table of slots
   pub task_within : berth_at berths task ≡ Some berth → task < length berths
   task_within slept = is_within berths task berth.scope (ap scope_of slept)
 
@@ -212,7 +212,7 @@ module _ {Z : Type 0} (berths : List (Option Berth)) (lists : List (Vec ℕ Z)) 
       subst (λ (l : List ℕ). IsPlaced (λ k. place_under berth.scope (berth_at berths k)) l)
       (tasks_read lists berth.scope v (scope_within berths lists task berth h.kept h.slept) h.read) (h.kept.placed berth.scope)
 
-  -- the last of the list sleeps in the same scope, and is another
+  -- the last task of the list sleeps in the same scope, and is another task
   last_is : Leaves berths lists task berth v w → (moved : ℕ) → berth.place < length w.items → moved ≡ get_or w.items berth.place 0 →
       (scope_of (berth_at berths moved) ≡ Some berth.scope) × (moved ≢ task)
   last_is h moved inside is =
@@ -220,12 +220,12 @@ module _ {Z : Type 0} (berths : List (Option Berth)) (lists : List (Vec ℕ Z)) 
       (own_place berths lists task berth h.slept) h.taken inside is in
       (under_is berth.scope (berth_at berths moved) (length v.items - 1) m.0, m.1)
 
-  -- the task that gets its place is in the table of berths
+  -- the task that gets its place is in the table of slots
   pub moved_within : Leaves berths lists task berth v w → (moved : ℕ) → berth.place < length w.items →
       moved ≡ get_or w.items berth.place 0 → moved < length berths
   moved_within h moved inside is = is_within berths moved berth.scope (last_is h moved inside is).0
 
-  -- where the task was the last of its list, its berth is taken away and no other task moves
+  -- where the task was the last of its list, its slot is removed and no other task moves
   pub clears_last : Leaves berths lists task berth v w → length w.items ≤ berth.place →
       Clears berths (slice_set berths task None) task berth w
   clears_last h out = record {
@@ -234,7 +234,7 @@ module _ {Z : Type 0} (berths : List (Option Berth)) (lists : List (Vec ℕ Z)) 
     others = λ k differs apart. unwritten berths task k None differs;
   }
 
-  -- where it was not, the last of the list gets its berth
+  -- where it was not, the last task of the list gets its slot
   pub clears_moved : Leaves berths lists task berth v w → (moved : ℕ) → berth.place < length w.items →
       moved ≡ get_or w.items berth.place 0 → Clears berths (slice_set (slice_set berths task None) moved (Some berth)) task berth w
   clears_moved h moved inside is =
@@ -250,7 +250,7 @@ module _ {Z : Type 0} (berths : List (Option Berth)) (lists : List (Vec ℕ Z)) 
             ∙ unwritten berths task k None differs;
       }
 
-  -- then the list of each scope again has the tasks whose places are in it
+  -- after that the list of each scope again has the tasks with places in it
   pub placed_left : (later : List (Option Berth)) → Leaves berths lists task berth v w → Clears berths later task berth w →
       AllPlaced later (slice_set lists berth.scope w)
   placed_left later h c = record {
@@ -296,7 +296,7 @@ module _ {Z : Type 0} (berths : List (Option Berth)) (lists : List (Vec ℕ Z)) 
                 ]
           ]
 
-  -- and the task sleeps nowhere, and every other one where it did
+  -- and the task does not sleep, and every other one sleeps where it did
   pub puts_left : (later : List (Option Berth)) → Leaves berths lists task berth v w → Clears berths later task berth w →
       Puts (map scope_of berths) (map scope_of later) task None
   puts_left later h c = record {
@@ -315,7 +315,7 @@ module _ {Z : Type 0} (berths : List (Option Berth)) (lists : List (Vec ℕ Z)) 
             | inr out ↦ ap scope_of (c.others k apart (λ inside. absurd (omega (arith, inside, out))))
           ]
 
--- who is last in the list of a scope sleeps there
+-- the last task in the list of a scope sleeps there
 pub is_sleeper : {Z : Type 0} (berths : List (Option Berth)) (lists : List (Vec ℕ Z)) (scope place task : ℕ) → AllPlaced berths lists →
     place < length (tasks_at lists scope) → get_or (tasks_at lists scope) place 0 ≡ task → scope_at (map scope_of berths) task ≡ Some scope
 is_sleeper berths lists scope place task h inside is =
@@ -323,7 +323,7 @@ is_sleeper berths lists scope place task h inside is =
     ∙ ap (λ (k : ℕ). scope_of (berth_at berths k)) (sym is)
     ∙ under_is scope (berth_at berths (get_or (tasks_at lists scope) place 0)) place ((h.placed scope).placed place inside)
 
--- an empty list: nobody sleeps in the scope
+-- an empty list: no task sleeps in the scope
 pub none_sleeps : {Z : Type 0} (berths : List (Option Berth)) (lists : List (Vec ℕ Z)) (scope : ℕ) → AllPlaced berths lists →
     tasks_at lists scope ≡ [] → IsEmpty (map scope_of berths) scope
 none_sleeps berths lists scope h empty task sleeps =
@@ -331,7 +331,7 @@ none_sleeps berths lists scope h empty task sleeps =
     let s = (h.placed scope).stands task p.0 p.1 in
     omega (arith, s.0, ap length empty)
 
--- what was read of a task's berth
+-- what was read of a task's slot
 pub slept_at : (berths : List (Option Berth)) (task : ℕ) (found : Option Berth) (berth : Berth) → task < length berths →
     found ≡ get_or berths task found → found ≡ Some berth → berth_at berths task ≡ Some berth
 slept_at berths task found berth within read is = sym (get_or_read berths task found within read None) ∙ is
@@ -348,7 +348,7 @@ leaves berths lists task berth v w kept slept read less by_index = record {
   taken = removed v.items w.items berth.place v.len w.len v.ok.0 w.ok.0 less by_index.0 by_index.1;
 }
 
--- the last of a list, if it has one
+-- the last task of a list, if it has one
 pub last_seen : {Z : Type 0} (berths : List (Option Berth)) (lists : List (Vec ℕ Z)) (scope : ℕ) (tasks : List ℕ) (last : Option ℕ) →
     AllPlaced berths lists → tasks_at lists scope ≡ tasks → last ≡ slice_get tasks (length tasks - 1) →
     MatchOption last (IsEmpty (map scope_of berths) scope) (λ task. scope_at (map scope_of berths) task ≡ Some scope)

@@ -12,7 +12,7 @@ placed-same old new list later h places same =
       placed = λ place within. places (get_or list place 0) ∙ h.placed place within;
     }
 
--- what comes into the place of a task is the last one, and another
+-- the task that moves to the place of a task is the last one, and another task
 pub moved_is : (old : ℕ → Option ℕ) (list rest : List ℕ) (task place moved : ℕ) → IsPlaced old list → old task ≡ Some place →
     Removed list rest place → place < length rest → moved ≡ get_or rest place 0 → (old moved ≡ Some (length list - 1)) × (moved ≢ task)
 moved_is old list rest task place moved h at r inside is =

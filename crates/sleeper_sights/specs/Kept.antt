@@ -1,4 +1,4 @@
--- How sleepers are kept. No public clause cites this module.
+-- How the sleepers are stored. No public clause cites this module.
 use Rattle.std.specs.Prelude.{◌≡◌, ◌≢◌, ℕ, ◌==◌, if◌then◌else◌, List, [], Option, Some, None, slice_index_or}
 use Rattle.std.specs.List.{slice_get}
 use Rattle.std.specs.declared.vec.Vec.{Vec}
@@ -11,7 +11,7 @@ use Rattle.sleeper_sights.specs.declared.berths.Berth.{Berth}
 abbrev pub HasNone : List (Option ℕ) → Type 0
 HasNone scopes = (task : ℕ) → scope_at scopes task ≡ None
 
--- no task sleeps right in the scope
+-- no task sleeps directly in the scope
 abbrev pub IsEmpty : List (Option ℕ) → ℕ → Type 0
 IsEmpty scopes scope = (task : ℕ) → scope_at scopes task ≢ Some scope
 
@@ -19,12 +19,12 @@ IsEmpty scopes scope = (task : ℕ) → scope_at scopes task ≢ Some scope
 abbrev pub IsSame : List (Option ℕ) → List (Option ℕ) → Type 0
 IsSame old new = (task : ℕ) → scope_at new task ≡ scope_at old task
 
--- the task sleeps there now, or nowhere, and every other task where it did
+-- the task now sleeps in this scope, or does not sleep, and every other task sleeps where it did
 pub record Puts (old new : List (Option ℕ)) (task : ℕ) (scope : Option ℕ) : Type 0 where
   pub changed : scope_at new task ≡ scope
   pub others : (other : ℕ) → other ≢ task → scope_at new other ≡ scope_at old other
 
--- a scope that has a tick is one in which somebody sleeps
+-- a task sleeps in each scope that has a tick
 abbrev pub AllSleptIn : List (Option ℕ) → List (Option ℕ) → Type 0
 AllSleptIn scopes sights = (scope tick : ℕ) → tick_in sights scope ≡ Some tick → (task : ℕ) × (scope_at scopes task ≡ Some scope)
 
@@ -32,7 +32,7 @@ abbrev pub scope_of : Option Berth → Option ℕ
 scope_of None = None
 scope_of (Some berth) = Some berth.scope
 
--- where a task sleeps
+-- the slot of a task, if it sleeps
 abbrev pub berth_at : List (Option Berth) → ℕ → Option Berth
 berth_at berths task = slice_index_or berths task None
 
@@ -45,15 +45,15 @@ abbrev pub tasks_of : {Z : Type 0} → Option (Vec ℕ Z) → List ℕ
 tasks_of None = []
 tasks_of (Some tasks) = tasks.items
 
--- the tasks that sleep right in a scope
+-- the tasks that sleep directly in a scope
 abbrev pub tasks_at : {Z : Type 0} → List (Vec ℕ Z) → ℕ → List ℕ
 tasks_at lists scope = tasks_of (slice_get lists scope)
 
--- the list of each scope has the tasks whose places are in it
+-- the list of each scope has exactly the tasks with places in it
 pub record AllPlaced {Z : Type 0} (berths : List (Option Berth)) (lists : List (Vec ℕ Z)) : Type 0 where
   pub placed : (scope : ℕ) → IsPlaced (λ task. place_under scope (berth_at berths task)) (tasks_at lists scope)
 
--- each task keeps its berth
+-- each task keeps its slot
 abbrev pub SameBerths : List (Option Berth) → List (Option Berth) → Type 0
 SameBerths old new = (task : ℕ) → berth_at new task ≡ berth_at old task
 

@@ -1,23 +1,23 @@
-//! Which task sleeps in which scope, found both ways.
+//! Which task sleeps in which scope, which can be searched by task and by scope.
 ghost use Rattle.std.specs.Prelude.{None, Some, ◌≡◌, ◌<◌, OnOk, OnErr, MatchOption, vec_len};
 ghost use Rattle.sleeper_sights.specs.Kept.{berth_at, tasks_at, SameBerths, SameTasks};
 
 use std::alloc::{AllocError, Global};
 use std::marker::Model;
 
-// Where a task sleeps: its scope, and its place among the tasks that sleep right in it.
+// The slot of a sleeping task: its scope, and its place among the tasks that sleep directly in that scope.
 #[derive(Clone, Copy)]
 struct Berth {
     scope: usize,
     place: usize,
 }
 
-// Tasks and the scopes in which they sleep, by the keys of both.
+// The slots of the sleeping tasks, by the keys of tasks and of scopes.
 #[derive(Drop)]
 pub(crate) struct Berths {
-    // Where each task sleeps.
+    // The slot of each task, at the task's key.
     by_task: Vec<Option<Berth>>,
-    // The tasks that sleep right in each scope.
+    // The tasks that sleep directly in each scope, at the scope's key.
     by_scope: Vec<Vec<usize>>,
 }
 
@@ -47,7 +47,7 @@ impl Berths {
         }
     }
 
-    // Lets a task that does not sleep yet sleep in a scope. On want of memory no task sleeps elsewhere than before.
+    // Adds a task that does not sleep yet, in a scope. If memory is refused, every task sleeps where it did.
     pub(crate) fn add(&mut self, task: usize, scope: usize) -> Result<(), AllocError>
         requires { scope_at self.old task ≡ None }
         ensures ok { OnOk result (Puts self.old self.new task (Some scope)) }
@@ -62,7 +62,7 @@ impl Berths {
         Ok(())
     }
 
-    // Lets a task sleep no more, and tells in which scope it slept: none where it did not sleep.
+    // Removes a task, and returns the scope in which it slept, or `None` if it did not sleep.
     pub(crate) fn remove(&mut self, task: usize) -> Option<usize>
         ensures scope { result ≡ scope_at self.old task }
         ensures moves { Puts self.old self.new task None }
@@ -77,14 +77,14 @@ impl Berths {
         let tasks = &mut self.by_scope[berth.scope];
         tasks.swap_remove(berth.place);
         if berth.place < tasks.len() {
-            // The last task of the scope lies in that place now.
+            // The last task of the scope has that place now.
             let moved = tasks[berth.place];
             self.by_task[moved] = Some(berth);
         }
         Some(berth.scope)
     }
 
-    // A task that sleeps right in the scope: none exactly where none does.
+    // Returns a task that sleeps directly in the scope, or `None` if there is none.
     pub(crate) fn sleeper_in(&self, scope: usize) -> Option<usize>
         ensures { MatchOption result (IsEmpty self.now scope) (λ task. scope_at self.now task ≡ Some scope) }
     {
@@ -95,7 +95,7 @@ impl Berths {
     }
 }
 
-// Makes the table long enough for a task.
+// Extends the table so that it has an entry for the task.
 fn grow_to_task(berths: &mut Vec<Option<Berth>>, task: usize) -> Result<(), AllocError>
     ensures same { SameBerths berths.old.items berths.new.items }
     ensures long { OnOk result (task < vec_len berths.new) }
@@ -106,7 +106,7 @@ fn grow_to_task(berths: &mut Vec<Option<Berth>>, task: usize) -> Result<(), Allo
     Ok(())
 }
 
-// Makes the table long enough for a scope.
+// Extends the table so that it has an entry for the scope.
 fn grow_to_scope(lists: &mut Vec<Vec<usize>>, scope: usize) -> Result<(), AllocError>
     ensures same { SameTasks lists.old.items lists.new.items }
     ensures long { OnOk result (scope < vec_len lists.new) }

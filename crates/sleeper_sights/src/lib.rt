@@ -1,12 +1,13 @@
 //! Tasks that sleep in cancel scopes, found by the tick from which they see a cancellation.
 //!
-//! A scheduler tells `Sleepers` in which scope each task falls asleep, and from which tick each scope in which somebody
-//! sleeps sees a cancellation. It answers at once what a jump of the clock asks: the first tick from which a sleeper sees
-//! one, and, once that tick has come, the sleepers that do, one after another. A call takes the logarithm of how many
-//! scopes have such a tick, however many tasks sleep; the tables by keys grow once for the greatest key.
+//! A scheduler records in `Sleepers` in which scope each task falls asleep, and the effective deadline (`sight`) of each
+//! scope in which a task sleeps: the tick from which a task in it sees a cancellation. `Sleepers` answers what a jump of the
+//! clock needs: the earliest tick from which a sleeper sees a cancellation and, once that tick has come, the sleepers that
+//! do, one after another. A call takes logarithmic time in the number of scopes that have such a tick, however many tasks
+//! sleep. The tables grow once for the maximum key.
 //!
-//! The layer promises a map from tasks to scopes and one from scopes to ticks, and says nothing of how they are kept. It
-//! stands on `tick_queue`, and knows tasks and scopes by the ids of `autojump_clock` and `cancel_scopes`.
+//! The layer promises a map from tasks to scopes and one from scopes to ticks, and does not say how they are stored. It uses
+//! `tick_queue`, and the ids of tasks and scopes of `autojump_clock` and `cancel_scopes`.
 #![tactic(auto)]
 
 mod berths;

@@ -8,11 +8,12 @@ use std::alloc::{AllocError, Global};
 use std::marker::Model;
 use tick_queue::TickQueue;
 
-/// Tasks that sleep in cancel scopes, found by the tick from which they see a cancellation.
+/// The tasks that sleep in cancel scopes, with the effective deadline (`sight`) of each such scope, which is the tick from
+/// which a task in it sees a cancellation.
 #[derive(Drop)]
 pub struct Sleepers {
     berths: Berths,
-    // The keys of the scopes in which somebody sleeps and which see a cancellation, with the tick from which they do.
+    // The effective deadlines of the scopes in which a task sleeps and that ever see a cancellation, by the scopes' keys.
     sights: TickQueue,
 }
 
@@ -31,7 +32,7 @@ impl Model for Sleepers {
 impl Sleepers {
     ghost use Rattle.sleeper_sights.specs.Sleeping.{scope_in, IsFirst, KeepsSights, Moves, NoneSees, SameScopes, Sees, TakesSeen};
 
-    /// No task sleeps. Takes no memory.
+    /// Creates `Sleepers` in which no task sleeps. Does not allocate.
     pub fn new(alloc: Global) -> Sleepers
         ensures { (task : ℕ) → scope_in result task ≡ None }
     {
@@ -41,9 +42,12 @@ impl Sleepers {
         }
     }
 
-    /// Lets a task sleep right in a scope, which sees a cancellation from that tick on: none is never, and the others in
-    /// the scope see it then too. On want of memory no task sleeps elsewhere than before, and each scope's tick stays. The
-    /// caller sees to it that the task does not sleep yet.
+    /// Adds a task that sleeps directly in a scope. `sight` is the effective deadline of the scope, or `None` for never. It
+    /// holds from now on for every task that sleeps directly in the scope. The caller must ensure that the task does not sleep
+    /// yet.
+    ///
+    /// Returns `AllocError` if memory is refused. Each task then sleeps where it did, and each scope keeps its effective
+    /// deadline.
     pub fn add(
         &mut self,
         task: TaskId,
@@ -63,7 +67,7 @@ impl Sleepers {
         Ok(())
     }
 
-    /// Lets a task sleep no more, as where its timer wakes it. Nothing changes where it does not sleep. Takes no memory.
+    /// Removes a task, for example because its timer wakes it. Nothing changes if the task does not sleep. Does not allocate.
     pub fn remove(&mut self, task: TaskId)
         ensures scopes { Moves self.old self.new task None }
         ensures sights { KeepsSights self.old self.new }
@@ -77,8 +81,8 @@ impl Sleepers {
         self.sights.remove(scope);
     }
 
-    /// Notes that a scope sees a cancellation from that tick on now: none is never. Nothing changes where nobody sleeps
-    /// right in it, nor on want of memory.
+    /// Sets the effective deadline of a scope; `None` is never. Nothing changes if no task sleeps directly in the scope.
+    /// Returns `AllocError` if memory is refused; nothing changes then.
     pub fn see(&mut self, scope: ScopeId, sight: Option<u64>) -> Result<(), AllocError>
         ensures scopes { SameScopes self.old self.new }
         ensures sights { OnOk result (Sees self.old self.new scope sight) }
@@ -91,7 +95,7 @@ impl Sleepers {
         Ok(())
     }
 
-    /// The first tick from which a sleeper sees a cancellation: none where none ever does.
+    /// Returns the earliest tick from which a sleeper sees a cancellation, or `None` if none ever does.
     pub fn first(&self) -> Option<u64>
         ensures { IsFirst self.now result }
     {
@@ -99,8 +103,8 @@ impl Sleepers {
         Some(tick)
     }
 
-    /// Takes out a sleeper that sees a cancellation by that tick, and tells which: none exactly where none does. Takes no
-    /// memory.
+    /// Removes one sleeper that sees a cancellation by `tick`, and returns it, or returns `None` if there is none. Which of
+    /// several sleepers it returns is not specified. Does not allocate.
     pub fn take_seen(&mut self, tick: u64) -> Option<TaskId>
         ensures { MatchOption result (NoneSees self.old self.new tick) (λ task. TakesSeen self.old self.new task tick) }
     {
@@ -114,7 +118,7 @@ impl Sleepers {
     }
 }
 
-// The scope sees a cancellation from that tick on, or never. On want of memory nothing changes.
+// Sets the effective deadline of a scope; `None` is never. If memory is refused, nothing changes.
 fn put_sight(sights: &mut TickQueue, scope: usize, sight: Option<u64>) -> Result<(), AllocError>
     ensures ok { OnOk result (Puts sights.old sights.new scope sight) }
     ensures err { OnErr result (IsSame sights.old sights.new) }
