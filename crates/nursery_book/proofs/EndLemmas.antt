@@ -1,4 +1,4 @@
--- The exceptions of members, as the code holds them and as a nursery raises them.
+-- The exceptions of members, in the code and as a nursery raises them.
 use Rattle.std.proofs.Common.{◌≡◌, ℕ, zero, suc, ◌+◌, ◌≤◌, nat_eq, Option, List, [], ◌∷◌, ◌++◌, Some, None, is_some, map, refl, ap, ◌∙◌, arith}
 use Rattle.std.specs.Prelude.{option_to_list, slice_get, slice_set, length}
 use Rattle.std.specs.List.{list_all}
@@ -33,7 +33,7 @@ pub held_raised : (body : MemberEnd) (es : List MemberEnd) →
     excs_of (option_to_list (exc_held body) ++ excs_held es) ≡ parts_of (with_exc (end_of body) (excs_in (map end_of es)))
 held_raised body es = held_first body es (held_all es)
 
--- no more run than there are
+-- no more members run than there are
 pub running_upto : (es : List MemberEnd) → running_in es ≤ length es
 running_upto [] = omega arith
 running_upto (Running ∷ es) = omega (arith, running_upto es)

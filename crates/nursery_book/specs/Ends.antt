@@ -1,4 +1,4 @@
--- The endings that the code holds, as ends of members. No public clause cites this module.
+-- The ends of members in the code, as contracts see them. No public clause cites this module.
 use Rattle.std.specs.Prelude.{ℕ, suc, Option, Some, None, List, [], ◌∷◌, filter_map}
 use Rattle.std.specs.Option.{option_map}
 use Rattle.exc_groups.specs.declared.exc.Exc.{Exc}
@@ -11,12 +11,12 @@ abbrev pub end_of : MemberEnd → End
 end_of Running = None
 end_of (Ended exc) = Some (option_map exc_of exc)
 
--- a member's exception, as the code holds it
+-- a member's exception in the code, if it ended with one
 abbrev pub exc_held : MemberEnd → Option Exc
 exc_held Running = None
 exc_held (Ended exc) = exc
 
--- how many of them run
+-- the number of members that run
 abbrev pub running_in : List MemberEnd → ℕ
 running_in [] = 0
 running_in (Running ∷ es) = suc (running_in es)

@@ -1,13 +1,13 @@
--- A nursery: its members, when it is over, and what it raises (Trio reference, nurseries; PEP 654).
+-- A nursery: its members, when it ends, and what it raises, as in Trio and PEP 654.
 use Rattle.std.specs.Prelude.{ℕ, ◌++◌, Bool, ◌&&◌, Option, Some, None, is_some, List, [], ◌∷◌, slice_set}
 use Rattle.std.specs.List.{list_all}
 use Rattle.exc_groups.specs.Exceptions.{Label, Exc, by_nursery, parts_of, group_of}
 
--- how a member stands: nothing while it runs, and then the exception that it ended with, if there was one
+-- the end of a member: `None` while it runs, and then the exception with which it ended, or `Some None` without one
 abbrev pub End : Type 0
 End = Option (Option Exc)
 
--- A nursery: its cancel scope, the task that waits for it, its label, and its members, the children in the order of
+-- A nursery: its cancel scope, the task that waits for it, its label, and its members, with the children in the order of
 -- their starts.
 pub record Nursery : Type 0 where
   pub scope : ℕ
@@ -16,7 +16,7 @@ pub record Nursery : Type 0 where
   pub body : End
   pub children : List End
 
--- a nursery whose body runs, with no child
+-- a nursery after it was opened: its body runs, and it has no child
 abbrev pub opened : ℕ → ℕ → Label → Nursery
 opened scope waiter label = record { scope = scope; waiter = waiter; label = label; body = None; children = [] }
 
@@ -32,7 +32,7 @@ with_child place exc n = record n { children = slice_set n.children place (Some 
 abbrev pub with_body : Option Exc → Nursery → Nursery
 with_body exc n = record n { body = Some exc }
 
--- the body and every child ended
+-- whether the body and every child have ended
 abbrev pub is_settled : Nursery → Bool
 is_settled n = is_some n.body && list_all is_some n.children
 
@@ -47,8 +47,8 @@ abbrev pub excs_in : List End → List Exc
 excs_in [] = []
 excs_in (e ∷ es) = with_exc e (excs_in es)
 
--- What a nursery raises: one group of its members' exceptions, the body's first and the children's in the order of
--- their starts; nothing where no member ended with an exception. One exception is wrapped too (Trio reference, strict
--- exception groups; the order is this profile's own choice).
+-- What a nursery raises: one group of its members' exceptions, that of the body first and those of the children in the
+-- order of their starts, or nothing where no member ended with an exception. A single exception is wrapped too, as with
+-- Trio's strict exception groups. The order is a choice of this language.
 abbrev pub raised_by : Nursery → Option Exc
 raised_by n = group_of (by_nursery n.label) (parts_of (with_exc n.body (excs_in n.children)))

@@ -13,15 +13,15 @@ use std::alloc::{AllocError, Global};
 
 /// The open nurseries of a program, each with its members.
 ///
-/// The caller sees to it that ids are open, that children start only while the body runs, that each member ends once, and
-/// that a nursery is closed only when all its members ended.
+/// The caller must ensure that each id passed is that of an open nursery, that children start only while the body runs,
+/// that each member ends once, and that a nursery is closed only when all its members have ended.
 #[derive(Drop)]
 pub struct NurseryBook {
     alloc: Global,
     nurseries: Slab<Members>,
 }
 
-// A nursery. Its children stand in the order of their starts.
+// A nursery. Its children are in the order of their starts.
 #[derive(Drop)]
 struct Members {
     scope: ScopeId,
@@ -35,7 +35,7 @@ impl NurseryBook {
     ghost use Rattle.nursery_book.specs.Nursery.{opened, with_start, with_child, with_body, is_settled, raised_by};
     ghost use Rattle.nursery_book.specs.Book.{nursery_at, HasNursery, SameNurseries, Updates, Changes};
 
-    /// A book with no open nursery. Takes no memory.
+    /// Creates a book with no open nursery. Does not allocate.
     pub fn new(alloc: Global) -> NurseryBook
         ensures { (key : ℕ) → nursery_at result key ≡ None }
     {
@@ -45,8 +45,8 @@ impl NurseryBook {
         }
     }
 
-    /// Opens a nursery with its cancel scope, the task that will wait for it, and its label. Its body runs, and it has
-    /// no child. On want of memory nothing changes.
+    /// Opens a nursery with its cancel scope, the task that will wait for it, and its label, and returns its id. Its body
+    /// runs, and it has no child. Returns `AllocError` if memory is refused; every nursery then stays as it is.
     pub fn open(
         &mut self,
         scope: ScopeId,
@@ -67,7 +67,8 @@ impl NurseryBook {
         Ok(NurseryId { key })
     }
 
-    /// Starts a child and tells its place: how many were started before it. On want of memory nothing changes.
+    /// Starts a child and returns its place, which is the number of children started before it. The caller must ensure that
+    /// the nursery is open and its body runs. Returns `AllocError` if memory is refused; every nursery then stays as it is.
     pub fn start(&mut self, id: NurseryId) -> Result<Place, AllocError>
         requires { HasNursery self.old id (λ n. n.body ≡ None) }
         ensures place { IfOk result (λ place. HasNursery self.old id (λ n. place ≡ length n.children)) }
@@ -78,7 +79,8 @@ impl NurseryBook {
         Ok(place)
     }
 
-    /// The child at the place ended, with that exception or well. Takes no memory.
+    /// Records that the child at `place` ended with the exception `exc`, or without one if `exc` is `None`. The caller must
+    /// ensure that the nursery is open, and that the child was started and has not ended. Does not allocate.
     pub fn child_ended(&mut self, id: NurseryId, place: Place, exc: Option<Exc>)
         requires { HasNursery self.old id (λ n. slice_get n.children place ≡ Some None) }
         ensures { Changes self.old self.new id (with_child place (option_map exc_of exc)) }
@@ -87,7 +89,8 @@ impl NurseryBook {
         members.children.end(place, exc);
     }
 
-    /// The body ended, with that exception or well. Takes no memory.
+    /// Records that the body ended with the exception `exc`, or without one if `exc` is `None`. The caller must ensure that
+    /// the nursery is open and its body has not ended. Does not allocate.
     pub fn body_ended(&mut self, id: NurseryId, exc: Option<Exc>)
         requires { HasNursery self.old id (λ n. n.body ≡ None) }
         ensures { Changes self.old self.new id (with_body (option_map exc_of exc)) }
@@ -96,7 +99,8 @@ impl NurseryBook {
         members.body = MemberEnd::Ended(exc);
     }
 
-    /// Whether the body and every child ended, so that the task which waits for the nursery goes on.
+    /// Returns whether the body and every child have ended, so that the task which waits for the nursery continues. The
+    /// nursery must be open.
     pub fn settled(&self, id: NurseryId) -> bool
         requires { IsSome (nursery_at self.now id) }
         ensures { HasNursery self.now id (λ n. result ≡ is_settled n) }
@@ -105,7 +109,7 @@ impl NurseryBook {
         members.body.is_over() && members.children.all_ended()
     }
 
-    /// The cancel scope that the nursery was opened with.
+    /// Returns the cancel scope that the nursery was opened with. The nursery must be open.
     pub fn scope(&self, id: NurseryId) -> ScopeId
         requires { IsSome (nursery_at self.now id) }
         ensures { HasNursery self.now id (λ n. result ≡ n.scope) }
@@ -113,7 +117,7 @@ impl NurseryBook {
         self.nurseries[id.key].scope
     }
 
-    /// The task that the nursery was opened with, which waits for it.
+    /// Returns the task that waits for the nursery, with which it was opened. The nursery must be open.
     pub fn waiter(&self, id: NurseryId) -> TaskId
         requires { IsSome (nursery_at self.now id) }
         ensures { HasNursery self.now id (λ n. result ≡ n.waiter) }
@@ -121,8 +125,9 @@ impl NurseryBook {
         self.nurseries[id.key].waiter
     }
 
-    /// Closes a nursery whose members ended, and gives the group of their exceptions, which its cancel scope has not
-    /// caught from yet: nothing where no member raised. On want of memory nothing changes.
+    /// Closes a nursery and returns the group of its members' exceptions, or `None` if no member ended with one. The nursery's
+    /// cancel scope has not caught anything from the group yet. The caller must ensure that the nursery is open and settled.
+    /// Returns `AllocError` if memory is refused; every nursery then stays as it is.
     pub fn close(&mut self, id: NurseryId) -> Result<Option<Exc>, AllocError>
         requires { HasNursery self.old id (λ n. is_settled n ≡ true) }
         ensures raised { IfOk result (λ exc. HasNursery self.old id (λ n. option_map exc_of exc ≡ raised_by n)) }

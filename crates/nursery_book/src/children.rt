@@ -14,7 +14,7 @@ use std::marker::Model;
 #[derive(Drop)]
 pub(crate) struct Children {
     ends: Vec<MemberEnd>,
-    // How many of them run.
+    // The number of children that run.
     running: usize,
 }
 
@@ -34,7 +34,7 @@ impl Model for Children {
 }
 
 impl Children {
-    // No child. Takes no memory.
+    // Creates the list with no child. Does not allocate.
     pub(crate) fn new(alloc: Global) -> Children
         ensures { result ≡ [] }
     {
@@ -44,14 +44,14 @@ impl Children {
         }
     }
 
-    // A list with room for an exception of each, and of the body.
+    // Returns an empty list with room for one exception of each child and one of the body.
     pub(crate) fn room(&self, alloc: Global) -> Result<Vec<Exc>, AllocError>
         ensures { IfOk result (λ room. (room.items ≡ []) × (length self.now + 1 ≤ vec_capacity room)) }
     {
         Vec::with_capacity(alloc, self.ends.len() + 1)
     }
 
-    // One more runs. Tells its place. On want of memory nothing changes.
+    // Adds a running child and returns its place. If memory is refused, nothing changes.
     pub(crate) fn start(&mut self) -> Result<Place, AllocError>
         ensures started { OnOk result (self.new ≡ self.old ++ None ∷ []) }
         ensures place { IfOk result (λ place. place ≡ length self.old) }
@@ -63,7 +63,7 @@ impl Children {
         Ok(place)
     }
 
-    // The child at the place ended, with that exception or well.
+    // Records that the child at `place` ended, with this exception or without one.
     pub(crate) fn end(&mut self, place: Place, exc: Option<Exc>)
         requires { slice_get self.old place ≡ Some None }
         ensures { self.new ≡ slice_set self.old place (Some (option_map exc_of exc)) }
@@ -72,14 +72,14 @@ impl Children {
         self.running -= 1;
     }
 
-    // Whether all ended.
+    // Returns whether all children have ended.
     pub(crate) fn all_ended(&self) -> bool
         ensures { result ≡ list_all is_some self.now }
     {
         self.running == 0
     }
 
-    // How each ended.
+    // Returns how each child ended.
     pub(crate) fn into_ends(self) -> Vec<MemberEnd>
         ensures ends { map end_of result.items ≡ self }
         ensures len { vec_len result ≡ length self }

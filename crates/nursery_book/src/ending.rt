@@ -6,17 +6,17 @@ ghost use Rattle.nursery_book.specs.Ends.{end_of, exc_held};
 
 use exc_groups::Exc;
 
-/// How a member stands.
+/// Whether a member of a nursery runs, or how it ended.
 #[derive(Drop)]
 pub(crate) enum MemberEnd {
-    /// It runs.
+    /// The member runs.
     Running,
-    /// It ended, with that exception or well.
+    /// The member ended, with this exception, or without one.
     Ended(Option<Exc>),
 }
 
 impl MemberEnd {
-    // Whether the member ended.
+    // Returns whether the member has ended.
     pub(crate) fn is_over(&self) -> bool
         ensures { result ≡ is_some (end_of self.now) }
     {
@@ -24,7 +24,8 @@ impl MemberEnd {
     }
 }
 
-// The exceptions of members, the body's first and then the children's in order, in a list that has room for them.
+// Returns the exceptions of the members in `room`, which has space for them: that of the body first, and then those of the
+// children in order.
 pub(crate) fn gathered(room: Vec<Exc>, body: MemberEnd, children: Vec<MemberEnd>) -> Vec<Exc>
     requires empty { room.items ≡ [] }
     requires fits { vec_len children + 1 ≤ vec_capacity room }
@@ -38,7 +39,7 @@ pub(crate) fn gathered(room: Vec<Exc>, body: MemberEnd, children: Vec<MemberEnd>
     excs
 }
 
-// The member's exception, if it ended with one, behind the others.
+// Appends the member's exception, if it ended with one.
 fn push_exc(excs: &mut Vec<Exc>, member: MemberEnd)
     requires { vec_len excs.old < vec_capacity excs.old }
     ensures items { excs.new.items ≡ excs.old.items ++ option_to_list (exc_held member) }

@@ -1,12 +1,12 @@
-//! Which members a nursery waits for, and the exception group that it raises (Trio nurseries, PEP 654).
+//! Which members a nursery waits for, and the exception group that it raises, as in Trio and PEP 654.
 //!
-//! A `NurseryBook` holds the open nurseries of a program as Trio's `open_nursery` makes them: the members of a nursery
-//! are its body and the children started in it, and it ends with the last of them. Then it raises one group of what its
-//! members raised, the body's exception first and the children's in the order of their starts, and nothing where no
-//! member raised.
+//! A `NurseryBook` holds the open nurseries of a program as Trio's `open_nursery` makes them. The members of a nursery
+//! are its body and the children started in it, and it ends when the last of them ends. It then raises one group of its
+//! members' exceptions, that of the body first and those of the children in the order of their starts. It raises nothing
+//! if no member raised.
 //!
-//! The layer promises that each call changes the nursery named alone, and that the group is in that order whatever the
-//! order in which members ended. It stands on the exceptions, the ids of scopes and of tasks, and `slab`.
+//! The layer promises that each call changes only the nursery that it names, and that the group is in that order whatever
+//! the order in which the members ended. It uses `exc_groups`, the ids of `cancel_scopes` and `autojump_clock`, and `slab`.
 #![tactic(auto)]
 
 mod book;

@@ -1,10 +1,10 @@
 use std::marker::Model;
 
-/// A child's place among those of its nursery: how many were started before it.
+/// The place of a child in its nursery: the number of children that were started before it.
 pub type Place = usize;
 
-/// An open nursery of a book, as `NurseryBook::open` gives it. A contract sees an id as a key. Once the nursery is
-/// closed, the book may use the id again.
+/// The id of an open nursery of a book, as `NurseryBook::open` returns it. A contract sees an id as a key. Once the nursery
+/// is closed, the book may use the id again.
 #[derive(Clone, Copy, Debug, PartialEq, Eq)]
 pub struct NurseryId {
     pub(crate) key: usize,
