@@ -1,8 +1,8 @@
--- Answers that are seen in another form, for who calls `answers_for`.
+-- Answers in another form, for callers of `answers_for`.
 use Rattle.std.proofs.Common.{List, [], ◌∷◌, map}
 use Rattle.slot_work.specs.Answers.{AreAnswers}
 
--- answers of which something holds in that form are answers in that form
+-- answers for which a property holds in that form are answers in that form
 pub seen_as : {I A B : Type 0} (P : I → B → Type 0) (form : A → B) (items : List I) (answers : List A) →
     AreAnswers (λ x y. P x (form y)) items answers → AreAnswers P items (map form answers)
 seen_as P form [] [] are = tt

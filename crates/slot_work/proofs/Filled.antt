@@ -1,4 +1,4 @@
--- Filled slots and the answers that are taken out of them.
+-- Filled slots and the answers in them.
 use Rattle.std.proofs.Common.{◌≡◌, zero, suc, List, [], ◌∷◌, ◌++◌, Option, Some, length, map, sym, ap, ◌∙◌, subst, arith, append_assoc}
 use Rattle.std.proofs.lemmas.List.{map-append, length-map}
 use Rattle.slot_work.specs.Answers.{AreAnswers, AreFilled}
@@ -12,13 +12,13 @@ each P (x ∷ xs) [] n filled = absurd (omega arith)
 each P (x ∷ xs) (y ∷ ys) n filled =
     (filled zero x (Some y) (omega arith), each P xs ys (omega arith) (λ i d s less. filled (suc i) d s (omega arith)))
 
--- answers that are all that stands in the slots of items are those for the items
+-- answers that are the contents of the slots of items are those for the items
 pub answers_of_slots : {I A : Type 0} (P : I → A → Type 0) (items : List I) (slots : List (Option A)) (answers : List A) →
     map Some answers ≡ slots → length slots ≡ length items → AreFilled P items slots → AreAnswers P items answers
 answers_of_slots P items slots answers taken paired filled =
     each P items answers (sym (length-map answers Some) ∙ ap length taken ∙ paired) (subst (AreFilled P items) (sym taken) filled)
 
--- one answer more is taken out
+-- one more answer is taken out
 pub taken_one_more : {A : Type 0} (answers more : List A) (rest left slots : List (Option A)) (slot : Option A) (answer : A) →
     rest ≡ slot ∷ left → slot ≡ Some answer → more ≡ answers ++ answer ∷ [] → map Some answers ++ rest ≡ slots →
     map Some more ++ left ≡ slots

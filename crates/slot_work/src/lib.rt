@@ -1,8 +1,8 @@
-//! Work on each of some items by threads, each answer at its item's place.
+//! The same kind of work on each of a list of items, by several threads, with each answer at the place of its item.
 //!
-//! The layer promises that `answers_for` gives what a `Work` finds for each item, in the order of the items, for every number of workers and
-//! every gate. The items are split among the threads, each of which writes into places of its own. It stands on the scoped threads of std
-//! and on the gates of `scoped_workers`.
+//! The layer promises that `answers_for` returns the answer of a `Work` for each item, in the order of the items, for every number of
+//! workers and every gate. The items are split among the threads, and each thread writes into places of its own. It uses the scoped
+//! threads of std and the gates of `scoped_workers`.
 #![tactic(auto)]
 
 mod slots;

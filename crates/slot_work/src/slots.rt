@@ -8,9 +8,11 @@ use std::alloc::{AllocError, Global};
 use std::thread;
 use std::thread::Threads;
 
-/// The answers for these items, in their order, found by at most so many threads. The gate is called around each, with its place, by the
-/// thread that works on it. Want of memory is the only error; where it is met at one item, the others are worked on all the same. The caller
-/// sees to it that there is at least one worker.
+/// Returns the answers for these items, in their order, found by at most `workers` threads. The thread that works on an item calls the
+/// gate before and after it, with the place of the item. The caller must ensure that there is at least one worker and that the work's
+/// own requirement (`Work::may`) holds.
+///
+/// Returns `AllocError` if memory is refused. If that happens at one item, the work on the other items is still done.
 pub fn answers_for<R: Threads + Sync, W: Work + Sync, G: Gate + Sync>(
     rt: &R,
     alloc: Global,
@@ -28,7 +30,7 @@ pub fn answers_for<R: Threads + Sync, W: Work + Sync, G: Gate + Sync>(
     answers_in(alloc, slots)
 }
 
-// So many empty slots.
+// Returns this many empty slots.
 fn empty_slots<A: Drop>(alloc: Global, count: usize) -> Result<Vec<Option<A>>, AllocError>
     ensures { IfOk result (λ slots. vec_len slots ≡ count) }
 {
@@ -39,7 +41,7 @@ fn empty_slots<A: Drop>(alloc: Global, count: usize) -> Result<Vec<Option<A>>, A
     Ok(slots)
 }
 
-// Fills the slot of each item, in at most so many threads.
+// Fills the slot of each item, with at most this many threads.
 fn fill_all<R: Threads + Sync, W: Work + Sync, G: Gate + Sync>(
     rt: &R,
     alloc: Global,
@@ -66,7 +68,7 @@ fn fill_all<R: Threads + Sync, W: Work + Sync, G: Gate + Sync>(
     );
 }
 
-// The answer for an item, unless memory was refused for it. The gate is called around that with the item's place.
+// Returns the answer for an item, or `None` if memory was refused for it. Calls the gate before and after, with the item's place.
 fn found<R: Threads + Sync, W: Work, G: Gate>(
     rt: &R,
     alloc: Global,
@@ -84,7 +86,7 @@ fn found<R: Threads + Sync, W: Work, G: Gate>(
     answer
 }
 
-// The answers in slots, where none is empty.
+// Returns the answers in the slots, or `AllocError` if a slot is empty.
 #[tactic(auto, using(crate::proofs::Filled::taken_one_more))]
 fn answers_in<A: Drop>(alloc: Global, slots: Vec<Option<A>>) -> Result<Vec<A>, AllocError>
     ensures { IfOk result (λ answers. map Some answers.items ≡ slots.items) }

@@ -4,20 +4,20 @@ ghost use Rattle.std.specs.Thread.{IsSync};
 use std::alloc::{AllocError, Global};
 use std::thread::Threads;
 
-/// What is found for each of some items.
+/// A kind of work that is done for each of a list of items.
 pub trait Work {
-    /// What something is found for.
+    /// The type of the items, which threads share.
     type Item: Sync;
-    /// What is found.
+    /// The type of the answer for one item.
     type Answer: Send + Drop;
 
-    // What the work asks of itself, for example that its input is short.
+    // What the work requires of itself, for example that its input is short enough.
     ghost may: { Self → Type 0 };
 
-    // What is an answer for an item.
+    // Whether an answer is correct for an item.
     ghost answers: { Self → Self.Item → Self.Answer → Type 0 };
 
-    /// Finds the answer for an item. Want of memory is the only error.
+    /// Returns the answer for an item, or `AllocError` if memory is refused, which is the only error.
     fn answer<R: Threads + Sync>(
         &self,
         rt: &R,
@@ -26,7 +26,7 @@ pub trait Work {
     ) -> Result<Self::Answer, AllocError>
         requires may { may self.now }
 
-        // The bound on `R` says this too, but an implementation does not know the bounds of its method's type parameters.
+        // The bound on `R` says this too, but an implementation cannot use the bounds of its method's type parameters.
         requires sync { IsSync R.row }
         ensures { IfOk result (answers self.now item.now) };
 }
