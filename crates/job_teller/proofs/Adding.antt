@@ -28,7 +28,7 @@ story_end no_more = refl
 story_end (happened t what rest) = ap (λ (s : Story). happened t what s) (story_end rest)
 story_end (started l home lent s u e own rest) = ap (λ (x : Story). started l home lent s u e own x) (story_end rest)
 
--- nothing was told
+-- nothing was appended
 pub adds_nothing : (me : Label) (es : List held.Event) → Adds me es es no_more
 adds_nothing me es = record { added = sym (append-nil (map event_of es)) }
 

@@ -65,7 +65,7 @@ tells_wait me start mid now told w label a h k g =
       events = adds_then me start mid now a.story _ h.events waited;
     }
 
--- a task is started, and told up to its end
+-- a task is started, and walked up to its end
 pub tells_child : (me l : Label) (home : Option Label) (scene : Scene) (t : ℕ) (tale : Tale) (a b c d : List held.Event) (told w : Told) →
     map event_of b ≡ map event_of a ++ event t l (starts home scene.here.part) ∷ [] → Tells l b told c tale →
     map event_of d ≡ map event_of c ++ event told.end l (ends home (option_map exc_of told.exc)) ∷ [] →
@@ -77,7 +77,7 @@ tells_child me l home scene t tale a b c d told w first h last k =
     (subst (λ (o : Option Exc). map event_of d ≡ map event_of c ++ event told.end l (ends home o) ∷ []) h.told.exc last) in
     record { told = k; events = adds_child me l home scene.here.part t tale.end tale.exc tale.story a b c d first h.events over }
 
--- the same steps, told where the input is the same
+-- the same steps, walked where the input is the same
 pub tells_in : (me : Label) (a b : List held.Event) (w : Told) (k : Table) (ss : Steps) (x y : List ℕ) (p : Range) (l : Label)
     (in_cleanup : Bool)
     (st : Stack) (t : ℕ) → x ≡ y →
@@ -88,7 +88,7 @@ tells_in me a b w k ss x y p l in_cleanup st t e h =
     subst (λ (z : List ℕ). Tells me a w b
     (tell k ss (record { here = record { input = z; part = p; task = l; path = l.indices }; in_cleanup = in_cleanup }) st t)) e h
 
--- equal steps, told from an equal tick
+-- equal steps, walked from an equal tick
 pub tells_at : (me : Label) (a b : List held.Event) (w : Told) (k : Table) (ss body : Steps) (scene : Scene) (st : Stack) (u v : ℕ) →
     ss ≡ body → u ≡ v →
     Tells me a w b (tell k ss scene st u) → Tells me a w b (tell k body scene st v)

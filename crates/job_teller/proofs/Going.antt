@@ -1,4 +1,4 @@
--- A telling that goes on: what was told so far, and what is left.
+-- A walk that continues: what was walked so far, and what is left.
 use Rattle.std.proofs.Common.{◌≡◌, ℕ, true, false, Option, Some, None, List, [], ◌++◌, refl, ap, sym, subst, ◌∙◌, append_assoc}
 use Rattle.std.specs.Option.{option_map, is_some}
 use Rattle.std.proofs.lemmas.List.{append-nil}
@@ -13,7 +13,7 @@ use Rattle.job_teller.specs.Tales.{IsTold, Tells}
 use Rattle.job_teller.proofs.Adding.{adds_nothing, story_assoc, story_end}
 use Rattle.job_teller.proofs.Telling.{tells_joined, none_fails, none_well}
 
--- what was told ended well, and goes on with what is left from there
+-- what was walked ended without an exception, and continues with what is left from there
 pub record Going (me : Label) (start : List held.Event) (w : Told) (now : List held.Event) (all : Tale) (left : ℕ → Tale) : Type 0 where
   pub before : Tale
   pub tells : Tells me start w now before
@@ -34,7 +34,7 @@ pub going_start : (me : Label) (start : List held.Event) (w : Told) (t : ℕ) (a
 going_start me start w t all h =
     record { before = told_at t no_more; tells = record { told = h; events = adds_nothing me start }; well = refl; goes = refl }
 
--- what was told, with what is told next
+-- what was walked, with what is walked next
 next_tells : (me : Label) (start mid now : List held.Event) (w v x : Told) (all : Tale) (left step : ℕ → Tale)
     (at : Going me start w mid all left) (u : ℕ) → u ≡ w.end → Tells me mid v now (step u) →
     ((p q : Tale) → IsTold w p → IsTold v q → IsTold x (and_tale p q)) → Tells me start x now (and_tale at.before (step at.before.end))
@@ -61,7 +61,7 @@ going_failed me start mid now w v x all left step rest at is u ends h join faile
         ∙ ap (λ (o : Option Exc). and_tale at.before (tale_if o (step at.before.end) rest)) e) in
         subst (λ (a : Tale). Tells me start x now a) (sym goes) tells
 
--- a step that ends well goes on with the rest
+-- a step that ends without an exception continues with the rest
 pub going_next : (me : Label) (start mid now : List held.Event) (w v x : Told) (all : Tale) (left step rest : ℕ → Tale)
     (at : Going me start w mid all left) → ((y : ℕ) → left y ≡ then_tale (step y) rest) → (u : ℕ) → u ≡ w.end →
     Tells me mid v now (step u) →

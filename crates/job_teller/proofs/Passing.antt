@@ -1,4 +1,4 @@
--- The telling of the passes of a `repeat`, one by one.
+-- The walk of the passes of a `repeat`, one after another.
 use Rattle.std.proofs.Common.{◌≡◌, ℕ, suc, ◌+◌, ◌-◌, ◌*◌, ◌≤◌, ◌<◌, true, false, List, refl, ap, sym, subst, ◌∙◌, arith, suc-mul}
 use Rattle.std.specs.Option.{is_some}
 use Rattle.job_tree.specs.Tree.{Steps}
@@ -15,7 +15,8 @@ use Rattle.job_teller.specs.Tales.{IsTold, Tells}
 use Rattle.job_teller.proofs.Going.{Going, going_start, going_failed, going_next, going_stop}
 use Rattle.job_teller.proofs.Steps.{ends_small}
 
--- before a pass, what was told ended well and goes on with the passes that are left
+-- before a pass, what was walked ended without an exception and continues with the passes that are
+-- left
 pub record AtPass (h : Here) (t count : ℕ) (body : Steps) (i : ℕ) (start : List held.Event) (w : Told)
     (now : List held.Event) : Type 0 where
   pub going : Going h.task.now start w now (tell_passes 0 count (pass body h) t) (λ u. tell_passes i (count - i) (pass body h) u)
@@ -96,7 +97,7 @@ pass_next h t count body i start mid now w v x at lt u ends tells join well =
       };
     }
 
--- all passes were told
+-- all passes were walked
 pub pass_stop : (h : Here) (t count : ℕ) (body : Steps) (i : ℕ) (start : List held.Event) (w : Told) (now : List held.Event) →
     AtPass h t count body i start w now → count ≤ i → Tells h.task.now start w now (tell_passes 0 count (pass body h) t)
 pass_stop h t count body i start w now at le =

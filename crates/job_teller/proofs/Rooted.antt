@@ -18,7 +18,7 @@ abbrev pub root_at : List ℕ → Label → Range → Scene
 root_at input root lent =
     record { here = record { input = input; part = lent; task = root; path = root.indices }; in_cleanup = false }
 
--- it was told
+-- it was walked
 abbrev pub Rooted : Label → List held.Event → Told → List held.Event → Table → List ℕ → Label → Range → Steps → Type 0
 Rooted me before w after table input root lent ss =
     Tells me before w after (tell_child root None (root_at input root lent) 0 (tell table ss (root_at input root lent) [] 0))

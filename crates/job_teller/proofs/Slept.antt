@@ -11,7 +11,7 @@ use Rattle.job_teller.specs.declared.told.Told.{Told}
 use Rattle.job_teller.specs.Tales.{IsTold, Adds, Tells}
 use Rattle.job_teller.proofs.Adding.{adds_nothing, adds_then}
 
--- the tale of a sleep in whose stack a cancellation is seen from a tick on
+-- the tale of a sleep on whose stack a cancellation is seen from a tick on
 abbrev slept_from : ℕ → Bool → Bool → Stack → Bool → Tick → ℕ → ℕ → Tale
 slept_from from now due st c until n t =
     if now then failed_at cancelled t (only t (is_cancelled (seer st from) None c))

@@ -1,4 +1,4 @@
--- The telling of a block's steps, one by one.
+-- The walk of a block's steps, one after another.
 use Rattle.std.proofs.Common.{◌≡◌, ℕ, zero, suc, ◌+◌, ◌*◌, ◌≤◌, ◌<◌, true, false, Option, Some, None, List, [], ◌∷◌, length, drop, get_or, refl, ap, sym, subst, ◌∙◌, arith}
 use Rattle.std.specs.Option.{is_some}
 use Rattle.job_tree.specs.Tree as tree
@@ -20,7 +20,7 @@ use Rattle.job_teller.specs.Tales.{IsTold, Tells}
 use Rattle.job_meaning.proofs.Ends.{EndsBy, ends_step, ends_by, ends_handler}
 use Rattle.job_teller.proofs.Going.{Going, going_start, going_failed, going_next, going_stop}
 
--- a telling of steps ends before any tick is too large
+-- a walk of steps ends before any tick is too large
 pub ends_small : (w : Told) (k : Table) (ss : Steps) (scene : Scene) (st : Stack) (t : ℕ) → AreModest ss →
     length scene.here.input ≤ 16777216 →
     IsTold w (tell k ss scene st t) → w.end ≤ t + size_of ss * 1099511627776
@@ -60,7 +60,7 @@ ends_handled w k x ss scene st t modest modest_handler small told =
     let end : w.end ≡ tale.end = told.end in
     omega (arith, fits, same, end)
 
--- at a step, what was told ended well and goes on with the steps that are left
+-- at a step, what was walked ended without an exception and continues with the steps that are left
 pub record AtStep (h : Here) (t : ℕ) (all left : Steps) (start : List held.Event) (w : Told) (now : List held.Event) : Type 0 where
   pub going : Going h.task.now start w now (tell (table_of h) all (scene_of h) (scopes_of h) t)
       (λ u. tell (table_of h) left (scene_of h) (scopes_of h) u)
@@ -122,14 +122,14 @@ at_next h t all rest s start mid now w v x at u ends tells join well =
       room = record { room = omega (arith, at.room.room, fits, from, over); small = at.room.small };
     }
 
--- all steps were told
+-- all steps were walked
 pub at_stop : (h : Here) (t : ℕ) (all : Steps) (start : List held.Event) (w : Told) (now : List held.Event) →
     AtStep h t all stop start w now →
     Tells h.task.now start w now (tell (table_of h) all (scene_of h) (scopes_of h) t)
 unfolding tell
 at_stop h t all start w now at = going_stop h.task.now start now w _ _ at.going (λ y. refl)
 
--- a `start` is told with what it starts
+-- a `start` is walked with what it starts
 pub start_is : (h : Here) (name : List ℕ) (over : Option ℕ) (body : Steps) (t : ℕ) →
     started_by name over body h t ≡ tell_step (table_of h) (tree.start name over body) (scene_of h) (scopes_of h) t
 unfolding tell

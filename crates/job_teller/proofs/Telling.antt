@@ -1,4 +1,4 @@
--- How tellings of the code come to tales.
+-- How walks of the code correspond to tales.
 use Rattle.std.proofs.Common.{◌≡◌, ℕ, max, true, false, Option, Some, None, List, [], ◌∷◌, ◌++◌, refl, ap, sym, subst, ◌∙◌, arith}
 use Rattle.std.specs.Prelude.{map}
 use Rattle.std.specs.Option.{option_map, is_some}

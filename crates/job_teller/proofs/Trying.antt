@@ -1,4 +1,4 @@
--- What handlers and cleanups go on with.
+-- What handlers and cleanups continue with.
 use Rattle.std.proofs.Common.{◌≡◌, ℕ, Option, Some, None, List, sym, subst}
 use Rattle.std.specs.Option.{option_map}
 use Rattle.exc_groups.specs.Exceptions.{Label, Exc}

@@ -1,4 +1,4 @@
--- Where a walk of the code is, as the meaning has it, and what it tells there.
+-- Where a walk of the code is, in the terms of the meaning, and the events from there on.
 use Rattle.std.specs.Prelude.{ℕ, Bool, Option, Some, None, ◌+◌, ◌*◌, ◌≤◌, List, length}
 use Rattle.buffer_parts.specs.Lines.{Range}
 use Rattle.buffer_parts.specs.Part.{buffer_of, range_of}
@@ -76,7 +76,8 @@ started_by name (Some k) body h t = tell_each k (started_over name k body h t) t
 abbrev pub pass : Steps → Here → ℕ → ℕ → Tale
 pass body h i t = tell (table_of h) body (at_place (in_pass i (here_of h)) (scene_of h)) (scopes_of h) t
 
--- So many step instances are told before any tick is too large: each takes at most 2 ^ 40 ticks.
+-- The given number of step instances is walked before any tick is too large: each takes at most 2 ^
+-- 40 ticks.
 pub record HasRoom (size : ℕ) (h : Here) (t : ℕ) : Type 0 where
   pub room : t + size * 1099511627776 ≤ 4611686018427387904
   pub small : length (input_of h) ≤ MOST_INPUT

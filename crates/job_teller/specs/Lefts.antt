@@ -1,4 +1,4 @@
--- What leaving a block leaves, as the meaning has it.
+-- What remains when a block is left, in the terms of the meaning.
 use Rattle.std.specs.Prelude.{Bool, false}
 use Rattle.std.specs.Option.{option_map}
 use Rattle.exc_groups.specs.Held.{exc_of}
@@ -10,6 +10,6 @@ abbrev pub fails_of : meaning.Kind → Bool
 fails_of (meaning.a_scope fail) = fail
 fails_of meaning.a_nursery = false
 
--- what leaving a block leaves
+-- what remains when a block is left
 abbrev pub left_of : Left → meaning.Left
 left_of l = record { caught = l.caught; exc = option_map exc_of l.exc }

@@ -1,4 +1,4 @@
--- The scopes and nurseries that are open around a task, as the meaning has them.
+-- The scopes and nurseries that enclose a task, in the terms of the meaning.
 use Rattle.std.specs.Prelude.{[], ◌∷◌}
 use Rattle.exc_groups.specs.Exceptions.{Label}
 use Rattle.cancel_scopes.specs.Sight as sights

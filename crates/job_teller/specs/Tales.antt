@@ -1,4 +1,4 @@
--- What the code told, as the story has it.
+-- The result of the code, in the terms of the story.
 use Rattle.std.specs.Prelude.{◌≡◌, ◌++◌, ℕ, max, List, [], map}
 use Rattle.std.specs.Option.{option_map}
 use Rattle.exc_groups.specs.Exceptions.{Label}
@@ -11,23 +11,23 @@ use Rattle.job_story.specs.Tell.{only}
 use Rattle.job_story.specs.declared.event.Event.{Event}
 use Rattle.job_teller.specs.declared.told.Told.{Told}
 
--- the code's telling came to the tale's end
+-- what the code recorded is the end of the tale
 pub record IsTold (w : Told) (a : Tale) : Type 0 where
   pub end : w.end ≡ a.end
   pub exc : option_map exc_of w.exc ≡ a.exc
   pub open_until : (t : ℕ) → latest t a.members ≡ max t w.open_until
   pub open_excs : map exc_of w.open_excs.items ≡ excs_of a.members
 
--- the events of a task's story were told after others
+-- the events of a task's story were appended to others
 pub record Adds (me : Label) (before after : List Event) (story : Story) : Type 0 where
   pub added : map event_of after ≡ map event_of before ++ events_of me story
 
--- the code told a tale
+-- the code appended the events of a tale, and recorded its end
 pub record Tells (me : Label) (before : List Event) (w : Told) (after : List Event) (a : Tale) : Type 0 where
   pub told : IsTold w a
   pub events : Adds me before after a.story
 
--- a block was left, whose inside came to that
+-- a block was left, whose inside has this result
 pub record IsLeft (me : Label) (before after : List Event) (inner w : Told) (kind : Kind) (label : Label) (left : Left) : Type 0 where
   pub end : w.end ≡ inner.end
   pub exc : option_map exc_of w.exc ≡ exc_after kind label inner.end left

@@ -9,12 +9,12 @@ use exc_groups::{Exc, Label, Match, Parts, Whose, holds_cancelled, split};
 use job_story::Kind;
 use std::alloc::{AllocError, Global};
 
-/// What a scope or nursery lets through of the exception that its inside ended with.
+/// The exception that remains when a scope or nursery is left.
 #[derive(Drop)]
 pub struct Left {
     /// Whether a `Cancelled` was caught.
     pub caught: bool,
-    /// The exception that goes on.
+    /// The exception that propagates.
     pub exc: Option<Exc>,
 }
 
@@ -28,7 +28,7 @@ fn fails(kind: Kind) -> bool
     }
 }
 
-/// What a scope or nursery lets through: where it catches, it takes every `Cancelled` leaf out of the exception.
+/// Leaves a scope or nursery: if it catches, every `Cancelled` leaf is removed from the exception, and the rest propagates.
 pub(crate) fn left_with(alloc: Global, catches: bool, exc: Option<Exc>) -> Result<Left, AllocError>
     ensures { IfOk result (λ left. left_of left ≡ left_with catches (option_map exc_of exc)) }
 {
@@ -49,8 +49,8 @@ pub(crate) fn left_with(alloc: Global, catches: bool, exc: Option<Exc>) -> Resul
     Ok(Left { caught, exc: rest })
 }
 
-/// The exception that leaves a scope or nursery. A `fail` scope that caught a cancellation and has nothing else left raises `TooSlow` in
-/// that tick.
+/// Returns the exception that leaves a scope or nursery. A `fail` scope that caught a cancellation and has nothing else left
+/// raises `TooSlow` in that tick.
 pub(crate) fn exc_after(
     alloc: Global,
     kind: Kind,
@@ -70,7 +70,7 @@ pub(crate) fn exc_after(
     }
 }
 
-/// A copy of an exception, if there is one.
+/// Returns a copy of an exception, if there is one.
 pub(crate) fn copy_of(alloc: Global, exc: &Option<Exc>) -> Result<Option<Exc>, AllocError>
     ensures { IfOk result (λ copy. option_map exc_of copy ≡ option_map exc_of exc.now) }
 {
@@ -80,7 +80,7 @@ pub(crate) fn copy_of(alloc: Global, exc: &Option<Exc>) -> Result<Option<Exc>, A
     }
 }
 
-/// A copy of an exception, in a box.
+/// Returns a copy of an exception, in a box.
 pub(crate) fn copy_in_box(alloc: Global, exc: &Exc) -> Result<Box<Exc>, AllocError>
     ensures { IfOk result (λ copy. exc_of copy.value ≡ exc_of exc.now) }
 {
@@ -89,7 +89,7 @@ pub(crate) fn copy_in_box(alloc: Global, exc: &Exc) -> Result<Box<Exc>, AllocErr
     Ok(copy)
 }
 
-/// A copy of an exception in a box, if there is one.
+/// Returns a copy of an exception in a box, if there is one.
 pub(crate) fn boxed_copy(alloc: Global, exc: &Option<Exc>) -> Result<Option<Box<Exc>>, AllocError>
     ensures { IfOk result (λ copy. boxed copy ≡ option_map exc_of exc.now) }
 {
@@ -99,7 +99,7 @@ pub(crate) fn boxed_copy(alloc: Global, exc: &Option<Exc>) -> Result<Option<Box<
     }
 }
 
-/// A copy of a label, if there is one.
+/// Returns a copy of a label, if there is one.
 #[inline(never)]
 pub(crate) fn copied(alloc: Global, label: Option<&Label>) -> Result<Option<Label>, AllocError>
     ensures { IfOk result (λ copy. copy ≡ option_copied label.entry) }
@@ -117,7 +117,7 @@ pub(crate) fn move_all<T: Drop>(to: &mut Vec<T>, mut from: Vec<T>) -> Result<(),
     to.append(&mut from)
 }
 
-/// An exception, if there is one, in front of others.
+/// Returns an exception, if there is one, followed by others.
 pub(crate) fn with_exc(
     alloc: Global,
     exc: Option<Exc>,
@@ -134,7 +134,8 @@ pub(crate) fn with_exc(
     Ok(all)
 }
 
-/// The exception after a handler: what it raised itself and the rest that it did not take, as a group where there are both.
+/// Returns the exception after a handler: what it raised itself and the rest that it did not handle, as a group if there are
+/// both.
 pub(crate) fn handler_exc(
     alloc: Global,
     raised: Option<Exc>,
@@ -157,7 +158,7 @@ pub(crate) fn handler_exc(
     }))
 }
 
-/// The exception after a `finally` block: its own, or else the earlier one.
+/// Returns the exception after a `finally` block: its own, or else the earlier one.
 pub(crate) fn outcome_after(earlier: Option<Exc>, exc: Option<Exc>) -> Option<Exc>
     ensures { option_map exc_of result ≡ outcome_after (option_map exc_of earlier) (option_map exc_of exc) }
 {

@@ -9,8 +9,8 @@ use job_story::{Froms, Kind};
 use job_tree::Name;
 use std::alloc::{AllocError, Global};
 
-/// A place in the walk: the task, its part of the input, and the scopes and nurseries that it is in. It is copied, and changed by struct
-/// update, wherever the walk goes into a block or a started task.
+/// A point of the walk: the task, its part of the input, and the scopes and nurseries that enclose it. It is copied, and changed
+/// by struct update, when the walk enters a block or a started task.
 #[derive(Clone, Copy)]
 pub struct Here<'a, 's> {
     /// The allocator for events, labels and exceptions.
@@ -21,23 +21,23 @@ pub struct Here<'a, 's> {
     pub part: Part<'a>,
     /// The task's label.
     pub task: &'s Label,
-    /// A label whose indices are those of whatever is entered or started here: the task's own, then the number of each `repeat` pass
-    /// that the walk is in.
+    /// A label with the indices of everything that is entered or started here: the task's own, followed by the number of each
+    /// `repeat` pass that the walk is in.
     pub place: &'s Label,
-    /// The open scopes and nurseries, innermost first, with those of the tasks that started this one.
+    /// The open scopes and nurseries, innermost first, including those of the tasks that started this one.
     pub stack: &'s Stack<'s>,
     /// Whether the walk is in a `finally` block, of this task or of one that started it.
     pub in_cleanup: bool,
 }
 
 impl<'a, 's> Here<'a, 's> {
-    /// The label of a scope, nursery or task of that name that is entered or started here.
+    /// Returns the label of a scope, nursery or task of that name that is entered or started here.
     pub(crate) fn label_here(&self, name: Name) -> Result<Label, AllocError>
         ensures { IfOk result (λ label. label ≡ label_in name self.now) }
     {
         self.place.named(self.alloc, name)
     }
-    /// The scope or nursery of that name that is entered here, with its label and the tick from which it is cancelled.
+    /// Returns the scope or nursery of that name that is entered here, with its label and the tick from which it is cancelled.
     #[inline(never)]
     pub(crate) fn block(
         &self,

@@ -1,10 +1,11 @@
-//! The teller: it lists the events of a job's run over an input, from the tick at which each scope and nursery is cancelled.
+//! Lists the events of a job's run over an input, given the tick from which each scope and nursery is cancelled.
 //!
-//! `tell` returns exactly the events of the story that `job_story` defines, in the order of the walk. It needs no queue and no clock,
-//! since the ticks of cancellation are given: it walks the job's tree once, follows each task from its start to its end before it goes
-//! on with the task that started it, and appends every event as it comes to it. An error anywhere in the crate is a failed allocation.
+//! `tell` returns exactly the events of the story that `job_story` defines, in the order of the walk. It needs no queue and no
+//! clock, since the ticks of cancellation are given: it walks the job's tree once, follows each task from its start to its end
+//! before it continues with the task that started it, and appends every event when it reaches it. An error anywhere in the crate
+//! is a failed allocation.
 //!
-//! It stands on the job's tree, the parts of the input, the kernels and the exceptions, and on `job_story` for the events and the table
+//! It uses the job's tree, the parts of the input, the kernels and the exceptions, and `job_story` for the events and the table
 //! of ticks.
 #![tactic(auto)]
 

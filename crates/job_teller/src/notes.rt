@@ -67,8 +67,8 @@ pub(crate) fn note_sleep<'a>(
     Ok(())
 }
 
-/// Appends the event of a `Cancelled` that is raised in `tick`, since a cancellation from the tick `from` on is seen. `since` is the tick
-/// at which the task fell asleep, if it slept.
+/// Appends the event of a `Cancelled` that is raised in `tick`, because a cancellation from the tick `from` on is seen. `since`
+/// is the tick at which the task fell asleep, if it slept.
 #[inline(never)]
 pub(crate) fn note_cancelled<'a>(
     here: Here<'a, '_>,
@@ -90,7 +90,7 @@ pub(crate) fn note_cancelled<'a>(
     Ok(())
 }
 
-/// Appends the event of an exception of a `finally` block that takes the place of an earlier one, if there are both.
+/// Appends the event of an exception of a `finally` block that replaces an earlier one, if there are both.
 #[inline(never)]
 pub(crate) fn note_replaced<'a>(
     here: Here<'a, '_>,
@@ -114,7 +114,7 @@ pub(crate) fn note_replaced<'a>(
     Ok(())
 }
 
-/// Ends a nursery whose body was walked: appends the event that the task waits for the children, and gathers what they come to.
+/// Ends a nursery whose body was walked: appends the event that the task waits for the children, and gathers their outcomes.
 #[inline(never)]
 pub(crate) fn wait<'a>(
     label: &Label,

@@ -15,10 +15,11 @@ use job_grammar::Job;
 use job_story::{Event, Froms};
 use std::alloc::{AllocError, Global};
 
-/// The events of a job's run over an input, where `froms` has the tick from which each scope and nursery is cancelled.
+/// Returns the events of a job's run over an input, where `froms` maps each scope and nursery to the tick from which it is
+/// cancelled.
 ///
-/// The events are in the order of the walk and not sorted by tick: all events of a started task, from its start to its end, stand where
-/// the task was started. The input may have at most `MOST_INPUT` bytes. The only error is a failed allocation.
+/// The events are in the order of the walk and not sorted by tick: all events of a started task, from its start to its end, are
+/// at the point where the task was started. The input has at most `MOST_INPUT` bytes. The only error is a failed allocation.
 pub fn tell<'a>(
     alloc: Global,
     job: &'a Job,

@@ -14,24 +14,24 @@ use job_tree::Name;
 pub struct Level {
     /// Its label.
     pub label: Label,
-    /// Whether it hides the cancellations of the levels outside it.
+    /// Whether it hides the cancellations of the levels that enclose it.
     pub shield: bool,
-    /// The tick from which it is cancelled: none is never.
+    /// The tick from which it is cancelled, or `None` for never.
     pub from: Option<u64>,
 }
 
-/// The scopes and nurseries that are open at a place of the walk, innermost first.
+/// The scopes and nurseries that are open at a point of the walk, innermost first.
 #[derive(Drop)]
 pub enum Stack<'s> {
-    /// None is open.
+    /// No scope or nursery is open.
     Empty,
-    /// The innermost level, and those outside it.
+    /// The innermost level, and those that enclose it.
     Within(Level, &'s Stack<'s>),
 }
 
 impl<'s> Stack<'s> {
-    /// The earliest tick from which a cancellation is seen on top of the stack: none is never. Levels outside the first shielded one do
-    /// not count.
+    /// Returns the effective deadline (`sight`): the earliest tick from which a cancellation is seen inside this stack, or `None`
+    /// for never. Levels outside the first shielded one do not count.
     pub(crate) fn sight(&self) -> Option<u64>
         ensures { result ≡ sight (stack_of self.now) }
     {
@@ -42,7 +42,7 @@ impl<'s> Stack<'s> {
         }
     }
 
-    /// The label of the innermost level, in which a task that starts here is started: none on an empty stack.
+    /// Returns the label of the innermost level, in which a task that starts here is started, or `None` for an empty stack.
     pub(crate) fn home(&self) -> Option<&Label>
         ensures { option_copied result ≡ home_of (stack_of self.now) }
     {
@@ -52,7 +52,7 @@ impl<'s> Stack<'s> {
         }
     }
 
-    /// The label of the innermost level of that name, if there is one.
+    /// Returns the label of the innermost level of that name, if there is one.
     pub(crate) fn label_on(&self, name: &Name) -> Option<&Label>
         ensures { option_copied result ≡ label_on name.now (stack_of self.now) }
     {
@@ -63,8 +63,8 @@ impl<'s> Stack<'s> {
         }
     }
 
-    /// The label of the innermost level that is cancelled from exactly that tick, if there is one. Levels outside the first shielded one
-    /// do not count.
+    /// Returns the label of the innermost level that is cancelled from exactly that tick, if there is one. Levels outside the
+    /// first shielded one do not count.
     pub(crate) fn seer(&self, from: u64) -> Option<&Label>
         ensures { option_copied result ≡ seer (stack_of self.now) from }
     {
@@ -76,8 +76,8 @@ impl<'s> Stack<'s> {
         }
     }
 
-    /// Whether a scope or nursery on top of this stack that is left in a tick catches `Cancelled`: it is itself cancelled by then, and
-    /// no cancellation of the stack is seen through it.
+    /// Returns whether a scope or nursery directly inside this stack that is left in a tick catches `Cancelled`: it is itself
+    /// cancelled by then, and no cancellation of the stack is seen through it.
     pub(crate) fn catches(&self, from: Option<u64>, shield: bool, tick: u64) -> bool
         ensures { result ≡ catches from shield (stack_of self.now) tick }
     {

@@ -11,49 +11,49 @@ use crate::excs::{boxed_copy, copy_of, handler_exc, move_all, outcome_after, wit
 use exc_groups::{Exc, Label, Whose, group};
 use std::alloc::{AllocError, Global};
 
-/// How a stretch of the walk ended, and what the children come to that it started in a nursery that is still open.
+/// How a stretch of the walk ended, and what is recorded of the children that it started in a nursery that is still open.
 #[derive(Drop)]
 pub struct Told {
     /// The tick in which it ended.
     pub end: u64,
-    /// The exception with which it ended: none where it ended well.
+    /// The exception with which it ended, or `None`.
     pub exc: Option<Exc>,
-    /// The tick in which the last of those children ended, 0 where there are none.
+    /// The tick in which the last of those children ended, or 0 if there are none.
     pub open_until: u64,
     /// The exceptions of those children, in the order of their starts.
     pub open_excs: Vec<Exc>,
 }
 
 impl Told {
-    /// The tick in which it ended.
+    /// Returns the tick in which it ended.
     pub(crate) fn end(&self) -> u64
         ensures { result ≡ self.now.end }
     {
         self.end
     }
 
-    /// Whether it ended with an exception.
+    /// Returns whether it ended with an exception.
     pub(crate) fn has_failed(&self) -> bool
         ensures { result ≡ is_some self.now.exc }
     {
         self.exc.is_some()
     }
 
-    /// A copy of its exception, if it ended with one.
+    /// Returns a copy of its exception, if it ended with one.
     pub(crate) fn copy_exc(&self, alloc: Global) -> Result<Option<Exc>, AllocError>
         ensures { IfOk result (λ copy. option_map exc_of copy ≡ option_map exc_of self.now.exc) }
     {
         copy_of(alloc, &self.exc)
     }
 
-    /// A copy of its exception in a box, if it ended with one.
+    /// Returns a copy of its exception in a box, if it ended with one.
     pub(crate) fn box_exc(&self, alloc: Global) -> Result<Option<Box<Exc>>, AllocError>
         ensures { IfOk result (λ copy. boxed copy ≡ option_map exc_of self.now.exc) }
     {
         boxed_copy(alloc, &self.exc)
     }
 
-    /// A stretch that ended in this tick without an exception, and started no child.
+    /// Returns a stretch that ended in this tick without an exception, and started no child.
     pub(crate) fn at(alloc: Global, tick: u64) -> Told
         ensures { (story : Story) → IsTold result (told_at tick story) }
     {
@@ -65,7 +65,7 @@ impl Told {
         }
     }
 
-    /// A stretch that ended in this tick with an exception, and started no child.
+    /// Returns a stretch that ended in this tick with an exception, and started no child.
     pub(crate) fn failed(alloc: Global, exc: Exc, tick: u64) -> Told
         ensures { (story : Story) → IsTold result (failed_at (exc_of exc) tick story) }
     {
@@ -77,7 +77,8 @@ impl Told {
         }
     }
 
-    /// This stretch, which ended well, and the next as one: the next one's end, and the children of both.
+    /// Joins this stretch, which ended without an exception, and the next one: the result has the next one's end, and the
+    /// children of both.
     #[inline(never)]
     pub(crate) fn join(self, next: Told) -> Result<Told, AllocError>
         ensures { IfOk result (λ w. (a b : Tale) → IsTold self a → IsTold next b → IsTold w (and_tale a b)) }
@@ -102,7 +103,7 @@ impl Told {
         })
     }
 
-    /// A `try` body and its handler as one. What the handler did not take goes on, in a group with what it raised itself.
+    /// Joins a `try` body and its handler. What the handler did not handle propagates, in a group with what it raised itself.
     #[inline(never)]
     pub(crate) fn handled(
         self,
@@ -118,7 +119,7 @@ impl Told {
         Ok(told)
     }
 
-    /// A `try` with its `finally` block as one. An exception of that block takes the place of the earlier one.
+    /// Joins a `try` and its `finally` block. An exception of that block replaces the earlier one.
     #[inline(never)]
     pub(crate) fn cleaned(self, alloc: Global, next: Told) -> Result<Told, AllocError>
         ensures { IfOk result (λ w. (a b : Tale) → IsTold self a → IsTold next b → IsTold w (cleaned_by a b)) }
@@ -129,8 +130,8 @@ impl Told {
         Ok(told)
     }
 
-    /// The end of a nursery whose body is this stretch: it ends with its last member, and the exceptions of the body and the children are
-    /// one group.
+    /// Ends a nursery whose body is this stretch: it ends with its last member, and the exceptions of the body and the children
+    /// are one group.
     #[inline(never)]
     pub(crate) fn gather(self, alloc: Global, label: &Label) -> Result<Told, AllocError>
         ensures { IfOk result (λ w. (a : Tale) → IsTold self a → IsTold w (tell_gathered label.now a)) }
@@ -150,8 +151,8 @@ impl Told {
         })
     }
 
-    /// A started task whose whole walk this is, as the task that started it sees it: that one goes on in the tick of the start, with one
-    /// more child.
+    /// Returns the walk of a started task as the task that started it sees it: that one continues in the tick of the start, with
+    /// one more child.
     #[inline(never)]
     pub(crate) fn into_child(self, alloc: Global, tick: u64) -> Result<Told, AllocError>
         ensures { IfOk result (λ w. (label : TreeLabel) (home : Option TreeLabel) (scene : Scene) (a : Tale) → IsTold self a

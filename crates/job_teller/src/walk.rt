@@ -278,7 +278,7 @@ fn tell_passes<'a>(
     Ok(told)
 }
 
-// Walks one pass of a `repeat`, of which what it enters or starts has the number in its label.
+// Walks one pass of a `repeat`. What it enters or starts has the number of the pass in its label.
 #[cycle(telling)]
 #[inline(never)]
 fn tell_pass<'a>(
@@ -301,7 +301,7 @@ fn tell_pass<'a>(
     Ok(told)
 }
 
-// Walks a `try`: its body, its handler where that is wanted, and its `finally` block.
+// Walks a `try`: its body, its handler if that matches, and its `finally` block.
 #[cycle(telling)]
 #[inline(never)]
 fn tell_try<'a>(
@@ -327,7 +327,7 @@ fn tell_try<'a>(
     Ok(told)
 }
 
-// Goes on with the handler of a `try` whose body was walked, where there is one and its name matches what the body raised.
+// Continues with the handler of a `try` whose body was walked, if there is one and its name matches what the body raised.
 #[cycle(telling)]
 #[inline(never)]
 fn tell_handler<'a>(
@@ -364,7 +364,7 @@ fn tell_handler<'a>(
     Ok(told)
 }
 
-// Goes on with the `finally` block of a `try`, where there is one.
+// Continues with the `finally` block of a `try`, if there is one.
 #[cycle(telling)]
 #[inline(never)]
 fn tell_cleanup<'a>(
