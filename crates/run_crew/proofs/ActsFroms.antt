@@ -83,7 +83,7 @@ pub alone_of : (s : Scoping) → Apart s → (key : ℕ) (label : Label) → s.l
 alone_of s h key label e [] = tt
 alone_of s h key label e (l ∷ ls) = ((λ f. h.labels l.label key label f e), alone_of s h key label e ls)
 
--- the labels of places are those of scopes
+-- the labels of enclosing scopes and nurseries are those of scopes
 known_at : (known : Label → Type 0) (s : Scoping) (f : Table) → HasKnown known s → (st : Stack) (ps : List Place) → AreAt s.labels f st ps →
     (l : Label) → Known l (labels_of ps) → known l
 known_at known s f h [] [] a l i = absurd i
@@ -92,11 +92,11 @@ known_at known s f h (x ∷ xs) [] a l i = absurd i
 known_at known s f h (x ∷ xs) (p ∷ ps) a l (inl e) = subst known (sym e) (h x.label p.label a.0)
 known_at known s f h (x ∷ xs) (p ∷ ps) a l (inr i) = known_at known s f h xs ps a.3 l i
 
--- the stack of a scope is these places with the froms of a table
+-- the stack of a scope corresponds to these places (enclosing scopes and nurseries) with the froms of a table
 abbrev pub StandsAt : ℕ → Table → List Place → Scoping → Type 0
 StandsAt key f ps s = (st : Stack) × (stack_of s.tree key ≡ Some st) × AreAt s.labels f st ps
 
--- where a scope is cancelled, each stack has the places that it had, by the lowered froms
+-- if a scope is cancelled, each stack has the places that it had, by the lowered froms
 pub at_signs : {t : ℕ} {label : Label} {s m : Scoping} → (key : ℕ) (f : Table) (st : Stack) (ps : List Place) → (g : Signs t label s m) →
     Apart s → stack_of s.tree key ≡ Some st →
     AreAt s.labels f st ps → (stack_of m.tree key ≡ Some (after_cancel g.key t st))
@@ -107,7 +107,7 @@ at_signs {t} {label} {s} {m} key f st ps g h e a = (
       (signed_at s.labels f st ps g.key t label g.labelled (alone_of s h g.key label g.labelled st) a),
 )
 
--- where one is entered with a new label, the stack of a scope that is none of the task's stays, with its places
+-- if one is entered with a new label, the stack of a scope that is none of the task's stays, with its places
 pub at_enters : {label : Label} {d : Tick} {s m : Scoping} → (known : Label → Type 0) (key : ℕ) (f : Table) (st : Stack) (ps : List Place) →
     Enters label d s m → Sound s → HasKnown known s →
     (known label → ⊥) → stack_of s.tree key ≡ Some st → AreOthers key s.own → AreAt s.labels f st ps → (stack_of m.tree key ≡ Some st)
@@ -116,7 +116,7 @@ at_enters {label} {d} {s} {m} known key f st ps g h k new e others a =
     let n = keeps_enters g h e others in
     (n.at, opened_else s.labels m.labels f st ps label d n.labels (λ i. new (known_at known s f k st ps a label i)) a)
 
--- where one is left, the stack of a scope that is none of the task's stays, with its places
+-- if one is left, the stack of a scope that is none of the task's stays, with its places
 pub at_leaves : {s m : Scoping} → (key : ℕ) (f : Table) (st : Stack) (ps : List Place) → Leaves s m → stack_of s.tree key ≡ Some st →
     AreOthers key s.own → AreAt s.labels f st ps →
     (stack_of m.tree key ≡ Some st) × AreAt m.labels f st ps
@@ -124,7 +124,7 @@ at_leaves {s} {m} key f st ps g e others a =
     let n = keeps_leaves g e others in
     (n.at, same_labels s.labels m.labels f st ps n.labels a)
 
--- whatever a task does, a scope that is none of its own stands at the same places by the new froms
+-- whatever a task does, a scope that is none of its own has the same places by the new froms
 pub stays_at : {t : ℕ} → (known : Label → Type 0) (f : Table) (key : ℕ) (st : Stack) (ps : List Place) → {s u : Scoping} {es : List Event} →
     Acts t s es u → Sound s → Apart s → HasKnown known s →
     AreNew known es → stack_of s.tree key ≡ Some st → AreOthers key s.own → AreAt s.labels f st ps → StandsAt key (froms_after f es) ps u

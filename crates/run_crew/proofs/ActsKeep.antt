@@ -107,7 +107,7 @@ is_key_before k id t [] i = absurd i
 is_key_before k id t (l ∷ ls) (inl e) = inl (e ∙ key_stays l t (l.label == id))
 is_key_before k id t (l ∷ ls) (inr i) = inr (is_key_before k id t ls i)
 
--- a scope of a stack is none that the stack lacks
+-- a scope of a stack is none that the stack does not contain
 pub among_all : (key k : ℕ) (st : Stack) → All (λ (l : Level ℕ). l.label ≢ key) st → IsKey k st → k ≢ key
 among_all key k [] a i = absurd i
 among_all key k (l ∷ ls) a (inl e) = λ f. All-head (λ (m : Level ℕ). m.label ≢ key) l ls a (sym e ∙ f)

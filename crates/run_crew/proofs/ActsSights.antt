@@ -1,4 +1,5 @@
--- What a task does to scopes lowers the sight of no scope that it does not mark as changed.
+-- What a task does to scopes lowers the effective deadline (`sight`) of no scope that it does not
+-- mark as changed.
 use Rattle.std.proofs.Common.{◌≡◌, ◌≢◌, ◌⊎◌, inl, inr, ℕ, suc, ◌+◌, ◌<◌, ◌≤◌, Bool, true, false, ◌==◌, ◌||◌, if◌then◌else◌, Some, None, List, [], ◌∷◌, refl, ap, sym, ◌∙◌, arith}
 use Rattle.std.specs.Prelude.{nat_le, nat_lt}
 use Rattle.std.specs.Option.{option_map}
@@ -17,7 +18,7 @@ use Rattle.run_crew.specs.Turn.{AreNew}
 use Rattle.run_crew.proofs.ActsKeep.{Apart, HasKnown, NoneHas, is_open, same_or, open_differs, labelled_left, apart_signs, apart_enters, apart_leaves}
 use Rattle.run_crew.proofs.ActsFroms.{unmoved}
 
--- ---- sights
+-- ---- effective deadlines
 
 or_left : (a b : Bool) → a ≡ true → (a || b) ≡ true
 or_left true b e = refl
@@ -135,7 +136,7 @@ closed_never known f l {s} {m} g a apart k new e = (unmoved known f l a none k n
     none : NoneHas l m
     none key i = let b = labelled_left g key l i in b.0 (apart.labels key g.scope.id l b.1 e)
 
--- another than the scope that is left shows its sight still
+-- any other scope than the one that is left still shows its effective deadline
 shows_left : {t : ℕ} → (known : Label → Type 0) (f : Table) (key : ℕ) (l : Label) → {s m u : Scoping} {es : List Event} → (g : Leaves s m) →
     Acts t m es u → Apart s → known l → AreNew known es →
     s.labels key ≡ Some l → u.labels key ≡ Some l → (kept : Tick) → Shows s.tree key kept →
@@ -146,7 +147,7 @@ shows_left known f key l {s} {m} {u} g a apart k new was is kept h more = by_key
     by_key (inl e) = absurd (closed_never known f l g a apart k new (sym (ap s.labels e) ∙ was) key is)
     by_key (inr differs) = more (g.unlabelled.others key differs ∙ was) (shows_leaves key kept g differs h)
 
--- A scope that has its label in the end shows the sight that it showed, or is marked.
+-- A scope that has its label in the end shows the effective deadline that it showed, or is marked.
 pub shows_acts : {t : ℕ} → (known : Label → Type 0) (f : Table) (key : ℕ) (l : Label) (kept : Tick) → {s u : Scoping} {es : List Event} →
     Acts t s es u → Apart s → HasKnown known s →
     AreNew known es → known l → s.labels key ≡ Some l → u.labels key ≡ Some l → Shows s.tree key kept → Shows u.tree key kept

@@ -62,7 +62,7 @@ same_on : (labels more : Labels) (st : Stack) → more ≡ labels → SameOn lab
 same_on labels more [] e = tt
 same_on labels more (l ∷ ls) e = (sym (ap (λ (f : Labels). f l.label) e), same_on labels more ls e)
 
--- where no scope of a stack has the key whose label changes
+-- if no scope of a stack has the key whose label changes
 same_but : {labels more : Labels} {key : ℕ} {o : Option Label} → Updates labels more key o → (st : Stack) →
     ((k : ℕ) → IsKey k st → k ≢ key) → SameOn labels more st
 same_but u [] differs = tt
@@ -70,7 +70,7 @@ same_but u (l ∷ ls) differs = (sym (u.others l.label (differs l.label (inl ref
 
 -- ---- a scope of another task stays
 
--- a scope that is none of the task's stays open inside the same ones where one is cancelled
+-- a scope that is none of the task's stays open inside the same ones when one is cancelled
 pub stays_signs : {t : ℕ} {label : Label} {s m : Scoping} {key : ℕ} {st : Stack} → Signs t label s m → stack_of s.tree key ≡ Some st →
     AreOthers key s.own → Stays key st s m
 stays_signs {t} {label} {s} {m} {key} {st} g e others =
@@ -88,7 +88,7 @@ pub record Keeps (key : ℕ) (st : Stack) (s m : Scoping) : Type 0 where
   pub labels : SameOn s.labels m.labels st
   pub others : AreOthers key m.own
 
--- a scope that is none of the task's keeps its stack and the labels in it where one is entered
+-- a scope that is none of the task's keeps its stack and the labels in it when one is entered
 pub keeps_enters : {label : Label} {d : Tick} {s m : Scoping} {key : ℕ} {st : Stack} → Enters label d s m → Sound s →
     stack_of s.tree key ≡ Some st → AreOthers key s.own → Keeps key st s m
 keeps_enters {label} {d} {s} {m} {key} {st} g h e others =
@@ -101,7 +101,7 @@ keeps_enters {label} {d} {s} {m} {key} {st} g h e others =
     differs : key ≢ g.scope.id
     differs = open_differs s.tree g.scope.id key g.fresh (is_open s.tree key st e)
 
--- a scope that is none of the task's keeps its stack and the labels in it where one is left
+-- a scope that is none of the task's keeps its stack and the labels in it when one is left
 pub keeps_leaves : {s m : Scoping} {key : ℕ} {st : Stack} → Leaves s m → stack_of s.tree key ≡ Some st → AreOthers key s.own →
     Keeps key st s m
 keeps_leaves {s} {m} {key} {st} g e others =

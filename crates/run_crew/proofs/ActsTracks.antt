@@ -43,13 +43,13 @@ tracks_more m h =
 
 -- ---- lists
 
--- what holds of all in a list holds of the one at a place
+-- what holds for all in a list holds for the one at an index
 pub all_got : {A : Type 0} (P : A → Type 0) (xs : List A) (i : ℕ) (x : A) → All P xs → slice_get xs i ≡ Some x → P x
 all_got P [] i x a e = absurd (not_both refl e)
 all_got P (y ∷ xs) zero x a e = subst P (one_of y x e) (All-head P y xs a)
 all_got P (y ∷ xs) (suc i) x a e = all_got P xs i x (All-tail P y xs a) e
 
--- what holds of the one at each place holds of all in a list
+-- what holds for the one at each index holds for all in a list
 pub all_if : {A : Type 0} (P : A → Type 0) (xs : List A) → ((x : A) (i : ℕ) → slice_get xs i ≡ Some x → P x) → All P xs
 all_if P [] h = All-nil P
 all_if P (y ∷ xs) h = All-cons P y xs (h y zero refl) (all_if P xs (λ x i e. h x (suc i) e))
@@ -69,7 +69,7 @@ get_one (z ∷ xs) y x (suc i) e = by_place (get_one xs y x i e)
     by_place (inl f) = inl f
     by_place (inr f) = inr (ap suc f.0, f.1)
 
--- an entry is put in the place of one with the same label
+-- an entry is replaced by one with the same label
 set_labels : (xs : List ScopeFrom) (i : ℕ) (x y : ScopeFrom) → slice_get xs i ≡ Some x → y.label ≡ x.label →
     map (λ (z : ScopeFrom). z.label) (slice_set xs i y) ≡ map (λ (z : ScopeFrom). z.label) xs
 set_labels [] i x y e f = refl
@@ -77,7 +77,7 @@ set_labels (z ∷ xs) zero x y e f =
     ap (λ (l : Label). l ∷ map (λ (w : ScopeFrom). w.label) xs) (f ∙ sym (ap (λ (w : ScopeFrom). w.label) (one_of z x e)))
 set_labels (z ∷ xs) (suc i) x y e f = ap (λ (ls : List Label). z.label ∷ ls) (set_labels xs i x y e f)
 
--- then each place has its label still
+-- then each index still has its label
 set_keeps : (xs : List ScopeFrom) (i j : ℕ) (x y z : ScopeFrom) → slice_get xs i ≡ Some x → y.label ≡ x.label → slice_get xs j ≡ Some z →
     (w : ScopeFrom) × (slice_get (slice_set xs i y) j ≡ Some w) × (w.label ≡ z.label)
 set_keeps [] i j x y z e f g = absurd (not_both refl e)
@@ -86,7 +86,7 @@ set_keeps (v ∷ xs) zero (suc j) x y z e f g = (z, g, refl)
 set_keeps (v ∷ xs) (suc i) zero x y z e f g = (z, g, refl)
 set_keeps (v ∷ xs) (suc i) (suc j) x y z e f g = set_keeps xs i j x y z e f g
 
--- and what stands there is the entry, or stood there before
+-- and what is there is the entry, or was there before
 set_shows : (xs : List ScopeFrom) (i j : ℕ) (y z : ScopeFrom) → slice_get (slice_set xs i y) j ≡ Some z → ((j ≡ i) × (y ≡ z))
     ⊎ ((j ≢ i) × (slice_get xs j ≡ Some z))
 set_shows [] i j y z e = absurd (not_both refl e)

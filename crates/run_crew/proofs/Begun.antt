@@ -1,4 +1,5 @@
--- A crew begins: the root is its one task, in a world in which nothing happened yet.
+-- The tasks of the program at the beginning: the root is the only one, in a world in which nothing
+-- has happened.
 use Rattle.std.proofs.Common.{◌≡◌, ◌⊎◌, inl, inr, ℕ, zero, suc, ◌<◌, ◌≤◌, Option, Some, None, List, [], ◌∷◌, map, length, refl, ap, sym, ◌∙◌, subst, arith}
 use Rattle.std.specs.Prelude.{All, IsSome, slice_get}
 use Rattle.std.specs.Option.{ForSome}
@@ -41,7 +42,7 @@ use Rattle.run_crew.specs.Crew.{Course, Crew, Gone, Differ, HasHome, Follows, Ha
 abbrev no_froms : Table
 no_froms l = None
 
--- at each serial number stands the root, which made nothing
+-- at each serial number is the root, which has done nothing
 begun_course : (k : Table) (job : Job) (input : List ℕ) → Course k job input 0 1
 begun_course k job input =
     record {
@@ -148,9 +149,9 @@ root_follows k job input crew root modest starting names r =
     by_none id (inl h) = h
     by_none id (inr e) = absurd (let f : None ≡ Some id = e in cc)
 
--- ---- the crew
+-- ---- the tasks of the program
 
--- the crew of a run that begins, where the root stands at serial number 0
+-- the tasks of a run that begins, where the root is at serial number 0
 pub record BeginsAs (k : Table) (job : Job) (input : List ℕ) (crew : Crew) : Type 0 where
   pub is : IsCrew k job input 0 1 None crew
   pub at : is.course.at 0 ≡ root_task k job input

@@ -1,4 +1,5 @@
--- A crew whose tasks all stay: the run is blocked, and while one has not ended, one sleeps. And how long a crew goes on.
+-- If all tasks of the program stay, the run is blocked, and while one has not ended, one sleeps. And how long the
+-- program continues.
 use Rattle.std.proofs.Common.{◌≡◌, inl, inr, ◌&&◌, true, false, ℕ, zero, suc, ◌+◌, ◌*◌, ◌<◌, ◌≤◌, Option, Some, None, List, [], ◌∷◌, length, refl, ap, sym, ◌∙◌, subst, arith}
 use Rattle.std.specs.Prelude.{is_some, slice_get}
 use Rattle.std.specs.List.{list_all}
@@ -57,7 +58,7 @@ among_at [] i x e = absurd (not_both refl e)
 among_at (y ∷ xs) zero x e = inl (let f : Some y ≡ Some x = e in cc)
 among_at (y ∷ xs) (suc i) x e = inr (among_at xs i x e)
 
--- ---- a crew that stays
+-- ---- tasks that stay
 
 -- a task that has not ended is live
 pub task_lives : (k : Table) (job : Job) (input : List ℕ) (t m : ℕ) (crew : Crew) → (c : IsCrew k job input t m None crew) →
@@ -65,7 +66,7 @@ pub task_lives : (k : Table) (job : Job) (input : List ℕ) (t m : ℕ) (crew : 
     live (c.course.at s).rest.stopped ≡ true
 task_lives k job input t m crew c s task e = (c.follows s task e).lives (λ f. not_both refl f)
 
--- where no task of a crew goes on before a tick, the run is blocked until then
+-- if no task of the program continues before a tick, the run is blocked until then
 pub crew_blocked : (k : Table) (job : Job) (input : List ℕ) (t m : ℕ) (crew : Crew) → (c : IsCrew k job input t m None crew) → (u : ℕ) →
     AllStay crew u →
     Blocked c.course.froms c.course.tasks u
@@ -85,7 +86,7 @@ crew_blocked k job input t m crew c u stay q i =
     book : NurseryBook
     book = crew.world.book
 
-    -- who waits does so for a child that runs
+    -- a task that waits does so for a child that runs
     waits : (s : ℕ) (task : Task) (id since v : ℕ) (children : List ℕ) (exc : Option Exc) → crew.task s ≡ Some task →
         waits_of task.halt ≡ Some id → c.numbers s id ≡ children →
         HasNursery book id (λ n. n.body ≡ Some exc) → HasNursery book id (λ n. is_settled n ≡ false) → Unended qs (at s) children
@@ -179,7 +180,7 @@ crew_sleeps k job input t m crew settled names starting c u stay s task lives = 
         let h = by_halt y.halt (subst (IsHalt (c.numbers x.serial) crew.world.book y.halt) stopped (c.follows x.serial y e).halt) in
         record { serial = x.serial; task = y; lives = e; ticks = h.0; since = h.1; asleep = h.2 }
 
--- ---- how long a crew goes on
+-- ---- how long the program continues
 
 -- while a task has not ended, the job does not end before the tick
 pub crew_in_time : (job : Job) (input : List ℕ) (t m : ℕ) (crew : Crew) → GivesNamesOnce job → StartsInNurseries job →
@@ -189,7 +190,7 @@ crew_in_time job input t m crew names starting c s task lives =
     limits_are_exact job input names starting c.course.froms t m c.course.tasks c.course.reached (c.course.at s)
     (c.course.has s (below_of c s task lives)).0 (task_lives (meaning_table job input) job input t m crew c s task lives)
 
--- a crew has so many turns at most
+-- the program has at most this number of turns
 pub crew_turns : (k : Table) (job : Job) (input : List ℕ) (t m : ℕ) (leaving : Option ℕ) (crew : Crew) →
     IsCrew k job input t m leaving crew → crew.turns ≤ 2 * size_of job.steps + 1
 crew_turns k job input t m leaving crew c =

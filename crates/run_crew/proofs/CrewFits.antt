@@ -1,5 +1,5 @@
--- Each task of a crew can have its turn: a scope of another task that is inside one of its scopes belongs to a descendant, and so a
--- child of the task runs in there.
+-- Each task of the program can have its turn: a scope of another task that is inside one of its scopes belongs to a descendant,
+-- and so a child of the task runs inside that.
 use Rattle.std.proofs.lemmas.Bool.{eqb-true, eq-eqb}
 use Rattle.std.proofs.lemmas.Bool.Decides.{nat_tests}
 use Rattle.std.proofs.lemmas.List.{length-take, length-drop}
@@ -105,7 +105,7 @@ stack_is tree key h = by_stack (stack_of tree key) refl h
     by_stack None e s = absurd (let f : false ≡ true = s in cc)
     by_stack (Some st) e s = ap (λ (x : Option Stack). Some (unwrap_or x [])) (sym e)
 
--- round a scope that a task opened stand those that it opened before, and then its home's
+-- a scope that a task opened is enclosed by those that it opened before, and then by its home's
 pub own_stack : (tree : Tree) → IsChain tree → IsApart tree → (home : Option ℕ) (own : List Own) → OwnFirst tree home own →
     ForSome (last_or home (ids own)) (IsOpen tree) →
     (n : ℕ) (o : Own) → slice_get own n ≡ Some o → OwnStack tree home own o n
@@ -168,7 +168,7 @@ own_stack tree chain apart home own first opened n o e =
 
 -- ---- the scope of a nursery that a task has
 
--- the task opened it, and where a child of the nursery runs, one runs in each scope of the task that is round it, or is it
+-- the task opened it, and if a child of the nursery runs, one runs in it and in each scope of the task that encloses it
 pub record NurseryOwn (book : NurseryBook) (bs : List Block) (own : List Own) (waits : Option ℕ) (id : ℕ) (n : Nursery) : Type 0 where
   pub place : ℕ
   pub scope : Own
@@ -235,7 +235,7 @@ bytes_few buffer from to =
     let g : min (to - from) (length (drop from buffer)) ≤ length (drop from buffer) = omega arith in
     let h : length (slice_range buffer from to) ≡ min (to - from) (length (drop from buffer)) = e in omega (arith, h, f, g)
 
--- ---- a scope of a task round those of another
+-- ---- a scope of a task that encloses those of another
 
 module _ (k : Table) (job : Job) (input : List ℕ) (t m : ℕ) (leaving : Option ℕ) (crew : Crew) (c : IsCrew k job input t m leaving crew)
     (sound : IsSound crew.world.scopes) where
@@ -250,7 +250,7 @@ module _ (k : Table) (job : Job) (input : List ℕ) (t m : ℕ) (leaving : Optio
       OpenedBy crew o.id s
   opened_by s task e n o at = record { task = task; lives = e; place = n; scope = o; own = at; is = refl }
 
-  -- a key in the stack of a task's scope that is none of the task's is round its home
+  -- a key in the stack of a task's scope that is none of the task's encloses its home
   beyond : (s : ℕ) (task : Task) (e : crew.task s ≡ Some task) (n : ℕ) (o : Own) (at : slice_get task.own.items n ≡ Some o) (key : ℕ) →
       (let w = stack_by s task e n o at in IsAmong key (keys_of (w.level ∷ w.behind))) → (OpenedBy crew key s → ⊥) →
       IsAmong key (keys_of (outer_of crew.world.scopes (home_scope task)))
@@ -278,7 +278,7 @@ module _ (k : Table) (job : Job) (input : List ℕ) (t m : ℕ) (leaving : Optio
           (subst (λ (ks : List ℕ). IsAmong key ks) w.keys j))
 
   module _ (s : ℕ) (mine : Task) (lives : crew.task s ≡ Some mine) (i : ℕ) (o : Own) (at : slice_get mine.own.items i ≡ Some o) where
-    -- it is none of another's
+    -- it is none of another task's
     of_another : (u : ℕ) → u ≢ s → OpenedBy crew o.id u → ⊥
     of_another u differs h = differs (c.apart o.id u s h (opened_by s mine lives i o at))
 

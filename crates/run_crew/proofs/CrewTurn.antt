@@ -1,4 +1,5 @@
--- A turn in a crew: what its mover does to scopes, and what is the same of each other task.
+-- A turn of one task of the program: what the task that moves does to scopes, and what stays the same
+-- for each other task.
 use Rattle.std.proofs.Common.{◌≡◌, ◌≢◌, ◌⊎◌, inl, inr, ℕ, Some, None, List, refl, sym}
 use Rattle.std.specs.Prelude.{slice_get}
 use Rattle.cancel_scopes.specs.Tree.{IsOpen}

@@ -1,4 +1,4 @@
--- What a crew says of its tasks: whose a nursery is, and which serial numbers there are.
+-- The tasks of the program: which task a nursery belongs to, and which serial numbers exist.
 use Rattle.std.proofs.Common.{◌≡◌, ◌⊎◌, inl, inr, ℕ, ◌<◌, ◌≤◌, true, Option, Some, None, List, refl, ap, sym, ◌∙◌, subst, arith}
 use Rattle.std.proofs.lemmas.Bool.{cases_lt}
 use Rattle.std.specs.Prelude.{slice_get}
@@ -79,7 +79,7 @@ follows_by crew f input t at numbers leaving s task n q e g h home =
     (subst (λ (z : Started). Stood crew f input t at leaving s task n z) (sym g) h))
     home
 
--- ---- a crew
+-- ---- the tasks of the program
 
 module _ (k : Table) (job : Job) (input : List ℕ) (t m : ℕ) (leaving : Option ℕ) (crew : Crew) (c : IsCrew k job input t m leaving crew)
   where

@@ -1,4 +1,4 @@
--- So many tasks of a crew have not ended at most.
+-- A maximum number of tasks of the program that have not ended.
 use Rattle.std.proofs.Common.{◌≡◌, ◌⊎◌, inl, inr, true, false, ℕ, ◌+◌, ◌*◌, ◌≤◌, Option, Some, None, List, [], ◌∷◌, length, refl, ap, sym, ◌∙◌, subst, arith}
 use Rattle.std.specs.Prelude.{IsSome}
 use Rattle.job_tree.specs.Tree.{Tree as Job}
@@ -60,7 +60,7 @@ record LivesAt (at : ℕ → Started) (qs : List Started) (s : ℕ) : Type 0 whe
   pub serial : (at s).serial ≡ s
   pub lives : live (at s).rest.stopped ≡ true
 
--- so many of some tasks have not ended at most
+-- at most this number of some tasks have not ended
 few_live : (at : ℕ → Started) (numbers : List ℕ) (qs : List Started) → AreDistinct numbers → ((s : ℕ) → In s numbers → LivesAt at qs s) →
     length numbers ≤ all_weights qs
 few_live at [] qs distinct lives = omega arith
@@ -88,7 +88,7 @@ few_live at (s ∷ ss) qs distinct lives =
           l.lives;
     }
 
--- so many of a crew have not ended at most
+-- at most this number of tasks of the program have not ended
 pub crew_few : (k : Table) (job : Job) (input : List ℕ) (t m : ℕ) (crew : Crew) → IsCrew k job input t m None crew →
     (numbers : List ℕ) → AreDistinct numbers → ((s : ℕ) → In s numbers → IsSome (crew.task s)) → length numbers ≤ 2 * size_of job.steps + 1
 crew_few k job input t m crew c numbers distinct some =

@@ -1,4 +1,5 @@
--- What is found at a place of a list, at a key of a book of nurseries, and among the keys of a stack.
+-- What is found at an index of a list, at a key of a book of nurseries, and among the keys of a
+-- stack.
 use Rattle.std.proofs.Common.{◌≡◌, ℕ, zero, suc, ◌<◌, ◌≤◌, Option, Some, None, List, [], ◌∷◌, ◌++◌, length, refl, ap, sym, ◌∙◌, subst, arith}
 use Rattle.std.specs.Prelude.{slice_get}
 use Rattle.std.specs.Option.{IsSomeAnd}
@@ -10,44 +11,44 @@ use Rattle.nursery_book.specs.declared.book.NurseryBook.{NurseryBook}
 use Rattle.task_machine.specs.Left.{keys_of}
 use Rattle.task_machine.proofs.Stacked.{one_of}
 
--- ---- at a place of a list
+-- ---- at an index of a list
 
--- a place at which something stands is below the length
+-- an index at which there is something is below the length
 pub below_length : {A : Type 0} (xs : List A) (i : ℕ) (x : A) → slice_get xs i ≡ Some x → i < length xs
 below_length [] i x e = absurd (let f : None ≡ Some x = e in cc)
 below_length (y ∷ xs) zero x e = omega arith
 below_length (y ∷ xs) (suc i) x e = let h : i < length xs = below_length xs i x e in omega arith
 
--- nothing stands at a place from the length on
+-- nothing is at an index from the length on
 pub past_length : {A : Type 0} (xs : List A) (i : ℕ) → length xs ≤ i → slice_get xs i ≡ None
 past_length [] i le = refl
 past_length (x ∷ xs) zero le = absurd (omega (arith, le))
 past_length (x ∷ xs) (suc i) le = past_length xs i (omega (arith, le))
 
--- something stands at each place below the length
+-- something is at each index below the length
 pub nth : {A : Type 0} (xs : List A) (i : ℕ) → i < length xs → (x : A) × (slice_get xs i ≡ Some x)
 nth [] i lt = absurd (omega (arith, lt))
 nth (x ∷ xs) zero lt = (x, refl)
 nth (x ∷ xs) (suc i) lt = nth xs i (omega (arith, lt))
 
--- one thing stands at a place
+-- only one thing is at an index
 pub same_got : {A : Type 0} (xs : List A) (i : ℕ) (x y : A) → slice_get xs i ≡ Some x → slice_get xs i ≡ Some y → x ≡ y
 same_got xs i x y e f = one_of x y (sym e ∙ f)
 
--- what stands at a place of a list does so where more comes behind
+-- what is at an index of a list is there also if more follows
 pub got_first : {A : Type 0} (xs ys : List A) (i : ℕ) (x : A) → slice_get xs i ≡ Some x → slice_get (xs ++ ys) i ≡ Some x
 got_first [] ys i x e = absurd (let f : None ≡ Some x = e in cc)
 got_first (y ∷ xs) ys zero x e = e
 got_first (y ∷ xs) ys (suc i) x e = got_first xs ys i x e
 
--- what stands at a place, with what is before and behind it
+-- what is at an index, with what is before and after it
 pub record SplitAt {A : Type 0} (xs : List A) (x : A) (n : ℕ) : Type 0 where
   pub before : List A
   pub behind : List A
   pub is : xs ≡ before ++ x ∷ behind
   pub long : length before ≡ n
 
--- a list is what is before a place, what stands there, and what is behind
+-- a list is what is before an index, what is there, and what is after it
 pub split_at : {A : Type 0} (xs : List A) (x : A) (n : ℕ) → slice_get xs n ≡ Some x → SplitAt xs x n
 split_at [] x n e = absurd (let f : None ≡ Some x = e in cc)
 split_at (y ∷ xs) x zero e =
@@ -55,7 +56,7 @@ split_at (y ∷ xs) x zero e =
 split_at (y ∷ xs) x (suc n) e =
     let s = split_at xs x n e in record { before = y ∷ s.before; behind = s.behind; is = ap (λ zs. y ∷ zs) s.is; long = ap suc s.long }
 
--- what stands at a later place is behind it
+-- what is at a later index is after it
 pub later_behind : {A : Type 0} (before behind : List A) (x y : A) (i : ℕ) → length before < i →
     slice_get (before ++ x ∷ behind) i ≡ Some y → (j : ℕ) × (slice_get behind j ≡ Some y)
 later_behind [] behind x y zero lt e = absurd (omega (arith, lt))
@@ -65,7 +66,7 @@ later_behind (z ∷ before) behind x y (suc i) lt e = later_behind before behind
 
 -- ---- at a key of a book
 
--- a book in which a nursery is open of which this is true gives that nursery
+-- if a nursery with this property is open in a book, the book has that nursery
 pub finds : (book : NurseryBook) (id : ℕ) (P : Nursery → Type 0) → HasNursery book id P → (n : Nursery) × (nursery_at book id ≡ Some n)
     × P n
 finds book id P h = by_nursery (nursery_at book id) h

@@ -1,4 +1,5 @@
--- A run of the definitions goes on by a turn of one of its tasks: which tasks it has then, by their serial numbers.
+-- A run of the definitions continues with a turn of one of its tasks: which tasks it has then, by their serial
+-- numbers.
 use Rattle.std.proofs.Common.{◌≡◌, ◌≢◌, ◌⊎◌, inl, inr, ℕ, zero, suc, ◌+◌, ◌-◌, ◌<◌, ◌≤◌, ◌==◌, nat_lt, Bool, true, false, Option, Some, None, List, [], ◌∷◌, ◌++◌, length, refl, ap, sym, ◌∙◌, subst, arith}
 use Rattle.std.proofs.lemmas.Bool.{eqb-true, eq-eqb}
 use Rattle.std.proofs.lemmas.Bool.Decides.{nat_tests}
@@ -49,7 +50,7 @@ apart_front q _ _ (behind_one q' x qs' others' at) a =
 
 -- ---- the children begun, by their serial numbers
 
--- the one with so many before it, where the first has this serial number
+-- the child at this index, where the first has this serial number
 abbrev nth_child : Table → ℕ → ℕ → List Begun → ℕ → Started → Started
 nth_child k t m [] i d = d
 nth_child k t m (b ∷ bs) zero d = child_at k t m b
@@ -62,7 +63,7 @@ nth_in k t m [] i d less = absurd (omega (arith, less))
 nth_in k t m (b ∷ bs) zero d less = (inl refl, omega arith)
 nth_in k t m (b ∷ bs) (suc i) d less = let h = nth_in k t (suc m) bs i d (omega (arith, less)) in (inr h.0, let e = h.1 in omega (arith, e))
 
--- a place among the children begun
+-- the child at an index of those begun
 record IsNth (k : Table) (t m : ℕ) (bs : List Begun) (d x : Started) : Type 0 where
   pub place : ℕ
   pub below : place < length bs
@@ -116,7 +117,7 @@ apart_append (x ∷ xs) ys a b differ = (by_part, apart_append xs ys a.1 b (λ y
     by_part : (y : Started) → In y (xs ++ ys) → y.serial ≢ x.serial
     by_part y i = by_either y (in_either y xs ys i)
 
--- ---- what may wake a task, where the tasks stand in another order
+-- ---- what may wake a task, where the tasks are in another order
 
 wait_moved : (qs rs : List Started) (q : Started) (t : ℕ) (children : List ℕ) (ended : ℕ) (e x : Option Exc) →
     ((c : Started) → In c rs → In c qs) →
@@ -155,7 +156,7 @@ ready_by f g qs rs t q (settles x) (asleep n u) same over h = absurd h
 ready_by f g qs rs t q (settles x) (awaiting cs u e) same over h = over cs u e x h
 ready_by f g qs rs t q (settles x) (at_end u e) same over h = absurd h
 
--- who may be woken among some tasks may be so among fewer of them
+-- a task that may be woken among some tasks may be woken among fewer of them
 pub may_moved : (f : Table) (qs rs : List Started) (t : ℕ) (q : Started) (w : Wake) (s : Stopped) → ((c : Started) → In c rs → In c qs) →
     MayWake f qs t q w s → MayWake f rs t q w s
 may_moved f qs rs t q w s back h =

@@ -1,4 +1,4 @@
--- A task that may go on, as the code sees it, may be woken so in the run of the definitions.
+-- A task that may continue, as the code sees it, may be woken so in the run of the definitions.
 use Rattle.std.proofs.Common.{◌≡◌, ◌⊎◌, inl, inr, ◌&&◌, Bool, true, false, ℕ, zero, suc, ◌+◌, ◌<◌, ◌≤◌, max, Option, Some, None, List, [], ◌∷◌, ◌++◌, map, length, refl, ap, sym, ◌∙◌, subst, arith}
 use Rattle.std.specs.Prelude.{IsSome, is_some, slice_get, MatchOption}
 use Rattle.std.specs.List.{list_all}
@@ -154,7 +154,7 @@ member_of (asleep n since) = record { end = 0; exc = None }
 member_of (awaiting children ended exc) = record { end = 0; exc = None }
 member_of (at_end u e) = record { end = u; exc = e }
 
--- at a place of a nursery stands how the task of a serial number ended, by tick t
+-- at a place of a nursery is recorded how the task with a serial number ended, by tick t
 abbrev EndsAs : (ℕ → Started) → ℕ → ℕ → Option End → Type 0
 EndsAs at t serial None = ⊥
 EndsAs at t serial (Some None) = Unit {0}
@@ -223,7 +223,7 @@ module _ (at : ℕ → Started) (t : ℕ) (child : ℕ → ℕ) where
       let b : h.0.0 ≤ t = h.0.1 in
       ends_by is es h.1 (max u (ends i).end) (omega arith)
 
--- what is told of children that have ended is how they ended
+-- what is recorded of children that have ended is how they ended
 latest_told : (k f : Table) (whole : Result) (qs : List Started) → OnCourse k f whole qs → (q : Started) → In q qs →
     (ends : ℕ → Member) (is : List ℕ) →
     ((n : ℕ) → IsAmong n is → n < q.count) → ((n : ℕ) → IsAmong n is → (c : Started) → In c qs → c.serial ≡ q.child n →
@@ -308,9 +308,9 @@ settled_waits k job input t m crew c s a id e (inl has) over =
     absurd (running_body n.0 body n.2)
 settled_waits k job input t m crew c s a id e (inr waits) over = waits
 
--- ---- going on
+-- ---- continuing
 
--- a task that may go on by what the code sees may be woken so in the run of the definitions
+-- a task that may continue by what the code sees may be woken so in the run of the definitions
 pub may_wake : (k : Table) (job : Job) (input : List ℕ) (t m : ℕ) (crew : Crew) → IsSettled k job input → GivesNamesOnce job →
     StartsInNurseries job →
     (c : IsCrew k job input t m None crew) → (s : ℕ) (task : Task) → crew.task s ≡ Some task → (wake : Wake) → MayGo crew.world task wake →
@@ -348,7 +348,7 @@ may_wake k job input t m crew settled names starting c s task lives wake may =
     stack : Stack
     stack = outer_of crew.world.scopes (scope_of task)
 
-    -- who begins or has an answer does so in the tick of its stop
+    -- a task that begins or has an answer does so in the tick of its stop
     now : t ≤ q.stop → q.stop ≡ t
     now le = let h : q.stop ≤ t = by_now.stop in omega (arith, le, h)
 

@@ -1,4 +1,4 @@
--- The places of a task at one of its nurseries are those of the nursery's scope.
+-- The scopes and nurseries that enclose a task at one of its nurseries are those of the nursery's scope.
 use Rattle.std.proofs.Common.{◌≡◌, inl, inr, ℕ, Option, Some, None, List, [], ◌∷◌, ◌++◌, refl, ap, sym, subst}
 use Rattle.std.specs.Option.{unwrap_or}
 use Rattle.cancel_scopes.specs.Sight.{Level}
@@ -13,7 +13,8 @@ use Rattle.task_machine.specs.Stacked.{AreAt}
 use Rattle.task_machine.specs.Stops.{Numbers}
 use Rattle.task_machine.proofs.CrewLemmas.{Keyed, KeyedAfter, WaitsAs}
 
--- A child has its number at a nursery whose scope is in this stack, and its home's places are those of the stack from there on.
+-- A child has its number at a nursery whose scope is in this stack, and its home's enclosing scopes and nurseries are those of
+-- the stack from there on.
 pub record HomeIn (P : ℕ → ℕ → Type 0) (now : Numbers) (labels : Labels) (froms : Table) (number : ℕ) (home : List Place)
     (st : Stack) : Type 0 where
   pub id : ℕ
@@ -104,7 +105,7 @@ home_waiting P now labels froms number home id fs (l ∷ st) (p ∷ ps) (awaitin
     home_further l (home_in P now labels froms number home fs st ps k.1 a.3 h)
 home_waiting P now labels froms number home id fs (l ∷ st) (p ∷ ps) (at_end u e) w k a h = absurd (let f : Some id ≡ None = w in cc)
 
--- A child of a nursery of a task that stopped is in the places of the nursery's scope.
+-- A child of a nursery of a task that stopped is enclosed as the nursery's scope is.
 pub home_there : (P : ℕ → ℕ → Type 0) (now : Numbers) (labels : Labels) (froms : Table) (number : ℕ) (home : List Place) (waits : Option ℕ)
     (fs : List Frame) (st : Stack)
     (ps : List Place) (stopped : Stopped) → WaitsAs now waits stopped → KeyedAfter P waits now fs (keys_of st) → AreAt labels froms st ps →
@@ -123,13 +124,13 @@ home_there P now labels froms number home None fs st ps (awaiting children ended
 home_there P now labels froms number home None fs st ps (at_end u e) w k a (inl h) = absurd h
 home_there P now labels froms number home None fs st ps (at_end u e) w k a (inr h) = home_in P now labels froms number home fs st ps k a h
 
--- ---- the stack of a scope that is round another
+-- ---- the stack of a scope that encloses another
 
 nil_not : (before : Stack) (l : Level ℕ) (behind : Stack) → [] ≡ before ++ l ∷ behind → ⊥
 nil_not [] l behind e = let f : [] ≡ l ∷ behind = e in cc
 nil_not (x ∷ before) l behind e = let f : [] ≡ x ∷ (before ++ l ∷ behind) = e in cc
 
--- of what stands round a task, the rest from one scope on is that scope's stack
+-- of the scopes that enclose a task, the rest from one scope on is that scope's stack
 pub chain_round : (tree : Tree) → IsChain tree → (scope : Option ℕ) (before : Stack) (l : Level ℕ) (behind : Stack) →
     outer_of tree scope ≡ before ++ l ∷ behind →
     stack_of tree l.label ≡ Some (l ∷ behind)

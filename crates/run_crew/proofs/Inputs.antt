@@ -20,7 +20,7 @@ abbrev pub AllOn : List ℕ → List Begun → Type 0
 AllOn input [] = Unit {0}
 AllOn input (b ∷ bs) = (b.here.input ≡ input) × AllOn input bs
 
--- where all children begun are on one input, the one at a place is
+-- if all children begun are on one input, the one at an index is
 pub on_at : (input : List ℕ) (bs : List Begun) → AllOn input bs → (i : ℕ) (b : Begun) → slice_get bs i ≡ Some b → b.here.input ≡ input
 on_at input [] h i b e = absurd (not_both refl e)
 on_at input (c ∷ bs) h zero b e = subst (λ (z : Begun). z.here.input ≡ input) (one_of c b e) h.0

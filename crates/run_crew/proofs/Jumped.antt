@@ -1,4 +1,4 @@
--- A crew whose clock jumps, or whose started tasks are taken: everything else stays.
+-- The tasks of the program when the clock jumps or started tasks are taken: everything else stays.
 use Rattle.std.proofs.Common.{◌≡◌, ℕ, ◌≤◌, Option, Some, None, List, [], ◌∷◌, refl, ap, sym, ◌∙◌, subst, arith}
 use Rattle.std.specs.List.{slice_get}
 use Rattle.std.specs.Option.{IsSomeAnd}

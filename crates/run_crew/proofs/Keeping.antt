@@ -1,4 +1,5 @@
--- What stays of other tasks when one has its turn or leaves: who may go on may do so still, and each home has its owner.
+-- What stays the same for other tasks when one has its turn or leaves: a task that may continue may still do so, and
+-- each home has its owner.
 use Rattle.std.proofs.Common.{◌≡◌, ◌≢◌, ◌⊎◌, inl, inr, ◌&&◌, Bool, true, false, ℕ, zero, suc, ◌+◌, ◌-◌, ◌<◌, ◌≤◌, Option, Some, None, List, [], ◌∷◌, length, refl, ap, sym, ◌∙◌, subst, arith}
 use Rattle.std.proofs.lemmas.Bool.{cases_lt}
 use Rattle.std.specs.Prelude.{is_some, slice_get, slice_set}
@@ -114,7 +115,7 @@ seen_still {k} {job} {input} {t} {m} {s} {old} {new} {before} {after} {stop} set
         (near_places t k T.is.froms q.places (on_after.2 q (subst (λ (x : Started). In x T.is.tasks) other (T.is.has u less).0)))
         (omega arith)
 
--- who may go on may do so still
+-- a task that may continue may still do so
 pub still_goes : {k : Table} {job : Job} {input : List ℕ} {t m s : ℕ} {old new : Crew} {before after : Task} {stop : Stop} →
     IsSettled k job input → GivesNamesOnce job → StartsInNurseries job →
     (c : IsCrew k job input t m None old) → (T : Turning k job input t m s old new c.numbers before after stop c.course) → (u : ℕ) → u < m →
@@ -275,7 +276,7 @@ module _ (k : Table) (job : Job) (input : List ℕ) (t m s : ℕ) (old new : Cre
   settled_with (Some x ∷ es) zero e = e
   settled_with (Some x ∷ es) (suc place) e = settled_with es place e
 
-  -- a nursery that is settled is so where an end is told
+  -- a nursery that is settled is so after an end is recorded
   still_settled : (id : ℕ) → HasNursery old.world.book id (λ n. is_settled n ≡ true) →
       HasNursery new.world.book id (λ n. is_settled n ≡ true)
   still_settled id h = by_told task.home (told old.world.book new.world.book task.home exc l.told id n.0 n.1)
@@ -293,7 +294,7 @@ module _ (k : Table) (job : Job) (input : List ℕ) (t m s : ℕ) (old new : Cre
       by_told _ (tells y z e) = puts new.world.book id (with_child y.place exc n.0) (λ n. is_settled n ≡ true) e
           (by_body (is_some n.0.body) n.0.children y.place n.2)
 
-  -- and who may go on may do so still
+  -- and a task that may continue may still do so
   pub goes_left : (x : Task) → (wake : Wake) → MayGo old.world x wake → MayGo new.world x wake
   goes_left x wake may =
       record {

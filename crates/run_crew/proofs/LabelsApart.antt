@@ -1,4 +1,4 @@
--- No two open scopes of a crew have the same label, and each label of one was entered by a task.
+-- No two open scopes of the program have the same label, and each label of one was entered by a task.
 use Rattle.std.proofs.Common.{◌≡◌, ◌≢◌, ◌⊎◌, inl, inr, ℕ, zero, suc, ◌+◌, ◌<◌, ◌≤◌, Option, Some, List, [], ◌∷◌, ◌++◌, map, refl, ap, sym, ◌∙◌, subst, arith}
 use Rattle.std.proofs.lemmas.Bool.{cases_lt}
 use Rattle.std.specs.Prelude.{slice_get}
@@ -33,7 +33,7 @@ use Rattle.task_machine.proofs.Cancels.{open_round}
 use Rattle.task_machine.proofs.Others.{among_left, among_right}
 use Rattle.task_machine.proofs.Stacked.{one_of, alone_at}
 
--- ---- who entered a label
+-- ---- which task entered a label
 
 -- a label among those entered in events is one that an event enters
 pub known_enters : (l : Label) (es : List Event) → Known l (entered_made es) → EntersIn l es

@@ -1,4 +1,4 @@
--- A task leaves a crew: its end is told to its nursery, and what is left of it is kept. All others go on as they stood.
+-- A task leaves: its end is recorded in its nursery, and what is left of it is kept. All others continue unchanged.
 use Rattle.std.proofs.lemmas.Bool.{eqb-true, eq-eqb}
 use Rattle.std.proofs.Common.{◌≡◌, ◌≢◌, inl, inr, ◌==◌, Bool, true, false, ℕ, suc, ◌<◌, Option, Some, None, List, [], ◌∷◌, map, length, refl, ap, sym, ◌∙◌, subst, arith}
 use Rattle.std.specs.Prelude.{IsSome, slice_get, slice_set}
@@ -94,7 +94,7 @@ halt_kept numbers old new Over (rest.asking k p) like h = absurd h
 halt_kept numbers old new Over (rest.asleep n u) like h = absurd h
 halt_kept numbers old new Over (rest.awaiting children u exc) like h = absurd h
 
--- Where a task stands, and how it goes on, in a world with another book.
+-- The state of a task, and how it continues, in a world with another book.
 stands_kept : (task : Task) (w : World) (book : NurseryBook) (f : Table) (numbers : Numbers) (stopped : rest.Stopped) (ps : List Place) →
     AllLike w.book book →
     Stands task.frames.items task w f numbers (Some stopped) ps →
@@ -161,7 +161,7 @@ started_kept old new at child (rest.signs l t ∷ es) same h = started_kept old 
 started_kept old new at child (rest.enters l t d ∷ es) same h = started_kept old new at child es same h
 started_kept old new at child (rest.starts i l t ∷ es) same h = (h.0, same (child i) ∙ h.1, started_kept old new at child es same h.2)
 
--- a home is at a place of a nursery
+-- a home is a place of a nursery
 home_parts : (h : Option Home) (id place : ℕ) → option_map {U = ℕ × ℕ} (λ (x : Home). (x.nursery, x.place)) h ≡ Some (id, place) →
     (y : Home) × (h ≡ Some y) × (y.nursery ≡ id) × (y.place ≡ place)
 home_parts None id place e = absurd (let f : None ≡ Some (id, place) = e in cc)
@@ -170,9 +170,9 @@ home_parts (Some y) id place e =
     let g : (y.nursery, y.place) ≡ (id, place) = cc in
     (y, refl, ap (λ (z : ℕ × ℕ). z.0) g, ap (λ (z : ℕ × ℕ). z.1) g)
 
--- ---- the crew without it
+-- ---- the tasks without it
 
--- a task that has ended leaves the crew, and its home is told: then nobody's end is left to tell
+-- a task that has ended leaves, and its end is recorded in its home: then no task's end is left to record
 pub crew_left : (k : Table) (job : Job) (input : List ℕ) (t m s : ℕ) (old new : Crew) (task : Task) (exc : Option Exc) →
     (c : IsCrew k job input t m (Some s) old) →
     Leaving t s old new (c.course.at s) task exc → IsCrew k job input t m None new
@@ -309,7 +309,7 @@ crew_left k job input t m s old new task exc c l =
     like : AllLike old.world.book book
     like = all_like old.world.book book task.home exc l.told
 
-    -- the child of a number at the place where it was started
+    -- the child with a number at the place where it was started
     at_place : (y : Home) → task.home ≡ Some y → (u : ℕ) (b : Task) → old.task u ≡ Some b → (id place number : ℕ) →
         HasNurseryOf id (blocks_of b.frames.items) (waits_of b.halt) →
         slice_get (c.numbers u id) place ≡ Some number → y.nursery ≡ id → y.place ≡ place → (c.course.at u).child number ≡ s

@@ -35,7 +35,7 @@ module _ (k : Table) (job : Job) (input : List ℕ) (t m s : ℕ) (old new : Cre
   abbrev pub moved_to : Started
   moved_to = turned k t m (c.course.at s) T.move T.stopped
 
-  -- who is in one of the task's nurseries is another task, and stays as it is
+  -- a task in one of the task's nurseries is another task, and stays as it is
   member_stays : (id place serial : ℕ) (x : End) → HasBlock id (blocks_of before.frames.items) →
       IsMember old c.course.at t id place serial (Some x) →
       IsMember new T.is.at t id place serial (Some x)

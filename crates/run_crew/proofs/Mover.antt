@@ -92,7 +92,7 @@ module _ (k : Table) (job : Job) (input : List ℕ) (t m s : ℕ) (old new : Cre
             mover.notes.slices more.slices);
       }
 
-  -- ---- where it stands
+  -- ---- its state
 
   stands_after : Stands after.frames.items after new.world T.is.froms now (Some T.stopped) T.move.places
   stands_after =

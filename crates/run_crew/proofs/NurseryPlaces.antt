@@ -1,4 +1,4 @@
--- The places of the nursery of a block are those of its scope's stack.
+-- The scopes and nurseries that enclose the nursery of a block are those of its scope's stack.
 use Rattle.std.proofs.Common.{◌≡◌, ◌⊎◌, inl, inr, ℕ, Bool, Option, Some, None, List, [], ◌∷◌, ◌++◌, append_assoc, refl, ap, sym, ◌∙◌, subst}
 use Rattle.std.specs.Option.{IsSomeAnd, unwrap_or}
 use Rattle.exc_groups.specs.Exceptions.{Label, Exc}
@@ -24,9 +24,9 @@ use Rattle.task_machine.specs.Stacked.{AreAt}
 use Rattle.task_machine.specs.Standing.{HasBlock, HasNurseryOf}
 use Rattle.task_machine.specs.Stops.{Numbers, IsHalt}
 
--- ---- stacks and places
+-- ---- stacks and enclosing scopes and nurseries
 
--- the rest of a stack, from the scope of a key on, is these places
+-- the rest of a stack, from the scope with a key on, corresponds to these places
 pub record StandsIn (labels : Labels) (f : Table) (key : ℕ) (st : Stack) (ps : List Place) : Type 0 where
   pub before : Stack
   pub level : Level ℕ
@@ -35,7 +35,7 @@ pub record StandsIn (labels : Labels) (f : Table) (key : ℕ) (st : Stack) (ps :
   pub named : level.label ≡ key
   pub at : AreAt labels f (level ∷ behind) ps
 
--- a stack that begins with the scope of a key, and its places
+-- a stack that begins with the scope with a key, and its places
 pub record First (labels : Labels) (f : Table) (key : ℕ) (keys : List ℕ) (st : Stack) (ps : List Place) : Type 0 where
   pub level : Level ℕ
   pub behind : Stack
@@ -79,7 +79,7 @@ same_parts l m b c e f = cc
 same_place : (p q : Place) → p.label ≡ q.label → p.shield ≡ q.shield → p ≡ q
 same_place p q e f = same_parts p.label q.label p.shield q.shield e f
 
--- a stack stands at one list of places
+-- a stack corresponds to one list of places
 pub same_places : (labels : Labels) (f : Table) (st : Stack) (ps qs : List Place) → AreAt labels f st ps → AreAt labels f st qs → ps ≡ qs
 same_places labels f [] [] [] a b = refl
 same_places labels f [] [] (q ∷ qs) a b = absurd b
@@ -120,7 +120,7 @@ IsStop numbers None stopped = ((ps : List Place) → places_behind (Some stopped
 IsStop numbers (Some id) stopped = (children : List ℕ) × (u : ℕ) × (e : Option Exc) × (stopped ≡ rest.awaiting children u e)
     × (numbers id ≡ children)
 
--- what a task goes on with waits for the nursery for which its stop does, or for none
+-- a blocked state waits for the nursery for which its stop does, or for none
 pub is_stop : (numbers : Numbers) (book : NurseryBook) (halt : Halt) (stopped : rest.Stopped) → IsHalt numbers book halt stopped →
     IsStop numbers (waits_of halt) stopped
 is_stop numbers book ToBegin rest.to_begin h = ((λ ps. refl), (λ i home ps w. w))
@@ -132,7 +132,7 @@ is_stop numbers book _ _ h = absurd h
 
 -- ---- frames, from the outermost one inwards
 
--- a nursery of the task has this child, and its scope's stack is these places
+-- a nursery of the task has this child, and its scope's stack corresponds to these places
 pub record Found
     (labels : Labels) (book : NurseryBook) (f : Table) (numbers : Numbers) (bs : List Block) (waits : Option ℕ) (st : Stack) (i : ℕ)
     (home : List Place) : Type 0
@@ -155,8 +155,8 @@ found_more {bs = bs} {cs = cs} {waits = waits} more h =
     by_has (inl b) = inl (more h.id b)
     by_has (inr w) = inr w
 
--- The outer frames of a task stand at a rest of its places, which are those of a rest of its stack: each child of a nursery
--- is one of theirs, or of the inner blocks.
+-- The outer frames of a task correspond to a rest of its places, which are those of a rest of its stack: each child of a
+-- nursery is one of theirs, or of the inner blocks.
 pub record Outer
     (labels : Labels) (book : NurseryBook) (f : Table) (numbers : Numbers) (bs : List Block) (waits : Option ℕ) (stopped : rest.Stopped)
     (keys : List ℕ) (outer fs : List rest.Frame) (st : Stack) (ps : List Place) : Type 0
@@ -248,7 +248,8 @@ outer_block {labels} {book} {f} {numbers} {bs} {cs} {waits} {stopped} {keys} {ou
     by_case i home (inl x) = inl (found_more blocks x)
     by_case i home (inr c) = back i home first.place first.places here (subst (HasChild i home more) first.are c)
 
--- frames round a task's own stand at a rest of its stack and places, and each of its children is theirs or its own frames'
+-- frames that enclose a task's own correspond to a rest of its stack and places, and each of its children is theirs or its own
+-- frames'
 pub carry : (labels : Labels) (book : NurseryBook) (f : Table) (numbers : Numbers) (fs : List Frame) (own : List Own) (waits : Option ℕ)
     (stopped : rest.Stopped) (keys : List ℕ) (outer : List rest.Frame)
     (st : Stack) (ps : List Place) → Opened labels book (blocks_of fs) own waits → IsStop numbers waits stopped → AreAt labels f st ps →
@@ -375,7 +376,7 @@ found labels book f numbers fs own waits stopped keys st ps opened stop at e i h
     by_case (inl x) = x
     by_case (inr c) = absurd c
 
--- a child of a nursery among the frames, at the places of the stack of the nursery's scope
+-- a child of a nursery among the frames, with the places of the stack of the nursery's scope
 pub record Housed
     (labels : Labels) (book : NurseryBook) (f : Table) (id i : ℕ) (fs : List rest.Frame) (st : Stack) (ps : List Place) : Type 0
   where
@@ -385,7 +386,7 @@ pub record Housed
     pub nursery : HasNursery book id (λ n. n.scope ≡ scope.id)
     pub at : StandsIn labels f scope.id st home
 
--- each child of a nursery among a task's frames is at the places of the stack of the nursery's scope
+-- each child of a nursery among a task's frames has the places of the stack of the nursery's scope
 pub housed_onto : (labels : Labels) (book : NurseryBook) (f : Table) (numbers : Numbers) (fs : List Frame) (own : List Own)
     (waits : Option ℕ) (stopped : rest.Stopped) (keys : List ℕ) (outer : List rest.Frame)
     (st : Stack) (ps : List Place) → Opened labels book (blocks_of fs) own waits → IsStop numbers waits stopped → AreAt labels f st ps →

@@ -61,7 +61,7 @@ scope_of_nursery labels book (a_nursery key ∷ bs) (o ∷ own) waits id h (inr 
 
 -- ---- nurseries stay
 
--- A nursery whose scope is open and none of the mover's is as it was.
+-- A nursery whose scope is open and belongs to another task is as it was.
 pub nursery_stays : (labels : Labels) (book new : NurseryBook) (bs : List Block) (own : List Own) (waits : Option ℕ) (tree : Tree) →
     Opened labels book bs own waits →
     OthersStay bs own tree book new → (id : ℕ) (n : Members) → nursery_at book id ≡ Some n → IsOpen tree n.scope → AreOthers n.scope own →
@@ -135,7 +135,7 @@ opened_stays labels more book new bs own waits same stay h = by_blocks bs own sa
 
 -- ---- where a task stopped
 
--- what a task goes on with is its stop where the nursery that it waits for is the same
+-- a blocked state is its stop if the nursery that it waits for is the same
 pub halt_stays : (numbers : Numbers) (book new : NurseryBook) (halt : Halt) (stopped : rest.Stopped) →
     ((id : ℕ) → waits_of halt ≡ Some id → nursery_at new id ≡ nursery_at book id) →
     IsHalt numbers book halt stopped → IsHalt numbers new halt stopped

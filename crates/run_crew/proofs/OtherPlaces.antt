@@ -1,4 +1,5 @@
--- What a turn leaves of the places of another task, which may be in a nursery of the mover.
+-- How a turn leaves the scopes and nurseries that enclose another task, which may be in a nursery
+-- of the task that moved.
 use Rattle.std.proofs.Common.{◌≡◌, ◌≢◌, ◌⊎◌, inl, inr, ℕ, zero, suc, ◌<◌, ◌≤◌, true, false, Option, Some, None, List, [], ◌∷◌, map, refl, ap, sym, ◌∙◌, subst, arith}
 use Rattle.std.specs.Prelude.{slice_get}
 use Rattle.std.specs.List.{last_or}
@@ -107,9 +108,9 @@ home_is {k} {job} {input} {t} {m} {s} {old} {new} {before} {after} c T u task is
         let low : h.number < (c.course.at s).count = below in
         absurd (omega arith)
 
--- ---- places
+-- ---- enclosing scopes and nurseries
 
--- the places of a child of the mover that opened no scope
+-- the places of a child that opened no scope, of the task that moved
 mover_places : {k : Table} {job : Job} {input : List ℕ} {t m s : ℕ} {old new : Crew} {before after : Task} {stop : Stop} →
     (c : IsCrew k job input t m None old) →
     (T : Turning k job input t m s old new c.numbers before after stop c.course) → (u : ℕ) (task : Task) → old.task u ≡ Some task →

@@ -1,4 +1,4 @@
--- What a turn leaves of the scopes of another task: they are open inside the same ones, at the same places by the new froms.
+-- How a turn leaves the scopes of another task: they are open inside the same ones, with the same places by the new froms.
 use Rattle.std.proofs.Common.{◌≡◌, ℕ, zero, suc, Option, Some, None, List, [], ◌∷◌, ◌++◌, map, refl, ap, sym, ◌∙◌, subst}
 use Rattle.std.specs.Prelude.{slice_get, IsSome}
 use Rattle.std.specs.List.{last_or}
@@ -47,13 +47,13 @@ open_stack tree key i = by_stack (stack_of tree key) refl i
     by_stack None e j = absurd (not_closed None refl j)
     by_stack (Some st) e j = (st, e)
 
--- what stands round a task in an open scope is the scope's stack
+-- what encloses a task in an open scope is the scope's stack
 pub outer_is : (tree : Tree) (key : ℕ) (st : Stack) → stack_of tree key ≡ Some st → outer_of tree (Some key) ≡ st
 outer_is tree key st e = ap (λ (o : Option Stack). unwrap_or o []) e
 
 -- ---- one scope
 
--- an open scope that is none of the mover's stays open
+-- an open scope that belongs to another task than the one that moved stays open
 pub key_stays_open : {known : Label → Type 0} {t : ℕ} {s u : Scoping} {es : List Event} → Acted known t s u es → (key : ℕ) →
     IsOpen s.tree key → AreOthers key s.own → IsOpen u.tree key
 key_stays_open {s = s} {u = u} a key i others =
@@ -61,7 +61,7 @@ key_stays_open {s = s} {u = u} a key i others =
     let n = stays a.acts (sound_of s a.sound) st.1 others in
     is_open u.tree key n.after n.at
 
--- a stack of another task's is these places still
+-- a stack of another task still corresponds to these places
 pub places_stay : {known : Label → Type 0} {t : ℕ} {s u : Scoping} {es : List Event} → Acted known t s u es →
     (f : Table) (key : ℕ) (ps : List Place) → IsOpen s.tree key → AreOthers key s.own →
     AreAt s.labels f (outer_of s.tree (Some key)) ps → AreAt u.labels (froms_after f es) (outer_of u.tree (Some key)) ps
@@ -190,7 +190,7 @@ home_keys old new (Some home) key keys own chain was now e =
     here : stack_of new home ≡ Some (c.level ∷ c.behind)
     here = ap (stack_of new) (sym c.named) ∙ chain key st.0 st.1 c.before c.level c.behind c.is
 
--- the scopes that another task opened are those round it still, as far as its home
+-- the scopes that another task opened still enclose it, as far as its home
 pub first_stays : {known : Label → Type 0} {t : ℕ} {s u : Scoping} {es : List Event} → Acted known t s u es →
     (home : Option ℕ) (own : List Own) → AreElse own s.own →
     ((o : Own) (i : ℕ) → slice_get own i ≡ Some o → IsOpen s.tree o.id) → ForSome home (IsOpen s.tree) → OwnFirst s.tree home own →

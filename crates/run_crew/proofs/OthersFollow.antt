@@ -38,7 +38,7 @@ use Rattle.run_crew.proofs.LabelsApart.{below_of}
 module _ (k : Table) (job : Job) (input : List ℕ) (t m s : ℕ) (old new : Crew) (before after : Task) (stop : Stop)
     (c : IsCrew k job input t m None old)
     (T : Turning k job input t m s old new c.numbers before after stop c.course) where
-  -- ---- who is in a nursery
+  -- ---- which tasks are in a nursery
 
   -- a task that is in a nursery is there still, be it the mover or another
   running_stays : (id place serial : ℕ) → IsMember old c.course.at t id place serial (Some None) → (serial ≡ s) ⊎ (serial ≢ s) →

@@ -1,4 +1,4 @@
--- A crew of which no task is left: what is kept of it is what the job means.
+-- All tasks of the program have ended: what is kept of them is what the job means.
 use Rattle.std.proofs.Common.{◌≡◌, ◌⊎◌, inl, inr, ℕ, suc, ◌<◌, ◌≤◌, Option, Some, None, List, [], ◌∷◌, map, refl, ap, sym, ◌∙◌, subst, arith}
 use Rattle.exc_groups.specs.Exceptions.{Exc}
 use Rattle.job_tree.specs.Tree.{Tree as Job}
@@ -103,7 +103,7 @@ rows_started f start at child (starts i l t ∷ es) h = (h.0, h.1, rows_started 
 ended_row : (s : Stopped) (u : ℕ) (e : Option Exc) → s ≡ at_end u e → s ≡ at_end (end_at s) (exc_at s)
 ended_row s u e h = subst (λ (x : Stopped). x ≡ at_end (end_at x) (exc_at x)) (sym h) refl
 
--- where every task of a crew has ended, what is kept of them says what the job means
+-- if every task of the program has ended, what is kept of them is what the job means
 pub crew_over : (job : Job) (input : List ℕ) → GivesNamesOnce job → StartsInNurseries job → (t m : ℕ) (crew : Crew) →
     IsCrew (meaning_table job input) job input t m None crew →
     ((p : ℕ) → crew.task p ≡ None) → IsOver job input m crew

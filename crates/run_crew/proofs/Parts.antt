@@ -1,4 +1,4 @@
--- Numbers of tasks, and what is at a place of several lists.
+-- Numbers of tasks, and what is at an index of several lists.
 use Rattle.std.proofs.Common.{◌≡◌, ◌≢◌, ◌⊎◌, inl, inr, ℕ, zero, suc, ◌+◌, ◌<◌, Bool, false, Option, Some, List, [], ◌∷◌, ◌++◌, refl, ap, sym, ◌∙◌, subst, arith}
 use Rattle.std.proofs.lemmas.Bool.{eq-eqb, ne_eqb, lt-ltb, le-ltb}
 use Rattle.std.proofs.lemmas.List.Elements.{All-nil, All-cons}
@@ -41,9 +41,9 @@ numbers_child numbers s m now i below =
     ap (λ (b : Bool). numbers_if b (nat_lt m (m + i + 1)) now (numbers (m + i))) (ne_eqb (m + i) s (λ e. omega (arith, below, e)))
     ∙ ap (λ (b : Bool). numbers_if false b now (numbers (m + i))) (lt-ltb m (m + i + 1) (omega arith))
 
--- ---- what is at a place
+-- ---- what is at an index
 
--- a number among others stands at a place
+-- a number among others is at an index
 pub among_got : (x : ℕ) (xs : List ℕ) → IsAmong x xs → (i : ℕ) × (slice_get xs i ≡ Some x)
 among_got x [] a = absurd a
 among_got x (y ∷ xs) (inl e) = (zero, ap (λ (z : ℕ). Some z) (sym e))
@@ -51,7 +51,7 @@ among_got x (y ∷ xs) (inr a) = let g = among_got x xs a in (suc g.0, g.1)
 
 -- ---- the children begun
 
--- a task that was started is the child begun at the same place
+-- a task that was started is the child begun at the same index
 pub begun_at : (numbers : Numbers) (book : NurseryBook) (blocks : List Block) (waits : Option ℕ) (ts : List Task) (bs : List Begun) →
     AreBegun numbers book blocks waits ts bs →
     (i : ℕ) (task : Task) → slice_get ts i ≡ Some task → (b : Begun) × (slice_get bs i ≡ Some b) × IsBegun numbers book blocks waits task b
@@ -71,7 +71,7 @@ pub record BeginsThere (id place number : ℕ) (ts : List Task) (bs : List Begun
   pub home : home_of task ≡ Some (id, place)
   pub number_is : child.number ≡ number
 
--- who begins at a place of a nursery is one of the tasks that were started
+-- a task that begins at a place of a nursery is one of the tasks that were started
 pub begins_there : (id place number : ℕ) (ts : List Task) (bs : List Begun) → BeginsAt id place number ts bs →
     BeginsThere id place number ts bs
 begins_there id place number [] bs h = absurd h
@@ -103,7 +103,8 @@ starts_at ls [] h i b e = absurd (not_both refl e)
 starts_at ls (c ∷ bs) h zero b e = subst (λ (z : Begun). StartsIn false z.body) (one_of c b e) h.1
 starts_at ls (c ∷ bs) h (suc i) b e = starts_at ls bs h.2 i b e
 
--- the steps of each child begun give no name that is round them, and no two of its places have one name
+-- the steps of each child begun give no name of an enclosing scope, and no two of its enclosing scopes
+-- have the same name
 pub new_at : (bs : List Begun) → AllNew bs → (i : ℕ) (b : Begun) → slice_get bs i ≡ Some b → names.AreNew (names_at b.places) b.body
     × OwnNames (names_at b.places)
 new_at [] h i b e = absurd (not_both refl e)
@@ -111,7 +112,7 @@ new_at (c ∷ bs) h zero b e = subst (λ (z : Begun). names.AreNew (names_at z.p
     (h.0, h.1)
 new_at (c ∷ bs) h (suc i) b e = new_at bs h.2 i b e
 
--- each child begun has its number in a nursery of its starter, at its places
+-- each child begun has its number in a nursery of its starter, with its places
 pub housed_at : (bs : List Begun) (s : Option Stopped) (fs : List Frame) (ps : List Place) → AllHoused bs s fs ps → (i : ℕ) (b : Begun) →
     slice_get bs i ≡ Some b →
     HasChildAfter b.number b.places s fs ps
@@ -144,7 +145,7 @@ entered_append (signs l t ∷ es) fs = entered_append es fs
 entered_append (enters l t d ∷ es) fs = ap (λ (ls : List Label). l ∷ ls) (entered_append es fs)
 entered_append (starts i l t ∷ es) fs = entered_append es fs
 
--- both ways to say which labels events enter give the same
+-- both ways to compute which labels events enter have the same result
 pub entered_same : (es : List Event) → labels_entered es ≡ entered_made es
 entered_same [] = refl
 entered_same (noted t e ∷ es) = entered_same es

@@ -33,7 +33,7 @@ no_weight rest ps u e placed ends =
     ap (λ (x : Stopped). rest_weight (record { stopped = x; frames = rest.frames })) ends
     ∙ ap (λ (fs : List Frame). rest_weight (record { stopped = at_end u e; frames = fs })) none
 
--- who may be woken in a tick may be so after the turn of another task in that tick
+-- a task that may be woken in a tick may be woken after the turn of another task in that tick
 pub still_ready : (k : Table) (job : Job) (input : List ℕ) (t m s : ℕ) (old new : Crew) (numbers : ℕ → Numbers) (before after : Task)
     (stop : Stop) (was : Course k job input t m) →
     IsSettled k job input → GivesNamesOnce job → StartsInNurseries job →

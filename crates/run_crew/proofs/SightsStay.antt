@@ -1,4 +1,5 @@
--- What a turn leaves of the sights of other tasks' scopes: each is what it was, or its scope is marked as changed.
+-- How a turn leaves the effective deadlines (`sight`) of other tasks' scopes: each is what it was, or its scope is
+-- marked as changed.
 use Rattle.std.proofs.Common.{◌≡◌, ◌≢◌, ℕ, ◌<◌, Option, Some, None, List, [], ◌∷◌, refl, ap, sym, ◌∙◌, subst}
 use Rattle.exc_groups.specs.Exceptions.{Label}
 use Rattle.cancel_scopes.specs.Sight.{Tick}
@@ -46,7 +47,7 @@ scope_label labels f tree scope key ps own is st opened at =
     (subst (λ (x : Stack). AreAt labels f x ps) (outer_is tree key st opened)
     (subst (λ (o : Option ℕ). AreAt labels f (outer_of tree o) ps) is at))
 
--- The scope of another task shows the sight that it showed, or is marked.
+-- The scope of another task shows the effective deadline that it showed, or is marked.
 pub shows_still : {k : Table} {job : Job} {input : List ℕ} {t m s : ℕ} {old new : Crew} {before after : Task} {stop : Stop} →
     IsSettled k job input → GivesNamesOnce job → StartsInNurseries job →
     (c : IsCrew k job input t m None old) → (T : Turning k job input t m s old new c.numbers before after stop c.course) → (u : ℕ) → u < m →

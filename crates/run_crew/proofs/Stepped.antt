@@ -1,4 +1,5 @@
--- A crew after a turn of the code: it is a crew of the run after it, and what the stop says of the task is so.
+-- The tasks of the program after a turn of the code: they are those of the run after it, and what the stop
+-- says of the task is true.
 use Rattle.std.proofs.Common.{◌≡◌, ◌≢◌, ℕ, ◌+◌, ◌<◌, Option, Some, None, List, ◌++◌, length, refl, ap, sym, ◌∙◌, subst, arith}
 use Rattle.std.specs.Prelude.{IsSome}
 use Rattle.std.specs.Option.{IsSomeAnd}
@@ -45,7 +46,7 @@ use Rattle.run_crew.proofs.Turned.{crew_turned}
 
 -- ---- what a stop says
 
--- where the task stopped is what it goes on with and what was told, now
+-- where the task stopped corresponds to its blocked state and to what was returned, now
 pub record IsToldNow (numbers : Numbers) (book : NurseryBook) (part : Part) (stop : Stop) (halt : Halt) (t : ℕ) (froms : Table)
     (ps : List Place) (s : Stopped) : Type 0 where
   pub halts : IsHalt numbers book halt s
@@ -59,7 +60,7 @@ told_now numbers book part stop halt t froms ps o s e stops now =
     let both = subst (λ (x : Option Stopped). StopsAs numbers book part stop halt x) e stops in
     record { halts = both.0; told = both.1; now = subst (λ (x : Option Stopped). StopsAt t froms x ps) e now }
 
--- who ended did so now
+-- a task that ended did so now
 pub ends_now : (numbers : Numbers) (book : NurseryBook) (part : Part) (stop : Stop) (halt : Halt) (t : ℕ) (froms : Table) (ps : List Place)
     (s : Stopped) →
     IsToldNow numbers book part stop halt t froms ps s → (q : Started) → q.rest.stopped ≡ s → EndsAs stop t q
@@ -201,7 +202,8 @@ module _ (k : Table) (job : Job) (input : List ℕ) (t m s : ℕ) (old new : Cre
           T.stopped told new.world after refl
           (ap (λ (z : Task). z.part) T.stays) (ap (λ (w : World). w.tick) T.world ∙ c.tick) T.took.places T.modest refl
 
-    -- A crew in which a task took a turn is one with the tasks that it started, in which that task stopped so.
+    -- After a task of the program took a turn, the tasks are one run with those that it started, in which that
+    -- task stopped so.
     pub stepped : StoppedIn k job input t (m + length new.world.started.items) s stop new
     stepped = let T = turning_of in subst (λ (n : ℕ). StoppedIn k job input t (m + n) s stop new) T.1 (step T.0)
 

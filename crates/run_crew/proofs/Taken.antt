@@ -53,7 +53,7 @@ tasks_long {new = new} {after = after} T =
     begun_long T.took.numbers_after new.world.book (blocks_of after.frames.items) (waits_of after.halt) T.took.tasks T.move.begun
     T.took.begun
 
--- ---- a turn of the definitions, at the tick, the place and the frames of a task
+-- ---- a turn of the definitions, at the tick, the point and the frames of a task
 
 took_at : (before after : Task) (old new : World) (stop : Stop) (froms : Table) (numbers : Numbers) (n : ℕ) (w : wakes.Wake)
     (stopped : rest.Stopped) (ps : List Place) (count t : ℕ)
@@ -68,7 +68,8 @@ took_at before after old new stop froms numbers n w stopped ps count t here fs t
     (subst (λ (x : ℕ). TookTo before after old new stop froms numbers
     (turn_from n froms x (here_of before) w stopped (frames_of numbers before.frames.items) ps count)) tick h))
 
--- What the code says of a turn, and of the crew after it, is all that is known of a turn.
+-- What the code says of a turn, and of the tasks of the program after it, is all that is known of a
+-- turn.
 pub turning : (k : Table) (job : Job) (input : List ℕ) (t m s : ℕ) (old new : Crew) (before after : Task) (wake : Wake) (stop : Stop) →
     IsSettled k job input → GivesNamesOnce job →
     StartsInNurseries job → (c : IsCrew k job input t m None old) → old.task s ≡ Some before →

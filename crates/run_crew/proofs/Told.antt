@@ -1,4 +1,4 @@
--- An end is told to a nursery, which is one task's alone: its place has the end then, and everything else of it stays.
+-- An end is recorded in a nursery, which belongs to one task: its place has the end then, and everything else stays.
 use Rattle.std.proofs.lemmas.Bool.{eqb-true, eq-eqb}
 use Rattle.std.proofs.Common.{◌≡◌, ◌≢◌, ◌==◌, Bool, true, false, ℕ, zero, suc, Option, Some, None, List, [], ◌∷◌, length, refl, ap, sym, ◌∙◌}
 use Rattle.std.specs.Prelude.{slice_get, slice_set}
@@ -19,7 +19,7 @@ use Rattle.run_crew.proofs.Found.{finds, puts}
 use Rattle.run_crew.proofs.OtherNurseries.{scope_of_nursery}
 use Rattle.run_crew.proofs.Crews.{one_nursery}
 
--- ---- whose a nursery is
+-- ---- which task a nursery belongs to
 
 -- no two tasks have one nursery
 pub same_owner : (k : Table) (job : Job) (input : List ℕ) (t m : ℕ) (leaving : Option ℕ) (crew : Crew) →
@@ -31,9 +31,9 @@ same_owner k job input t m leaving crew c p u a b id e f h g =
     (c.follows p a e).goes.opened h in
     one_nursery k job input t m leaving crew c p u a b e f id x.nursery h g x.at
 
--- ---- what stays of nurseries where an end is told
+-- ---- what stays the same in nurseries when an end is recorded
 
--- another nursery is like this one but for how its children stand
+-- another nursery is like this one except for the ends of its children
 pub record Like (n m : Nursery) : Type 0 where
   pub scope : m.scope ≡ n.scope
   pub label : m.label ≡ n.label
@@ -43,13 +43,13 @@ pub record Like (n m : Nursery) : Type 0 where
 abbrev pub AllLike : NurseryBook → NurseryBook → Type 0
 AllLike old new = (id : ℕ) (n : Nursery) → nursery_at old id ≡ Some n → (m : Nursery) × (nursery_at new id ≡ Some m) × Like n m
 
--- What is told of a nursery: it is as it was, and the home of no task that left; or it is that home, and has the end at its
--- place.
+-- How recording an end leaves a nursery: it is as it was, and not the home of the task that left; or it is that home, and
+-- has the end at its place.
 pub data Told (new : NurseryBook) (exc : Option Exc) (id : ℕ) (n : Nursery) : Option Home → Type 0 where
   stays : (home : Option Home) → nursery_at new id ≡ Some n → ((h : Home) → home ≡ Some h → h.nursery ≢ id) → Told new exc id n home
   tells : (h : Home) → h.nursery ≡ id → nursery_at new id ≡ Some (with_child h.place exc n) → Told new exc id n (Some h)
 
--- where an end is told, each nursery is as it was, or is the home and has the end at its place
+-- if an end is recorded, each nursery is as it was, or is the home and has the end at its place
 pub told : (old new : NurseryBook) (home : Option Home) (exc : Option Exc) → EndIsTold old new home exc → (id : ℕ) (n : Nursery) →
     nursery_at old id ≡ Some n → Told new exc id n home
 told old new None exc h id n e =
@@ -70,20 +70,20 @@ told old new (Some x) exc h id n e = by_key (x.nursery == id) refl
         stays (Some x) (u.2.others id (λ g. differs (sym g)) ∙ e)
         (λ y g w. let same : Some x ≡ Some y = g in let one : x ≡ y = cc in differs (ap (λ (z : Home). z.nursery) one ∙ w))
 
--- a nursery has as many children once the end of one is told
+-- a nursery has as many children after the end of one is recorded
 pub set_long : (es : List End) (n : ℕ) (x : End) → length (slice_set es n x) ≡ length es
 set_long [] zero x = refl
 set_long [] (suc n) x = refl
 set_long (e ∷ es) zero x = refl
 set_long (e ∷ es) (suc n) x = ap suc (set_long es n x)
 
--- the child whose end is told has that end
+-- the child whose end is recorded has that end
 pub set_at : (es : List End) (n : ℕ) (x y : End) → slice_get es n ≡ Some y → slice_get (slice_set es n x) n ≡ Some x
 set_at [] n x y e = absurd (let f : None ≡ Some y = e in cc)
 set_at (e ∷ es) zero x y f = refl
 set_at (e ∷ es) (suc n) x y f = set_at es n x y f
 
--- every other child stands as it did
+-- every other child is as it was
 pub set_else : (es : List End) (n p : ℕ) (x : End) → n ≢ p → slice_get (slice_set es n x) p ≡ slice_get es p
 set_else [] zero p x differs = refl
 set_else [] (suc n) p x differs = refl
@@ -92,7 +92,7 @@ set_else (e ∷ es) zero (suc p) x differs = refl
 set_else (e ∷ es) (suc n) zero x differs = refl
 set_else (e ∷ es) (suc n) (suc p) x differs = set_else es n p x (λ f. differs (ap suc f))
 
--- where an end is told, each nursery keeps its scope, its label, its body's end and the count of its children
+-- if an end is recorded, each nursery keeps its scope, its label, its body's end and the number of its children
 pub all_like : (old new : NurseryBook) (home : Option Home) (exc : Option Exc) → EndIsTold old new home exc → AllLike old new
 all_like old new home exc h id n e = by_told home (told old new home exc h id n e)
   where

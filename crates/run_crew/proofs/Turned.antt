@@ -1,4 +1,5 @@
--- A crew after a turn of one of its tasks: the task, its new children and all others are tied to the run after it.
+-- The tasks of the program after a turn of one of them: the task, its new children and all others have their relation to the run
+-- after it.
 use Rattle.std.proofs.Common.{◌≡◌, ◌≢◌, ◌⊎◌, inl, inr, ℕ, zero, suc, ◌+◌, ◌-◌, ◌<◌, ◌≤◌, Option, Some, None, List, [], ◌∷◌, ◌++◌, length, refl, ap, sym, ◌∙◌, subst, arith}
 use Rattle.std.proofs.lemmas.Bool.{cases_lt}
 use Rattle.std.specs.Prelude.{slice_get}
@@ -138,7 +139,7 @@ module _ (k : Table) (job : Job) (input : List ℕ) (t m s : ℕ) (old new : Cre
       let count : length T.took.tasks ≡ length T.move.begun = tasks_long T in
       ap new.task (sym is) ∙ (T.child_after (p - m) ∙ past_length T.took.tasks (p - m) (omega (arith, count, le)))
 
-  -- ---- who has ended
+  -- ---- which tasks have ended
 
   -- no scope has a label that such a task entered
   none_has : (p : ℕ) → p < m → old.task p ≡ None → (l : Label) → Known l (entered_made (c.course.at p).made) → (key : ℕ) →
@@ -185,7 +186,7 @@ module _ (k : Table) (job : Job) (input : List ℕ) (t m s : ℕ) (old new : Cre
 
   -- ---- scopes
 
-  -- who opened a scope that is none of the task's is another
+  -- the task that opened a scope that is none of this task's is another
   differs_by : (key p : ℕ) → AreOthers key before.own.items → OpenedBy old key p → p ≢ s
   differs_by key p others o e =
       let is : o.task ≡ before = one_of o.task before (sym o.lives ∙ (ap old.task e ∙ T.task)) in
@@ -376,7 +377,8 @@ module _ (k : Table) (job : Job) (input : List ℕ) (t m s : ℕ) (old new : Cre
       refl,
     )
 
--- A crew after a turn is a crew of the run after it, with the new tasks, if every other task that was there is tied to the run after it.
+-- The tasks of the program after a turn are those of the run after it, with the new tasks, if every other task that was there has
+-- its relation to the run after it.
 pub crew_turned : {k : Table} {job : Job} {input : List ℕ} {t m s : ℕ} {old new : Crew} {before after : Task} {stop : Stop} →
     (c : IsCrew k job input t m None old) →
     (T : Turning k job input t m s old new c.numbers before after stop c.course) → IsSettled k job input → GivesNamesOnce job →

@@ -1,4 +1,4 @@
--- How a run begins: a world in which nothing happened yet, and the root, which has to begin with the job's steps.
+-- How a run begins: a world in which nothing has happened, and the root, which has not begun the job's steps.
 use Rattle.std.specs.Prelude.{◌≡◌, ℕ, suc, List, [], ◌∷◌, Some, None, length}
 use Rattle.buffer_parts.specs.Part.{buffer_of, range_of}
 use Rattle.cancel_scopes.specs.Tree.{stack_of}
@@ -13,7 +13,7 @@ use Rattle.task_machine.specs.Frames.{frames_of}
 use Rattle.task_machine.specs.Worlds.{label_at}
 use Rattle.run_crew.specs.Crew.{Crew}
 
--- what `World::new` says of a world
+-- a world as `World::new` returns it
 pub record IsNewWorld (world : World) : Type 0 where
   pub tick : world.tick ≡ 0
   pub scopes : (key : ℕ) → stack_of world.scopes key ≡ None
@@ -21,7 +21,7 @@ pub record IsNewWorld (world : World) : Type 0 where
   pub book : (key : ℕ) → nursery_at world.book key ≡ None
   pub started : world.started.items ≡ []
 
--- what `Task::root` says of a root, on the whole input
+-- a root as `Task::root` returns it, on the whole input
 pub record IsRootTask (job : Job) (input : List ℕ) (task : Task) : Type 0 where
   pub label : task.label ≡ root_label job.name
   pub buffer : buffer_of task.part ≡ input
@@ -33,7 +33,7 @@ pub record IsRootTask (job : Job) (input : List ℕ) (task : Task) : Type 0 wher
   pub entries : task.entries.items ≡ []
   pub froms : task.froms.items ≡ []
 
--- the root is the one task of a crew, in a new world, and no turn was taken
+-- the root is the only task of the program, in a new world, and no turn was taken
 pub record IsNewCrew (job : Job) (input : List ℕ) (crew : Crew) : Type 0 where
   pub world : IsNewWorld crew.world
   pub root : Task

@@ -1,4 +1,4 @@
--- The tasks of a run as the code holds them, and what ties them to a run of the definitions.
+-- The tasks of the program as the code holds them, and their relation to a run of the definitions.
 use Rattle.std.specs.Prelude.{◌≡◌, ◌≢◌, true, ℕ, ◌<◌, ◌≤◌, Option, Some, None, List, [], ◌∷◌, All, map, length, slice_get}
 use Rattle.std.specs.Option.{ForSome}
 use Rattle.std.specs.List.{last_or}
@@ -34,13 +34,13 @@ use Rattle.run_course.specs.Runs.{Reached, turns_taken}
 
 -- ---- a run of the definitions, and its tasks by their serial numbers
 
--- no two tasks have one serial number
+-- no two tasks have the same serial number
 abbrev pub AreApart : List Started → Type 0
 AreApart [] = Unit {0}
 AreApart (q ∷ qs) = ((x : Started) → In x qs → x.serial ≢ q.serial) × AreApart qs
 
--- A run gets to these froms and this tick with so many tasks, each of which has one of the serial numbers below. What is at a
--- number that no task has made nothing.
+-- A run reaches these froms and this tick with m tasks, whose serial numbers are those below m. The task at a number that no
+-- task has has done nothing.
 pub record Course (k : Table) (job : Job) (input : List ℕ) (t m : ℕ) : Type 0 where
   pub froms : Table
   pub tasks : List Started
@@ -73,22 +73,22 @@ pub record Crew : Type 0 where
 
 -- ---- one task
 
--- what a task noted is what it made, and each line is the slice of the input at its place
+-- what a task noted corresponds to its events, and each line is the slice of the input at its place
 pub record Notes (input : List ℕ) (made : List rest.Event) (entries : List Entry) : Type 0 where
   pub shown : map entry_of entries ≡ shown_made input made
   pub slices : All (IsSlice input) entries
 
--- the scopes that a task opened and did not leave have other keys than one another
+-- the scopes that a task opened and did not leave have different keys
 abbrev pub Differ : List Own → Type 0
 Differ [] = Unit {0}
 Differ (o ∷ own) = AreOthers o.id own × Differ own
 
--- a place among the froms of a task is that of no scope which it is in
+-- this index among the froms of a task is that of no scope that encloses it
 abbrev pub IsPast : ℕ → List Own → Type 0
 IsPast i own = All (λ (o : Own). o.at ≢ i) own
 
--- The froms of a task are those of the labels that it entered. A scope that it is in has its label at its place, and the label's
--- from; and that of a scope that it left was kept, whose label no scope has now.
+-- The froms of a task are those of the labels that it entered. A scope that encloses it has its label at its index, and the
+-- label's from; and that of a scope that it left was kept, whose label no scope has now.
 pub record Tracks (known : Label → Type 0) (f : Table) (s : Scoping) (entered : List Label) : Type 0 where
   pub labels : map (λ (x : ScopeFrom). x.label) s.froms ≡ entered
   pub differ : Differ s.own
@@ -101,8 +101,8 @@ pub record Tracks (known : Label → Type 0) (f : Table) (s : Scoping) (entered 
       (i : ℕ) (x : ScopeFrom) → slice_get s.froms i ≡ Some x → IsPast i s.own →
       (x.seen ≡ f x.label) × ((key : ℕ) → s.labels key ≡ Some x.label → ⊥) × known x.label
 
--- Between its turns a task can run on what it has left, and its scopes and nurseries are open: all that a turn asks of it, but
--- for what other tasks are in (`Fits`).
+-- Between its turns a task can run what it has left, and its scopes and nurseries are open: all that a turn requires of it,
+-- except for the scopes of other tasks (`Fits`).
 pub record CanGoOn (task : Task) (world : World) : Type 0 where
   pub modest : AreModestFrames (frames_of (λ id. []) task.frames.items)
   pub starts : StartsFit (frames_of (λ id. []) task.frames.items)
@@ -112,8 +112,8 @@ pub record CanGoOn (task : Task) (world : World) : Type 0 where
   pub froms : All (λ (o : Own). o.at < length task.froms.items) task.own.items
   pub opened : Opened (label_at world) world.book (blocks_of task.frames.items) task.own.items (waits_of task.halt)
 
--- The home of a task that was started by another, which has not ended: one of its nurseries, in which this task runs at its
--- place, as the child that has this serial number.
+-- The home of a task that was started by another, which has not ended: one of the other's nurseries, in which this task runs at
+-- its place, as the child with this serial number.
 pub record LivesIn (crew : Crew) (at : ℕ → Started) (numbers : ℕ → Numbers) (s : ℕ) (home : Home) : Type 0 where
   pub parent : ℕ
   pub starter : Task
@@ -131,21 +131,22 @@ abbrev pub HasHome : Crew → (ℕ → Started) → (ℕ → Numbers) → ℕ �
 HasHome crew at numbers s None = s ≡ 0
 HasHome crew at numbers s (Some home) = LivesIn crew at numbers s home
 
--- a member of a nursery at a place: while it runs it is a task whose home that is, and then one that has ended so
+-- a member of a nursery at a place: while it runs it is a task with that home, and afterwards one that has ended so
 abbrev pub IsMember : Crew → (ℕ → Started) → ℕ → ℕ → ℕ → ℕ → Option End → Type 0
 IsMember crew at t id place serial None = ⊥
 IsMember crew at t id place serial (Some None) = (c : Task) × (crew.task serial ≡ Some c) × (home_of c ≡ Some (id, place))
 IsMember crew at t id place serial (Some (Some exc)) =
     (g : Gone) × (crew.gone serial ≡ Some g) × (g.end ≤ t) × ((at serial).rest.stopped ≡ rest.at_end g.end exc)
 
--- each nursery of a task has as many children as it has numbers there, and each is the task of its serial number
+-- each nursery of a task has as many children as it has numbers there, and each is the task with its serial number
 pub record HasMembers (crew : Crew) (at : ℕ → Started) (t : ℕ) (numbers : Numbers) (q : Started) (id : ℕ) (n : Nursery) : Type 0 where
   pub long : length (numbers id) ≡ length n.children
   pub members :
       (place number : ℕ) → slice_get (numbers id) place ≡ Some number →
       (number < q.count) × IsMember crew at t id place (q.child number) (slice_get n.children place)
 
--- A task that has not ended, or of whose end nobody was told yet, tied to the one of the definitions that has its serial number.
+-- A task that has not ended, or whose end is not recorded yet, and its relation to the task of the definitions with its serial
+-- number.
 pub record Follows (crew : Crew) (f : Table) (input : List ℕ) (t : ℕ) (at : ℕ → Started) (numbers : ℕ → Numbers) (leaving : Option ℕ)
     (s : ℕ) (task : Task) : Type 0
   where
@@ -174,7 +175,7 @@ pub record HasEnded (f : Table) (input : List ℕ) (t : ℕ) (q : Started) (g : 
 
 -- ---- all tasks
 
--- each child that was started has the label and the start that its starter's event says
+-- each child that was started has the label and the start of its starter's event
 abbrev pub AreStarted : (ℕ → ℕ) → (ℕ → Started) → (ℕ → ℕ) → List rest.Event → Type 0
 AreStarted start at child [] = Unit {0}
 AreStarted start at child (rest.noted t e ∷ es) = AreStarted start at child es
@@ -191,8 +192,8 @@ pub record OpenedBy (crew : Crew) (key s : ℕ) : Type 0 where
   pub own : slice_get task.own.items place ≡ Some scope
   pub is : scope.id ≡ key
 
--- What the code holds of a run is a run of the definitions in this tick with so many tasks, where a table is followed. One task
--- may have ended of whose end nobody was told yet.
+-- The tasks of the program are a run of the definitions in this tick with m tasks, where a table is followed. One task may have
+-- ended whose end is not recorded yet.
 pub record IsCrew (k : Table) (job : Job) (input : List ℕ) (t m : ℕ) (leaving : Option ℕ) (crew : Crew) : Type 0 where
   pub course : Course k job input t m
   pub numbers : ℕ → Numbers
@@ -205,7 +206,7 @@ pub record IsCrew (k : Table) (job : Job) (input : List ℕ) (t m : ℕ) (leavin
   pub unborn : (s : ℕ) → m ≤ s → (crew.task s ≡ None) × (crew.gone s ≡ None)
   pub ended : (s : ℕ) → s < m → crew.task s ≡ None → (g : Gone) × (crew.gone s ≡ Some g) × HasEnded course.froms input t (course.at s) g
   pub follows : (s : ℕ) (task : Task) → crew.task s ≡ Some task → Follows crew course.froms input t course.at numbers leaving s task
-  -- each open scope is a task's, and that of no other; it has a label, and no other scope has one
+  -- each open scope belongs to exactly one task; it has a label, and no other scope has the same one
   pub owned : (key : ℕ) → IsOpen crew.world.scopes key → (s : ℕ) × OpenedBy crew key s
   pub apart : (key s u : ℕ) → OpenedBy crew key s → OpenedBy crew key u → s ≡ u
   pub labelled : (key : ℕ) (l : Label) → label_at crew.world key ≡ Some l → IsOpen crew.world.scopes key

@@ -1,4 +1,4 @@
--- The laws of crews. They are the contract of a function that does nothing.
+-- The laws of the tasks of the program. They are the contract of a function that does nothing.
 use Rattle.std.specs.Prelude.{◌≡◌, ℕ, ◌+◌, ◌*◌, ◌≤◌, Option, Some, None, IsSome, List, [], ◌∷◌, length}
 use Rattle.exc_groups.specs.Exceptions.{Exc}
 use Rattle.job_tree.specs.Tree.{Tree as Job}
@@ -23,14 +23,14 @@ use Rattle.run_crew.specs.Moved.{SameTasks, moved_world}
 use Rattle.run_crew.specs.Over.{IsOver}
 use Rattle.run_crew.specs.Ready.{AllStay, HasSleeper}
 
--- Before the first turn what the code holds is a run of one task in tick 0, whichever table is followed.
+-- Before the first turn what the code holds is a run of one task in tick 0, for any table that is followed.
 abbrev pub CrewsBegin : Type 0
 CrewsBegin =
     (k : Table) (job : Job) (input : List ℕ) (crew : Crew) → IsModest job → GivesNamesOnce job → StartsInNurseries job →
     length input ≤ MOST_INPUT →
     IsNewCrew job input crew → IsCrew k job input 0 1 None crew
 
--- Each task that has not ended has all that a turn of it asks of the world.
+-- Each task that has not ended has all that a turn of it requires of the world.
 abbrev pub TasksFit : Type 0
 TasksFit =
     (k : Table) (job : Job) (input : List ℕ) (t m : ℕ) (leaving : Option ℕ) (crew : Crew) → IsCrew k job input t m leaving crew →
@@ -45,16 +45,16 @@ AfterTurns Holds =
     GivesNamesOnce job → StartsInNurseries job → IsCrew k job input t m None old → TakesTurn t m s old new before after wake stop →
     Holds k job input t m s new after stop
 
--- For each settled table a turn of one task leaves a run of the definitions, with the tasks that it started: there the task
+-- For each settled table a turn of one task leaves a run of the definitions, with the tasks that it started: in it the task
 -- stopped as the code says.
 abbrev pub CrewsTurn : Type 0
 CrewsTurn = AfterTurns (λ k job input t m s new after stop. StoppedIn k job input t (m + length new.world.started.items) s stop new)
 
--- And what a stop says of the task is so: a sleep is to a later tick, and sees no cancellation now.
+-- And what a stop says of the task is true: a sleep is to a later tick, and no cancellation is seen now.
 abbrev pub StopsSay : Type 0
 StopsSay = AfterTurns (λ k job input t m s new after stop. StopSays new.world after stop)
 
--- A task that has ended leaves, and its nursery is told: then nobody's end is left to tell.
+-- A task that has ended leaves, and its end is recorded in its nursery: then no task's end is left to record.
 abbrev pub CrewsLeave : Type 0
 CrewsLeave =
     (k : Table) (job : Job) (input : List ℕ) (t m s : ℕ) (old new : Crew) (task : Task) (exc : Option Exc) →
@@ -68,14 +68,14 @@ CrewsTake =
     new.world ≡ moved_world old.world t new.world →
     (c : IsCrew k job input t m leaving old) → (x : IsCrew k job input t m leaving new) × (x.course.at ≡ c.course.at)
 
--- Where no task goes on before a later tick, the clock may jump to it.
+-- If no task continues before a later tick, the clock may jump to it.
 abbrev pub CrewsJump : Type 0
 CrewsJump =
     (k : Table) (job : Job) (input : List ℕ) (t u m : ℕ) (old new : Crew) → t ≤ u → SameTasks old new →
     new.world ≡ moved_world old.world u new.world →
     IsCrew k job input t m None old → AllStay old u → IsCrew k job input u m None new
 
--- While a task has not ended and none goes on before a tick, one sleeps.
+-- While a task has not ended and none continues before a tick, one sleeps.
 abbrev pub CrewsSleep : Type 0
 CrewsSleep =
     (k : Table) (job : Job) (input : List ℕ) (t m : ℕ) (crew : Crew) → IsSettled k job input → GivesNamesOnce job → StartsInNurseries job →
@@ -89,7 +89,7 @@ CrewsAreInTime =
     IsCrew (meaning_table job input) job input t m None crew →
     (s : ℕ) (task : Task) → crew.task s ≡ Some task → t ≤ meaning_end job input
 
--- There are at most twice as many turns as the job has steps, and one.
+-- There are at most twice as many turns as the job has steps, plus one.
 abbrev pub TurnsAreFew : Type 0
 TurnsAreFew =
     (k : Table) (job : Job) (input : List ℕ) (t m : ℕ) (leaving : Option ℕ) (crew : Crew) → IsCrew k job input t m leaving crew →
@@ -100,13 +100,13 @@ abbrev pub AreDistinct : List ℕ → Type 0
 AreDistinct [] = Unit {0}
 AreDistinct (s ∷ ss) = (In s ss → ⊥) × AreDistinct ss
 
--- And at most as many tasks have not ended.
+-- And at most this number of tasks have not ended.
 abbrev pub TasksAreFew : Type 0
 TasksAreFew =
     (k : Table) (job : Job) (input : List ℕ) (t m : ℕ) (crew : Crew) → IsCrew k job input t m None crew →
     (numbers : List ℕ) → AreDistinct numbers → ((s : ℕ) → In s numbers → IsSome (crew.task s)) → length numbers ≤ 2 * size_of job.steps + 1
 
--- Once all tasks have ended, what is kept of them says what the job means.
+-- When all tasks have ended, what is kept of them is what the job means.
 abbrev pub CrewsEnd : Type 0
 CrewsEnd =
     (job : Job) (input : List ℕ) → GivesNamesOnce job → StartsInNurseries job → (t m : ℕ) (crew : Crew) →

@@ -1,4 +1,4 @@
--- The end of a task is told: to its nursery, if it has one, and what is left of it is kept.
+-- The end of a task is recorded: in its nursery, if it has one, and what is left of it is kept.
 use Rattle.std.specs.Prelude.{◌≡◌, ◌≢◌, ℕ, Option, Some, None}
 use Rattle.exc_groups.specs.Exceptions.{Exc}
 use Rattle.nursery_book.specs.Nursery.{with_child}
@@ -15,7 +15,8 @@ abbrev pub EndIsTold : NurseryBook → NurseryBook → Option Home → Option Ex
 EndIsTold old new None exc = new ≡ old
 EndIsTold old new (Some home) exc = Changes old new home.nursery (with_child home.place exc)
 
--- The task of this serial number has ended in this tick, with that exception or well. Everybody else stays.
+-- The task with this serial number has ended in this tick, with this exception or none. All other tasks
+-- stay.
 pub record Leaving (t s : ℕ) (old new : Crew) (q : Started) (task : Task) (exc : Option Exc) : Type 0 where
   pub was : old.task s ≡ Some task
   pub ended : q.rest.stopped ≡ rest.at_end t exc

@@ -1,4 +1,4 @@
--- A run that is over: what is kept of its tasks shows rows of the definitions, and these say what the job means.
+-- A run that is over: what is kept of its tasks shows rows of the definitions, and these are what the job means.
 use Rattle.std.specs.Prelude.{◌≡◌, ℕ, ◌<◌, Some, List, [], ◌∷◌, All, map}
 use Rattle.job_tree.specs.Tree.{Tree as Job}
 use Rattle.job_meaning.specs.Meaning.{meaning_records, meaning_froms, meaning_end}
@@ -7,7 +7,7 @@ use Rattle.task_machine.specs.Noted.{entry_of, from_of, IsSlice}
 use Rattle.run_course.specs.Rows.{Row, records_by, froms_in, DepthFirst}
 use Rattle.run_crew.specs.Crew.{Crew, Gone}
 
--- what is kept of the task of this serial number, which has ended, shows this row
+-- what is kept of the task with this serial number, which has ended, shows this row
 pub record ShowsRow (input : List ℕ) (crew : Crew) (p : ℕ) (row : Row) : Type 0 where
   pub gone : Gone
   pub is : crew.gone p ≡ Some gone
@@ -20,8 +20,8 @@ pub record ShowsRow (input : List ℕ) (crew : Crew) (p : ℕ) (row : Row) : Typ
   pub froms : map from_of gone.froms ≡ row.froms
   pub children : crew.children p ≡ row.children
 
--- All of so many tasks have ended. Their rows, from the root's on and each with its descendants behind it, are the records,
--- the froms and the end of the meaning.
+-- All m tasks have ended. Their rows, from the root's on and each followed by its descendants, are the records, the froms
+-- and the end of the meaning.
 pub record IsOver (job : Job) (input : List ℕ) (m : ℕ) (crew : Crew) : Type 0 where
   pub rows : ℕ → Row
   pub shows : (p : ℕ) → p < m → ShowsRow input crew p (rows p)

@@ -1,4 +1,4 @@
--- When the tasks of a crew go on, as the code sees it: by their halts, the world, and nothing of the definitions.
+-- When the tasks of the program continue, as the code sees it: by their blocked states and the world, without the definitions.
 use Rattle.std.specs.Prelude.{◌≡◌, ℕ, ◌+◌, ◌<◌, ◌≤◌, true, false, Option, Some}
 use Rattle.cancel_scopes.specs.Sight.{sight, seen}
 use Rattle.cancel_scopes.specs.Tree.{outer_of}
@@ -18,20 +18,20 @@ use Rattle.task_machine.specs.Tasks.{scope_of}
 use Rattle.task_machine.specs.Waking.{WakesFrom}
 use Rattle.run_crew.specs.Crew.{Crew}
 
--- A sleeper in that scope goes on when it is due and sees nothing, or when it sees a cancellation, after the tick in which it
--- fell asleep.
+-- A sleeper in that scope continues when it is due and sees nothing, or when it sees a cancellation, after the tick in which
+-- it fell asleep.
 abbrev pub IsTimely : World → Option ℕ → Halt → Wake → Type 0
 IsTimely world scope (Asleep ticks since) Due = (since + ticks ≡ world.tick) × (seen (outer_of world.scopes scope) world.tick ≡ false)
 IsTimely world scope (Asleep ticks since) Seen = (since < world.tick) × (seen (outer_of world.scopes scope) world.tick ≡ true)
 IsTimely world scope halt wake = Unit {0}
 
--- a task may go on so, in the world's tick
+-- a task may continue so, in the world's tick
 pub record MayGo (world : World) (task : Task) (wake : Wake) : Type 0 where
   pub fits : WakesFrom task.halt task.part world.book wake
   pub timely : IsTimely world (scope_of task) task.halt wake
 
--- A task in that scope does not go on before tick u: a sleeper is due, and sees a cancellation, in that tick or later; and one
--- that waits does so for a nursery of which a member runs.
+-- A task in that scope does not continue before tick u: a sleeper is due, and sees a cancellation, in that tick or later; and
+-- one that waits does so for a nursery of which a member runs.
 abbrev pub StaysTo : World → ℕ → Option ℕ → Halt → Type 0
 StaysTo world u scope ToBegin = ⊥
 StaysTo world u scope (Asked kernel purpose) = ⊥
@@ -43,7 +43,7 @@ StaysTo world u scope Over = ⊥
 abbrev pub AllStay : Crew → ℕ → Type 0
 AllStay crew u = (s : ℕ) (task : Task) → crew.task s ≡ Some task → StaysTo crew.world u (scope_of task) task.halt
 
--- a task of the crew sleeps
+-- a task of the program sleeps
 pub record HasSleeper (crew : Crew) : Type 0 where
   pub serial : ℕ
   pub task : Task
@@ -52,13 +52,13 @@ pub record HasSleeper (crew : Crew) : Type 0 where
   pub since : ℕ
   pub asleep : task.halt ≡ Asleep ticks since
 
--- the task of this serial number has not ended, and the nursery is one of its own
+-- the task with this serial number has not ended, and the nursery is one of its own
 pub record Keeps (crew : Crew) (s id : ℕ) : Type 0 where
   pub task : Task
   pub lives : crew.task s ≡ Some task
   pub owned : HasNurseryOf id (blocks_of task.frames.items) (waits_of task.halt)
 
--- the home of each task is a nursery of the one that has this serial number
+-- the home of each task is a nursery of the task with this serial number
 abbrev pub AreHomesOf : Crew → (ℕ → ℕ) → Type 0
 AreHomesOf crew parent = (s : ℕ) (task : Task) (home : Home) → crew.task s ≡ Some task → task.home ≡ Some home →
     Keeps crew (parent s) home.nursery

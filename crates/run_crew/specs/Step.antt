@@ -1,4 +1,4 @@
--- A turn of one task of a crew as the code has it, with nothing of the definitions; and what its stop says.
+-- A turn of one task of the program, as the code has it, without the definitions; and what its stop says.
 use Rattle.std.specs.Prelude.{◌≡◌, ◌≢◌, ℕ, ◌+◌, ◌<◌, ◌≤◌, ◌^◌, false, Some, IsSome, List, [], ◌++◌, length, slice_get}
 use Rattle.std.specs.Option.{option_map}
 use Rattle.exc_groups.specs.Held.{exc_of}
@@ -25,7 +25,7 @@ use Rattle.run_crew.specs.Crew.{Crew, IsCrew}
 use Rattle.run_crew.specs.Turn.{IsSound, serials_from, leaving_by}
 use Rattle.run_crew.specs.Ready.{MayGo}
 
--- The task of this serial number, one of so many, had its turn. What it started waits in the world, and has the next serial
+-- The task with this serial number, one of m, had its turn. What it started waits in the world, and has the next serial
 -- numbers.
 pub record TakesTurn (t m s : ℕ) (old new : Crew) (before after : Task) (wake : Wake) (stop : Stop) : Type 0 where
   pub task : old.task s ≡ Some before
@@ -61,13 +61,13 @@ pub record TakesTurn (t m s : ℕ) (old new : Crew) (before after : Task) (wake 
 
 -- ---- what a stop says
 
--- a task asks that of its part
+-- a task requests that on its part
 pub record Asks (task : Task) (request : Request) : Type 0 where
   pub purpose : Purpose
   pub halt : task.halt ≡ Asked request.kernel purpose
   pub part : request.part ≡ task.part
 
--- a task fell asleep in this tick: it sleeps to a later one, not too far away, and sees nothing now
+-- a task fell asleep in this tick: it sleeps until a later one, not too far away, and sees nothing now
 pub record FallsAsleep (world : World) (task : Task) (due : ℕ) : Type 0 where
   pub ticks : ℕ
   pub halt : task.halt ≡ Asleep ticks world.tick
@@ -95,7 +95,7 @@ EndsAs (Sleep due) t q = Unit {0}
 EndsAs (Wait id) t q = Unit {0}
 EndsAs (Ended exc) t q = q.rest.stopped ≡ rest.at_end t (option_map exc_of exc)
 
--- A crew in which the task of this serial number stopped so, and of whose end nobody was told yet if it ended.
+-- The tasks of the program, where the task with this serial number stopped so, and its end is not recorded yet if it ended.
 pub record StoppedIn (k : Table) (job : Job) (input : List ℕ) (t m s : ℕ) (stop : Stop) (crew : Crew) : Type 0 where
   pub is : IsCrew k job input t m (leaving_by stop s) crew
   pub ended : EndsAs stop t (is.course.at s)

@@ -1,4 +1,4 @@
--- A turn of one task of a crew: what is known of it, in the code and in the definitions.
+-- A turn of one task of the program: what is known of it, in the code and in the definitions.
 use Rattle.std.specs.Prelude.{◌≡◌, ◌≢◌, ◌⊎◌, ℕ, zero, suc, ◌+◌, ◌<◌, ◌==◌, Bool, true, false, nat_lt, Option, Some, None, List, [], ◌∷◌, ◌++◌, length, slice_get}
 use Rattle.exc_groups.specs.Exceptions.{Label}
 use Rattle.cancel_scopes.specs.Tree.{Tree, IsOwn, IsChain, IsApart}
@@ -25,7 +25,7 @@ use Rattle.run_course.specs.Runs.{turns_taken}
 use Rattle.run_course.specs.Rows.{entered_made}
 use Rattle.run_crew.specs.Crew.{Course, Crew}
 
--- what `stacks_are_chains` says of a tree
+-- what `stacks_are_chains` states of a tree
 pub record IsSound (tree : Tree) : Type 0 where
   pub own : IsOwn tree
   pub chain : IsChain tree
@@ -35,7 +35,7 @@ pub record IsSound (tree : Tree) : Type 0 where
 abbrev pub IsEntered : (ℕ → Started) → Label → Type 0
 IsEntered at l = (p : ℕ) × Known l (entered_made (at p).made)
 
--- the labels entered among events are none of those known, nor one another
+-- the labels entered among events differ from those known and from each other
 abbrev pub AreNew : (Label → Type 0) → List rest.Event → Type 0
 AreNew known [] = Unit {0}
 AreNew known (rest.noted t e ∷ es) = AreNew known es
@@ -43,7 +43,7 @@ AreNew known (rest.signs l t ∷ es) = AreNew known es
 AreNew known (rest.enters l t d ∷ es) = (known l → ⊥) × AreNew (λ m. (m ≡ l) ⊎ known m) es
 AreNew known (rest.starts i l t ∷ es) = AreNew known es
 
--- a child begun in a tick, as a task of this serial number
+-- a child begun in a tick, as a task with this serial number
 abbrev pub child_at : Table → ℕ → ℕ → Begun → Started
 child_at k t s b =
     record {
@@ -69,13 +69,13 @@ numbers_if false false now was = was
 abbrev pub numbers_then : (ℕ → Numbers) → (s m : ℕ) → Numbers → ℕ → Numbers
 numbers_then numbers s m now p = numbers_if (p == s) (nat_lt m (p + 1)) now (numbers p)
 
--- so many serial numbers from this one on
+-- the given number of consecutive serial numbers from this one on
 abbrev pub serials_from : ℕ → ℕ → List ℕ
 serials_from m zero = []
 serials_from m (suc n) = m ∷ serials_from (suc m) n
 
--- A turn of the task of this serial number, which led from one crew to another: so many tasks were there before it, and those
--- that it started have the next serial numbers.
+-- A turn of the task with this serial number: m tasks were there before it, and those that it started have the next serial
+-- numbers.
 pub record Turning
     (k : Table) (job : Job) (input : List ℕ) (t m s : ℕ) (old new : Crew) (numbers : ℕ → Numbers) (before after : Task) (stop : Stop)
     (was : Course k job input t m) : Type 0
@@ -130,7 +130,7 @@ pub record Turning
     pub children_after : (p : ℕ) → p < m → p ≢ s → new.children p ≡ old.children p
     pub no_children : (i : ℕ) → i < length move.begun → new.children (m + i) ≡ []
 
--- whom a stop leaves with an end that nobody was told of
+-- the task that ended at this stop, whose end is not recorded yet
 abbrev pub leaving_by : Stop → ℕ → Option ℕ
 leaving_by (Ask request) s = None
 leaving_by (Sleep due) s = None
