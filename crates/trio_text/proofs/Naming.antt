@@ -1,4 +1,4 @@
--- Names that differ have texts that differ, and none of these is a word that the program has for something else.
+-- Different names have different texts, and none of these is a word that the program uses for something else.
 use Rattle.std.proofs.Common.{◌≡◌, ℕ, List, ◌++◌, ◌-◌, [], ◌∷◌, Bool, true, false, length, refl, sym, ap, ◌∙◌, inl, inr, arith}
 use Rattle.std.specs.Prelude.{◌≢◌, codes, nat_eq, not, if◌then◌else◌}
 use Rattle.std.specs.List.{list_any, list_all, ends_with}
@@ -15,7 +15,7 @@ use Rattle.trio_text.specs.declared.taken.TheConstants.{TAKEN}
 abbrev marked : List ℕ → Bool
 marked word = ends_with nat_eq word (codes "_")
 
--- A word with `_` after it does.
+-- A word followed by `_` ends with `_`.
 marked_after : (word : List ℕ) → marked (word ++ codes "_") ≡ true
 marked_after word =
     let n : length (word ++ codes "_") - length (codes "_") ≡ length word = omega (arith, length-append word (codes "_")) in
@@ -25,12 +25,12 @@ not_so : (b : Bool) → not b ≡ true → b ≡ false
 not_so false is = refl
 not_so true is = sym is
 
--- A word that stands in the program as it is does not.
+-- A word that is used in the program unchanged does not end with `_`.
 free_unmarked : (word : List ℕ) → is_free word ≡ true → marked word ≡ false
 unfolding is_free
 free_unmarked word is = not_so (marked word) (and_parts (not (marked word)) _ is).0
 
--- Words of which only those that do not end with `_` stay as they are, and get `_` otherwise, are equal where what becomes of them is.
+-- Words get `_` after them, except some that do not end with `_`. If the results are equal, the words are equal.
 same_word : (stays remains : Bool) (a b : List ℕ) → (stays ≡ true → marked a ≡ false) → (remains ≡ true → marked b ≡ false) →
     (if stays then a else a ++ codes "_") ≡ (if remains then b else b ++ codes "_") → a ≡ b
 same_word true true a b plain other same = same
@@ -45,7 +45,7 @@ unfolding name_text
 names_differ one other same =
     same_word (is_free one) (is_free other) one other (free_unmarked one) (free_unmarked other) same
 
--- A word with `_` after it is none of words that do not end with `_`.
+-- A word followed by `_` is not among words that do not end with `_`.
 not_among : {X : Type 0} (text : X → List ℕ) (xs : List X) (word : List ℕ) → list_all (λ x. not (marked (text x))) xs ≡ true →
     list_any (λ x. bytes_eq (text x) (word ++ codes "_")) xs ≡ false
 not_among text [] word all = refl
@@ -63,7 +63,7 @@ marked_untaken : (word : List ℕ) → is_taken (word ++ codes "_") ≡ false
 unfolding is_taken
 marked_untaken word = not_among (λ other. other.now) TAKEN.now word refl
 
--- What becomes of a word is not taken, where it stays as it is only if it is not taken.
+-- The result for a word is not taken, if the word is left unchanged only if it is not taken.
 untaken : (stays : Bool) (word : List ℕ) → (stays ≡ true → is_taken word ≡ false) → is_taken (if stays then word else word ++ codes "_") ≡ false
 untaken true word plain = plain refl
 untaken false word plain = marked_untaken word
@@ -76,7 +76,8 @@ pub names_free : (name : List ℕ) → is_taken (name_text name) ≡ false
 unfolding name_text
 names_free name = untaken (is_free name) name (free_untaken name)
 
--- What becomes of an exception's name and of another name are not equal, where the first stays as it is only if it is free and not given.
+-- The results for the name of an exception and for another name differ, if the first is left unchanged only if it is free and
+-- not given.
 apart : (stays remains is_given : Bool) (exception name : List ℕ) → (stays ≡ true → marked exception ≡ false) →
     (stays ≡ true → is_given ≡ false) → starts_word name ≡ true → (exception ≡ name → is_given ≡ true) →
     (if stays then exception else codes "_" ++ exception) ≡ (if remains then name else name ++ codes "_") → false ≡ true

@@ -6,7 +6,7 @@ use crate::texts::{
 use crate::words::Words;
 use std::alloc::AllocError;
 
-// Appends the modules that the program imports.
+// Appends the imports of the program.
 pub(crate) fn push_imports(out: &mut Vec<u8>, words: &Words) -> Result<(), AllocError> {
     out.extend_from_slice(FIRST_IMPORTS)?;
     push_if(out, words.uses().handling, IMPORT_FOR_HANDLING)?;
@@ -23,7 +23,7 @@ pub(crate) fn push_classes(out: &mut Vec<u8>, words: &Words) -> Result<(), Alloc
     Ok(())
 }
 
-// Appends the helpers that the steps use: what the job language has and Trio has not.
+// Appends the helpers that the steps use: for what the job language has and Trio does not have.
 pub(crate) fn push_helpers(out: &mut Vec<u8>, words: &Words) -> Result<(), AllocError> {
     let uses = words.uses();
     push_if(out, uses.handling, HANDLING)?;
@@ -37,7 +37,7 @@ pub(crate) fn push_helpers(out: &mut Vec<u8>, words: &Words) -> Result<(), Alloc
     push_if(out, uses.shows(), SHOW_LINES)
 }
 
-// Appends a text where it is used.
+// Appends a text if it is used.
 fn push_if(out: &mut Vec<u8>, is_used: bool, text: &[u8]) -> Result<(), AllocError> {
     if is_used {
         out.extend_from_slice(text)?;

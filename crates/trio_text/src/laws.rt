@@ -4,17 +4,20 @@ ghost use Rattle.std.specs.Prelude.{◌≡◌, ◌≢◌, ℕ, Bool, List, false
 ghost use Rattle.job_tree.specs.Words.{starts_word};
 ghost use Rattle.trio_text.specs.Names.{class_text, is_taken, name_text};
 
-/// Tasks, scopes and nurseries whose names differ in the job have names that differ in its program.
+/// A law: tasks, scopes and nurseries with different names in the job have different names in its program. The function does
+/// nothing when it is called.
 pub fn law_names_differ()
     ensures { (one other : List ℕ) → name_text one ≡ name_text other → one ≡ other }
 {}
 
-/// No task, scope or nursery has a name in the program that it has for something else: a word of Python, what it uses of it, or a helper.
+/// A law: no task, scope or nursery has a name in the program that the program uses for something else: a word of Python, a
+/// name that the program uses from it, or a helper. The function does nothing when it is called.
 pub fn law_names_free()
     ensures { (name : List ℕ) → is_taken (name_text name) ≡ false }
 {}
 
-/// No exception's class is called as a task, scope or nursery is, where it is known whether one has the exception's name: names begin with a letter.
+/// A law: no class of an exception has the name of a task, scope or nursery in the program. `is_given` says whether a task,
+/// scope or nursery has the name of the exception; names begin with a letter. The function does nothing when it is called.
 pub fn law_classes_differ()
     ensures { (is_given : Bool) → (exception name : List ℕ) → starts_word name ≡ true → (exception ≡ name → is_given ≡ true)
         → class_text is_given exception ≢ name_text name }

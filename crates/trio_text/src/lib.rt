@@ -1,8 +1,8 @@
-//! A job as a Python program on plain Trio, to start real code from.
+//! Prints a job as a Python program on plain Trio, as a start for real code.
 //!
-//! The layer promises that the program begins with the lines that say what it is and how it is run, and ends with those that run it; and that names that
-//! differ in the job differ in the program, and are none of its other names (`laws.rt`). That the program means what the job means is tested, not proved
-//! (`tests/random/trio_export.py`). It stands on `job_grammar` for the job.
+//! The program begins with the lines that say what it is and how to run it, and ends with the lines that run it. Names that
+//! differ in the job differ in the program, and are none of its other names (`laws.rt`). That the program means what the job
+//! means is tested, not proved (`tests/random/trio_export.py`). The crate uses `job_grammar` for the job.
 #![tactic(auto)]
 
 mod helpers;

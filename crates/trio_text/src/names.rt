@@ -1,5 +1,5 @@
-// The names of a job as names of the program. No name of the program ends with `_` but one of the job to which `_` was added, and none begins
-// with `_` but that of an exception.
+// The names of a job as names of the program. The only names of the program that end with `_` are names of the job to which `_`
+// was added, and the only ones that begin with `_` are those of exceptions.
 ghost use Rattle.std.specs.Prelude.{◌≡◌, ◌++◌, OnOk};
 ghost use Rattle.std.specs.List.{list_any};
 ghost use Rattle.std.specs.Str.{bytes_eq};
@@ -10,7 +10,8 @@ use crate::words::Words;
 use job_tree::Name;
 use std::alloc::AllocError;
 
-// Appends the name of a task, scope or nursery: the job's own, and `_` after it where the program has that word for something else.
+// Appends the name of a task, scope or nursery: the name in the job, followed by `_` if the program uses that word for
+// something else.
 #[tactic(auto, unfolding(crate::specs::Names::name_text))]
 pub(crate) fn push_name(out: &mut Vec<u8>, name: Name) -> Result<(), AllocError>
     ensures { OnOk result (out.new.items ≡ out.old.items ++ name_text name) }
@@ -22,12 +23,12 @@ pub(crate) fn push_name(out: &mut Vec<u8>, name: Name) -> Result<(), AllocError>
     Ok(())
 }
 
-// Appends the class of an exception: the job's own name for it, and `_` before it where that is another name of the program.
+// Appends the class of an exception: the name in the job, with `_` before it if that is another name of the program.
 pub(crate) fn push_class(out: &mut Vec<u8>, words: &Words, name: Name) -> Result<(), AllocError> {
     push_class_text(out, words.gives(name), name)
 }
 
-// The same, where it is known whether a task, scope or nursery has that name.
+// The same, with `is_given` saying whether a task, scope or nursery has this name.
 #[tactic(auto, unfolding(crate::specs::Names::class_text))]
 fn push_class_text(out: &mut Vec<u8>, is_given: bool, name: Name) -> Result<(), AllocError>
     ensures { OnOk result (out.new.items ≡ out.old.items ++ class_text is_given name) }
@@ -38,7 +39,7 @@ fn push_class_text(out: &mut Vec<u8>, is_given: bool, name: Name) -> Result<(), 
     out.extend_from_slice(name.bytes())
 }
 
-// Appends the class of the exceptions that a handler handles: Trio's own for `TooSlow`.
+// Appends the class of the exceptions that a handler handles. For `TooSlow` it is Trio's own class.
 pub(crate) fn push_handled(out: &mut Vec<u8>, words: &Words, name: Name) -> Result<(), AllocError> {
     if is_too_slow(name) {
         return out.extend_from_slice(b"trio.TooSlowError");
@@ -46,12 +47,12 @@ pub(crate) fn push_handled(out: &mut Vec<u8>, words: &Words, name: Name) -> Resu
     push_class(out, words, name)
 }
 
-// Whether it is the name of what a `fail` scope raises.
+// Returns whether it is the name of the exception that a scope with `fail` raises.
 pub(crate) fn is_too_slow(name: Name) -> bool {
     name.bytes() == b"TooSlow".as_slice()
 }
 
-// Whether a word of a job can stand in the program as it is.
+// Returns whether a word of a job can be used in the program unchanged.
 #[tactic(auto, unfolding(crate::specs::Names::is_free))]
 fn is_free(word: &[u8]) -> bool
     ensures { result ≡ is_free word.now }
@@ -59,7 +60,7 @@ fn is_free(word: &[u8]) -> bool
     !word.ends_with(b"_") && !is_taken(word)
 }
 
-// Whether the program has a word for something else.
+// Returns whether the program uses a word for something else.
 #[tactic(auto, unfolding(crate::specs::Names::is_taken))]
 fn is_taken(word: &[u8]) -> bool
     ensures { result ≡ is_taken word.now }
@@ -67,7 +68,7 @@ fn is_taken(word: &[u8]) -> bool
     is_among(TAKEN, word)
 }
 
-// Whether a word is one of these.
+// Returns whether a word is one of these.
 fn is_among(words: &[&'static [u8]], word: &[u8]) -> bool
     ensures { result ≡ list_any (λ other. bytes_eq other.now word.now) words.now }
 {

@@ -18,7 +18,7 @@ pub(crate) fn push_line(out: &mut Vec<u8>, level: usize, line: &[u8]) -> Result<
     out.extend_from_slice(b"\n")
 }
 
-// Appends an empty line, but not right after the line that begins a block.
+// Appends an empty line, except directly after the line that begins a block.
 pub(crate) fn push_gap(out: &mut Vec<u8>) -> Result<(), AllocError> {
     if out.ends_with(b":\n") {
         return Ok(());
@@ -32,7 +32,7 @@ pub(crate) fn push_number(out: &mut Vec<u8>, n: u64) -> Result<(), AllocError> {
     out.extend_from_slice(buffer.format(n).as_bytes())
 }
 
-// Appends a string of a job as one of Python, which has the same escapes.
+// Appends a string of a job as a Python string, which has the same escapes.
 pub(crate) fn push_text(alloc: Global, out: &mut Vec<u8>, text: Text) -> Result<(), AllocError> {
     out.extend_from_slice(b"b")?;
     push_canon(alloc, out, &[Shape::Text(text)])

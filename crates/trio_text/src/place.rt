@@ -1,27 +1,28 @@
 use job_tree::Name;
 
-// The most blocks that may be open around a block in one function of the program. Python allows 20, of which a `try` with all its parts takes
-// four; some versions crash close to that, so a few are left free.
+// The maximum number of blocks that may enclose a block in one function of the program. Python allows 20, and a `try` with all
+// its parts takes four of them. Some versions of Python crash near that limit, so a few are left free.
 const MOST_BLOCKS: usize = 12;
 
-// The most cleanups that may be nested as they are: Python compiles each `finally` twice, so one in another four times, and so on.
+// The maximum depth of nested `finally` blocks. Python compiles each `finally` twice, so one inside another four times, and so
+// on.
 const MOST_CLEANUPS: usize = 3;
 
-// Where a block of the program stands.
+// Where a block of the program is.
 #[derive(Clone, Copy)]
 pub(crate) struct Place {
-    // How far its lines are indented.
+    // The indentation of its lines, in levels.
     pub level: usize,
-    // How many blocks are open around it in its function.
+    // How many blocks of its function enclose it.
     pub blocks: usize,
-    // How many cleanups it is part of that are nested as they are.
+    // How many `finally` blocks enclose it directly, without a function of their own.
     pub cleanups: usize,
-    // The nursery in which it stands: that of a `start` right in it.
+    // The nursery in whose body the block is, for a `start` directly in it.
     pub nursery: Name,
 }
 
 impl Place {
-    // The place of the root task's block, in no nursery: no `start` stands right in it.
+    // Returns the place of the root task's block. It is in no nursery, so no `start` is directly in it.
     pub(crate) fn root(job: Name) -> Place {
         Place {
             level: 1,
@@ -31,7 +32,7 @@ impl Place {
         }
     }
 
-    // The place of a block inside this one, so many open blocks further in.
+    // Returns the place of a block inside this one that has the given number of enclosing blocks more.
     pub(crate) fn inside(&self, blocks: usize) -> Place {
         Place {
             level: self.level.saturating_add(1),
@@ -41,7 +42,7 @@ impl Place {
         }
     }
 
-    // The place of the block of a nursery inside this one.
+    // Returns the place of the block of a nursery inside this one.
     pub(crate) fn in_nursery(&self, nursery: Name) -> Place {
         Place {
             level: self.level.saturating_add(1),
@@ -51,7 +52,7 @@ impl Place {
         }
     }
 
-    // The place of the block of a function inside this one.
+    // Returns the place of the block of a function inside this one.
     pub(crate) fn in_function(&self) -> Place {
         Place {
             level: self.level.saturating_add(1),
@@ -61,7 +62,7 @@ impl Place {
         }
     }
 
-    // The place of the block of a cleanup inside this one.
+    // Returns the place of the block of a cleanup inside this one.
     pub(crate) fn in_cleanup(&self) -> Place {
         Place {
             level: self.level.saturating_add(1),
@@ -71,12 +72,12 @@ impl Place {
         }
     }
 
-    // Whether no block of the job may be written here, but in a function of its own.
+    // Returns whether a block of the job here needs a function of its own.
     pub(crate) fn is_deep(&self) -> bool {
         self.blocks > MOST_BLOCKS
     }
 
-    // Whether no cleanup may be written here, but in a function before its `try`.
+    // Returns whether a cleanup here needs a function that is defined before its `try`.
     pub(crate) fn is_deep_in_cleanups(&self) -> bool {
         self.cleanups >= MOST_CLEANUPS
     }

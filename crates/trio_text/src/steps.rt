@@ -5,7 +5,7 @@ use crate::words::Words;
 use job_tree::{Body, Deadline, Handler, Name, Step};
 use std::alloc::{AllocError, Global};
 
-// Appends the statements for the steps of a block, at their place.
+// Appends the statements for the steps of a block at its place.
 #[cycle(steps)]
 pub(crate) fn push_steps(
     alloc: Global,
@@ -23,7 +23,7 @@ pub(crate) fn push_steps(
     Ok(())
 }
 
-// Appends a block. Where Python allows no more blocks around it in one function, it has a function of its own.
+// Appends a block. If Python allows no more enclosing blocks in one function, the block gets a function of its own.
 #[cycle(steps)]
 fn push_block(
     alloc: Global,
@@ -114,7 +114,8 @@ fn push_try(
     push_cleanup(alloc, out, words, place, cleanup)
 }
 
-// Appends a `try` inside nested cleanups. Its own is a function that is defined before it, since what stands in a `finally` is compiled twice.
+// Appends a `try` inside nested cleanups. Its own cleanup is a function that is defined before it, since Python compiles a
+// `finally` twice.
 #[cycle(steps)]
 fn push_try_apart(
     alloc: Global,
@@ -226,8 +227,8 @@ fn push_cancel(out: &mut Vec<u8>, words: &Words, name: Name) -> Result<(), Alloc
     out.extend_from_slice(b".cancel()")
 }
 
-// Appends the line that opens a cancel scope, which raises Trio's TooSlowError where it is to fail. A shield that Trio's call has no argument for is
-// set in the next line.
+// Appends the line that opens a cancel scope. With `fail`, it raises Trio's TooSlowError. If Trio's call has no argument for a
+// shield, the next line sets it.
 fn push_scope(
     out: &mut Vec<u8>,
     place: &Place,
@@ -250,7 +251,7 @@ fn push_scope(
     push_setting(out, &place.inside(1), is_set, name, b".shield = True\n")
 }
 
-// Whether a scope neither has a deadline nor fails.
+// Returns whether a scope has neither a deadline nor `fail`.
 fn is_plain(deadline: Deadline, fail: bool) -> bool {
     matches!(deadline, Deadline::Never) && !fail
 }
@@ -280,7 +281,7 @@ fn push_scope_kind(out: &mut Vec<u8>, fail: bool) -> Result<(), AllocError> {
     }
 }
 
-// Appends the line that sets something of a scope or nursery, where it is to be set.
+// Appends the line that sets something of a scope or nursery, if it is to be set.
 fn push_setting(
     out: &mut Vec<u8>,
     place: &Place,
@@ -296,7 +297,7 @@ fn push_setting(
     out.extend_from_slice(setting)
 }
 
-// Appends the line that opens a nursery, and those that set its deadline and its shield.
+// Appends the line that opens a nursery, and the lines that set its deadline and its shield.
 fn push_nursery(
     out: &mut Vec<u8>,
     place: &Place,
@@ -313,7 +314,7 @@ fn push_nursery(
     push_setting(out, &inside, shield, name, b".cancel_scope.shield = True\n")
 }
 
-// Appends the line that sets the deadline of a nursery, where it has one.
+// Appends the line that sets the deadline of a nursery, if it has one.
 fn push_deadline(
     out: &mut Vec<u8>,
     place: &Place,
@@ -344,7 +345,7 @@ fn push_deadline_from(
     out.extend_from_slice(b"\n")
 }
 
-// Appends the line that opens the function of a started task. One of several gets a part of its own.
+// Appends the line that begins the function of a started task. One of several copies gets its own part of the input.
 fn push_task(
     out: &mut Vec<u8>,
     level: usize,
@@ -362,7 +363,7 @@ fn push_task(
     }
 }
 
-// Appends the lines that start a task, or one for each part.
+// Appends the lines that start a task, or one task for each part of the input.
 fn push_starts(
     out: &mut Vec<u8>,
     place: &Place,

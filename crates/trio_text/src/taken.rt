@@ -1,4 +1,5 @@
-// The words that the program has for something else: of Python, of what it uses, and of its helpers. Keywords of a job are no names of one.
+// The words that the program uses for something else: words of Python, names that it uses from Python and Trio, and its
+// helpers. Keywords of the job language are not listed, since no job can have them as names.
 pub(crate) const TAKEN: &[&'static [u8]] = &[
     b"False",
     b"None",

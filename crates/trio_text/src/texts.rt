@@ -1,6 +1,6 @@
-// What stands in every program, or in each that uses it.
+// Texts that occur in every program, or in each that needs them.
 
-// The first lines, after the job's name.
+// The first lines, after the name of the job.
 pub(crate) const HEADER: &[u8] =
     b" as a program on plain Trio. A tick is a second of Trio's test clock, under which nothing waits.
 # Where `nursery races` finds no race in the job, what this tells should be what `nursery run` reports.
@@ -116,7 +116,7 @@ def show_lines(lines):
     current_note.get().lines.extend(lines)
 ";
 
-// What runs the job and tells the outcomes.
+// The lines that run the job and print the outcomes.
 pub(crate) const HARNESS: &[u8] = b"
 
 # What follows prints how each task ended. Real code doesn't need it: drop `@reported`, and let `trio.run` run the root task.

@@ -4,7 +4,7 @@ use job_grammar::Job;
 use job_tree::{Body, Deadline, Handler, Name, Step};
 use std::alloc::{AllocError, Global};
 
-// Which helpers the program uses.
+// The helpers that the program uses.
 #[derive(Clone, Copy)]
 pub(crate) struct Uses {
     pub handling: bool,
@@ -18,13 +18,13 @@ pub(crate) struct Uses {
 }
 
 impl Uses {
-    // Whether a step shows lines.
+    // Returns whether a step reports lines.
     pub(crate) fn shows(&self) -> bool {
         self.find || self.head || self.longest || self.need
     }
 }
 
-// What the whole program has to know of the steps of a job.
+// What the whole program needs to know about the steps of a job.
 #[derive(Drop)]
 pub(crate) struct Words {
     given: IndexSet<Name>,
@@ -34,7 +34,7 @@ pub(crate) struct Words {
 }
 
 impl Words {
-    // Those of a job.
+    // Collects this from a job.
     pub(crate) fn of(alloc: Global, job: &Job) -> Result<Words, AllocError> {
         let mut words = Words {
             given: IndexSet::new(alloc),
@@ -47,33 +47,34 @@ impl Words {
         Ok(words)
     }
 
-    // Whether a task, scope or nursery has this name.
+    // Returns whether a task, scope or nursery has this name.
     pub(crate) fn gives(&self, name: Name) -> bool {
         self.given.contains(&name)
     }
 
-    // Whether a nursery has this name.
+    // Returns whether a nursery has this name.
     pub(crate) fn is_nursery(&self, name: Name) -> bool {
         self.nurseries.contains(&name)
     }
 
-    // The names of the exceptions that are raised or handled, each once, in the order of the steps, but for `TooSlow`.
+    // Returns the names of the exceptions that are raised or handled, each once, in the order of the steps, without
+    // `TooSlow`.
     pub(crate) fn raised(&self) -> &[Name] {
         self.raised.as_slice()
     }
 
-    // Which helpers the steps need.
+    // Returns the helpers that the steps need.
     pub(crate) fn uses(&self) -> Uses {
         self.uses
     }
 
-    // Notes the name of a task, scope or nursery.
+    // Records the name of a task, scope or nursery.
     fn note_given(&mut self, name: Name) -> Result<(), AllocError> {
         self.given.insert(name)?;
         Ok(())
     }
 
-    // Notes the name of an exception.
+    // Records the name of an exception.
     fn note_raised(&mut self, name: Name) -> Result<(), AllocError> {
         if !is_too_slow(name) {
             self.raised.insert(name)?;
@@ -81,7 +82,7 @@ impl Words {
         Ok(())
     }
 
-    // Notes the name and the deadline of a scope.
+    // Records the name and the deadline of a scope.
     fn note_scope(&mut self, name: Name, deadline: Deadline) -> Result<(), AllocError> {
         self.note_given(name)?;
         if let Deadline::At(_) = deadline {
@@ -90,13 +91,13 @@ impl Words {
         Ok(())
     }
 
-    // Notes the name and the deadline of a nursery.
+    // Records the name and the deadline of a nursery.
     fn note_nursery(&mut self, name: Name, deadline: Deadline) -> Result<(), AllocError> {
         self.nurseries.insert(name)?;
         self.note_scope(name, deadline)
     }
 
-    // Notes the name of a task, and whether it has copies.
+    // Records the name of a task, and whether it has copies.
     fn note_task(&mut self, name: Name, over: Option<u64>) -> Result<(), AllocError> {
         if over.is_some() {
             self.uses.over = true;
@@ -104,7 +105,7 @@ impl Words {
         self.note_given(name)
     }
 
-    // Notes what a step without a block needs.
+    // Records what a step without a block needs.
     fn note_plain(&mut self, step: &Step) -> Result<(), AllocError> {
         match step {
             Step::Pace(_) => self.uses.pace = true,
@@ -122,7 +123,7 @@ impl Words {
     }
 }
 
-// No helper.
+// No helpers.
 fn no_uses() -> Uses {
     Uses {
         handling: false,
@@ -136,7 +137,7 @@ fn no_uses() -> Uses {
     }
 }
 
-// Notes what the steps of a block need.
+// Records what the steps of a block need.
 #[cycle(noting)]
 fn note_steps(words: &mut Words, steps: &[Step]) -> Result<(), AllocError> {
     'steps: for step in steps {

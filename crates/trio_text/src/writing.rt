@@ -11,9 +11,11 @@ use crate::words::Words;
 use job_grammar::Job;
 use std::alloc::{AllocError, Global};
 
-/// The job as a Python program on plain Trio (Python 3.8 or newer, Trio 0.22 or newer). Its first lines say which job it is, and how it is run. Then come
-/// a class for each exception, a function for the root task with the others inside it, where they are started, helpers for what the job language has
-/// and Trio has not, and what tells how each task ended. Want of memory is the only error.
+/// Returns the job as a Python program on plain Trio (Python 3.8 or newer, Trio 0.22 or newer; with Trio 0.22 the end of a
+/// nursery may raise a `Cancelled` of its own). Its first lines name the job and say how to run the program. Then come a class
+/// for each exception, a function for the root task with those of the other tasks inside it, where they are started, helpers
+/// for what the job language has and Trio does not have, and the lines that run the job and report how each task ended. The
+/// only error is that memory was refused.
 pub fn program(alloc: Global, job: &Job) -> Result<Vec<u8>, AllocError>
     ensures begins { IfOk result (λ text. take (length (header job.now.name)) text.items ≡ header job.now.name) }
     ensures ends { IfOk result (λ text. drop (length text.items - length (ending job.now.name)) text.items ≡ ending job.now.name) }
@@ -26,7 +28,7 @@ pub fn program(alloc: Global, job: &Job) -> Result<Vec<u8>, AllocError>
     Ok(text)
 }
 
-// The first lines, which say which job it is and how the program is run.
+// Returns the first lines, which name the job and say how to run the program.
 fn header_of(alloc: Global, job: &Job) -> Result<Vec<u8>, AllocError>
     ensures { IfOk result (λ text. text.items ≡ header job.now.name) }
 {
@@ -38,7 +40,7 @@ fn header_of(alloc: Global, job: &Job) -> Result<Vec<u8>, AllocError>
     Ok(text)
 }
 
-// All that stands between the first lines and the last.
+// Returns everything between the first lines and the last lines.
 fn design_of(alloc: Global, job: &Job) -> Result<Vec<u8>, AllocError> {
     let words = Words::of(alloc, job)?;
     let mut text = Vec::new(alloc);
@@ -49,7 +51,7 @@ fn design_of(alloc: Global, job: &Job) -> Result<Vec<u8>, AllocError> {
     Ok(text)
 }
 
-// The last lines, which run the function of the root task, and tell how each task ended.
+// Returns the last lines, which run the function of the root task and print how each task ended.
 fn ending_of(alloc: Global, job: &Job) -> Result<Vec<u8>, AllocError>
     ensures { IfOk result (λ text. text.items ≡ ending job.now.name) }
 {
