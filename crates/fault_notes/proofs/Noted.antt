@@ -1,4 +1,4 @@
--- What a map and a set of tasks have after an insertion.
+-- The contents of a map and of a set of tasks after an insertion.
 use Rattle.std.proofs.Common.{◌≡◌, refl, ap, ◌∙◌, cond}
 use Rattle.std.proofs.lemmas.List.{map-append}
 use Rattle.std.specs.Prelude.{Bool, true, false, ◌||◌, Option, Some, List, [], ◌∷◌, ◌++◌, if◌then◌else◌}
@@ -15,7 +15,7 @@ use Rattle.job_story.specs.Focus.{is_among}
 use Rattle.fault_notes.specs.Notes.{noted}
 use Rattle.fault_notes.specs.Lasts.{what_in, what_at, labels_in}
 
--- a label at some place
+-- a label as a borrowed label, at some place
 abbrev at_some : Label → Bor Label
 at_some l = record { ref_ptr = (0, 0); now = l }
 
@@ -24,7 +24,7 @@ what_by : (b : Bool) (e : Bor Event) (o : Option (Bor Event)) →
 what_by true e o = refl
 what_by false e o = refl
 
--- the event that a map has at a task
+-- the event that a map has for a task
 abbrev event_at : {S : Type 0} → IndexMap (Bor Label) (Bor Event) S → Label → Option (Bor Event)
 event_at events l = get_by (λ k. same_label l k.now) events
 
@@ -36,7 +36,7 @@ last_more old new k e updates l =
     ap what_in (updates (at_some l)) ∙ what_by (same_label k l) e (event_at old l)
     ∙ ap (λ b. if b then Some (what_of e.now.what) else what_at old l) (same_label_equiv.symm k l)
 
--- whether one of some labels is the same, of labels that are borrowed
+-- whether a label is among some labels, which are borrowed
 among_by : (l : Label) (ks : List (Bor Label)) → list_any (λ k. same_label l k.now) ks ≡ is_among l (labels_in ks)
 among_by l [] = refl
 among_by l (k ∷ ks) = ap (λ b. same_label l k.now || b) (among_by l ks)

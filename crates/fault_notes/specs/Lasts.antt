@@ -1,4 +1,4 @@
--- What is kept of the tasks: the last event of each; and labels that are borrowed.
+-- What the code keeps of the tasks: the last event of each; and borrowed labels.
 use Rattle.std.specs.Prelude.{Option, Some, None, List, map}
 use Rattle.std.specs.Borrow.{Bor}
 use Rattle.indexmap.specs.IndexMap.{IndexMap, get_by}
@@ -12,10 +12,10 @@ abbrev pub what_in : Option (Bor Event) → Option told.What
 what_in None = None
 what_in (Some event) = Some (what_of event.now.what)
 
--- what the event is that a map has at a task
+-- what the event is that a map has for a task
 abbrev pub what_at : {S : Type 0} → IndexMap (Bor Label) (Bor Event) S → Label → Option told.What
 what_at events l = what_in (get_by (λ k. same_label l k.now) events)
 
--- labels that are borrowed
+-- the labels that are borrowed
 abbrev pub labels_in : List (Bor Label) → List Label
 labels_in labels = map (λ l. l.now) labels

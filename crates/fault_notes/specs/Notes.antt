@@ -1,4 +1,4 @@
--- What the events of a story say of a fault.
+-- What the events of a story say about a fault.
 use Rattle.std.specs.Prelude.{ℕ, Bool, true, false, ◌&&◌, ◌||◌, not, Option, Some, None, List, [], ◌∷◌, ◌++◌, if◌then◌else◌}
 use Rattle.std.specs.Str.{bytes_eq}
 use Rattle.exc_groups.specs.Exceptions.{Label, Exc, cancelled, raised, too_slow, group, Excs, no_parts, part}
@@ -8,14 +8,15 @@ use Rattle.job_story.specs.Events.{What, happens, ends, Event}
 use Rattle.job_story.specs.Limit.{is_start, start_if}
 use Rattle.job_story.specs.Focus.{is_among}
 
--- ---- what became of each task
+-- ---- the last event of each task
 
--- what the last event of a task is, by the events in the order of the walk: where none is its, what is given
+-- what the last event of a task is, given the events in the order of the walk; if no event is of the task, the
+-- given one
 abbrev pub last_what : Label → List Event → Option What → Option What
 last_what l [] what = what
 last_what l (e ∷ es) what = last_what l es (if same_label l e.task then Some e.what else what)
 
--- a task fell asleep forever
+-- a task fell asleep without a tick at which it is due
 abbrev pub sleeps_forever : Option What → Bool
 sleeps_forever (Some (happens (sleeps None))) = true
 sleeps_forever _ = false
@@ -36,7 +37,7 @@ abbrev pub cuts : What → Bool
 cuts (happens (is_cancelled by since in_cleanup)) = in_cleanup
 cuts _ = false
 
--- a label at the end of others, if it is not among them
+-- a label added at the end of others, if it is not among them
 abbrev pub noted : Label → List Label → List Label
 noted l ls = if is_among l ls then ls else ls ++ l ∷ []
 
@@ -50,7 +51,7 @@ cut_in es = cut_after [] es
 
 -- ---- exceptions that were lost
 
--- an exception has a leaf of this name, which a `raise` or a `need` made
+-- an exception is or contains one with this name that a `raise` or a `need` made
 abbrev mutual
   pub has_leaf : List ℕ → Exc → Bool
   has_leaf name cancelled = false
@@ -70,7 +71,7 @@ abbrev pub handles_it : List ℕ → What → Bool
 handles_it name (happens (handles matched rest)) = has_leaf name matched
 handles_it name _ = false
 
--- the root ends with it
+-- the root task ends with an exception with this name
 abbrev pub escapes : List ℕ → What → Bool
 escapes name (ends None (Some e)) = has_leaf name e
 escapes name _ = false
@@ -80,11 +81,12 @@ abbrev pub some_event : (What → Bool) → List Event → Bool
 some_event test [] = false
 some_event test (e ∷ es) = test e.what || some_event test es
 
--- an exception of this name is raised, handled by no handler, and not in the root's outcome
+-- An exception with this name is raised, no handler handles one with this name, and the outcome of the root task
+-- contains none. Exceptions are told apart only by their names.
 abbrev pub is_lost : List ℕ → List Event → Bool
 is_lost name es =
     some_event (raises_it name) es && (not (some_event (handles_it name) es) && not (some_event (escapes name) es))
 
--- an exception of this name is raised
+-- a `raise` step raises an exception with this name
 abbrev pub is_raised : List ℕ → List Event → Bool
 is_raised name es = some_event (raises_it name) es

@@ -9,8 +9,8 @@ use indexmap::IndexSet;
 use job_story::{Event, Happening, What};
 use std::alloc::{AllocError, Global};
 
-/// The tasks that were cancelled in the middle of a cleanup: in a `finally` block, of their own or of a task that started them. They are in
-/// the order of these events, each once. The error is want of memory.
+/// Returns the tasks in which `Cancelled` was raised in the middle of a cleanup: in a `finally` block of their own, or of a
+/// task that started them. They are in the order of these events, each once. The only error is that memory was refused.
 pub fn cut_in_cleanup<'e>(alloc: Global, events: &[&'e Event]) -> Result<Vec<&'e Label>, AllocError>
     ensures { IfOk result (λ tasks. labels_in tasks.items ≡ cut_in (map seen events.now)) }
 {
@@ -18,7 +18,7 @@ pub fn cut_in_cleanup<'e>(alloc: Global, events: &[&'e Event]) -> Result<Vec<&'e
     Vec::from_slice(alloc, tasks.as_slice())
 }
 
-// The same tasks as a set, which keeps the order in which they were inserted.
+// Returns the same tasks as a set, which keeps the order in which they were inserted.
 fn cut_tasks<'e>(alloc: Global, events: &[&'e Event]) -> Result<IndexSet<&'e Label>, AllocError>
     ensures { IfOk result (λ tasks. labels_in tasks.keys ≡ cut_in (map seen events.now)) }
 {
@@ -29,7 +29,7 @@ fn cut_tasks<'e>(alloc: Global, events: &[&'e Event]) -> Result<IndexSet<&'e Lab
     Ok(tasks)
 }
 
-// Inserts the task of an event that is a cancellation in a cleanup.
+// Inserts the task of an event, if the event is a cancellation in a cleanup.
 fn note_cut<'e>(tasks: &mut IndexSet<&'e Label>, event: &'e Event) -> Result<(), AllocError>
     ensures { OnOk result (labels_in tasks.new.keys
         ≡ (if cuts (what_of event.entry.now.what) then noted event.entry.now.task (labels_in tasks.old.keys)
@@ -42,7 +42,7 @@ fn note_cut<'e>(tasks: &mut IndexSet<&'e Label>, event: &'e Event) -> Result<(),
     Ok(())
 }
 
-// Whether an event is that `Cancelled` was raised in a cleanup.
+// Returns whether the event is that `Cancelled` was raised in a cleanup.
 fn cuts(what: &What) -> bool
     ensures { result ≡ cuts (what_of what.now) }
 {

@@ -15,9 +15,9 @@ use std::alloc::{AllocError, Global};
 // The last event of each task.
 type Lasts<'e> = IndexMap<&'e Label, &'e Event>;
 
-/// The tasks that sleep forever after these events, which are those of a story in the order of the walk, up to some tick: the tasks that
-/// were started and whose last event is that they fell asleep forever, in the order in which the walk starts them. The error is want of
-/// memory.
+/// Returns the tasks that sleep forever after these events. The events are those of a story in the order of the walk, and may
+/// end at some tick. A task sleeps forever if it was started, and its last event is that it fell asleep without a tick at which
+/// it is due. The tasks are in the order in which the walk starts them. The only error is that memory was refused.
 pub fn sleeping_forever<'e>(
     alloc: Global,
     walked: &[&'e Event],
@@ -32,8 +32,8 @@ pub fn sleeping_forever<'e>(
     Ok(tasks)
 }
 
-// Appends the task of an event that is its start, if its last event is that it fell asleep forever. The clause has the labels that a loop
-// appends later, `ls`, on both sides.
+// Appends the task of an event that is its start, if the last event of the task is that it fell asleep forever. The clause has
+// `ls`, the labels that a loop appends later, on both sides.
 fn note_sleeping<'e>(
     tasks: &mut Vec<&'e Label>,
     lasts: &Lasts<'e>,
@@ -50,7 +50,7 @@ fn note_sleeping<'e>(
     Ok(())
 }
 
-// The last event of each task.
+// Returns the last event of each task.
 fn last_events<'e>(alloc: Global, events: &[&'e Event]) -> Result<Lasts<'e>, AllocError>
     ensures { IfOk result (λ lasts. (l : tree.Label) → what_at lasts l ≡ last_what l (map seen events.now) None) }
 {
@@ -61,7 +61,7 @@ fn last_events<'e>(alloc: Global, events: &[&'e Event]) -> Result<Lasts<'e>, All
     Ok(lasts)
 }
 
-// Notes an event as the last of its task.
+// Records an event as the last of its task.
 fn note_last<'e>(lasts: &mut Lasts<'e>, event: &'e Event) -> Result<(), AllocError>
     ensures { OnOk result ((l : tree.Label) → what_at lasts.new l
         ≡ (if same_label l event.entry.now.task then Some (what_of event.entry.now.what) else what_at lasts.old l)) }
@@ -70,7 +70,7 @@ fn note_last<'e>(lasts: &mut Lasts<'e>, event: &'e Event) -> Result<(), AllocErr
     Ok(())
 }
 
-// Whether the last event of a task is that it fell asleep forever.
+// Returns whether the last event of a task is that it fell asleep forever.
 fn sleeps(lasts: &Lasts<'_>, task: &Label) -> bool
     ensures { result ≡ sleeps_forever (what_at lasts.now task.now) }
 {
@@ -83,7 +83,7 @@ fn sleeps(lasts: &Lasts<'_>, task: &Label) -> bool
     }
 }
 
-// Whether an event is the start of a task.
+// Returns whether an event is the start of a task.
 fn starts(what: &What) -> bool
     ensures { result ≡ is_start (what_of what.now) }
 {

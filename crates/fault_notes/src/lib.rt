@@ -1,9 +1,9 @@
-//! What the events of a story say of a fault.
+//! What the events of a story say about a fault.
 //!
-//! The layer promises four things of the events of a story, each as `specs/Notes.antt` defines it: whether an exception of some name was
-//! raised; which tasks sleep forever; which tasks were cancelled in the middle of a cleanup; and whether an
-//! exception of some name was lost, which is to say that it was raised, no handler handled it, and the root did not end with it. It stands
-//! on `job_story` for the events.
+//! The crate answers four questions about the events of a story, each exactly as `specs/Notes.antt` defines it: whether a
+//! `raise` step raised an exception with some name; which tasks sleep forever; which tasks were cancelled in the middle of a
+//! cleanup; and whether an exception with some name was lost, which means that it was raised, no handler handled an exception
+//! with this name, and the root task did not end with one. The crate uses `job_story` for the events.
 #![tactic(auto)]
 
 mod cut;

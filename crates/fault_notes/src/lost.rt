@@ -8,15 +8,17 @@ use exc_groups::Exc;
 use job_story::{Event, Happening, What};
 use job_tree::Name;
 
-/// Whether an exception of this name is lost in a story of these events: a `raise` raises it, no handler handles it, and the root task
-/// does not end with it.
+/// Returns whether an exception with this name is lost in a story with these events: a `raise` step with this name is among
+/// them, no handler handles an exception with this name, and the root task does not end with one. Exceptions are told apart
+/// only by their names. So if several exceptions have this name, the result is `false` as soon as one of them is handled or is
+/// part of the outcome of the root task, even if another one is lost.
 pub fn is_lost(events: &[&Event], name: Name) -> bool
     ensures { result ≡ is_lost name (map seen events.now) }
 {
     is_raised(events, name) && !is_handled(events, name) && !has_escaped(events, name)
 }
 
-/// Whether a `raise` of this name is among these events.
+/// Returns whether a `raise` step with this name is among these events. An exception that a `need` raises does not count.
 pub fn is_raised(events: &[&Event], name: Name) -> bool
     ensures { result ≡ is_raised name (map seen events.now) }
 {
@@ -28,7 +30,7 @@ pub fn is_raised(events: &[&Event], name: Name) -> bool
     false
 }
 
-// Whether some handler handles an exception of this name.
+// Returns whether some handler handles an exception with this name.
 fn is_handled(events: &[&Event], name: Name) -> bool
     ensures { result ≡ some_event (handles_it name) (map seen events.now) }
 {
@@ -40,7 +42,7 @@ fn is_handled(events: &[&Event], name: Name) -> bool
     false
 }
 
-// Whether the root task ends with an exception of this name.
+// Returns whether the root task ends with an exception with this name.
 fn has_escaped(events: &[&Event], name: Name) -> bool
     ensures { result ≡ some_event (escapes name) (map seen events.now) }
 {
@@ -52,7 +54,7 @@ fn has_escaped(events: &[&Event], name: Name) -> bool
     false
 }
 
-// Whether an event is a `raise` of this name.
+// Returns whether an event is a `raise` step with this name.
 fn raises_it(what: &What, name: Name) -> bool
     ensures { result ≡ raises_it name (what_of what.now) }
 {
@@ -62,7 +64,7 @@ fn raises_it(what: &What, name: Name) -> bool
     }
 }
 
-// Whether an event is that a handler handles an exception of this name.
+// Returns whether an event is that a handler handles an exception with this name.
 fn handles_it(what: &What, name: Name) -> bool
     ensures { result ≡ handles_it name (what_of what.now) }
 {
@@ -72,7 +74,7 @@ fn handles_it(what: &What, name: Name) -> bool
     }
 }
 
-// Whether an event is that the root ends with an exception of this name.
+// Returns whether an event is that the root task ends with an exception with this name.
 fn escapes(what: &What, name: Name) -> bool
     ensures { result ≡ escapes name (what_of what.now) }
 {
@@ -85,7 +87,7 @@ fn escapes(what: &What, name: Name) -> bool
     }
 }
 
-// Whether an exception has a leaf of this name, which a `raise` or a `need` made.
+// Returns whether an exception is or contains one with this name that a `raise` or a `need` made.
 #[cycle(leaves)]
 fn has_leaf(exc: &Exc, name: Name) -> bool
     ensures { result ≡ has_leaf name (exc_of exc.now) }
@@ -97,7 +99,7 @@ fn has_leaf(exc: &Exc, name: Name) -> bool
     }
 }
 
-// Whether one of the parts of a group has one.
+// Returns whether one of the parts of a group is or contains such an exception.
 #[cycle(leaves)]
 fn some_leaf(parts: &[Exc], name: Name) -> bool
     ensures { result ≡ some_leaf name (excs_of parts.now) }
