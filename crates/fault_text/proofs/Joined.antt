@@ -1,4 +1,4 @@
--- What is appended piece by piece.
+-- Text that is appended piece by piece.
 use Rattle.std.proofs.Common.{◌≡◌, ℕ, List, ◌++◌, ap, sym, ◌∙◌, append_assoc, refl, Ok, Err}
 use Rattle.std.specs.Prelude.{Result, OnOk, is_ok, if◌then◌else◌, decimal}
 use Rattle.std.proofs.lemmas.Result.{on_ok_weaker}
@@ -11,7 +11,7 @@ extended (Err e) xs ys new h = tt
 pub two : (old a b one new : List ℕ) → one ≡ old ++ a → new ≡ one ++ b → new ≡ old ++ (a ++ b)
 two old a b one new p q = let all : new ≡ (old ++ a) ++ b = cc in all ∙ append_assoc old a b
 
--- a number and what it counts, where another number is the same
+-- a number and what it counts, if another number is the same
 pub with_count : (old a what one new : List ℕ) (n count : ℕ) → one ≡ old ++ a → n ≡ count → new ≡ one ++ (decimal n ++ what) →
     new ≡ old ++ (a ++ decimal count ++ what)
 with_count old a what one new n count p same q =
@@ -19,7 +19,7 @@ with_count old a what one new n count p same q =
     (two old a (decimal count) one (one ++ decimal count) p refl)
     (q ∙ ap (λ k. one ++ (decimal k ++ what)) same ∙ sym (append_assoc one (decimal count) what))
 
--- the same of the last piece, where its call's result is returned as it is
+-- the same for the last piece, whose call's result is returned unchanged
 pub last : {T E : Type 0} (r : Result T E) (old a b one new : List ℕ) → one ≡ old ++ a → OnOk r (new ≡ one ++ b) →
     OnOk r (new ≡ old ++ (a ++ b))
 last r old a b one new p q = on_ok_weaker r (λ h. two old a b one new p h) q

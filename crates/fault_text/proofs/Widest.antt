@@ -8,12 +8,12 @@ use Rattle.fault_text.specs.Views.{line_held}
 use Rattle.fault_text.specs.declared.columns.Widths.{Widths}
 use Rattle.fault_text.specs.declared.line.Line.{Line}
 
--- it is at least what was asked
+-- it is at least the given minimum
 pub at_least : (text : told.Line → List ℕ) (least : ℕ) (ls : List told.Line) → max least (widest text least ls) ≡ widest text least ls
 at_least text least [] = omega arith
 at_least text least (l ∷ ls) = omega (arith, at_least text least ls)
 
--- at the end of the lines nothing is left to be longer
+-- at the end of the lines, no longer text is left
 pub at_end : (text : told.Line → List ℕ) (least width whole n : ℕ) (ls : List Line) → length ls ≤ n → least ≤ width →
     max width (widest text least (map line_held (drop n ls))) ≡ whole → width ≡ whole
 at_end text least width whole n ls over low h =

@@ -12,7 +12,8 @@ use Rattle.fault_text.specs.Table.{Line, table_text, denied_text}
 abbrev pub task : List ℕ → Label
 task name = record { name = name; indices = [] }
 
--- what becomes of a job with a fault of a step, by the step's line and column, and whether the fault is reached
+-- the outcome of a job with a fault of a step, given the line and column of the step, and whether the fault is
+-- reached
 abbrev pub told : ℕ → ℕ → Wait → Fault → Bool → Fate → Line
 told line column wait fault reached fate =
     record {
@@ -85,14 +86,14 @@ pub other_is_told :
 unfolding digits
 other_is_told = refl
 
--- where nothing but a job that does not end is denied
+-- only a job that does not end is denied
 pub stuck_is_denied :
     denied_text 1000000 (record { stuck = true; cut = false; lost = false }) cleanup_first cleanup_lines
     ≡ codes "11:13  sleep 3  hangs       stuck at 1000000; sleeping forever: journal\n"
 unfolding digits
 stuck_is_denied = refl
 
--- the same of an exception that is lost
+-- the same for an exception that is lost
 pub lost_is_denied :
     denied_text 1000000 (record { stuck = false; cut = false; lost = true }) other_first other_lines
     ≡ codes "100:1  checkpoint       hangs       12 done; fault lost\n"

@@ -1,4 +1,4 @@
--- What becomes of a job, and how a line tells it.
+-- The outcome of a job, and how a line prints it.
 use Rattle.std.specs.Prelude.{ℕ, zero, suc, Bool, true, false, nat_le, Option, Some, None, List, [], ◌∷◌, ◌++◌, length, codes, decimal}
 use Rattle.exc_groups.specs.Exceptions.{Label, Exc}
 use Rattle.job_tree.specs.Tree.{Tree}
@@ -10,8 +10,9 @@ use Rattle.job_story.specs.Limit.{by_limit}
 use Rattle.job_story.specs.Sentences.{label_text, end_text}
 use Rattle.fault_notes.specs.Notes.{sleeping_in, cut_in, is_lost, is_raised}
 
--- A text is refused; the job does not end by the limit, and these tasks sleep forever; or it ended in a tick and with an exception or none,
--- these tasks ended cancelled, these were cancelled in a cleanup, and the exception that the fault raised was lost or not.
+-- A text is refused; or the job does not end by the limit, and these tasks sleep forever; or it ended at a tick, with or
+-- without an exception, these tasks ended cancelled, these were cancelled in a cleanup, and the exception that the fault raised
+-- was lost or not.
 pub data Fate : Type 0 where
   refused : Fate
   stuck : (sleeping : List Label) → Fate
@@ -28,7 +29,7 @@ cancelled_if well l ls = ls
 cancelled_if by_cancellation l ls = l ∷ ls
 cancelled_if (with_exception e) l ls = ls
 
--- the tasks that ended with one `Cancelled` outside any group, in the order of a report
+-- the tasks that ended with a plain `Cancelled`, outside any group, in the order of a report
 abbrev pub cancelled_in : List Row → List Label
 cancelled_in [] = []
 cancelled_in (r ∷ rs) = cancelled_if r.ending r.label (cancelled_in rs)
@@ -37,8 +38,8 @@ abbrev pub loses : Option (List ℕ) → List Event → Bool
 loses None es = false
 loses (Some name) es = is_lost name es
 
--- What becomes of a job that ends by a limit or does not, with these records and events: by the name of the exception that the fault raises,
--- where it raises one.
+-- The outcome of a job that ends or does not end by a limit, given its records and events, and the name of the exception that
+-- the fault raises, if it raises one.
 abbrev pub fate_by : Bool → ℕ → Option (List ℕ) → ℕ → Option Exc → List Row → List Event → Fate
 fate_by false limit name end exc rows es = stuck (sleeping_in (by_limit limit es))
 fate_by true limit name end exc rows es = ended end exc (cancelled_in rows) (cut_in (in_order es)) (loses name es)
@@ -48,13 +49,13 @@ fate_of limit name job input =
     fate_by (nat_le (meaning_end job input) limit) limit name (meaning_end job input) (meaning job input).exc (meaning_rows job input)
     (walked job input)
 
--- whether an exception of a name is raised by the limit
+-- whether an exception with this name is raised by the limit
 abbrev pub reaches : ℕ → List ℕ → Tree → List ℕ → Bool
 reaches limit name job input = is_raised name (by_limit limit (walked job input))
 
--- ---- how it is told
+-- ---- how it is printed
 
--- so many more names after a comma, and how many are left
+-- at most the given number of further names, each after a comma, and how many are left
 abbrev pub more_names : ℕ → List Label → List ℕ
 more_names left [] = []
 more_names zero (l ∷ ls) = codes " and " ++ decimal (length (l ∷ ls)) ++ codes " more"
@@ -77,7 +78,7 @@ abbrev pub lost_note : Bool → List ℕ
 lost_note false = []
 lost_note true = codes "; fault lost"
 
--- what becomes of a job, and notes: by the limit, and whether the fault was reached
+-- the outcome of a job up to the limit, and notes; `reached` says whether the fault was reached
 abbrev pub fate_text : ℕ → Bool → Fate → List ℕ
 fate_text limit reached refused = codes "refused"
 fate_text limit reached (stuck sleeping) =

@@ -1,4 +1,4 @@
--- The text of all lines: what becomes of the job as it is, and with each fault.
+-- The text of all lines: the outcome of the job without a fault, and with each fault.
 use Rattle.std.specs.Prelude.{ℕ, zero, suc, ◌+◌, ◌-◌, ◌==◌, Bool, true, ◌&&◌, ◌||◌, not, max, if◌then◌else◌, List, [], ◌∷◌, ◌++◌, length, replicate, codes, decimal}
 use Rattle.job_edits.specs.declared.fault.Fault.{Fault}
 use Rattle.job_edits.specs.declared.fault.Fault.TheVariants.{Fails, FailsLate, Hangs, Cancelled, Misses}
@@ -8,7 +8,7 @@ use Rattle.fault_text.specs.declared.columns.Widths.{Widths}
 use Rattle.fault_text.specs.declared.deny.Deny.{Deny}
 use Rattle.fault_text.specs.Fates.{Fate, fate_text, is_stuck, has_cut, has_lost, is_refused}
 
--- what became of a variant of a job text, and whether its fault was reached; its step stands in a line and a column
+-- the outcome of a variant of a job text, whether its fault was reached, and the line and column of its step
 pub record Line : Type 0 where
   pub line : ℕ
   pub column : ℕ
@@ -34,7 +34,7 @@ step_text l = wait_text l.variant.step.wait
 abbrev pub kind_text : Line → List ℕ
 kind_text l = fault_text l.variant.fault
 
--- the length of the longest of some texts, and at least so many
+-- the length of the longest of some texts, or `least` if that is more
 abbrev pub widest : (Line → List ℕ) → ℕ → List Line → ℕ
 widest text least [] = least
 widest text least (l ∷ ls) = max (length (text l)) (widest text least ls)
@@ -54,7 +54,8 @@ widths_of ls = record { place = widest place_text 0 ls; step = widest step_text 
 
 -- ---- lines
 
--- The job as it is: its fate stands where the others' do. Nothing is said of faults.
+-- The job without a fault. Its outcome is in the same column as the others; the columns for a step and its place
+-- are blank.
 abbrev pub first_text : ℕ → Widths → Fate → List ℕ
 first_text limit w fate =
     spaces w.place ++ spaces w.step ++ codes "    " ++ left_text w.fault (codes "as it is") ++ codes "  " ++ fate_text limit true fate ++ codes "\n"
@@ -81,7 +82,7 @@ abbrev pub refused_text : ℕ → List ℕ
 refused_text zero = []
 refused_text (suc n) = codes ", " ++ decimal (suc n) ++ codes " refused"
 
--- a fault is not reached where its text is read and its step is not
+-- a fault is not reached if its text is read and its step is not reached
 abbrev pub is_unreached : Line → Bool
 is_unreached l = not l.reached && not (is_refused l.fate)
 
@@ -100,7 +101,7 @@ table_text limit first ls =
 
 -- ---- what is denied
 
--- what becomes of a job is denied
+-- this outcome of a job is denied
 abbrev pub denies : Deny → Fate → Bool
 denies d fate = (d.stuck && is_stuck fate) || ((d.cut && has_cut fate) || (d.lost && has_lost fate))
 
@@ -111,7 +112,7 @@ abbrev pub denied_lines : ℕ → Deny → Widths → List Line → List ℕ
 denied_lines limit d w [] = []
 denied_lines limit d w (l ∷ ls) = (if denies d l.fate then line_text limit w l else []) ++ denied_lines limit d w ls
 
--- the lines that are denied, as they stand among all
+-- the lines that are denied, as they are in the table
 abbrev pub denied_text : ℕ → Deny → Fate → List Line → List ℕ
 denied_text limit d first ls =
     let w = widths_of ls in first_denied limit d w first ++ denied_lines limit d w ls

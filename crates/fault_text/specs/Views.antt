@@ -1,4 +1,4 @@
--- Lines as the code holds them.
+-- The values of the code, as the definitions see them.
 use Rattle.std.specs.Option.{option_map}
 use Rattle.exc_groups.specs.Held.{exc_of}
 use Rattle.fault_text.specs.Fates as told

@@ -15,7 +15,7 @@ pub(crate) struct Widths {
     pub fault: usize,
 }
 
-// The widths of the columns of some lines.
+// Returns the widths of the columns of these lines.
 pub(crate) fn widths_of(alloc: Global, lines: &[Line]) -> Result<Widths, AllocError>
     ensures { IfOk result (λ widths. widths ≡ widths_of (map line_held lines.now)) }
 {
@@ -32,7 +32,7 @@ pub(crate) fn widths_of(alloc: Global, lines: &[Line]) -> Result<Widths, AllocEr
     Ok(widths)
 }
 
-// The place of a line's step, as `LINE:COLUMN`.
+// Returns the place of a line's step, as `LINE:COLUMN`.
 pub(crate) fn place_of(alloc: Global, line: &Line) -> Result<Vec<u8>, AllocError>
     ensures { IfOk result (λ text. text.items ≡ place_text (line_held line.now)) }
 {
@@ -43,7 +43,7 @@ pub(crate) fn place_of(alloc: Global, line: &Line) -> Result<Vec<u8>, AllocError
     Ok(text)
 }
 
-// A line's step, as it is shown.
+// Returns the step of a line, as it is printed.
 pub(crate) fn step_of(alloc: Global, line: &Line) -> Result<Vec<u8>, AllocError>
     ensures { IfOk result (λ text. text.items ≡ step_text (line_held line.now)) }
 {
@@ -52,7 +52,7 @@ pub(crate) fn step_of(alloc: Global, line: &Line) -> Result<Vec<u8>, AllocError>
     Ok(text)
 }
 
-// The name of a fault.
+// Returns the name of a fault.
 pub(crate) fn fault_name(fault: Fault) -> &'static [u8]
     ensures { result.now ≡ fault_text fault }
 {

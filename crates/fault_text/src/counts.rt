@@ -7,7 +7,7 @@ use crate::line::Line;
 use std::alloc::AllocError;
 use story_text::push_number;
 
-// Appends how many lines are of each kind.
+// Appends how many lines there are of each kind.
 pub(crate) fn push_counts(out: &mut Vec<u8>, lines: &[Line]) -> Result<(), AllocError>
     ensures { OnOk result (out.new.items ≡ out.old.items ++ counts_text (map line_held lines.now)) }
 {
@@ -20,42 +20,42 @@ pub(crate) fn push_counts(out: &mut Vec<u8>, lines: &[Line]) -> Result<(), Alloc
     out.extend_from_slice(b"\n")
 }
 
-// How many jobs do not end by the limit.
+// Returns how many jobs do not end by the limit.
 fn stuck_in(lines: &[Line]) -> usize
     ensures { result ≡ count (λ l. is_stuck l.fate) (map line_held lines.now) }
 {
     lines.iter().filter(|line| line.fate.is_stuck()).count()
 }
 
-// How many jobs cut a cleanup.
+// Returns how many jobs cut a cleanup.
 fn cut_in(lines: &[Line]) -> usize
     ensures { result ≡ count (λ l. has_cut l.fate) (map line_held lines.now) }
 {
     lines.iter().filter(|line| line.fate.has_cut()).count()
 }
 
-// How many jobs lose the fault's exception.
+// Returns how many jobs lose the exception of the fault.
 fn lost_in(lines: &[Line]) -> usize
     ensures { result ≡ count (λ l. has_lost l.fate) (map line_held lines.now) }
 {
     lines.iter().filter(|line| line.fate.has_lost()).count()
 }
 
-// How many faults are not reached.
+// Returns how many faults are not reached.
 fn unreached_in(lines: &[Line]) -> usize
     ensures { result ≡ count is_unreached (map line_held lines.now) }
 {
     lines.iter().filter(|line| line.is_unreached()).count()
 }
 
-// How many texts are refused.
+// Returns how many texts are refused.
 fn refused_in(lines: &[Line]) -> usize
     ensures { result ≡ count (λ l. is_refused l.fate) (map line_held lines.now) }
 {
     lines.iter().filter(|line| line.fate.is_refused()).count()
 }
 
-/// Appends a number, and what it counts. Want of memory is the only error.
+/// Appends a number and what it counts. The only error is that memory was refused.
 pub fn push_count(out: &mut Vec<u8>, n: usize, what: &[u8]) -> Result<(), AllocError>
     ensures { OnOk result (out.new.items ≡ out.old.items ++ (decimal n ++ what.now)) }
 {
@@ -74,7 +74,7 @@ fn push_faults(out: &mut Vec<u8>, n: usize) -> Result<(), AllocError>
     }
 }
 
-/// Appends after a comma how many texts were refused, if any were. Want of memory is the only error.
+/// Appends a comma and how many texts were refused, if any were. The only error is that memory was refused.
 pub fn push_refused(out: &mut Vec<u8>, n: usize) -> Result<(), AllocError>
     ensures { OnOk result (out.new.items ≡ out.old.items ++ refused_text n) }
 {

@@ -4,7 +4,7 @@ ghost use Rattle.fault_text.specs.Views.{fate_held};
 
 use crate::fate::Fate;
 
-/// What is not to become of a job with any fault.
+/// The outcomes that a job should not have, whatever its fault.
 #[derive(Clone, Copy, Debug, PartialEq, Eq)]
 pub struct Deny {
     /// It does not end by the limit.
@@ -16,7 +16,7 @@ pub struct Deny {
 }
 
 impl Deny {
-    /// Whether this is not to become of a job.
+    /// Returns whether a job should not have this outcome.
     pub fn denies(self, fate: &Fate) -> bool
         ensures { result ≡ denies self (fate_held fate.now) }
     {

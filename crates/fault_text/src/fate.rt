@@ -4,33 +4,34 @@ ghost use Rattle.fault_text.specs.Views.{fate_held};
 
 use exc_groups::{Exc, Label};
 
-/// What becomes of a job by a limit.
+/// The outcome of a job that runs up to a limit, which is the last tick at which it may end.
 #[derive(Drop)]
 pub enum Fate {
-    /// The job's text is refused.
+    /// The text of the job is refused.
     Refused,
-    /// It does not end by the limit.
+    /// The job does not end by the limit.
     Stuck {
         /// The tasks that sleep forever, in the order of a report.
         sleeping: Vec<Label>,
     },
-    /// It ends by the limit.
+    /// The job ends by the limit.
     Ended {
         /// The tick at which it ends.
         end: u64,
-        /// The exception that it ends with.
+        /// The exception that it ends with, or `None` if it ends without one.
         exc: Option<Exc>,
-        /// The tasks that ended cancelled, in the order of a report.
+        /// The tasks that ended with a plain `Cancelled`, in the order of a report.
         cancelled: Vec<Label>,
-        /// The tasks that were cancelled in a cleanup, in the order of the story.
+        /// The tasks that were cancelled in a cleanup, in the order of the story, each once.
         cut: Vec<Label>,
-        /// Whether the exception that the fault raised was lost: no handler handled it, and the job does not end with it.
+        /// Whether the exception that the fault raised was lost: no handler handled an exception with its name, and the
+        /// job does not end with one.
         lost: bool,
     },
 }
 
 impl Fate {
-    /// Whether the job does not end by the limit.
+    /// Returns whether the job does not end by the limit.
     pub fn is_stuck(&self) -> bool
         ensures { result ≡ is_stuck (fate_held self.now) }
     {
@@ -40,7 +41,7 @@ impl Fate {
         }
     }
 
-    /// Whether the job ends, and a task was cancelled in a cleanup.
+    /// Returns whether the job ends, and a task was cancelled in a cleanup.
     pub fn has_cut(&self) -> bool
         ensures { result ≡ has_cut (fate_held self.now) }
     {
@@ -50,7 +51,7 @@ impl Fate {
         }
     }
 
-    /// Whether the job ends, and the exception that the fault raised was lost.
+    /// Returns whether the job ends, and the exception that the fault raised was lost.
     pub fn has_lost(&self) -> bool
         ensures { result ≡ has_lost (fate_held self.now) }
     {
@@ -60,7 +61,7 @@ impl Fate {
         }
     }
 
-    /// Whether the job's text is refused.
+    /// Returns whether the text of the job is refused.
     pub fn is_refused(&self) -> bool
         ensures { result ≡ is_refused (fate_held self.now) }
     {

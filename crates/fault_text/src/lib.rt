@@ -1,8 +1,8 @@
-//! The text that tells what becomes of a job with each fault of it.
+//! Prints the outcome of a job with each of its faults.
 //!
-//! The layer promises that `table` gives the text of these lines, as `specs/Table.antt` defines it: what becomes of the job as it is, then
-//! a line for each fault, in columns, and last the counts; and that `denied` gives the lines of it that a build is to be stopped for. It
-//! stands on `job_edits` for the faults and on `story_text` for labels and exceptions.
+//! `table` returns the text of these outcomes, as `specs/Table.antt` defines it: the outcome of the job without a fault, a line
+//! for each fault, in columns, and the counts. `denied` returns those of its lines that should make a build fail. The crate
+//! uses `job_edits` for the faults and `story_text` for labels and exceptions.
 #![tactic(auto)]
 
 mod columns;

@@ -5,23 +5,24 @@ ghost use Rattle.fault_text.specs.Views.{line_held};
 use crate::fate::Fate;
 use job_edits::Variant;
 
-/// What becomes of a job with a fault at one of its steps.
+/// The outcome of a job with a fault at one of its steps.
 #[derive(Drop)]
 pub struct Line {
-    /// The line of the job text in which the step stands, counted from 1.
+    /// The line of the job text in which the step begins, counted from 1.
     pub line: usize,
-    /// The column in which it begins, in bytes, counted from 1.
+    /// The column in which the step begins, in bytes, counted from 1.
     pub column: usize,
     /// The step and the fault.
     pub variant: Variant,
-    /// What becomes of the job.
+    /// The outcome of the job.
     pub fate: Fate,
-    /// Whether the fault is reached by the limit: its step is begun, or ended where it fails late.
+    /// Whether the fault is reached by the limit: the step begins by then or, for a fault that fails late, ends by
+    /// then.
     pub reached: bool,
 }
 
 impl Line {
-    /// Whether the text was read and the fault is not reached.
+    /// Returns whether the text was read and the fault is not reached.
     pub fn is_unreached(&self) -> bool
         ensures { result ≡ is_unreached (line_held self.now) }
     {

@@ -11,8 +11,8 @@ use crate::notes::push_fate;
 use crate::pieces::{push_left, push_right, push_spaces};
 use std::alloc::{AllocError, Global};
 
-/// The text that tells what becomes of a job: as it is (`first`), with each fault, and how many faults are of each kind. The limit is the
-/// last tick at which the job may end. Want of memory is the only error.
+/// Returns the text of the table: the outcome of the job without a fault (`first`), the outcome with each fault, and how many
+/// faults there are of each kind. `limit` is the last tick at which the job may end. The only error is that memory was refused.
 pub fn table(alloc: Global, limit: u64, first: &Fate, lines: &[Line]) -> Result<Vec<u8>, AllocError>
     ensures { IfOk result (λ text. text.items ≡ table_text limit (fate_held first.now) (map line_held lines.now)) }
 {
@@ -24,7 +24,8 @@ pub fn table(alloc: Global, limit: u64, first: &Fate, lines: &[Line]) -> Result<
     Ok(out)
 }
 
-/// The lines of the table that are denied, as they stand in it: none are where the text is empty. Want of memory is the only error.
+/// Returns the lines of the table whose outcome is denied, as they are in the table. The text is empty if there are none. The
+/// only error is that memory was refused.
 pub fn denied(
     alloc: Global,
     limit: u64,
@@ -47,7 +48,7 @@ pub fn denied(
     Ok(out)
 }
 
-// Appends what becomes of the job as it is.
+// Appends the outcome of the job without a fault.
 fn push_first(out: &mut Vec<u8>, limit: u64, widths: Widths, fate: &Fate) -> Result<(), AllocError>
     ensures { OnOk result (out.new.items ≡ out.old.items ++ first_text limit widths (fate_held fate.now)) }
 {
@@ -60,7 +61,7 @@ fn push_first(out: &mut Vec<u8>, limit: u64, widths: Widths, fate: &Fate) -> Res
     out.extend_from_slice(b"\n")
 }
 
-// Appends what becomes of the job with each fault.
+// Appends the outcome of the job with each fault.
 fn push_lines(
     alloc: Global,
     out: &mut Vec<u8>,
@@ -76,7 +77,7 @@ fn push_lines(
     Ok(())
 }
 
-// Appends what becomes of the job with a fault.
+// Appends the outcome of the job with a fault.
 fn push_line(
     alloc: Global,
     out: &mut Vec<u8>,

@@ -10,7 +10,7 @@ use exc_groups::{Exc, Label};
 use std::alloc::AllocError;
 use story_text::{push_exc, push_label, push_number};
 
-// Appends what becomes of a job, and notes: by the limit, and whether the fault was reached.
+// Appends the outcome of a job up to the limit, and notes. `reached` says whether the fault was reached.
 pub(crate) fn push_fate(
     out: &mut Vec<u8>,
     limit: u64,
@@ -43,7 +43,7 @@ pub(crate) fn push_fate(
     }
 }
 
-// Appends the end of a job, and how it ended.
+// Appends the tick at which a job ended, and how it ended.
 fn push_end(out: &mut Vec<u8>, end: u64, exc: &Option<Exc>) -> Result<(), AllocError>
     ensures { OnOk result (out.new.items ≡ out.old.items ++ (decimal end ++ codes " " ++ end_text (option_map exc_of exc.now))) }
 {
@@ -52,7 +52,7 @@ fn push_end(out: &mut Vec<u8>, end: u64, exc: &Option<Exc>) -> Result<(), AllocE
     push_outcome(out, exc)
 }
 
-// Appends how a job ended: well, or with an exception.
+// Appends how a job ended: without an exception, or with one.
 fn push_outcome(out: &mut Vec<u8>, exc: &Option<Exc>) -> Result<(), AllocError>
     ensures { OnOk result (out.new.items ≡ out.old.items ++ end_text (option_map exc_of exc.now)) }
 {
@@ -62,7 +62,7 @@ fn push_outcome(out: &mut Vec<u8>, exc: &Option<Exc>) -> Result<(), AllocError>
     push_end_exc(out, exc)
 }
 
-// Appends with what exception a job ended: a cancellation, or another.
+// Appends the exception with which a job ended: a cancellation, or another one.
 fn push_end_exc(out: &mut Vec<u8>, exc: &Exc) -> Result<(), AllocError>
     ensures { OnOk result (out.new.items ≡ out.old.items ++ end_text (Some (exc_of exc.now))) }
 {
@@ -75,7 +75,7 @@ fn push_end_exc(out: &mut Vec<u8>, exc: &Exc) -> Result<(), AllocError>
     }
 }
 
-// Appends the note on a fault that was not reached.
+// Appends the note that a fault was not reached.
 fn push_reached(out: &mut Vec<u8>, reached: bool) -> Result<(), AllocError>
     ensures { OnOk result (out.new.items ≡ out.old.items ++ reached_note reached) }
 {
@@ -85,7 +85,7 @@ fn push_reached(out: &mut Vec<u8>, reached: bool) -> Result<(), AllocError>
     out.extend_from_slice(b"; not reached")
 }
 
-// Appends the note on an exception that was lost.
+// Appends the note that an exception was lost.
 fn push_lost(out: &mut Vec<u8>, lost: bool) -> Result<(), AllocError>
     ensures { OnOk result (out.new.items ≡ out.old.items ++ lost_note lost) }
 {
@@ -95,8 +95,8 @@ fn push_lost(out: &mut Vec<u8>, lost: bool) -> Result<(), AllocError>
     out.extend_from_slice(b"; fault lost")
 }
 
-/// Appends a note that names some tasks, if there are any: a semicolon, a title, at most three names, and how many more there are. Want of
-/// memory is the only error.
+/// Appends a note that names some tasks, if there are any: a semicolon, a title, at most three names, and how many more there
+/// are. The only error is that memory was refused.
 pub fn push_names_note(out: &mut Vec<u8>, title: &[u8], labels: &[Label]) -> Result<(), AllocError>
     ensures { OnOk result (out.new.items ≡ out.old.items ++ names_note title.now labels.now) }
 {
@@ -119,7 +119,7 @@ fn push_names(out: &mut Vec<u8>, labels: &[Label]) -> Result<(), AllocError>
     push_more_names(out, 2, others)
 }
 
-// Appends so many more names after a comma, and how many are left.
+// Appends at most `most` further names, each after a comma, and how many are left.
 fn push_more_names(out: &mut Vec<u8>, most: usize, labels: &[Label]) -> Result<(), AllocError>
     ensures { OnOk result (out.new.items ≡ out.old.items ++ more_names most labels.now) }
 {

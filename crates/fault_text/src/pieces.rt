@@ -3,7 +3,7 @@ ghost use Rattle.fault_text.specs.Table.{spaces, left_text, right_text};
 
 use std::alloc::AllocError;
 
-// Appends so many spaces.
+// Appends the given number of spaces.
 pub(crate) fn push_spaces(out: &mut Vec<u8>, count: usize) -> Result<(), AllocError>
     ensures { OnOk result (out.new.items ≡ out.old.items ++ spaces count) }
 {
@@ -13,7 +13,8 @@ pub(crate) fn push_spaces(out: &mut Vec<u8>, count: usize) -> Result<(), AllocEr
     Ok(())
 }
 
-/// Appends a text, and spaces up to a width. Want of memory is the only error.
+/// Appends a text, followed by spaces up to a width in bytes. A longer text is appended unchanged. The only error
+/// is that memory was refused.
 pub fn push_left(out: &mut Vec<u8>, width: usize, text: &[u8]) -> Result<(), AllocError>
     ensures { OnOk result (out.new.items ≡ out.old.items ++ left_text width text.now) }
 {
@@ -21,7 +22,8 @@ pub fn push_left(out: &mut Vec<u8>, width: usize, text: &[u8]) -> Result<(), All
     push_spaces(out, width.saturating_sub(text.len()))
 }
 
-/// Appends spaces up to a width, and a text after them. Want of memory is the only error.
+/// Appends spaces, followed by a text, up to a width in bytes. A longer text is appended unchanged. The only error
+/// is that memory was refused.
 pub fn push_right(out: &mut Vec<u8>, width: usize, text: &[u8]) -> Result<(), AllocError>
     ensures { OnOk result (out.new.items ≡ out.old.items ++ right_text width text.now) }
 {
