@@ -7,7 +7,7 @@ use Rattle.sweep_text.specs.Groups.{shares, joined, before_groups}
 use Rattle.sweep_text.specs.Views.{group_held}
 use Rattle.sweep_text.specs.declared.group.Group.{Group}
 
--- a list by its last member
+-- a list, taken apart at its last member
 by_last : {X : Type 0} → (xs : List X) (n : ℕ) (d : X) → suc n ≡ length xs → xs ≡ take n xs ++ (get_or xs n d ∷ [])
 by_last xs n d h = sym (take_all (suc n) xs (omega (arith, h))) ∙ take-suc xs n d (omega (arith, h))
 

@@ -1,4 +1,4 @@
--- A count of values as definitions speak of them, by the values that the code holds.
+-- A count of values as the definitions have it, by the values of the code.
 use Rattle.std.proofs.Common.{◌≡◌, ℕ, List, ◌+◌, arith, refl, cond}
 use Rattle.std.proofs.lemmas.List.Recursion.{is_count_by}
 use Rattle.std.specs.Prelude.{Bool, true, false, count_by, map, if◌then◌else◌}

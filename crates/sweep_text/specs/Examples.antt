@@ -9,20 +9,20 @@ use Rattle.sweep_text.specs.Sweeps.{sweep_text}
 abbrev pub task : List ℕ → Label
 task name = record { name = name; indices = [] }
 
--- what becomes of a job for a value
+-- the outcome of a job for a value
 abbrev pub told : ℕ → Fate → Value
 told value fate = record { value = value; fate = fate }
 
--- a job that ends in a tick with a cleanup that is cancelled
+-- a job that ends at a tick with a cleanup that is cancelled
 abbrev pub cut_at : ℕ → Fate
 cut_at end = ended end None [] (task (codes "cache") ∷ []) false
 
--- a job that ends in a tick with an exception that a task raised in another
+-- a job that ends at a tick with an exception that a task raised at another tick
 abbrev pub failed_at : ℕ → ℕ → Fate
 failed_at tick end =
     ended end (Some (group (by_nursery (task (codes "writers"))) (part (raised (codes "Fault") (task (codes "journal")) tick) no_parts))) [] [] false
 
--- Neighbours share a line where ticks alone differ: not where notes do, nor where other values stand between them.
+-- Neighbours share a line if only ticks differ, but not if notes differ, or if other values are between them.
 abbrev pub cleanup_values : List Value
 cleanup_values =
     told 1 (failed_at 3 4)

@@ -1,13 +1,13 @@
--- Values of a number that share a line: neighbours for which the same becomes of the job, apart from ticks.
+-- Values of a number that share a line: neighbours for which the outcome of the job is the same, apart from ticks.
 use Rattle.std.specs.Prelude.{ℕ, Bool, ◌&&◌, min, max, if◌then◌else◌, Option, Some, None, List, [], ◌∷◌, ◌++◌, codes, decimal}
 use Rattle.std.specs.Str.{bytes_eq}
 use Rattle.exc_groups.specs.Exceptions.{Exc, cancelled, raised, too_slow, group, Excs, no_parts, part}
 use Rattle.job_story.specs.Sentences.{label_text, whose_text}
 use Rattle.fault_text.specs.Fates.{Fate, refused, stuck, ended, names_note}
 
--- ---- what becomes of a job, without ticks
+-- ---- the outcome of a job, without ticks
 
--- an exception as in a report, without the ticks in which it was raised
+-- an exception as in a report, without the ticks at which it was raised
 abbrev mutual
   pub sans_text : Exc → List ℕ
   sans_text cancelled = codes "Cancelled"
@@ -45,7 +45,7 @@ pub record Ends : Type 0 where
   pub least : ℕ
   pub greatest : ℕ
 
--- values from a first to a last one, what is told of them, and when the job ends
+-- values from a first to a last one, their common text, and when the job ends
 pub record Group : Type 0 where
   pub first : ℕ
   pub last : ℕ
@@ -67,19 +67,19 @@ abbrev pub alone : ℕ → ℕ → Fate → Group
 alone limit value fate =
     record { first = value; last = value; head = head_text limit fate; notes = notes_text fate; ends = ends_of fate }
 
--- the same is told of a value as of a group
+-- both groups have the same text
 abbrev pub shares : Group → Group → Bool
 shares a b = bytes_eq a.head b.head && bytes_eq a.notes b.notes
 
 abbrev pub joined : Group → Group → Group
 joined a b = record b { first = a.first; ends = with_ends a.ends b.ends }
 
--- a group before others: it joins the first of them, if the same is told of both
+-- a group before others; it joins the first of them if both have the same text
 abbrev pub before_groups : Group → List Group → List Group
 before_groups a [] = a ∷ []
 before_groups a (g ∷ gs) = if shares a g then joined a g ∷ gs else a ∷ g ∷ gs
 
--- what becomes of a job for a value
+-- the outcome of a job for a value
 pub record Value : Type 0 where
   pub value : ℕ
   pub fate : Fate

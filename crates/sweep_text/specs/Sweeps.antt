@@ -1,4 +1,4 @@
--- The text of a sweep: what becomes of a job for each value of a number.
+-- The text of a sweep: the outcome of a job for each value of a number.
 use Rattle.std.specs.Prelude.{ℕ, ◌+◌, ◌==◌, Bool, max, if◌then◌else◌, Option, Some, None, List, [], ◌∷◌, ◌++◌, length, codes, decimal}
 use Rattle.fault_text.specs.Fates.{Fate, is_stuck, has_cut, is_refused}
 use Rattle.fault_text.specs.Table.{left_text, refused_text}
@@ -16,11 +16,11 @@ abbrev pub ends_text : Option Ends → List ℕ
 ends_text None = []
 ends_text (Some e) = codes ", ends " ++ span_text e.least e.greatest
 
--- what is told of a group
+-- the text of a group
 abbrev pub told_text : Group → List ℕ
 told_text g = g.head ++ ends_text g.ends ++ g.notes ++ codes "\n"
 
--- the length of the longest range, and at least that of `as it is`
+-- the length of the longest range, or that of `as it is` if that is more
 abbrev pub width_of : List Group → ℕ
 width_of [] = 8
 width_of (g ∷ gs) = max (length (range_text g)) (width_of gs)
@@ -48,7 +48,7 @@ counts_text vs =
 
 -- ---- the text
 
--- the job as it is, a line for each group of values, and how many values are of each kind
+-- the job with its own value, a line for each group of values, and how many values there are of each kind
 abbrev pub sweep_text : ℕ → Fate → List Value → List ℕ
 sweep_text limit first vs =
     let gs = groups_of limit vs in

@@ -1,4 +1,4 @@
--- Values and groups as the code holds them.
+-- The values and groups of the code, as the definitions see them.
 use Rattle.std.specs.Option.{option_map}
 use Rattle.fault_text.specs.Views.{fate_held}
 use Rattle.sweep_text.specs.Groups as told

@@ -7,7 +7,7 @@ use crate::value::Value;
 use fault_text::{push_count, push_refused};
 use std::alloc::AllocError;
 
-// Appends how many values are of each kind.
+// Appends how many values there are of each kind.
 pub(crate) fn push_counts(out: &mut Vec<u8>, values: &[Value]) -> Result<(), AllocError>
     ensures { OnOk result (out.new.items ≡ out.old.items ++ counts_text (map value_held values.now)) }
 {
@@ -18,21 +18,21 @@ pub(crate) fn push_counts(out: &mut Vec<u8>, values: &[Value]) -> Result<(), All
     out.extend_from_slice(b"\n")
 }
 
-// For how many values the job does not end by the limit.
+// Returns for how many values the job does not end by the limit.
 fn stuck_in(values: &[Value]) -> usize
     ensures { result ≡ count is_stuck (map value_held values.now) }
 {
     values.iter().filter(|value| value.fate.is_stuck()).count()
 }
 
-// For how many values the job cuts a cleanup.
+// Returns for how many values the job cuts a cleanup.
 fn cut_in(values: &[Value]) -> usize
     ensures { result ≡ count has_cut (map value_held values.now) }
 {
     values.iter().filter(|value| value.fate.has_cut()).count()
 }
 
-// For how many values the text is refused.
+// Returns for how many values the text is refused.
 fn refused_in(values: &[Value]) -> usize
     ensures { result ≡ count is_refused (map value_held values.now) }
 {

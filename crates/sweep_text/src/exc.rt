@@ -7,7 +7,8 @@ use exc_groups::Exc;
 use std::alloc::AllocError;
 use story_text::{push_label, push_whose};
 
-/// Appends an exception without the ticks in which it was raised, a group with its parts in brackets. Want of memory is the only error.
+/// Appends an exception without the ticks at which it was raised, and a group with its parts in brackets. The only error is
+/// that memory was refused.
 #[cycle(exc)]
 pub fn push_sans(out: &mut Vec<u8>, exc: &Exc) -> Result<(), AllocError>
     ensures { OnOk result (out.new.items ≡ out.old.items ++ sans_text (exc_of exc.now)) }

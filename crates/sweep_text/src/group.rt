@@ -8,14 +8,14 @@ use crate::told::{push_head, push_notes};
 use fault_text::Fate;
 use std::alloc::{AllocError, Global};
 
-// The earliest and the latest of some ends.
+// The earliest and the latest of some ends, in ticks.
 #[derive(Clone, Copy)]
 pub(crate) struct Ends {
     pub least: u64,
     pub greatest: u64,
 }
 
-// Values from a first to a last one, what is told of them, and when the job ends.
+// Values from a first to a last one, their common text, and when the job ends.
 #[derive(Drop)]
 pub(crate) struct Group {
     pub first: u64,
@@ -26,7 +26,7 @@ pub(crate) struct Group {
 }
 
 impl Group {
-    // A value alone.
+    // Makes a group of a single value.
     pub(crate) fn alone(
         alloc: Global,
         limit: u64,
@@ -48,7 +48,7 @@ impl Group {
         })
     }
 
-    // Whether the same is told of both.
+    // Returns whether both groups have the same text.
     pub(crate) fn shares(&self, other: &Group) -> bool
         ensures { result ≡ shares (group_held self.now) (group_held other.now) }
     {
@@ -56,7 +56,7 @@ impl Group {
             && self.notes.as_slice() == other.notes.as_slice()
     }
 
-    // Takes in a group whose values come right before.
+    // Adds a group whose values come directly before those of this one.
     pub(crate) fn join(&mut self, earlier: &Group)
         ensures { group_held self.new ≡ joined (group_held earlier.now) (group_held self.old) }
     {
@@ -65,7 +65,7 @@ impl Group {
     }
 }
 
-// When a job ends, if it does.
+// Returns when a job ends, or `None` if it does not end.
 fn ends_of(fate: &Fate) -> Option<Ends>
     ensures { option_map ends_held result ≡ ends_of (fate_held fate.now) }
 {
@@ -78,7 +78,7 @@ fn ends_of(fate: &Fate) -> Option<Ends>
     }
 }
 
-// The earliest and the latest of all ends of two groups.
+// Returns the earliest and the latest of all ends of two groups.
 fn with_ends(earlier: Option<Ends>, later: Option<Ends>) -> Option<Ends>
     ensures { option_map ends_held result ≡ with_ends (option_map ends_held earlier) (option_map ends_held later) }
 {

@@ -6,7 +6,7 @@ use crate::group::Group;
 use crate::value::Value;
 use std::alloc::{AllocError, Global};
 
-// The groups of some values, in the order of the values. They are found from the last one to the first.
+// Returns the groups of some values, in the order of the values. They are found from the last one to the first.
 pub(crate) fn groups_of(
     alloc: Global,
     limit: u64,
@@ -28,7 +28,7 @@ pub(crate) fn groups_of(
     Ok(groups)
 }
 
-// Puts a group before others, which are in reverse order: it joins the last of them, if the same is told of both.
+// Puts a group before others, which are in reverse order. It joins the last of them if both have the same text.
 fn put(groups: &mut Vec<Group>, group: Group) -> Result<(), AllocError>
     ensures { OnOk result (map group_held (reverse groups.new.items)
         ≡ before_groups (group_held group) (map group_held (reverse groups.old.items))) }

@@ -1,8 +1,8 @@
-//! The text that tells what becomes of a job for each value of one of its numbers.
+//! Prints the outcome of a job for each value of one of its numbers.
 //!
-//! The layer promises that `sweep_table` gives the text of these values, as `specs/Sweeps.antt` defines it: what becomes of the job as it
-//! is, then a line for each group of neighbouring values for which the same becomes of it, apart from ticks (`specs/Groups.antt`), and last
-//! the counts. It stands on `fault_text` for what becomes of a job, and on `story_text` for labels.
+//! `sweep_table` returns the text of these values, as `specs/Sweeps.antt` defines it: the outcome of the job with its own
+//! value, then a line for each group of neighbouring values with the same outcome, apart from ticks (`specs/Groups.antt`), and
+//! then the counts. The crate uses `fault_text` for the outcome of a job and `story_text` for labels.
 #![tactic(auto)]
 
 mod counts;

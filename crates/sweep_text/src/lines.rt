@@ -14,8 +14,9 @@ use fault_text::{Fate, push_left};
 use std::alloc::{AllocError, Global};
 use story_text::push_number;
 
-/// The text that tells what becomes of a job: as it is (`first`), for each group of neighbouring values for which the same becomes of it,
-/// and how many values are of each kind. The limit is the last tick at which the job may end. Want of memory is the only error.
+/// Returns the text of a sweep: the outcome of the job with its own value (`first`), the outcome for each group of neighbouring
+/// values with the same outcome apart from ticks, and how many values there are of each kind. `limit` is the last tick at which
+/// the job may end. The only error is that memory was refused.
 pub fn sweep_table(
     alloc: Global,
     limit: u64,
@@ -33,7 +34,7 @@ pub fn sweep_table(
     Ok(out)
 }
 
-// The length of the longest range, and at least that of `as it is`.
+// Returns the length of the longest range, or that of `as it is` if that is more.
 fn width_of(alloc: Global, groups: &[Group]) -> Result<usize, AllocError>
     ensures { IfOk result (λ width. width ≡ width_of (map group_held groups.now)) }
 {
@@ -44,7 +45,7 @@ fn width_of(alloc: Global, groups: &[Group]) -> Result<usize, AllocError>
     Ok(width)
 }
 
-// The values of a group, as `FIRST..LAST`, or one.
+// Returns the values of a group, as `FIRST..LAST`, or as one number if there is only one.
 fn range_of(alloc: Global, group: &Group) -> Result<Vec<u8>, AllocError>
     ensures { IfOk result (λ text. text.items ≡ range_text (group_held group.now)) }
 {
@@ -53,7 +54,7 @@ fn range_of(alloc: Global, group: &Group) -> Result<Vec<u8>, AllocError>
     Ok(text)
 }
 
-// Appends what becomes of the job as it is.
+// Appends the outcome of the job with its own value.
 fn push_first(out: &mut Vec<u8>, width: usize, first: &Group) -> Result<(), AllocError>
     ensures { OnOk result (out.new.items
         ≡ out.old.items ++ (left_text width (codes "as it is") ++ codes "  " ++ told_text (group_held first.now))) }
@@ -92,7 +93,7 @@ fn push_group(
     push_told(out, group)
 }
 
-// Appends what is told of a group.
+// Appends the text of a group.
 fn push_told(out: &mut Vec<u8>, group: &Group) -> Result<(), AllocError>
     ensures { OnOk result (out.new.items ≡ out.old.items ++ told_text (group_held group.now)) }
 {
@@ -113,7 +114,7 @@ fn push_ends(out: &mut Vec<u8>, ends: Option<Ends>) -> Result<(), AllocError>
     push_span(out, ends.least, ends.greatest)
 }
 
-// Appends two numbers with two dots between them, or one number, where they are the same.
+// Appends two numbers with two dots between them, or a single number if they are equal.
 fn push_span(out: &mut Vec<u8>, first: u64, last: u64) -> Result<(), AllocError>
     ensures { OnOk result (out.new.items ≡ out.old.items ++ span_text first last) }
 {

@@ -10,7 +10,7 @@ use fault_text::{Fate, push_names_note};
 use std::alloc::AllocError;
 use story_text::push_number;
 
-// Appends what becomes of a job, without ticks: by the limit.
+// Appends the outcome of a job up to the limit, without ticks.
 pub(crate) fn push_head(out: &mut Vec<u8>, limit: u64, fate: &Fate) -> Result<(), AllocError>
     ensures { OnOk result (out.new.items ≡ out.old.items ++ head_text limit (fate_held fate.now)) }
 {
@@ -24,7 +24,7 @@ pub(crate) fn push_head(out: &mut Vec<u8>, limit: u64, fate: &Fate) -> Result<()
     }
 }
 
-// Appends how a job ended: well, or with an exception.
+// Appends how a job ended: without an exception, or with one.
 fn push_end(out: &mut Vec<u8>, exc: &Option<Exc>) -> Result<(), AllocError>
     ensures { OnOk result (out.new.items ≡ out.old.items ++ end_sans (option_map exc_of exc.now)) }
 {
@@ -34,7 +34,7 @@ fn push_end(out: &mut Vec<u8>, exc: &Option<Exc>) -> Result<(), AllocError>
     push_end_exc(out, exc)
 }
 
-// Appends with what exception a job ended: a cancellation, or another.
+// Appends the exception with which a job ended: a cancellation, or another one.
 fn push_end_exc(out: &mut Vec<u8>, exc: &Exc) -> Result<(), AllocError>
     ensures { OnOk result (out.new.items ≡ out.old.items ++ end_sans (Some (exc_of exc.now))) }
 {
@@ -47,7 +47,7 @@ fn push_end_exc(out: &mut Vec<u8>, exc: &Exc) -> Result<(), AllocError>
     }
 }
 
-// Appends the notes on what becomes of a job.
+// Appends the notes on the outcome of a job.
 pub(crate) fn push_notes(out: &mut Vec<u8>, fate: &Fate) -> Result<(), AllocError>
     ensures { OnOk result (out.new.items ≡ out.old.items ++ notes_text (fate_held fate.now)) }
 {
