@@ -39,7 +39,7 @@ slots-push : (added : List Added) (a : Added) → unplaced_slots (added ++ a ∷
 slots-push [] a = refl
 slots-push (b ∷ added) a = ap (λ rest. Some (unplaced b) ∷ rest) (slots-push added a)
 
--- the batches are as they ought to be with one more entry added to the next one, where there is room for its places
+-- the batches stay valid with one more entry added to the next one, if there is space for its places
 pub ready_push : (current next next' : List (Option Entry)) (places places' : PlacesLeft) (a : Added) → IsReady current next places →
     next' ≡ next ++ Some (unplaced a) ∷ [] → places'.left ≡ places.left → length next + 1 + (length next + 1) ≤ places'.room →
     IsReady current next' places'
@@ -111,7 +111,7 @@ taken_at current next places seen k place is view lt e =
     zero_add : (m : ℕ) → 0 + m ≡ m
     zero_add m = omega arith
 
--- the batches are as they ought to be once an entry and its place are taken out of the current one
+-- the batches stay valid after an entry and its place are taken out of the current one
 pub ready_taken : (current current' next : List (Option Entry)) (places places' : PlacesLeft) (k place : ℕ) → IsReady current next places →
     TakenAt current places k place → current' ≡ slice_set current place None → places'.left ≡ remove places.left k →
     places'.room ≡ places.room → IsReady current' next places'

@@ -33,7 +33,7 @@ tree_join : (d c : ℕ) (ls l : List ℕ) (m : ℕ) (r : List ℕ) → Cut d ls 
     IsTree (suc d) ls c
 tree_join d c ls l m r cut le first last = rw (cut.first, cut.middle, cut.last) (le, first, last)
 
--- so many are left
+-- this many are left
 pub left_count : (d base : ℕ) (ls : List ℕ) (c : ℕ) → IsTree d ls c → length (left_in d base ls c) ≡ c
 left_count zero base ls zero t = refl
 left_count zero base ls (suc zero) t = refl
@@ -97,7 +97,7 @@ drawn_last depth d base c k ls l m r r' place e is n t lt le drawn =
       at_k = drawn.at_k ∙ sym (get_or-append_right first rest m k 0 count le) ∙ sym (ap (λ xs. slice_index_or xs k 0) old);
     }
 
--- the counts of a whole tell what is left in its first half, and the others are left in its last half
+-- the counts of a whole determine what is left in its first half, and the others are left in its last half
 pub tree_parts : (depth d c : ℕ) (ls l : List ℕ) (m : ℕ) (r : List ℕ) → depth ≡ suc d → ls ≡ l ++ m ∷ r → length l ≡ inner d →
     IsTree depth ls c → (m ≤ c) × IsTree d l m × IsTree d r (c - m)
 tree_parts depth d c ls l m r e is n t =
@@ -140,7 +140,7 @@ at_numbers base zero le = refl
 at_numbers base (suc zero) le = refl
 at_numbers base (suc (suc n)) le = absurd (omega (arith, le))
 
--- of one place or none, with no counts kept, so many numbers from it on are left
+-- of one place or none, with no counts kept, the consecutive numbers from it on are left
 pub tip_all : (depth c : ℕ) (ls : List ℕ) → depth ≡ 0 → c ≤ inner depth + 1 → (base : ℕ) → left_in depth base ls c ≡ numbers base c
 tip_all depth c ls e le base =
     let le' : c ≤ 1 = rw e at le in
@@ -157,7 +157,7 @@ pub filled_tree : (depth d c m : ℕ) (l r : List ℕ) → depth ≡ suc d → l
     IsTree d r (c - m) → IsTree depth (l ++ m ∷ r) c
 filled_tree depth d c m l r e n some first last = rw e (tree_join d c (l ++ m ∷ r) l m r (cut_at d l m r n) some.most first last)
 
--- where each half has its first places left, and the last half has none unless the first is full, so has the whole
+-- if each half has its first places left, and the last half has none unless the first is full, so has the whole
 pub filled_all : (depth d c m : ℕ) (l r : List ℕ) → depth ≡ suc d → length l ≡ inner d → InFirst d c m →
     ((base : ℕ) → left_in d base l m ≡ numbers base m) → ((base : ℕ) → left_in d base r (c - m) ≡ numbers base (c - m)) → (base : ℕ) →
     left_in depth base (l ++ m ∷ r) c ≡ numbers base c

@@ -13,18 +13,18 @@ pub length-numbers : (base n : ℕ) → length (numbers base n) ≡ n
 length-numbers base zero = refl
 length-numbers base (suc n) = ap suc (length-numbers (base + 1) n)
 
--- as many places are left as their number says, whether they are counted by halves or not
+-- the number of places that are left, whether they are counted by halves or not
 pub length-places : (counted : Bool) (depth span first : ℕ) (counts : List ℕ) (left : ℕ) → IsCounted counted depth span first counts left →
     length (places_left counted depth span first counts left) ≡ left
 length-places false depth span first counts left is = length-numbers first left
 length-places true depth span first counts left is = left_count depth first _ left is.2
 
--- so many are left as the view tells
+-- as many are left as the view says
 pub left_is : (v : PlacesLeft) (counted : Bool) (depth span first : ℕ) (counts : List ℕ) (left : ℕ) →
     IsCounted counted depth span first counts left → places_left counted depth span first counts left ≡ v.left → left ≡ length v.left
 left_is v counted depth span first counts left is view = sym (length-places counted depth span first counts left is) ∙ ap length view
 
--- the last one stands at the place before their number
+-- the last one is at the index before their number
 pub record LastOf (xs : List ℕ) (rest : List ℕ) (last : ℕ) : Type 0 where
   pub place : last ≡ slice_index_or xs (length xs - 1) 0
   pub rest_is : rest ≡ remove xs (length xs - 1)
@@ -48,7 +48,7 @@ last_of_numbers first left some =
     let is : numbers first left ≡ numbers first (left - 1) ++ (first + (left - 1)) ∷ [] = ap (numbers first) (sym n) ∙ whole in
     rw is (last_of_push (numbers first (left - 1)) (first + (left - 1)))
 
--- while places are not counted by halves, the greatest stands last, and one fewer are left without it
+-- while places are not counted by halves, the largest is the last, and one fewer are left without it
 pub last_left : (v : PlacesLeft) (counted : Bool) (depth span first : ℕ) (counts : List ℕ) (left : ℕ) → counted ≡ false →
     places_left counted depth span first counts left ≡ v.left → 0 < length v.left →
     LastOf v.left (places_left counted depth span first counts (left - 1)) (first + (left - 1))

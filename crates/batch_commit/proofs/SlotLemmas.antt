@@ -63,7 +63,7 @@ module _ {T : Type 0} where
         places = ap (λ ps. place ∷ ps) t.places;
       }
 
-  -- a full slot at the end has its value behind those of the others
+  -- a full slot at the end has its value after those of the others
   pub held-append : (slots : List (Option T)) (value : T) → held (slots ++ Some value ∷ []) ≡ held slots ++ value ∷ []
   held-append [] value = refl
   held-append (None ∷ slots) value = held-append slots value

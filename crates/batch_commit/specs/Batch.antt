@@ -1,4 +1,4 @@
--- What clauses see of the ready tasks: the current batch and the next one.
+-- What clauses state about the ready tasks: the current batch and the next one.
 use Rattle.std.specs.Prelude.{◌≡◌, ℕ, ◌+◌, ◌≤◌, Option, Some, List, length, map, slice_get}
 use Rattle.std.specs.List.{remove}
 use Rattle.task_machine.specs.declared.stop.Wake.{Wake}
@@ -20,14 +20,14 @@ unplaced_slots added = map (λ a. Some (unplaced a)) added
 abbrev pub added_in : List (Option Entry) → List Added
 added_in slots = map added_of (held slots)
 
--- the places of the current batch are those left, no answer is placed in the next one, and there is room for its places
+-- the places of the current batch are those left, no answer is placed in the next one, and there is space for its places
 pub record IsReady (current next : List (Option Entry)) (places : PlacesLeft) : Type 0 where
   pub left : places.left ≡ places_from 0 current
   pub fresh : next ≡ unplaced_slots (added_in next)
   pub room : length next + length next ≤ places.room
 
--- One task had its turn: the picker picked a place among those left, and the task of the entry there goes on as its call
--- and its answer tell. The others stay, in their order, and so does what was added.
+-- One task had its turn: the picker picked a place among those left, and the task of the entry there continues as its
+-- call and its answer determine. The others stay, in their order, and so does what was added.
 pub record HandsOut {P : Type 0} (picks : P → ℕ → ℕ → P → Type 0) (old new : Batches) (picker picker' : P) (task : ℕ) (wake : Wake) : Type 0
   where
     pub place : ℕ

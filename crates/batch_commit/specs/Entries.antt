@@ -1,4 +1,4 @@
--- Entries of batches: which requests they make, and how their tasks go on once answers are placed.
+-- Entries of batches: which requests they make, and why their tasks continue after answers are placed.
 use Rattle.std.specs.Prelude.{◌≡◌, ⊤, ℕ, Option, Some, None, IsSome, List, [], ◌∷◌, drop, slice_get}
 use Rattle.std.specs.Option.{option_map}
 use Rattle.std.specs.List.{All, filter_map}
@@ -21,7 +21,7 @@ added_of e = (e.task, e.call)
 abbrev pub unplaced : Added → Entry
 unplaced added = record { task = added.0; call = added.1; answer = None }
 
--- the request of a call that asks
+-- the request of a call that makes one
 abbrev pub request_in : Call → Option Request
 request_in Begin = None
 request_in Due = None
@@ -33,7 +33,8 @@ request_in (Ask r) = Some r
 abbrev pub requests_of : List Entry → List Request
 requests_of es = filter_map (λ e. request_in e.call) es
 
--- the answer of an entry with this request, if it makes one, once answers are placed from it on: an Ask has the first
+-- the answer of an entry with this request, if it makes one, after answers are placed from it on: an Ask has the
+-- first
 abbrev pub answer_placed : Option Request → List Answer → Option Answer → Option Answer
 answer_placed None answers old = old
 answer_placed (Some r) answers old = slice_get answers 0
@@ -43,17 +44,17 @@ abbrev pub answers_after : Option Request → List Answer → List Answer
 answers_after None answers = answers
 answers_after (Some r) answers = drop 1 answers
 
--- an entry once answers are placed from it on
+-- an entry after answers are placed from it on
 abbrev pub with_placed : List Answer → Entry → Entry
 with_placed answers e =
     record { task = e.task; call = e.call; answer = answer_placed (request_in e.call) answers e.answer }
 
--- entries once the i-th answer is placed for the i-th Ask
+-- entries after the i-th answer is placed for the i-th Ask
 abbrev pub placed : List Entry → List Answer → List Entry
 placed [] answers = []
 placed (e ∷ es) answers = with_placed answers e ∷ placed es (answers_after (request_in e.call) answers)
 
--- where there is a request, there is an answer
+-- if there is a request, there is an answer
 abbrev pub HasAnswer : Option Request → Option Answer → Type 0
 HasAnswer None answer = ⊤
 HasAnswer (Some r) answer = IsSome answer
@@ -66,7 +67,7 @@ AllPlaced es = All (λ e. HasAnswer (request_in e.call) e.answer) es
 abbrev pub NonePlaced : List Entry → Type 0
 NonePlaced es = All (λ e. e.answer ≡ None) es
 
--- how a task goes on that was ready by this call, with the answer that was placed for it
+-- why a task that was ready by this call continues, with the answer that was placed for it
 abbrev pub wake_of : Call → Option Answer → Option Wake
 wake_of Begin answer = Some wakes.Begin
 wake_of Due answer = Some wakes.Due

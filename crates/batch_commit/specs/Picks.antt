@@ -1,4 +1,4 @@
--- What picking in turn is.
+-- How picking in turn works.
 use Rattle.std.specs.Prelude.{◌≡◌, ℕ, ◌+◌, ◌%◌, ◌^◌}
 use Rattle.batch_commit.specs.declared.pick.Turn.{Turn}
 

@@ -1,19 +1,20 @@
--- What clauses see of the places of a batch. No public clause cites this module.
+-- What clauses state about the places of a batch. No public clause cites this module.
 use Rattle.std.specs.Prelude.{◌≡◌, ℕ, ◌+◌, ◌≤◌, Bool, true, false, List, take, length}
 use Rattle.batch_commit.specs.Halves.{inner, left_in, numbers, IsTree}
 
--- the places that are left, in order, whether they are counted by halves, and how many counts there is room for
+-- the places that are left, in order, whether they are counted by halves, and for how many counts there is
+-- space
 pub record PlacesLeft : Type 0 where
   pub left : List ℕ
   pub counted : Bool
   pub room : ℕ
 
--- so many places from one on, or, once they are counted, those that the counts tell
+-- consecutive places, or, after they are counted, those that the counts determine
 abbrev pub places_left : Bool → ℕ → ℕ → ℕ → List ℕ → ℕ → List ℕ
 places_left false depth span first counts left = numbers first left
 places_left true depth span first counts left = left_in depth first (take span counts) left
 
--- there is room for the counts, or, once the places are counted, they tell so many
+-- there is space for the counts, or, after the places are counted, the counts determine this many
 abbrev pub IsCounted : Bool → ℕ → ℕ → ℕ → List ℕ → ℕ → Type 0
 IsCounted false depth span first counts left = (first + left) + (first + left) ≤ length counts
 IsCounted true depth span first counts left =

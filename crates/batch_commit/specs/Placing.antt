@@ -10,7 +10,7 @@ abbrev pub request_at : Option Entry → Option Request
 request_at None = None
 request_at (Some e) = request_in e.call
 
--- a slot once answers are placed from it on
+-- a slot after answers are placed from it on
 abbrev pub slot_placed : Option Entry → List Answer → Option Entry
 slot_placed None answers = None
 slot_placed (Some e) answers = Some (with_placed answers e)
@@ -20,7 +20,7 @@ abbrev pub left_after : Option Entry → List Answer → List Answer
 left_after None answers = answers
 left_after (Some e) answers = answers_after (request_in e.call) answers
 
--- slots once answers are placed
+-- slots after answers are placed
 abbrev pub slots_placed : List (Option Entry) → List Answer → List (Option Entry)
 slots_placed [] answers = []
 slots_placed (slot ∷ slots) answers = slot_placed slot answers ∷ slots_placed slots (left_after slot answers)

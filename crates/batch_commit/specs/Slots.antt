@@ -3,11 +3,11 @@ use Rattle.std.specs.Prelude.{ℕ, ◌+◌, Option, Some, None, List, [], ◌∷
 use Rattle.std.specs.List.{filter_map}
 
 module _ {T : Type 0} where
-  -- what slots hold, in order
+  -- the values in slots, in order
   abbrev pub held : List (Option T) → List T
   held slots = filter_map (λ slot. slot) slots
 
-  -- the places of those that are not empty, where the first slot has this place
+  -- the indices of the slots that are not empty, where the first slot has this index
   abbrev pub places_from : ℕ → List (Option T) → List ℕ
   places_from place [] = []
   places_from place (None ∷ slots) = places_from (place + 1) slots

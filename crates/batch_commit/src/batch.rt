@@ -15,17 +15,17 @@ use std::mem;
 use task_machine::Wake;
 
 /// The tasks that are ready: the current batch, whose tasks have their turns in the order that a picker picks, and the
-/// next one, which tasks are added to meanwhile.
+/// next one, to which tasks are added meanwhile.
 ///
-/// The caller sees to it that a batch is over before the next one becomes current, and that each request of a batch is
-/// answered before its tasks have their turns.
+/// The caller must ensure that the current batch is over before the next one becomes current, and that the requests of a
+/// batch are answered before its tasks have their turns.
 #[derive(Drop)]
 pub struct ReadyBatch<'a> {
     alloc: Global,
-    // The entries by their places. Each is taken out of its slot as its task has its turn.
+    // The entries by their places. Each is taken out of its slot when its task has its turn.
     current: Vec<Option<Entry<'a>>>,
     next: Vec<Option<Entry<'a>>>,
-    // The places of the current batch that are left, with room for those of the next one.
+    // The places of the current batch that are left, with space for those of the next one.
     places: Places,
 }
 
@@ -43,7 +43,7 @@ impl<'a> Model for ReadyBatch<'a> {
 }
 
 impl<'a> ReadyBatch<'a> {
-    /// No task is ready. Takes no memory.
+    /// Returns two empty batches. Takes no memory.
     pub fn new(alloc: Global) -> ReadyBatch<'a>
         ensures current { result.current ≡ [] }
         ensures next { result.next ≡ [] }
@@ -56,7 +56,8 @@ impl<'a> ReadyBatch<'a> {
         }
     }
 
-    /// Adds a task to the next batch, with why it is ready. On want of memory nothing changes.
+    /// Adds a task to the next batch, with the reason why it is ready. The only error is that memory was refused, and
+    /// then nothing has changed.
     pub fn add(&mut self, task: TaskId, call: Call<'a>) -> Result<(), AllocError>
         ensures added { OnOk result (self.new.next ≡ self.old.next ++ (task, call.entry) ∷ []) }
         ensures current { self.new.current ≡ self.old.current }
@@ -71,8 +72,8 @@ impl<'a> ReadyBatch<'a> {
         Ok(())
     }
 
-    /// The next batch becomes the current one, with no answer placed, and nothing is added to the one after it yet. The
-    /// caller sees to it that the current batch is over. Takes no memory.
+    /// Makes the next batch the current one, with no answers placed. The new next batch is empty. The caller must ensure
+    /// that the current batch is over. Takes no memory.
     pub fn turn_over(&mut self)
         requires { self.old.current ≡ [] }
         ensures current { self.new.current ≡ map unplaced self.old.next }
@@ -84,22 +85,23 @@ impl<'a> ReadyBatch<'a> {
         self.places.restart(self.current.len());
     }
 
-    /// Whether the current batch is over: no task of it is left.
+    /// Returns whether the current batch is over: no task of it is left.
     pub fn is_empty(&self) -> bool
         ensures { IsTrue result ↔ (self.now.current ≡ []) }
     {
         self.left() == 0
     }
 
-    /// The requests of the current batch, in the order of its tasks.
+    /// Returns the requests of the current batch, in the order of its tasks. The only error is that memory was refused.
     pub fn requests(&self) -> Result<Vec<Request<'a>>, AllocError>
         ensures { IfOk result (λ requests. requests.items ≡ requests_of self.now.current) }
     {
         asked(self.alloc, self.current.as_slice())
     }
 
-    /// Places the answers to the requests of the current batch, each for the task that made its request. The caller sees
-    /// to it that there are as many, and that none was placed before. Takes no memory.
+    /// Places the answers to the requests of the current batch, each for the task that made its request. The caller must
+    /// ensure that there are as many answers as requests, in the same order, and that none was placed before for this
+    /// batch. Takes no memory.
     pub fn place(&mut self, answers: Vec<Answer<'a>>)
         requires as_many { length answers.items ≡ length (requests_of self.old.current) }
         requires unplaced { NonePlaced self.old.current }
@@ -110,8 +112,9 @@ impl<'a> ReadyBatch<'a> {
         place_all(self.current.as_mut_slice(), answers);
     }
 
-    /// Takes the task that the picker picks among those left of the current batch, and tells how it goes on. None, and no
-    /// pick, exactly where none is left. The caller sees to it that answers are placed. Takes no memory.
+    /// Asks the picker for one of the tasks that are left in the current batch, takes that task out, and returns its id
+    /// and why it continues. Returns `None` exactly if no task is left, and then does not ask the picker. The caller must
+    /// ensure that answers are placed for all requests. Takes no memory.
     pub fn next<P: Pick>(&mut self, picker: &mut P) -> Option<(TaskId, Wake<'a>)>
         requires { AllPlaced self.old.current }
         ensures none { IsNone result ↔ (self.old.current ≡ []) }
@@ -127,7 +130,7 @@ impl<'a> ReadyBatch<'a> {
         Some((entry.task, wake_for(entry.call, entry.answer)))
     }
 
-    // How many tasks of the current batch are left.
+    // The number of tasks of the current batch that are left.
     fn left(&self) -> usize
         ensures { result ≡ length self.now.current }
     {

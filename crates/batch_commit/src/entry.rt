@@ -8,15 +8,15 @@ use task_machine::Wake;
 /// Why a task is ready.
 #[derive(Clone, Copy)]
 pub enum Call<'a> {
-    /// It is to begin.
+    /// It was started, and has its first turn.
     Begin,
-    /// The tick that it slept until has come.
+    /// The tick until which it slept has come.
     Due,
-    /// It sees a cancellation in its sleep.
+    /// It sees a cancellation while it sleeps.
     Seen,
     /// The nursery that it waited for is settled.
     Settled,
-    /// It asks for a kernel's answer.
+    /// It requests a kernel's answer.
     Ask(Request<'a>),
 }
 
@@ -41,7 +41,7 @@ pub(crate) fn request_in<'a>(call: Call<'a>) -> Option<Request<'a>>
     }
 }
 
-// How the task goes on.
+// Why the task continues.
 pub(crate) fn wake_for<'a>(call: Call<'a>, answer: Option<Answer<'a>>) -> Wake<'a>
     requires { HasAnswer (request_in call) answer }
     ensures { wake_of call.entry answer.entry ≡ Some result }

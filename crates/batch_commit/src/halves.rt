@@ -33,7 +33,7 @@ pub(crate) fn draw(lefts: &mut [usize], depth: usize, base: usize, count: usize,
     }
 }
 
-// Leaves the first so many places, and no other.
+// Makes the first `count` places those that are left.
 pub(crate) fn fill(lefts: &mut [usize], depth: usize, count: usize)
     requires shape { length lefts.old ≡ inner depth }
     requires count { count ≤ inner depth + 1 }
@@ -55,7 +55,7 @@ pub(crate) fn fill(lefts: &mut [usize], depth: usize, count: usize)
     fill(last, depth - 1, count - in_first);
 }
 
-// Takes the k-th place left, where the counts stand in front.
+// Takes the k-th place that is left, where the counts are at the front.
 pub(crate) fn draw_front(
     counts: &mut [usize],
     span: usize,
@@ -75,7 +75,7 @@ pub(crate) fn draw_front(
     draw(lefts, depth, base, count, k)
 }
 
-// Leaves the first so many places, with the counts in front.
+// Makes the first `count` places those that are left, with the counts at the front.
 pub(crate) fn fill_front(counts: &mut [usize], span: usize, depth: usize, count: usize)
     requires span { span ≡ inner depth }
     requires fits { span ≤ length counts.old }
@@ -87,7 +87,7 @@ pub(crate) fn fill_front(counts: &mut [usize], span: usize, depth: usize, count:
     fill(lefts, depth, count);
 }
 
-// How many of so many are in the first half.
+// How many of `count` places are in the first half.
 fn in_first_of(count: usize, half: usize) -> usize
     requires { half < 2 ^ 63 }
     ensures most { result ≤ count }
@@ -97,7 +97,7 @@ fn in_first_of(count: usize, half: usize) -> usize
     if count <= half { count } else { half + 1 }
 }
 
-// How deep halves have to go for so many places, and how many counts there are then.
+// How deep the halves are for `count` places, and how many counts there are then.
 pub(crate) fn shape_for(count: usize) -> (usize, usize)
     requires { count < 2 ^ 63 }
     ensures counts { result.1 ≡ inner result.0 }

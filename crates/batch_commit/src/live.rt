@@ -6,7 +6,7 @@ use autojump_clock::TaskId;
 use slab::Slab;
 use std::alloc::{AllocError, Global};
 
-/// What lives under the ids of tasks.
+/// Values under the ids of tasks.
 #[derive(Drop)]
 pub struct Live<T> {
     slots: Slab<T>,
@@ -16,7 +16,7 @@ impl<T> Live<T> {
     ghost use Rattle.batch_commit.specs.Live.{live_at, SameLive, Updates};
     ghost use Rattle.batch_commit.specs.Lending.{lends_live};
 
-    /// Nothing lives. Takes no memory.
+    /// Returns an empty map. Takes no memory.
     pub fn new(alloc: Global) -> Live<T>
         ensures { (key : ℕ) → live_at result key ≡ None }
     {
@@ -25,7 +25,8 @@ impl<T> Live<T> {
         }
     }
 
-    /// Puts a value under an id that nothing lives under. On want of memory nothing changes.
+    /// Stores a value under an id that has none, and returns the id. The only error is that memory was refused, and then
+    /// nothing has changed.
     pub fn put(&mut self, value: T) -> Result<TaskId, AllocError>
     where
         T: Drop,
@@ -37,14 +38,15 @@ impl<T> Live<T> {
         Ok(TaskId::of(key))
     }
 
-    /// What lives under the id, if anything does.
+    /// Returns a reference to the value under an id, or `None` if there is none.
     pub fn get(&self, id: TaskId) -> Option<&T>
         ensures { option_copied result ≡ live_at self.now id }
     {
         self.slots.get(id.key())
     }
 
-    /// What lives under the id, for writing, if anything does. What lives under other ids stays.
+    /// Returns a mutable reference to the value under an id, or `None` if there is none. Values under other ids do not
+    /// change.
     pub fn get_mut(&mut self, id: TaskId) -> Option<&mut T>
         ensures* writes_back { sem 𝓛 (lends_live T.row self.entry id result) }
         ensures value { option_copied_mut result ≡ live_at self.old id }
@@ -52,7 +54,8 @@ impl<T> Live<T> {
         self.slots.get_mut(id.key())
     }
 
-    /// Takes out what lives under the id, if anything does. The id may be given out again from then on. Takes no memory.
+    /// Takes out the value under an id, or returns `None` if there is none. `put` may return the id again from then on.
+    /// Takes no memory.
     pub fn take(&mut self, id: TaskId) -> Option<T>
         ensures value { result ≡ live_at self.old id }
         ensures emptied { Updates self.old self.new id None }

@@ -1,12 +1,12 @@
 ghost use Rattle.std.specs.Prelude.{◌≡◌, ℕ, ◌+◌, ◌-◌, ◌%◌, ◌^◌, ◌<◌};
 
-/// The order in which the ready tasks of a batch have their turns.
+/// Chooses the order in which the ready tasks of a batch have their turns.
 pub trait Pick {
-    // What a call may pick: the picker before, how many are left, the place, and the picker after. Without a word of its
-    // own a picker may pick any of those left.
+    // What a call may pick: the picker before, how many are left, the place, and the picker after. By default a picker
+    // may pick any of those left.
     ghost picks: { Self → ℕ → ℕ → Self → Type 0 } = { λ old left place new. place < left };
 
-    /// The place, from 0, of the next task among those left, of which there is at least one.
+    /// Returns the place, from 0, of the next task among those left. The caller must ensure that `left` is at least 1.
     fn pick(&mut self, left: usize) -> usize
         requires { 0 < left }
         ensures below { result < left }
@@ -30,7 +30,7 @@ impl Pick for Forward {
     }
 }
 
-/// Picks the last of those left: the order opposite to that in which they became ready.
+/// Picks the last of those left: the reverse of the order in which they became ready.
 #[derive(Clone, Copy, Debug)]
 pub struct Reverse;
 
@@ -46,7 +46,7 @@ impl Pick for Reverse {
     }
 }
 
-/// Picks in turn: the number of its calls so far, modulo those left.
+/// Picks in turn: the number of its calls so far, modulo the number of those left.
 #[derive(Clone, Copy, Debug, Default)]
 pub struct Turn {
     /// How often it was called, modulo 2^64.

@@ -7,17 +7,18 @@ use crate::halves::{draw_front, fill_front, shape_for};
 use std::alloc::{AllocError, Global};
 use std::marker::Model;
 
-// The places that are left, of which any may be taken by how many are left before it. The first and the last are taken
-// at once. From the first other one on they are counted by halves, and then each costs the logarithm of their number.
+// The places that are left. Any of them may be taken, by the number of those left before it. The first and the last
+// take constant time. When another one is taken they are counted by halves, and from then on each takes logarithmic
+// time in their number.
 #[derive(Drop)]
 pub(crate) struct Places {
     first: usize,
     left: usize,
     counted: bool,
-    // How deep the halves go, and how many counts there are then.
+    // How deep the halves are, and how many counts there are then.
     depth: usize,
     span: usize,
-    // How many are left in the first half of each half, and room behind.
+    // How many are left in the first half of each half, followed by unused space.
     counts: Vec<usize>,
 }
 
@@ -39,7 +40,7 @@ impl Model for Places {
 }
 
 impl Places {
-    // No place, and no room. Takes no memory.
+    // No place, and no space. Takes no memory.
     pub(crate) fn new(alloc: Global) -> Places
         ensures left { result.left ≡ [] }
         ensures room { result.room ≡ 0 }
@@ -61,7 +62,7 @@ impl Places {
         self.left
     }
 
-    // Makes room for one place more than so many, for which there is room.
+    // Allocates space for one place more than `count`, for which there is space.
     pub(crate) fn make_room(&mut self, count: usize) -> Result<(), AllocError>
         requires { count + count ≤ self.old.room }
         ensures room { OnOk result (count + 1 + (count + 1) ≤ self.new.room) }
@@ -76,7 +77,7 @@ impl Places {
         Ok(())
     }
 
-    // The first so many places are left. Takes no memory.
+    // Makes the first `count` places those that are left. Takes no memory.
     pub(crate) fn restart(&mut self, count: usize)
         requires { count + count ≤ self.old.room }
         ensures left { self.new.left ≡ numbers 0 count }
