@@ -1,5 +1,5 @@
 -- No number is taken twice: on the stack, among the children of the rows that are left, and among the rows that are
--- taken, each stands once at most.
+-- taken, each occurs at most once.
 use Rattle.std.proofs.Common.{◌≡◌, ℕ, zero, suc, ◌+◌, ◌<◌, ◌≤◌, Bool, true, false, cond, List, [], ◌∷◌, ◌++◌, Option, Some, None, length, refl, ap, sym, ◌∙◌, subst, inl, inr, arith}
 use Rattle.std.proofs.Math.Dec.{eqb-zero-suc, eqb-suc-suc}
 use Rattle.std.proofs.lemmas.Bool.{eq-eqb, ne_eqb, false≢true}
@@ -27,18 +27,18 @@ abbrev pub taken_at : Option Row → ℕ
 taken_at None = 0
 taken_at (Some r) = taken_if (is_some r.end)
 
--- how often a number stands on the stack, as a child of a row that is left, and as that of a row that is taken
+-- how often a number occurs on the stack, as a child of a row that is left, and as that of a row that is taken
 abbrev pub times_all : ℕ → List Row → List ℕ → ℕ
 times_all c rows stack = times c stack + times_child c rows + taken_at (slice_get rows c)
 
--- what the loop keeps of the rows and its stack, where there were so many rows
+-- what the loop keeps of the rows and its stack, with the initial number of rows
 pub record Apart (n : ℕ) (rows : List Row) (stack : List ℕ) : Type 0 where
   pub len : length rows ≡ n
   pub stacked : All (λ c. c < n) stack
   pub within : All (λ r. All (λ c. c < n) r.children.items) rows
   pub once : (c : ℕ) → times_all c rows stack ≤ 1
 
--- what stands where, once a row has been replaced
+-- what is at each index after a row has been replaced
 pub got_after : (rows : List Row) (s j : ℕ) (hollow held : Row) → slice_get (slice_set rows s hollow) j ≡ Some held → (held ≡ hollow)
     ⊎ (slice_get rows j ≡ Some held)
 got_after [] s j hollow held e = inr e
@@ -64,7 +64,7 @@ taken_after (x ∷ rows) (suc s) (suc c) hollow =
 times_reverse : (c : ℕ) (xs : List ℕ) → times c (reverse xs) ≡ times c xs
 times_reverse c xs = sum_by-IsPermutation _ xs (reverse xs) (IsPermutation-reverse xs)
 
--- no number stands more often once a row has been taken out, and its children are on the stack
+-- no number occurs more often after a row has been taken out, and its children are on the stack
 times_step : (c s : ℕ) (rows : List Row) (stack : List ℕ) (row hollow : Row) → slice_get rows s ≡ Some row → hollow.children.items ≡ [] →
     times_all c (slice_set rows s hollow) (stack ++ reverse row.children.items) ≤ times_all c rows (stack ++ s ∷ [])
 times_step c s rows stack row hollow is none =
@@ -119,7 +119,7 @@ apart_next n s rows stack row hollow a is none =
           a.once c in omega arith;
     }
 
--- a row is taken, its number is off the stack and its children are on it: still no number stands twice
+-- a row is taken, its number is off the stack and its children are on it: still no number occurs twice
 pub apart_step : (n s : ℕ) (rows after : List Row) (stack popped grown : List ℕ) (row : Row) → Apart n rows stack →
     stack ≡ popped ++ s ∷ [] → slice_get rows s ≡ Some row → IsTakenOut rows s after → grown ≡ popped ++ reverse row.children.items →
     Apart n after grown

@@ -1,4 +1,4 @@
--- Rows stay apart while tasks are started and end: for the one who keeps them.
+-- Rows stay apart while tasks are started and end: for the caller that keeps them.
 use Rattle.std.proofs.Common.{◌≡◌, ℕ, ◌+◌, ◌<◌, ◌≤◌, ◌≢◌, true, false, inl, inr, List, [], ◌∷◌, ◌++◌, Some, length, refl, ap, sym, ◌∙◌, subst, arith}
 use Rattle.std.specs.Prelude.{◌==◌, ◌⊎◌, All, slice_get, slice_set, get_or}
 use Rattle.std.proofs.lemmas.Bool.Decides.{eqb_tells}
@@ -32,7 +32,7 @@ tree_first row none = record {
       omega arith;
 }
 
--- a row whose children stay, as where its task ends
+-- a row whose children stay the same, as when its task ends
 pub tree_same : (rows : List Row) (p : ℕ) (row other : Row) → ChildrenAreApart rows → slice_get rows p ≡ Some row →
     other.children.items ≡ row.children.items → ChildrenAreApart (slice_set rows p other)
 tree_same rows p row other tree is same =
@@ -68,7 +68,8 @@ one_more rows c all tree e = at (eqb_tells (length rows) c)
         let before : times_child c rows ≤ 1 = tree.once c in
         omega arith
 
--- a task that is started: the next number goes behind its parent's children, and its row behind all
+-- a task that is started: the next number is added to its parent's children, and its row to the end
+-- of all
 pub tree_more : (rows : List Row) (p : ℕ) (parent grown new : Row) → ChildrenAreApart rows → slice_get rows p ≡ Some parent →
     grown.children.items ≡ parent.children.items ++ length rows ∷ [] → new.children.items ≡ [] →
     ChildrenAreApart (slice_set rows p grown ++ new ∷ [])

@@ -21,7 +21,7 @@ use Rattle.task_roster.specs.declared.rows.Ended.{Ended}
 use Rattle.task_roster.specs.Rows.{AreShown, EndIsShown, IsRecordOf, IsShown, IsTakenOut, ShowRecords, ShowsEnd}
 use Rattle.task_roster.proofs.Apart.{got_after}
 
--- what has been told, where these rows are left, those on the stack first
+-- what has been listed, where these rows are left, those on the stack first
 pub record Told (input : List ℕ) (rs : ℕ → course.Row) (rows : List Row) (stack : List ℕ) (told : List Record)
     (told_froms : List ScopeFrom) : Type 0 where
   pub done : List ℕ

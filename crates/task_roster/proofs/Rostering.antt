@@ -28,7 +28,7 @@ module _ {X : Type 0} where
   nothing_at : (j : ℕ) (x : X) → slice_get [] j ≡ Some x → ⊥
   nothing_at j x is = false≢true (ap is_some is)
 
-  -- what stands at a place that was set
+  -- what is at an index that was set
   set_here : (xs : List X) (p : ℕ) (x y : X) → slice_get xs p ≡ Some x → slice_get (slice_set xs p y) p ≡ Some y
   set_here [] p x y is = absurd (nothing_at p x is)
   set_here (z ∷ xs) zero x y is = refl
@@ -42,7 +42,7 @@ module _ {X : Type 0} where
   set_other (z ∷ xs) (suc p) zero y ne = refl
   set_other (z ∷ xs) (suc p) (suc j) y ne = set_other xs p j y (λ e. ne (ap suc e))
 
-  -- what was pushed stands behind the others
+  -- what was pushed is after the others
   push_here : (xs : List X) (y : X) → slice_get (xs ++ y ∷ []) (length xs) ≡ Some y
   push_here [] y = refl
   push_here (x ∷ xs) y = push_here xs y

@@ -1,4 +1,4 @@
--- What clauses read of the records of a run.
+-- What clauses state about the records of a run.
 use Rattle.std.specs.Prelude.{ℕ, List, map, All}
 use Rattle.exc_groups.specs.Held.{exc_of}
 use Rattle.job_meaning.specs.Shown.{Ending, well, by_cancellation, with_exception, Row}

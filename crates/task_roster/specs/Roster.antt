@@ -1,4 +1,5 @@
--- The tasks of a run as the runner keeps them: what lives by the ids of tasks, and a row for each task ever started.
+-- The tasks of a run as the runner keeps them: the tasks that have not ended by their ids, and a row for each task
+-- ever started.
 use Rattle.std.specs.Prelude.{◌≡◌, ◌≢◌, ℕ, ◌+◌, ◌<◌, Option, Some, None, List, [], ◌∷◌, ◌++◌, length, slice_get}
 use Rattle.std.specs.Option.{option_map}
 use Rattle.exc_groups.specs.Held.{exc_of}
@@ -22,7 +23,7 @@ use Rattle.task_roster.specs.Rows.{ChildrenAreApart}
 
 -- ---- what is kept of a task, by its row
 
--- what lives under an id
+-- the task with an id
 abbrev pub running_at : Roster → ℕ → Option Running
 running_at r id = live_at r.live id
 
@@ -92,7 +93,7 @@ parent_of r p = parent_by (row_at r p)
 abbrev pub id_of : Roster → ℕ → ℕ
 id_of r p = id_by (row_at r p)
 
--- the crew in this world, after so many turns
+-- the tasks of the program in this world, after the given number of turns
 abbrev pub crew_of : Roster → World → ℕ → Crew
 crew_of r world turns =
     record { world = world; turns = turns; task = task_of r; gone = gone_of r; start = start_of r; children = children_of r }
@@ -106,21 +107,22 @@ pub record HasRow (r : Roster) (p id : ℕ) : Type 0 where
   pub endless : row.end ≡ None
   pub id_is : row.task ≡ id
 
--- a task lives under the id of the row
+-- the task of the row has its id
 pub record Lives (r : Roster) (p : ℕ) (row : Row) : Type 0 where
   pub running : Running
   pub is : running_at r row.task ≡ Some running
   pub row_is : running.row ≡ p
 
--- Each task that lives has a row that says so, and each row of a task that has not ended one that lives.
+-- Each task that has not ended has a row with its id, and each row of a task that has not ended has its task under
+-- its id.
 pub record IsRoster (r : Roster) : Type 0 where
   pub rows : (id : ℕ) (x : Running) → running_at r id ≡ Some x → HasRow r x.row id
   pub lives : (p : ℕ) (row : Row) → row_at r p ≡ Some row → row.end ≡ None → Lives r p row
   pub tree : ChildrenAreApart r.rows.items
 
--- ---- what becomes of them
+-- ---- changes
 
--- nothing but this task of all changed, and what is kept of it
+-- nothing but this task and what is kept of it changed
 pub record SameBut (old new : Roster) (s : ℕ) : Type 0 where
   pub many : many new ≡ many old
   pub task : (p : ℕ) → p ≢ s → task_of new p ≡ task_of old p
@@ -141,7 +143,7 @@ pub record HasRoot (r : Roster) (root : Task) (id : ℕ) : Type 0 where
   pub start : start_of r 0 ≡ 0
   pub children : children_of r 0 ≡ []
 
--- A task was started in that tick by the one of that row. It has the next row, and an id under which nothing lived.
+-- A task was started in that tick by the one of that row. It has the next row, and an id that no task had.
 pub record Starts (old new : Roster) (parent : ℕ) (started : Task) (tick id : ℕ) : Type 0 where
   pub fresh : running_at old id ≡ None
   pub lives : running_at new id ≡ Some (record { task = started; row = many old })
@@ -166,7 +168,7 @@ pub record MayTurn (world : World) (task : Task) (from : Wake) : Type 0 where
   pub modest : IsModestHalt task.halt
   pub wake : WakesFrom task.halt task.part world.book from
 
--- The task under an id had its turn, in which it stopped so. The others stay.
+-- The task with an id had its turn, in which it stopped so. The others stay.
 pub record HasTurn (old new : Roster) (was now : World) (id : ℕ) (wake : Wake) (stop : Stop) : Type 0 where
   pub row : ℕ
   pub before : Task
@@ -184,7 +186,7 @@ pub record HasTurn (old new : Roster) (was now : World) (id : ℕ) (wake : Wake)
   pub fits : Fits after.frames.items after now (waits_of after.halt)
   pub turn : TurnsAs before after was now wake stop
 
--- The task under an id has ended in that tick, with that exception or well. Its row keeps what is left of it.
+-- The task with an id has ended in that tick, with this exception or none. Its row keeps what is left of it.
 pub record Ends (old new : Roster) (id tick : ℕ) (exc : Option held.Exc) : Type 0 where
   pub row : ℕ
   pub task : Task

@@ -1,4 +1,4 @@
--- What is kept of tasks, row by row, and what it comes to.
+-- What is kept of tasks, row by row, and the records of the rows.
 use Rattle.std.specs.Prelude.{◌≡◌, ◌<◌, ◌≤◌, ◌==◌, ℕ, Option, Some, None, List, [], ◌∷◌, map, length, All, slice_get, slice_set}
 use Rattle.std.specs.List.{sum_by, count_by}
 use Rattle.std.specs.Option.{option_map}
@@ -38,23 +38,24 @@ pub record IsShown (input : List ℕ) (row : course.Row) (held : Row) : Type 0 w
 abbrev pub AreShown : List ℕ → (ℕ → course.Row) → List Row → Type 0
 AreShown input rs rows = (s : ℕ) (held : Row) → slice_get rows s ≡ Some held → IsShown input (rs s) held
 
--- ---- who is whose child
+-- ---- which row is a child of which
 
--- how often a number stands in a list
+-- how often a number occurs in a list
 abbrev pub times : ℕ → List ℕ → ℕ
 times c numbers = count_by (λ n. n == c) numbers
 
--- how often it stands among the children of all rows
+-- how often it occurs among the children of all rows
 abbrev pub times_child : ℕ → List Row → ℕ
 times_child c rows = sum_by (λ r. times c r.children.items) rows
 
--- There is a row of the root, which is no one's child; each child has a row; and none is a child twice.
+-- There is a row of the root, which is no task's child; each child has a row; and none is a child
+-- twice.
 pub record ChildrenAreApart (rows : List Row) : Type 0 where
   pub root : 0 < length rows
   pub within : All (λ r. All (λ c. (0 < c) × (c < length rows)) r.children.items) rows
   pub once : (c : ℕ) → times_child c rows ≤ 1
 
--- ---- what rows come to
+-- ---- the records of rows
 
 -- records and froms show those of rows, depth first from the root's
 pub record ShowRecords (input : List ℕ) (rs : ℕ → course.Row) (told : List Record) (told_froms : List ScopeFrom) : Type 0 where
@@ -72,7 +73,7 @@ pub record IsRecordOf (start : ℕ) (ended : Ended) (r : Record) : Type 0 where
   pub ending : ending_in r.outcome ≡ ending_of (option_map exc_of (laid_aside ended.exc))
   pub entries : r.entries.items ≡ ended.entries.items
 
--- a row without children and without an end stands in the place of the one that was there
+-- the row that was there is replaced by one without children and without an end
 pub record IsTakenOut (old : List Row) (place : ℕ) (new : List Row) : Type 0 where
   pub hollow : Row
   pub childless : hollow.children.items ≡ []

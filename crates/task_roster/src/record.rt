@@ -1,11 +1,11 @@
-//! What a report says of a task.
+//! What a report contains for a task.
 use exc_groups::{Exc, Label};
 use task_machine::Entry;
 
 /// How a task ended.
 #[derive(Drop)]
 pub enum Outcome {
-    /// Well.
+    /// Without an exception.
     Done,
     /// With one `Cancelled` outside any group.
     Cancelled,
@@ -13,7 +13,8 @@ pub enum Outcome {
     Raised(Exc),
 }
 
-/// What the report says of a task: its label, the ticks in which it started and ended, how it ended, and its entries.
+/// What the report contains for a task: its label, the ticks in which it started and ended, how it ended, and its
+/// entries.
 #[derive(Drop)]
 pub struct Record<'a> {
     /// The task's label; the root's is the job's name.
@@ -24,6 +25,7 @@ pub struct Record<'a> {
     pub to_tick: u64,
     /// How it ended.
     pub outcome: Outcome,
-    /// What it noted, in the order in which it did: lines as a kernel answers, scopes and nurseries at their exit.
+    /// What it noted, in the order in which it did: lines when a kernel answered, scopes and nurseries when it left
+    /// them.
     pub entries: Vec<Entry<'a>>,
 }

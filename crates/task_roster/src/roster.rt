@@ -1,4 +1,4 @@
-//! The tasks of a run: those that live by their ids, and a row for each that was ever started.
+//! The tasks of a run: those that have not ended by their ids, and a row for each that was ever started.
 ghost use Rattle.std.specs.Prelude.{◌≡◌, ◌<◌, ◌≤◌, ◌^◌, ◌↔◌, [], None, Some, IsSome, IsTrue, IfOk, OnOk, OnErr, length};
 ghost use Rattle.std.specs.Option.{ForSome};
 ghost use Rattle.task_machine.specs.Tasks.{scope_of, home_of};
@@ -21,7 +21,7 @@ pub struct Running<'a> {
     row: usize,
 }
 
-/// All tasks of a run. A task is known by its id while it lives, and by its row for good.
+/// The task table: all tasks of a run. A task has its id until it ends, and its row forever.
 #[derive(Drop)]
 pub struct Roster<'a> {
     alloc: Global,
@@ -31,7 +31,8 @@ pub struct Roster<'a> {
 }
 
 impl<'a> Roster<'a> {
-    /// The root alone, which has the first row and began in tick 0. Tells its id. Want of memory is the only error.
+    /// Returns a table of the root alone, which has the first row and was started in tick 0, and the id of the root. The
+    /// only error is that memory was refused.
     pub fn of_root(alloc: Global, task: Task<'a>) -> Result<(Roster<'a>, TaskId), AllocError>
         ensures root { IfOk result (λ r. HasRoot r.0 task.entry r.1) }
         ensures agree { IfOk result (λ r. IsRoster r.0) }
@@ -43,8 +44,8 @@ impl<'a> Roster<'a> {
         Ok((Roster { alloc, live, rows }, id))
     }
 
-    /// A task was started in that tick by the one of that row. It has the next row. Tells its id. Want of memory is the only
-    /// error, after which the roster may only be dropped.
+    /// Adds a task that was started in that tick by the task of row `parent`, which must exist. It has the next row. Returns
+    /// its id. The only error is that memory was refused, after which the table can only be dropped.
     pub fn start(&mut self, parent: usize, task: Task<'a>, tick: u64) -> Result<TaskId, AllocError>
         requires agree { IsRoster self.old }
         requires parent { parent < many self.old }
@@ -58,8 +59,9 @@ impl<'a> Roster<'a> {
         Ok(id)
     }
 
-    /// The task under an id has its turn. The caller sees to it that it lives and may go on so. Want of memory is the only
-    /// error, after which the roster and the world may only be dropped.
+    /// Executes a turn of the task with this id. The caller must ensure that it has not ended, that it may continue with
+    /// this wake, and that the tick of the world is at most 2 to the 62. The only error is that memory was refused, after
+    /// which the table and the world can only be dropped.
     pub fn turn(
         &mut self,
         id: TaskId,
@@ -82,8 +84,9 @@ impl<'a> Roster<'a> {
         }
     }
 
-    /// The task under an id has ended in that tick, with that exception or well. Its row keeps what is left of it. Want of
-    /// memory is the only error, after which nothing has changed.
+    /// Records that the task with this id ended in that tick, with this exception or none. Its row keeps what remains of it.
+    /// The caller must ensure that it has not ended before. The only error is that memory was refused, and then nothing has
+    /// changed.
     pub fn end(&mut self, id: TaskId, tick: u64, exc: Option<Exc>) -> Result<(), AllocError>
         requires agree { IsRoster self.old }
         requires lives { IsSome (running_at self.old id) }
@@ -106,7 +109,7 @@ impl<'a> Roster<'a> {
         Ok(())
     }
 
-    /// The row of a task that lives.
+    /// Returns the row of a task that has not ended.
     pub fn row(&self, id: TaskId) -> usize
         requires { IsSome (running_at self.now id) }
         ensures { ForSome (running_at self.now id) (λ x. result ≡ x.row) }
@@ -117,7 +120,7 @@ impl<'a> Roster<'a> {
         }
     }
 
-    /// The innermost cancel scope round a task that lives.
+    /// Returns the innermost cancel scope that encloses a task that has not ended, or `None` if there is none.
     pub fn scope(&self, id: TaskId) -> Option<ScopeId>
         requires { IsSome (running_at self.now id) }
         ensures { ForSome (running_at self.now id) (λ x. result ≡ scope_of x.task) }
@@ -128,7 +131,7 @@ impl<'a> Roster<'a> {
         }
     }
 
-    /// The nursery in which a task that lives was started, and its place there: none for the root.
+    /// Returns the nursery in which a task that has not ended was started, and its place there, or `None` for the root.
     pub fn home(&self, id: TaskId) -> Option<(NurseryId, Place)>
         requires { IsSome (running_at self.now id) }
         ensures { ForSome (running_at self.now id) (λ x. result ≡ home_of x.task) }
@@ -139,7 +142,8 @@ impl<'a> Roster<'a> {
         }
     }
 
-    /// The id of the task that started the one of that row.
+    /// Returns the id of the task that started the task of this row (for the root its own). The caller must ensure that the
+    /// row and its parent exist.
     pub fn parent(&self, row: usize) -> TaskId
         requires row { row < many self.now }
         requires parent { parent_of self.now row < many self.now }
@@ -149,7 +153,7 @@ impl<'a> Roster<'a> {
         self.rows[parent].task
     }
 
-    /// Whether the root has ended.
+    /// Returns whether the root has ended. The caller must ensure that the table has a task.
     pub fn is_over(&self) -> bool
         requires { 0 < many self.now }
         ensures { IsTrue result ↔ IsSome (gone_of self.now 0) }
@@ -157,7 +161,7 @@ impl<'a> Roster<'a> {
         self.rows[0].end.is_some()
     }
 
-    /// The rows, in the order of the starts.
+    /// Returns the rows, in the order of the starts.
     pub fn into_rows(self) -> Vec<Row<'a>>
         ensures { result ≡ self.entry.rows }
     {
@@ -166,7 +170,7 @@ impl<'a> Roster<'a> {
     }
 }
 
-// The row of a task that begins.
+// The row of a task that was just started.
 fn begun<'a>(alloc: Global, parent: usize, task: TaskId, start: u64) -> Row<'a>
     ensures parent { result.parent ≡ parent }
     ensures task { result.task ≡ task }

@@ -1,4 +1,4 @@
-//! The rows of a run's tasks, and the records that they come to when all tasks have ended.
+//! The rows of a run's tasks, and their records when all tasks have ended.
 ghost use Rattle.std.specs.Prelude.{◌≡◌, ◌<◌, ◌++◌, ℕ, Some, None, [], List, All, IsSome, IfOk, OnOk, length, map, reverse, slice_get, slice_set, vec_len};
 ghost use Rattle.std.specs.Option.{option_map};
 ghost use Rattle.exc_groups.specs.Held.{exc_of};
@@ -17,7 +17,7 @@ use task_machine::{Entry, ScopeFrom, take_up};
 /// What is kept of a task that was started.
 #[derive(Drop)]
 pub struct Row<'a> {
-    /// The row of the task that started it: the root's is its own.
+    /// The row of the task that started it; for the root its own.
     pub parent: usize,
     /// The id that the task has, or had.
     pub task: TaskId,
@@ -25,7 +25,7 @@ pub struct Row<'a> {
     pub start: u64,
     /// The rows of its children, in the order of their starts.
     pub children: Vec<usize>,
-    /// What is kept of its end: none while it has not ended.
+    /// What is kept of its end, or `None` while it has not ended.
     pub end: Option<Ended<'a>>,
 }
 
@@ -36,16 +36,18 @@ pub struct Ended<'a> {
     pub label: Label,
     /// The tick in which it ended.
     pub tick: u64,
-    /// The exception with which it ended, behind a pointer: none where it ended well.
+    /// The exception with which it ended, boxed, or `None`.
     pub exc: Option<Box<Exc>>,
     /// What it noted, in order.
     pub entries: Vec<Entry<'a>>,
-    /// From which tick each scope and nursery that it entered was cancelled, in the order of entering.
+    /// The scopes and nurseries that it entered, with the tick from which each was cancelled, in the order of
+    /// entering.
     pub froms: Vec<ScopeFrom>,
 }
 
-/// The records of rows whose tasks have all ended: the root's, and behind each its descendants' in the order of their
-/// starts. And their froms, in the same order. Want of memory is the only error.
+/// Returns the records of rows whose tasks have all ended, the root's first, and each followed by those of its
+/// descendants in the order of their starts; and their froms, in the same order. The caller must ensure that all have
+/// ended, and that no row is a child twice. The only error is that memory was refused.
 pub fn records_of<'a>(
     alloc: Global,
     rows: Vec<Row<'a>>,
@@ -79,7 +81,7 @@ pub fn records_of<'a>(
     Ok((records, froms))
 }
 
-// Takes a row out, and leaves one in its place that has no children and no end.
+// Takes a row out, and replaces it by one that has no children and no end.
 fn take_row<'a>(alloc: Global, rows: &mut [Row<'a>], place: usize) -> Row<'a>
     requires { place < length rows.old }
     ensures taken { slice_get rows.old place ≡ Some result }
@@ -126,7 +128,7 @@ fn told_of<'a>(start: u64, ended: Ended<'a>) -> (Record<'a>, Vec<ScopeFrom>)
     (record, froms)
 }
 
-// How a task ended that ended with this exception.
+// How a task with this exception ended.
 fn outcome_of(exc: Option<Exc>) -> Outcome
     ensures { ending_in result ≡ ending_of (option_map exc_of exc) }
 {
