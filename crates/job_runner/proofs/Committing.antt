@@ -1,4 +1,4 @@
--- A batch whose tasks have their turns, one after the other.
+-- A batch whose tasks have their turns, one after another.
 use Rattle.std.proofs.Common.{◌≡◌, ℕ, zero, suc, ◌+◌, ◌<◌, ◌≤◌, Option, Some, None, List, [], ◌∷◌, length, refl, ap, sym, ◌∙◌, subst, arith}
 use Rattle.std.specs.Prelude.{All, IsSomeAnd, ◌==◌, map, slice_get}
 use Rattle.std.specs.List.{remove}
@@ -61,7 +61,7 @@ answers_right (e ∷ es) answers h =
     All-cons HasRight (with_placed answers e) (placed es (answers_after (request_in e.call) answers)) first.0
     (answers_right es (answers_after (request_in e.call) answers) first.1)
 
--- who is called by what stays
+-- which task is called by what stays the same
 placed_same : (P : ℕ → Call → Type 0) (es : List Entry) (answers : List Answer) → All (λ (e : Entry). P e.task e.call) es →
     All (λ (e : Entry). P e.task e.call) (placed es answers)
 placed_same P [] answers all = all
@@ -206,7 +206,7 @@ module _ {P : Type 0} (picks : P → ℕ → ℕ → P → Type 0) (was r : Runn
         course = h.going.course;
       }
 
-  -- and the task lives, and may go on by the wake that it is handed out with
+  -- and the task has not ended, and may continue by the wake with which it is taken
   pub turn_goes : IsSomeAnd (running_at r.roster id) (λ (x : Running). MayGo r.world x.task wake)
   turn_goes =
       subst (λ (key : ℕ). IsSomeAnd (running_at r.roster key) (λ (x : Running). MayGo r.world x.task wake)) (sym out.its_task)
@@ -246,7 +246,7 @@ module _ {P : Type 0} (picks : P → ℕ → ℕ → P → Type 0) (was r : Runn
               omega (arith, a, c, d, turns);
         }
 
--- none is left of the batch, and the sleepers know of each sight that was lowered
+-- none is left of the batch, and the sleepers know each effective deadline that was lowered
 module _ (was r told : Runner) (left b : Batches) (h : IsCommitting was r) (same : left ≡ r.batch) (over : r.batch.current ≡ [])
     (only : SeesOnly (record r { batch = left }) told) (going : IsGoing None told)
     (unchanged : NoneChanged told.world) (current : b.current ≡ map unplaced told.batch.next) (next : b.next ≡ [])

@@ -44,7 +44,7 @@ use Rattle.job_runner.proofs.Shelving.{one_same, none_away}
 use Rattle.job_runner.proofs.Stopped.{some_is, some_has, no_timer}
 use Rattle.job_runner.proofs.Lived.{LivesBy, lives_by, task_at}
 
--- a home is at a place of a nursery
+-- a home is a place of a nursery
 pub home_is : (o : Option Home) (nursery place : ℕ) → option_map {U = ℕ × ℕ} (λ (h : Home). (h.nursery, h.place)) o
     ≡ Some (nursery, place) →
     (y : Home) × (o ≡ Some y) × (y.nursery ≡ nursery) × (y.place ≡ place)
@@ -72,7 +72,7 @@ pub ends_now : (old new : Roster) (id tick now : ℕ) (exc : Option held.Exc) �
     Ends old new id now exc
 ends_now old new id tick now exc is e = subst (λ (t : ℕ). Ends old new id t exc) is e
 
--- the task whose nursery is the home of the one of this row
+-- the task with the nursery that is the home of the one of this row
 pub record HasWaiter (r : Runner) (row : ℕ) (home : Home) : Type 0 where
   pub task : Task
   pub is : task_of r.roster (parent_of r.roster row) ≡ Some task
@@ -102,11 +102,12 @@ module _ (r : Runner) (roster : Roster) (id row : ℕ) (exc : Option held.Exc) (
   pub table_settled : IsSettled (meaning_table r.job.now r.input.now) r.job.now r.input.now
   table_settled = table_is_settled r.job.now r.input.now h.sound.names
 
-  -- the run up to then is one of the definitions, in which nobody was told yet that this task has ended
+  -- the run up to then is one of the definitions, in which the end of this task is not recorded yet
   pub crew_before : IsCrew (meaning_table r.job.now r.input.now) r.job.now r.input.now r.world.tick (many r.roster) (Some row) (crew_in r)
   crew_before = (h.course (meaning_table r.job.now r.input.now) table_settled).is
 
-  -- the task whose nursery is its home lives, in an earlier row, and the nursery was not told of its end yet
+  -- the task with the nursery that is its home has not ended, has an earlier row, and its end is not
+  -- recorded in the nursery yet
   pub waiter_of : (home : Home) → e.task.home ≡ Some home → HasWaiter r row home
   waiter_of home at =
       record {
@@ -133,7 +134,7 @@ module _ (r : Runner) (roster : Roster) (id row : ℕ) (exc : Option held.Exc) (
           crew_before its.parent (parent_of r.roster row) its.starter
           keeps.task home.nursery its.lives keeps.lives its.owned keeps.owned
 
-  -- what `tell` asks for
+  -- what `tell` requires
   pub tell_runs : (nursery place : ℕ) → option_map {U = ℕ × ℕ} (λ (x : Home). (x.nursery, x.place)) e.task.home ≡ Some (nursery, place) →
       HasNursery r.world.book nursery (λ n. slice_get n.children place ≡ Some None)
   tell_runs nursery place f =
@@ -141,7 +142,7 @@ module _ (r : Runner) (roster : Roster) (id row : ℕ) (exc : Option held.Exc) (
       subst (λ (i : ℕ). HasNursery r.world.book nursery (λ n. slice_get n.children i ≡ Some None)) y.3
       (subst (λ (i : ℕ). HasNursery r.world.book i (λ n. slice_get n.children y.0.place ≡ Some None)) y.2 (waiter_of y.0 y.1).runs)
 
-  -- its row is one of the roster's still
+  -- its row is still one of the table's
   pub tell_row : row < many roster
   tell_row = subst (λ (m : ℕ). row < m) (sym e.same.many) (lives_by r.roster h.shelved.agree row e.task was_there).below
 
@@ -181,7 +182,7 @@ module _ (r : Runner) (roster : Roster) (book : NurseryBook) (b : Batches) (id r
       at : e.row ≡ row
       at = its_row r roster id row exc h e
 
-  -- once its end is told, the run is one of the definitions, and no end is left to tell
+  -- after its end is recorded, the run is one of the definitions, and no end is left to record
   pub course_after : AreOnCourse (ended_runner r roster book b)
   course_after k settled =
       subst (λ (m : ℕ). IsCrew k r.job.now r.input.now r.world.tick m None (crew_in (ended_runner r roster book b))) (sym e.same.many)
@@ -212,7 +213,7 @@ module _ (r : Runner) (roster : Roster) (book : NurseryBook) (b : Batches) (id r
       some_has (running_at roster key) (λ (y : Running). GoesBy (record r.world { book = book }) y.task call) x.0
       (e.others key differs ∙ x.1) (goes_after x.0.task call x.2)
 
-  -- who has a timer is another task
+  -- a task that has a timer is another task
   timer_else : (key due : ℕ) → due_of r.clock key ≡ Some due → key ≢ id
   timer_else key due f same =
       none-some due (sym (no_timer (due_of r.clock id) (let a : times_shelved r.batch r.clock id ≡ 0 = h.shelved.away id refl in
@@ -256,7 +257,7 @@ module _ (r : Runner) (roster : Roster) (book : NurseryBook) (b : Batches) (id r
       (λ (a : Added). IsCalled r.roster r.world a.0 a.1) (λ (a : Added). IsCalled roster (record r.world { book = book }) a.0 a.1)
       h.shelved.next (λ a differs c. called_after a.0 a.1 differs c)
 
-  -- where those that were added go on, and each stands as often as it has to
+  -- if those that were added may continue, and each is kept as often as it has to be
   pub ended_going : IsRoster roster → b.current ≡ r.batch.current →
       All (λ (a : Added). IsCalled roster (record r.world { book = book }) a.0 a.1) b.next →
       ((other : ℕ) → times_shelved b r.clock other ≡ running_times book (running_at roster other)) →

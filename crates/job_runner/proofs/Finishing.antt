@@ -130,7 +130,7 @@ module _ (r : Runner) (w : IsUnderway r) (over : phase_of r ≡ phases.Over) whe
       row_shown r.input.now r.roster r.world r.turns s (is_over.rows s) held e
       (is_over.shows s (slice_get_within r.roster.rows.items s held e))
 
-  -- the records and froms that rows come to
+  -- the records and froms of rows
   module _ (rows : List Row) (same : rows ≡ r.roster.rows.items) (records : List Record) (froms : List ScopeFrom)
       (tells : (input : List ℕ) (rs : ℕ → course.Row) → AreShown input rs rows → ShowRecords input rs records froms) where
     told : ShowRecords r.input.now is_over.rows records froms
@@ -147,7 +147,7 @@ module _ (r : Runner) (w : IsUnderway r) (over : phase_of r ≡ phases.Over) whe
           froms = ap (map from_of) fs ∙ told.froms ∙ is_over.froms told.taken told.order;
         }
 
-    -- so it is what following each settled table comes to
+    -- so it is the result of following each settled table
     pub follows_each : (run : Run) → IsRun r.job.now r.input.now run → FollowsEach r.job.now r.input.now run
     follows_each run is table settled =
         let job = r.job.now in

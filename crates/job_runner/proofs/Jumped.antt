@@ -1,4 +1,4 @@
--- The clock jumps: until when all tasks stay, who sleeps, and what holds in the later tick.
+-- The clock jumps: until when all tasks stay, which tasks sleep, and what holds in the later tick.
 use Rattle.std.proofs.Common.{◌≡◌, inl, inr, ℕ, ◌<◌, ◌≤◌, Bool, true, false, Option, Some, None, List, [], map, refl, ap, sym, ◌∙◌, subst, arith}
 use Rattle.std.specs.Prelude.{All, IsSomeAnd, ◌⊎◌, nat_le}
 use Rattle.std.proofs.lemmas.Bool.{le-leb}
@@ -45,7 +45,7 @@ use Rattle.job_runner.proofs.Known.{seen_by, sees_from}
 use Rattle.job_runner.proofs.Stopped.{some_is, some_has}
 use Rattle.job_runner.proofs.Lived.{lives_by, task_at}
 
--- ---- who lives under which id
+-- ---- which task has which id
 
 -- the id under which a task lives
 record LivesAt (r : Roster) (task : Task) : Type 0 where
@@ -83,7 +83,7 @@ module _ (r : Runner) (w : IsUnderway r) (none : r.batch.current ≡ []) where
   crew : IsCrew (meaning_table r.job.now r.input.now) r.job.now r.input.now r.world.tick (many r.roster) None (crew_in r)
   crew = crew_now r w.going
 
-  -- a task that lives has a timer as often as its halt says
+  -- a task that has not ended has a timer as often as its blocked state says
   timed_times : (task : Task) (at : LivesAt r.roster task) → timer_times (due_of r.clock at.id) ≡ halt_times r.world.book task.halt
   timed_times task at =
       let all : times_shelved r.batch r.clock at.id ≡ running_times r.world.book (running_at r.roster at.id) =
@@ -128,14 +128,15 @@ module _ (r : Runner) (w : IsUnderway r) (none : r.batch.current ≡ []) where
   abbrev pub NoneBefore : ℕ → Type 0
   NoneBefore u = (id due : ℕ) → due_of r.clock id ≡ Some due → (u ≤ due) × (upto u (sight_in r.roster r.world id) ≡ u)
 
-  -- before such a tick no task goes on: each sleeps, or waits for a nursery of which a member runs
+  -- before such a tick no task continues: each sleeps, or waits for a nursery of which a member
+  -- runs
   pub all_stay : (u : ℕ) → NoneBefore u → AllStay (crew_in r) u
   all_stay u bound p task e = by_halt task.halt refl
     where
       at : LivesAt r.roster task
       at = lives_at r.roster w.going.shelved.agree p task e
 
-      -- whose halt says that it stands somewhere sleeps
+      -- a task that has to be kept according to its blocked state sleeps
       asleep_as : (halt : Halt) → task.halt ≡ halt → halt_times r.world.book halt ≡ 1 → SleepsAs task
       asleep_as halt h one = sleeps_as task at (ap (halt_times r.world.book) h ∙ one)
 
@@ -175,7 +176,7 @@ module _ (r : Runner) (w : IsUnderway r) (none : r.batch.current ≡ []) where
 
   -- ---- what the clock asks
 
-  -- who has a timer lives and dozes
+  -- a task that has a timer has not ended, and sleeps without seeing a cancellation
   dozer : (id due : ℕ) → due_of r.clock id ≡ Some due → (x : Running) × (running_at r.roster id ≡ Some x) × Dozes r.world due x.task
   dozer id due e = some_is (running_at r.roster id) (λ (x : Running). Dozes r.world due x.task) (w.going.shelved.doze id due e)
 
@@ -193,7 +194,7 @@ module _ (r : Runner) (w : IsUnderway r) (none : r.batch.current ≡ []) where
       by_tick None = refl
       by_tick (Some t) = omega arith
 
-  -- a task that lives is one of a crew of which one sleeps
+  -- a task that has not ended is one of the program's, of which one sleeps
   pub has_timer : (s : ℕ) (task : Task) → task_of r.roster s ≡ Some task → HasTimer r.clock
   has_timer s task e =
       let h = crew_sleeps (meaning_table r.job.now r.input.now) r.job.now r.input.now r.world.tick (many r.roster) (crew_in r)
@@ -242,7 +243,7 @@ module _ (r : Runner) (w : IsUnderway r) (none : r.batch.current ≡ []) where
     -- ---- the next tick
 
     module _ (t : ℕ) (next : IsNext r.clock first t) where
-      -- it is the first in which a sleeper goes on
+      -- it is the first in which a sleeper continues
       pub is_next_tick : IsNextTick r t
       is_next_tick = record { someone = some_wakes next.is_one; first = none_wakes }
         where

@@ -1,4 +1,5 @@
--- What the runner knows of its sleepers: each by the scope that it sleeps in, and each such scope by its sight.
+-- What the runner knows of its sleepers: each by the scope in which it sleeps, and each such scope by its
+-- effective deadline (`sight`).
 use Rattle.std.proofs.Common.{◌≡◌, ◌≢◌, inl, inr, ℕ, true, false, Option, Some, None, [], refl, ap, sym, ◌∙◌, subst}
 use Rattle.std.specs.Prelude.{◌⊎◌}
 use Rattle.std.specs.Option.{unwrap_or}
@@ -16,7 +17,7 @@ use Rattle.task_roster.specs.Roster.{running_at}
 use Rattle.job_runner.specs.Shelves.{berth_of, AreKnown, NoneChanged}
 use Rattle.run_crew.proofs.ActsKeep.{same_or}
 
--- ---- who is known
+-- ---- which tasks are known
 
 -- a task that sleeps in a scope has a timer, and lives in that scope
 pub record SleepsIn (roster : Roster) (clock : Clock) (id key : ℕ) : Type 0 where
@@ -26,7 +27,7 @@ pub record SleepsIn (roster : Roster) (clock : Clock) (id key : ℕ) : Type 0 wh
   pub lives : running_at roster id ≡ Some running
   pub in_scope : scope_of running.task ≡ Some key
 
--- who is kept as sleeping in a scope has a timer, and lives in that scope
+-- a task that is kept as sleeping in a scope has a timer, and is in that scope
 pub sleeps_in : (roster : Roster) (world : World) (clock : Clock) (sleepers : Sleeping) → AreKnown roster world clock sleepers →
     (id key : ℕ) → scope_in sleepers id ≡ Some key →
     SleepsIn roster clock id key
@@ -47,7 +48,7 @@ sleeps_in roster world clock sleepers k id key e = by_timer (due_of clock id) re
               sym (ap (λ (d : Option ℕ). berth_of d (running_at roster id)) f ∙ ap (berth_of (Some due)) g) ∙ h;
         }
 
--- and the other way round
+-- and vice versa
 pub berth_is : (roster : Roster) (world : World) (clock : Clock) (sleepers : Sleeping) → AreKnown roster world clock sleepers →
     (id due : ℕ) (x : Running) → due_of clock id ≡ Some due →
     running_at roster id ≡ Some x → scope_in sleepers id ≡ scope_of x.task
@@ -56,7 +57,7 @@ berth_is roster world clock sleepers k id due x e f = k.berths id
 
 -- ---- what it sees
 
--- the sight that is kept of the scope that somebody sleeps in
+-- the effective deadline that is kept of the scope in which a task sleeps
 abbrev pub kept_sight : Sleeping → Option ℕ → Tick
 kept_sight sleepers None = None
 kept_sight sleepers (Some key) = sight_of sleepers key
@@ -70,7 +71,7 @@ shown_sight tree key kept unchanged h = by_known h.known
     by_known (inl e) = ap (λ (o : Option Stack). sight (unwrap_or o [])) h.opened ∙ e
     by_known (inr e) = absurd (let f : false ≡ true = sym unchanged ∙ e in cc)
 
--- where no scope is left to hand out, a sleeper's sight is the one that is kept of its scope
+-- if no scope is marked as changed, a sleeper's effective deadline is the one that is kept of its scope
 pub known_sight : (roster : Roster) (world : World) (clock : Clock) (sleepers : Sleeping) → AreKnown roster world clock sleepers →
     NoneChanged world → (id due : ℕ) (x : Running) →
     due_of clock id ≡ Some due → running_at roster id ≡ Some x →
@@ -99,7 +100,8 @@ sees_from roster world clock sleepers k unchanged id due x t e f sees = by_scope
           sight = sym (known_sight roster world clock sleepers k unchanged id due x e f ∙ ap (kept_sight sleepers) h) ∙ sees;
         }
 
--- where no scope is left to hand out, who is kept as seeing from a tick has that tick as its sight
+-- if no scope is marked as changed, a task that is kept as seeing a cancellation from a tick on has that tick
+-- as its effective deadline
 pub seen_by : (roster : Roster) (world : World) (clock : Clock) (sleepers : Sleeping) → AreKnown roster world clock sleepers →
     NoneChanged world → (id t : ℕ) → (s : SeesFrom sleepers id t) →
     (z : SleepsIn roster clock id s.scope) × (sight (outer_of world.scopes (scope_of z.running.task)) ≡ Some t)

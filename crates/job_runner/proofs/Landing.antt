@@ -1,4 +1,5 @@
--- A runner whose clock jumped: whether it may, and what it is once those who are timely are ready.
+-- A runner whose clock jumped: whether it may, and its state when the sleepers that may continue
+-- are ready.
 use Rattle.std.proofs.Common.{◌≡◌, ◌≢◌, ℕ, ◌<◌, ◌≤◌, Option, Some, None, List, [], ◌∷◌, map, refl, ap, sym, ◌∙◌, subst, arith}
 use Rattle.std.specs.Prelude.{All}
 use Rattle.std.proofs.lemmas.List.Elements.{All-map, All-nil}
@@ -24,7 +25,7 @@ use Rattle.job_runner.proofs.Jumped.{timers_later, cancel_later, has_timer, root
 
 -- ---- the batch
 
--- where the phase is this, none stands in the current batch, and the root has not ended
+-- in this phase no task is in the current batch, and the root has not ended
 pub blocked_none : (es : List Entry) (end : Option Gone) → phase_by es end ≡ phases.Blocked → (es ≡ []) × (end ≡ None)
 blocked_none [] None e = (refl, refl)
 blocked_none [] (Some g) e = absurd (let f : phases.Over ≡ phases.Blocked = e in cc)
@@ -119,7 +120,7 @@ module _ (r : Runner) (w : IsUnderway r) (blocked : phase_of r ≡ phases.Blocke
       no_earlier = let lt = next_later r w none cancel is_first t jumps.next in omega (arith, lt)
 
       module _ (world : World) (is_world : world ≡ record r.world { tick = t }) where
-        -- the world has come to the clock's tick, and those that are timely can be woken
+        -- the world has reached the clock's tick, and the sleepers that may continue can be woken
         pub jumped : IsWaking (record r { clock = clock; world = world })
         jumped =
             subst (λ (v : World). IsWaking (record r { clock = clock; world = v })) (sym is_world)
@@ -129,7 +130,7 @@ module _ (r : Runner) (w : IsUnderway r) (blocked : phase_of r ≡ phases.Blocke
         on_course = subst (λ (v : World). AreOnCourse (record r { clock = clock; world = v })) (sym is_world)
             (course_jumps r w none cancel is_first t jumps.next)
 
-        -- with those who are timely in the current batch
+        -- with those that may continue in the current batch
         pub landed : (woken : Runner) → woken ≡ record r {
           world = world;
           clock = woken.clock;

@@ -53,7 +53,7 @@ task_at r agree id x lives =
     ap (task_by r.live) h.is ∙ ap (λ (e : Option Ended). task_unless e (running_at r h.row.task)) h.endless
     ∙ ap (λ (n : ℕ). task_in (running_at r n)) h.id_is ∙ ap task_in lives
 
--- what lives under an id has one of the roster's rows
+-- the task with an id has one of the table's rows
 pub row_below : (r : Roster) → IsRoster r → (id : ℕ) (x : Running) → running_at r id ≡ Some x → x.row < many r
 row_below r agree id x lives = let h : HasRow r x.row id = agree.rows id x lives in slice_get_within r.rows.items x.row h.row h.is
 

@@ -1,4 +1,4 @@
--- A run goes on as long as turns are left.
+-- A run continues as long as turns are left.
 use Rattle.std.proofs.Common.{◌≡◌, ℕ, ◌+◌, ◌*◌, ◌<◌, ◌≤◌, List, [], ◌∷◌, Option, Some, None, length, ap, ◌∙◌, subst, arith}
 use Rattle.job_tree.specs.Names.{size_of}
 use Rattle.job_tree.specs.Tree.{Tree}

@@ -1,4 +1,4 @@
--- A task is put on a shelf: where each stands once, each still does.
+-- A task is added where tasks are kept: if each is kept once, each still is.
 use Rattle.std.proofs.Common.{◌≡◌, ◌≢◌, ℕ, ◌+◌, true, false, inl, inr, Some, None, List, [], ◌∷◌, ◌++◌, refl, ap, sym, ◌∙◌, subst, arith}
 use Rattle.std.specs.Prelude.{◌==◌, ◌⊎◌, All, map}
 use Rattle.std.specs.Option.{ForSome}
@@ -16,9 +16,9 @@ use Rattle.task_roster.specs.Roster.{running_at}
 use Rattle.job_runner.specs.Shelves.{IsCalled, times_shelved, running_times, IsElse, AreShelved}
 use Rattle.task_roster.proofs.Apart.{one_if}
 
--- ---- how often an id stands somewhere
+-- ---- how often an id occurs
 
--- how often an id stands in a list with one more behind
+-- how often an id occurs in a list with one more at the end
 pub times_push : (id : ℕ) (xs : List ℕ) (y : ℕ) → times id (xs ++ y ∷ []) ≡ times id xs + one_if (y == id)
 times_push id xs y = sum_by_push (λ (k : ℕ). one_if (k == id)) xs y
 
@@ -29,7 +29,7 @@ times_now id es = times id (map (λ (e : Entry). e.task) es)
 abbrev pub times_next : ℕ → List Added → ℕ
 times_next id added = times id (map (λ (a : Added). a.0) added)
 
--- how often an id stands in the next batch with one more added
+-- how often an id occurs in the next batch with one more added
 pub next_more : (id : ℕ) (added : List Added) (key : ℕ) (call : Call) →
     times_next id (added ++ (key, call) ∷ []) ≡ times_next id added + one_if (key == id)
 next_more id added key call = ap (times id) (map-append (λ (a : Added). a.0) added ((key, call) ∷ []))
@@ -53,7 +53,7 @@ one_else key id differs = by_test (eqb_tells key id)
 
 -- ---- the task that was away is there again
 
--- where nothing but its own count grew, each stands as often as it has to
+-- if nothing but its own count grew, each is kept as often as it has to be
 pub once_again : (id : ℕ) (was now due : ℕ → ℕ) → ((other : ℕ) → IsElse (Some id) other → was other ≡ due other) → was id ≡ 0 →
     ((other : ℕ) → now other ≡ was other + one_if (id == other)) →
     due id ≡ 1 → (other : ℕ) → IsElse None other → now other ≡ due other
@@ -70,7 +70,7 @@ once_again id was now due once away more one other h = by_test (eqb_tells id oth
         let b : was other ≡ due other = once other (λ e. g.1 (sym e)) in
         omega (arith, a, b)
 
--- one that waits stands nowhere, and has to
+-- one that waits is kept nowhere, as it has to be
 pub once_waiting : (id : ℕ) (was due : ℕ → ℕ) → ((other : ℕ) → IsElse (Some id) other → was other ≡ due other) → was id ≡ 0 → due id ≡ 0 →
     (other : ℕ) → IsElse None other → was other ≡ due other
 once_waiting id was due once away none other h = by_test (eqb_tells id other)

@@ -22,18 +22,18 @@ use Rattle.job_runner.proofs.Shelving.{times_push, one_same, one_else}
 
 -- ---- lists
 
--- what stands at a place of a list with one more behind it
+-- what is at an index of a list with one more at the end
 pub got_more : {A : Type 0} (xs : List A) (y : A) (i : ℕ) → i < length xs → slice_get (xs ++ y ∷ []) i ≡ slice_get xs i
 got_more [] y i lt = absurd (omega (arith, lt))
 got_more (x ∷ xs) y zero lt = refl
 got_more (x ∷ xs) y (suc i) lt = got_more xs y i (omega (arith, lt))
 
--- what comes behind a list stands at its end
+-- what is appended to a list is at its end
 pub got_end : {A : Type 0} (xs : List A) (y : A) → slice_get (xs ++ y ∷ []) (length xs) ≡ Some y
 got_end [] y = refl
 got_end (x ∷ xs) y = got_end xs y
 
--- the place is one of the first, or the last
+-- the index is one of the first, or the last
 pub by_place : (n i : ℕ) → i < n + 1 → (i < n) ⊎ (i ≡ n)
 by_place n i lt = at (cases_lt i n)
   where
@@ -41,7 +41,7 @@ by_place n i lt = at (cases_lt i n)
     at (inl h) = inl h
     at (inr h) = inr (omega (arith, h, lt))
 
--- a number that stands there is counted
+-- a number that is there is counted
 pub got_once : (id : ℕ) (ids : List ℕ) → 1 ≤ times id ids → (i : ℕ) × (slice_get ids i ≡ Some id)
 got_once id [] h = absurd (let e : times id [] ≡ 0 = refl in omega (arith, h, e))
 got_once id (x ∷ ids) h = at (eqb_tells x id) (λ more. got_once id ids more)
@@ -57,7 +57,7 @@ got_once id (x ∷ ids) h = at (eqb_tells x id) (λ more. got_once id ids more)
         let r = more (omega (arith, step, none, h)) in
         (suc r.0, r.1)
 
--- an id that has a place in a list stands there at least once
+-- an id that has an index in a list occurs there at least once
 pub times_there : (id : ℕ) (ids : List ℕ) (i : ℕ) → slice_get ids i ≡ Some id → 1 ≤ times id ids
 times_there id [] i e = absurd (let f : None ≡ Some id = e in cc)
 times_there id (x ∷ ids) zero e =
@@ -70,7 +70,7 @@ times_there id (x ∷ ids) (suc i) e =
     let more = times_there id ids i e in
     omega (arith, step, more)
 
--- one more serial number after so many from one on
+-- one more serial number after the given number of consecutive ones
 pub serials_more : (m n : ℕ) → serials_from m n ++ (m + n) ∷ [] ≡ serials_from m (n + 1)
 serials_more m zero = ap (λ (x : ℕ). x ∷ []) (let e : m + 0 ≡ m = omega arith in e)
 serials_more m (suc n) =
@@ -79,9 +79,9 @@ serials_more m (suc n) =
     ap (λ (xs : List ℕ). m ∷ xs) (ap (λ (x : ℕ). serials_from (suc m) n ++ x ∷ []) (sym e) ∙ serials_more (suc m) n)
     ∙ ap (serials_from m) (sym f)
 
--- ---- tasks of a roster
+-- ---- tasks of a task table
 
--- no task has a row past those of the roster
+-- no task has a row past those of the table
 pub none_past : (r : Roster) (p : ℕ) → many r ≤ p → task_of r p ≡ None
 none_past r p le = ap (task_by r.live) (slice_get_past r.rows.items p le)
 
@@ -223,7 +223,7 @@ module _ (old mid new : Roster) (parent : ℕ) (tasks : List Task) (tick : ℕ) 
   less : (p : ℕ) → p < many old → p < many mid
   less p lt = let more = a.more in omega (arith, lt, more)
 
-  -- a task that is started after others is one more of them: it has the row behind theirs, and an id of its own
+  -- a task that is started after others is one more of them: it has the row after theirs, and an id of its own
   pub starts_more : StartsAll old new parent (tasks ++ task ∷ []) tick (ids ++ id ∷ [])
   starts_more = record {
     as_many = length-append ids (id ∷ []) ∙ ap (λ (n : ℕ). n + 1) a.as_many ∙ sym longer;
@@ -277,7 +277,7 @@ taking_none r parent agree = record {
   rest = refl;
 }
 
--- the starter's row is one of the roster's still, once tasks were taken
+-- the starter's row is still one of the table's, after tasks were taken
 pub row_there : (old now : Runner) (parent : ℕ) → Taking old now parent → parent < many old.roster → parent < many now.roster
 row_there old now parent t lt = let more = t.starts.more in omega (arith, lt, more)
 

@@ -45,7 +45,7 @@ use Rattle.job_runner.proofs.Shelving.{once_again, none_away, shelved_next, shel
 
 -- ---- what is under a key
 
--- an option of whose value this is true has such a value
+-- an option whose value has a property has such a value
 pub some_is : {T : Type 0} (o : Option T) (P : T → Type 0) → IsSomeAnd o P → (x : T) × (o ≡ Some x) × P x
 some_is None P h = absurd h
 some_is (Some x) P h = (x, refl, h)
@@ -107,7 +107,7 @@ due_bounded id row due r h =
     let bounded : r.limit ≤ LAST_TICK = h.shelved.bounded in
     omega (arith, due_is, short, within, bounded)
 
--- one that stands nowhere has no timer
+-- a task that is kept nowhere has no timer
 pub no_timer : (o : Option ℕ) → timer_times o ≡ 0 → o ≡ None
 no_timer None e = refl
 no_timer (Some due) e = absurd (let f : 1 ≡ 0 = e in omega (arith, f))
@@ -208,7 +208,7 @@ module _ (id row due : ℕ) (r : Runner) (clock : Clock) (u : Updates r.clock cl
       counted : (other : ℕ) → times_shelved r.batch clock other ≡ times_shelved r.batch r.clock other + one_if (id == other)
       counted other = let a = timer_more id r.clock clock due none u other in omega (arith, a)
 
-  -- the timer's berth
+  -- the timer's slot
   berth_now : (o : Option Running) → running_at r.roster id ≡ o → berth_of (due_of clock id) (running_at r.roster id) ≡ scope_of x.0.task
   berth_now o e = ap (λ (d : Option ℕ). berth_of d (running_at r.roster id)) u.changed ∙ ap (berth_of (Some due)) x.1
 
@@ -258,7 +258,7 @@ module _ (id row due : ℕ) (r : Runner) (clock : Clock) (u : Updates r.clock cl
       stack : (st : Stack) × (stack_of r.world.scopes key ≡ Some st)
       stack = open_stack r.world.scopes key (stopping_scope id row due r h scope held key e)
 
-      -- whoever sleeps in another scope did so before
+      -- a task that sleeps in another scope did so before
       before : (other k : ℕ) → scope_in sleepers other ≡ Some k → k ≢ key → scope_in r.sleepers other ≡ Some k
       before other k f differs = by_id (same_or other id)
         where
@@ -279,7 +279,7 @@ module _ (id row due : ℕ) (r : Runner) (clock : Clock) (u : Updates r.clock cl
 
 -- ---- it waits
 
--- a task that waits for a nursery which is settled may go on by that
+-- a task that waits for a nursery which is settled may continue by that
 pub settled_goes : (world : World) (task : Task) (id : ℕ) → AwaitsNow world task id → HasNursery world.book id (λ n. is_settled n ≡ true) →
     GoesBy world task calls.Settled
 settled_goes world task id waits settled answer wake right e =
@@ -291,12 +291,12 @@ settled_goes world task id waits settled answer wake right e =
       timely = subst (λ (h : Halt). IsTimely world (scope_of task) h wakes.Settled) (sym waits.halt) tt;
     })
 
--- how often it has to stand somewhere, by whether its nursery is settled
+-- how often it has to be kept, by whether its nursery is settled
 pub settled_one : (o : Option Nursery) (b : Bool) → IsSomeAnd o (λ n. b ≡ is_settled n) → b ≡ true → settled_times o ≡ 1
 settled_one None b h e = absurd h
 settled_one (Some n) b h e = ap (λ (z : Bool). if z then 1 else 0) (sym h ∙ e)
 
--- the task of a nursery that is not settled has to stand nowhere
+-- the task of a nursery that is not settled has to be kept nowhere
 pub settled_none : (o : Option Nursery) (b : Bool) → IsSomeAnd o (λ n. b ≡ is_settled n) → b ≡ false → settled_times o ≡ 0
 settled_none None b h e = absurd h
 settled_none (Some n) b h e = ap (λ (z : Bool). if z then 1 else 0) (sym h ∙ e)

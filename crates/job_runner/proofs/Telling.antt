@@ -1,4 +1,5 @@
--- The sleepers are told of each sight that was lowered: the scope is marked no more, and they know what it shows.
+-- The sleepers are updated with each effective deadline (`sight`) that was lowered: the scope is no longer
+-- marked, and they know what it shows.
 use Rattle.std.proofs.Common.{◌≡◌, ◌≢◌, inl, inr, ℕ, ◌<◌, Bool, true, false, Option, Some, None, List, length, refl, ap, sym, ◌∙◌, subst}
 use Rattle.std.specs.Prelude.{◌⊎◌, IsSomeAnd}
 use Rattle.std.specs.Option.{ForSome}
@@ -34,7 +35,7 @@ use Rattle.job_runner.proofs.Stopped.{some_is, some_has}
 abbrev pub marked : World → List Bool → World
 marked world changed = record world { scopes = record (world.scopes) { changed = changed } }
 
--- ---- who may go on may do so still
+-- ---- a task that may continue may still do so
 
 timely_marked : (w : World) (changed : List Bool) (scope : Option ℕ) (halt : Halt) (wake : Wake) → IsTimely w scope halt wake →
     IsTimely (marked w changed) scope halt wake
@@ -65,7 +66,7 @@ pub record IsTelling (was r : Runner) : Type 0 where
 pub telling_first : (r : Runner) → IsGoing None r → IsTelling r r
 telling_first r going = record { going = going; only = refl; fewer = λ key e. e }
 
--- a scope that shows a sight, or is marked, does so where its mark stays
+-- a scope that shows an effective deadline, or is marked, does so if its mark stays
 shows_marked : (w : World) (changed : List Bool) (scope : ℕ) (was now : Tick) → now ≡ was →
     is_changed (marked w changed).scopes scope ≡ is_changed w.scopes scope → Shows w.scopes scope was →
     Shows (marked w changed).scopes scope now
@@ -158,7 +159,7 @@ module _ (r : Runner) (going : IsGoing None r) (id : ℕ) (changed : List Bool) 
       (others scope differs)
       (going.shelved.known.sights key scope (sym (same key) ∙ e))
 
-  -- once the sleepers know the scope's sight, and its mark is gone, the run fits together as before
+  -- after the sleepers know the scope's effective deadline, and its mark is gone, the run is consistent as before
   pub told_going : IsGoing None (record r { world = marked r.world changed; sleepers = sleepers })
   told_going =
       going_marked r going changed sleepers

@@ -1,4 +1,5 @@
--- A turn of a task of a runner: what it leaves is a crew in which that task stopped, and the shelves of the others stay.
+-- A turn of a task of a runner: afterwards it keeps the tasks of the program, of which that one stopped, and the others
+-- are kept as before.
 use Rattle.std.proofs.Common.{◌≡◌, ◌≢◌, ℕ, zero, suc, ◌+◌, ◌*◌, ◌<◌, ◌≤◌, true, false, inl, inr, Option, Some, None, List, [], ◌∷◌, ◌++◌, length, refl, ap, sym, ◌∙◌, subst, arith}
 use Rattle.std.specs.Prelude.{◌==◌, ◌⊎◌, All, IsSomeAnd, map, slice_get}
 use Rattle.std.proofs.lemmas.Bool.{cases_lt}
@@ -88,7 +89,7 @@ says_on w x task (Ended exc) h = tt
 
 -- ---- lists
 
--- what holds of each whose number another is
+-- what holds for each task if another has the number
 pub each_not : {A : Type 0} (key : A → ℕ) (id : ℕ) (xs : List A) → times id (map key xs) ≡ 0 → (P Q : A → Type 0) → All P xs →
     ((x : A) → key x ≢ id → P x → Q x) → All Q xs
 each_not key id [] none P Q all more = All-nil Q
@@ -105,7 +106,7 @@ pub each_begins : (ids : List ℕ) (Q : Added → Type 0) → ((i id : ℕ) → 
 each_begins [] Q h = All-nil Q
 each_begins (id ∷ ids) Q h = All-cons Q (id, calls.Begin) (to_begin ids) (h zero id refl) (each_begins ids Q (λ i x e. h (suc i) x e))
 
--- an id stands among tasks that are ready to begin as often as among their ids
+-- an id occurs among tasks that are ready to begin as often as among their ids
 pub times_begin : (id : ℕ) (ids : List ℕ) → times_next id (to_begin ids) ≡ times id ids
 times_begin id [] = refl
 times_begin id (x ∷ ids) =
@@ -113,7 +114,7 @@ times_begin id (x ∷ ids) =
     ∙ ap (λ (n : ℕ). one_if (x == id) + n) (times_begin id ids)
     ∙ sym (sum_by-cons (λ (n : ℕ). one_if (n == id)) x ids)
 
--- how often an id stands among what was added with tasks behind that are ready to begin
+-- how often an id occurs among what was added, followed by tasks that are ready to begin
 pub times_both : (id : ℕ) (added : List Added) (ids : List ℕ) → times_next id (added ++ to_begin ids) ≡ times_next id added + times id ids
 times_both id added ids =
     ap (times id) (map-append (λ (a : Added). a.0) added (to_begin ids))
@@ -122,7 +123,7 @@ times_both id added ids =
 
 -- ---- before the turn
 
--- a task that is away and may go on may have its turn
+-- a task that has its turn now and may continue may have its turn
 pub may_turn : (id : ℕ) (r : Runner) (wake : Wake) → IsGoing (Some id) r →
     IsSomeAnd (running_at r.roster id) (λ (x : Running). MayGo r.world x.task wake) → turns.IsSound r.world.scopes →
     (x : Running) → running_at r.roster id ≡ Some x → MayTurn r.world x.task wake
@@ -171,7 +172,7 @@ module _ (id : ℕ) (wake : Wake) (stop : Stop) (r new : Runner) (ro : Roster) (
     abbrev s : ℕ
     s = turn.row
 
-    -- the crew right after the turn, and that of the runner once the started tasks were taken
+    -- the tasks of the program right after the turn, and those of the runner after the started tasks were taken
     abbrev that : Crew
     that = crew_of new.roster w (r.turns + 1)
 
@@ -310,7 +311,7 @@ module _ (id : ℕ) (wake : Wake) (stop : Stop) (r new : Runner) (ro : Roster) (
             absurd (let f : None ≡ Some y = sym fresh.0 ∙ lives in cc)
         by_order (inr h) = omega (arith, h)
 
-    -- who lived under another id does so still
+    -- a task that had another id still has it
     lived_still : (other : ℕ) (y : Running) → other ≢ id → running_at r.roster other ≡ Some y → running_at new.roster other ≡ Some y
     lived_still other y differs lives =
         let at : running_at ro other ≡ Some y = turn.others other differs ∙ lives in
@@ -385,7 +386,7 @@ module _ (id : ℕ) (wake : Wake) (stop : Stop) (r new : Runner) (ro : Roster) (
         some_has (running_at new.roster key) (λ (x : Running). GoesBy left.world x.task call) y.0 (lived_still key y.0 differs y.1)
         (λ answer v right e. goes_still key y.0 differs y.1 v (y.2 answer v right e))
 
-    -- who has a timer is another task
+    -- a task that has a timer is another task
     timer_else : (key due : ℕ) → due_of r.clock key ≡ Some due → key ≢ id
     timer_else key due f same =
         none-some due (sym (no_timer (due_of r.clock id) (let a = none_here in omega (arith, a))) ∙ (ap (due_of r.clock) (sym same) ∙ f))
@@ -402,7 +403,7 @@ module _ (id : ℕ) (wake : Wake) (stop : Stop) (r new : Runner) (ro : Roster) (
         (lived_still key y.0 (timer_else key due f) y.1)
         (dozes_still key y.0 (timer_else key due f) y.1 due y.2)
 
-    -- each sleeper is known by its scope still, and the scope by its sight
+    -- each sleeper is still known by its scope, and the scope by its effective deadline (`sight`)
     known_still : AreKnown new.roster left.world r.clock r.sleepers
     known_still = record { berths = λ key. going.shelved.known.berths key ∙ berth key (due_of r.clock key) refl; sights = sight_still }
       where
@@ -458,7 +459,7 @@ module _ (id : ℕ) (wake : Wake) (stop : Stop) (r new : Runner) (ro : Roster) (
         some_has (running_at new.roster key) (λ (z : Running). GoesBy left.world z.task calls.Begin)
         (record { task = x.0; row = many ro + i }) x.1 (begin_goes x.0 x.2)
 
-    -- how often each stands on the shelves
+    -- how often each task is kept
     more_times : (other : ℕ) → times_shelved left.batch r.clock other ≡ times_shelved r.batch r.clock other + times other takes.ids
     more_times other =
         let a : times_now other new.batch.current ≡ times_now other r.batch.current = ap (times_now other) takes.current in
@@ -571,7 +572,7 @@ row_is id row r ro w wake stop at turn =
     one_of g.0 (record { task = turn.before; row = turn.row }) (sym g.1 ∙ turn.lived) in
     sym (ap (λ (x : Running). x.row) same) ∙ g.2
 
--- the row of a task that had its turn is one of the roster's
+-- the row of a task that had its turn is one of the table's
 pub row_within : (id row : ℕ) (r : Runner) (ro : Roster) (w : World) (wake : Wake) (stop : Stop) → IsGoing (Some id) r →
     IsSomeAnd (running_at r.roster id) (λ (x : Running). x.row ≡ row) →
     HasTurn r.roster ro r.world w id wake stop → row < many ro
@@ -594,6 +595,6 @@ goes_stopping id row r new ro w wake stop going goes at turn sound sound_after t
     (is_stopping id wake stop r new ro w going goes turn sound sound_after
     (subst (λ (n : ℕ). TakesStarted (record r { world = w; roster = ro; turns = r.turns + 1 }) new n) (sym e) takes))
 
--- a tree is sound whose stacks are chains that begin with their own scopes, each once
+-- a tree is sound if its stacks are chains that begin with their own scopes, each once
 pub scopes_sound : (tree other : Tree) → tree ≡ other → IsOwn tree → IsChain tree → IsApart tree → turns.IsSound other
 scopes_sound tree other e own chain apart = subst turns.IsSound e (record { own = own; chain = chain; apart = apart })

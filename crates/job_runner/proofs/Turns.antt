@@ -19,7 +19,7 @@ use Rattle.job_runner.specs.Steps.{TakesStarted, TellsEnd, SeesOnly}
 use Rattle.job_runner.specs.Turns.{GoesOn, IsSameCrew, ComesOf, TakesTurn, TakesTurns, no_turn, and_turn, with_answers, Commits}
 use Rattle.job_runner.proofs.Turning.{row_is}
 
--- a task that had its turn, whose started tasks were taken, went on
+-- a task that had its turn, whose started tasks were taken, continued
 pub goes_on : (id row : ℕ) (r new : Runner) (ro : Roster) (w : World) (wake : Wake) (stop : Stop) →
     IsSomeAnd (running_at r.roster id) (λ (x : Running). x.row ≡ row) → HasTurn r.roster ro r.world w id wake stop →
     TakesStarted (record r { world = w; roster = ro; turns = r.turns + 1 }) new row → GoesOn id wake stop r new
@@ -33,7 +33,7 @@ goes_on id row r new ro w wake stop at turn takes =
           (sym (row_is id row r ro w wake stop at turn)) takes;
     }
 
--- a task that has ended left, and its nursery was told
+-- a task that has ended left, and its end was recorded in its nursery
 pub told_comes : (r new : Runner) (ro : Roster) (id : ℕ) (exc : Option held.Exc) (nursery place : ℕ) (told : Option Exc) (waiter : ℕ) →
     Ends r.roster ro id r.world.tick exc → TellsEnd (record r { roster = ro }) new nursery place told waiter →
     ComesOf id (Ended exc) r new
@@ -44,7 +44,7 @@ told_comes r new ro id exc nursery place told waiter ends tells = (
 
 -- ---- the tick stays
 
--- what comes of a stop keeps the tick
+-- handling a stop keeps the tick
 comes_tick : (id : ℕ) (stop : Stop) (old new : Runner) → ComesOf id stop old new → new.world.tick ≡ old.world.tick
 comes_tick id (Ask request) old new h = ap (λ (w : World). w.tick) h.1
 comes_tick id (Sleep due) old new h = ap (λ (w : World). w.tick) h.1

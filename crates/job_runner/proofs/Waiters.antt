@@ -1,4 +1,5 @@
--- The nursery of a task that ended was told: the task that waits for it is ready where it is settled now, and nobody else is.
+-- The end of a task was recorded in its nursery: the task that waits for it is ready if it is settled now, and no other task
+-- is.
 use Rattle.std.proofs.Common.{◌≡◌, ◌≢◌, ℕ, zero, suc, ◌+◌, ◌<◌, ◌==◌, ◌&&◌, Bool, true, false, inl, inr, Option, Some, None, List, [], ◌∷◌, ◌++◌, refl, ap, sym, ◌∙◌, subst, arith, if◌then◌else◌}
 use Rattle.std.specs.Prelude.{◌⊎◌, All, IsSome, is_some, slice_get}
 use Rattle.std.specs.List.{list_all}
@@ -39,7 +40,7 @@ use Rattle.job_runner.proofs.Shelving.{times_now, times_next, next_more}
 use Rattle.job_runner.proofs.Stopped.{some_has, settled_goes}
 use Rattle.job_runner.proofs.Lived.{task_at, id_at}
 
--- ---- how often a task has to stand somewhere
+-- ---- how often a task has to be kept
 
 -- as often where its nursery counts as much
 halt_due : (old new : NurseryBook) (halt : Halt) → ((key : ℕ) → waits_of halt ≡ Some key →
@@ -88,7 +89,7 @@ due_none n e = ap (λ (b : Bool). if b then 1 else 0) e
 
 -- ---- a root that ended
 
--- nobody is told
+-- no end is recorded in a nursery
 pub root_going : (r : Runner) (roster : Roster) (id row : ℕ) (exc : Option held.Exc) → IsStopping id row (stops.Ended exc) r →
     (e : Ends r.roster roster id r.world.tick exc) → IsRoster roster →
     e.task.home ≡ None → IsGoing None (ended_runner r roster r.world.book r.batch)
@@ -218,7 +219,7 @@ module _ (r : Runner) (roster : Roster) (book : NurseryBook) (b : Batches) (id r
           let less : parent_of r.roster row < row = w.earlier in
           omega (arith, f, is, less)
 
-      -- the one whose nursery it is waits for it
+      -- the task with the nursery waits for it
       waits : waits_of w.task.halt ≡ Some home.nursery
       waits =
           settled_waits (meaning_table r.job.now r.input.now) r.job.now r.input.now r.world.tick (many roster)
@@ -284,7 +285,7 @@ module _ (r : Runner) (roster : Roster) (book : NurseryBook) (b : Batches) (id r
               ∙ sym (ap (running_times book) (e.others other g.1))) in
               omega (arith, a, due)
 
--- the home of a task that ended was told
+-- the end of a task was recorded in its home
 home_going : (r : Runner) (roster : Roster) (new : Runner) (id row : ℕ) (exc : Option held.Exc) → IsStopping id row (stops.Ended exc) r →
     (e : Ends r.roster roster id r.world.tick exc) →
     IsRoster roster → (home : Home) → e.task.home ≡ Some home →
@@ -317,7 +318,7 @@ home_going r roster new id row exc h e agree home at t =
         still_going r roster new.world.book new.batch id row exc h e home at n.0 n.1 n.2 agree over t.current
         (next ∙ (ap (λ (c : Bool). r.batch.next ++ called_if c (id_of r.roster (parent_of r.roster row))) over ∙ append-nil r.batch.next))
 
--- the nursery of a child that ended was told, and its waiter called if it is settled: the run is between two turns
+-- the end of a child was recorded in its nursery, and its waiter called if it is settled: the run is between two turns
 pub child_going : (r : Runner) (roster : Roster) (new : Runner) (id row nursery place : ℕ) (exc : Option held.Exc) (end : Option Exc) →
     IsStopping id row (stops.Ended exc) r →
     (e : Ends r.roster roster id r.world.tick exc) → IsRoster roster →

@@ -1,4 +1,4 @@
--- Sleepers in a new tick: who goes on, and that the others sleep on.
+-- Sleepers in a new tick: which tasks continue, and that the others continue to sleep.
 use Rattle.std.proofs.Common.{◌≡◌, ◌≢◌, inl, inr, ℕ, zero, suc, ◌+◌, ◌<◌, ◌≤◌, Bool, true, false, Option, Some, None, List, [], ◌∷◌, ◌++◌, map, length, refl, ap, sym, ◌∙◌, subst, arith, if◌then◌else◌}
 use Rattle.std.specs.Prelude.{All, IsSome, IsSomeAnd, is_some, ◌==◌, ◌⊎◌, nat_le}
 use Rattle.std.proofs.lemmas.Bool.{le-leb}
@@ -39,13 +39,13 @@ use Rattle.job_runner.proofs.Counting.{count_below, fewer_below, found_within}
 use Rattle.job_runner.proofs.Known.{SleepsIn, seen_by, known_without, sees_from}
 use Rattle.job_runner.proofs.Stopped.{some_is, some_has}
 
--- ---- how often a task stands somewhere
+-- ---- how often a task is kept
 
 once_most : (b : Bool) → (if b then 1 else 0) ≤ 1
 once_most true = omega arith
 once_most false = omega arith
 
--- a task stands in one place at most
+-- a task is kept in at most one place
 pub running_most : (book : NurseryBook) (o : Option Running) → running_times book o ≤ 1
 running_most book None = omega arith
 running_most book (Some x) = by_halt x.task.halt
@@ -65,7 +65,7 @@ not_empty : {X : Type 0} (xs : List X) (x : X) → xs ++ x ∷ [] ≢ []
 not_empty [] x e = let f : x ∷ [] ≡ [] = e in absurd (let n : suc zero ≡ zero = ap length f in omega (arith, n))
 not_empty (y ∷ xs) x e = absurd (let n : suc (length (xs ++ x ∷ [])) ≡ zero = ap length e in omega (arith, n))
 
--- ---- who may go on
+-- ---- which tasks may continue
 
 -- one that sees a cancellation
 seen_goes : (world : World) (due : ℕ) (task : Task) → Slept world due task →

@@ -1,4 +1,4 @@
--- What a jump of the clock does: to which tick, and who goes on then.
+-- What a jump of the clock does: to which tick, and which tasks continue then.
 use Rattle.std.specs.Prelude.{◌≡◌, ◌≢◌, ◌⊎◌, ℕ, ◌+◌, ◌<◌, ◌≤◌, true, false, Option, Some, None, [], All, IsSomeAnd}
 use Rattle.autojump_clock.specs.Clock.{Clock, now_of, limit_of, due_of}
 use Rattle.batch_commit.specs.Entries.{Added}
@@ -18,7 +18,7 @@ use Rattle.job_runner.specs.declared.fault.RunFault.TheVariants.{Limit, NoMemory
 use Rattle.job_runner.specs.declared.runner.Runner.{Runner}
 use Rattle.job_runner.specs.Shelves.{IsCalled, AreKnown, NoneChanged, times_shelved, running_times, crew_in}
 
--- the tick from which the task under an id sees a cancellation
+-- the tick from which the task with an id sees a cancellation
 abbrev pub sight_by : World → Option Running → Tick
 sight_by world None = None
 sight_by world (Some x) = sight (outer_of world.scopes (scope_of x.task))
@@ -26,19 +26,19 @@ sight_by world (Some x) = sight (outer_of world.scopes (scope_of x.task))
 abbrev pub sight_in : Roster → World → ℕ → Tick
 sight_in roster world id = sight_by world (running_at roster id)
 
--- a sleeper goes on in this tick: it is due then, or sees a cancellation from then on
+-- a sleeper continues in this tick: it is due then, or sees a cancellation from then on
 pub record Wakes (r : Runner) (t : ℕ) : Type 0 where
   pub id : ℕ
   pub due : ℕ
   pub timer : due_of r.clock id ≡ Some due
   pub on : (due ≡ t) ⊎ (sight_in r.roster r.world id ≡ Some t)
 
--- The tick of the next jump: a sleeper goes on in it, and none earlier. There is only one.
+-- The tick of the next jump: a sleeper continues in it, and none earlier. There is only one.
 pub record IsNextTick (r : Runner) (t : ℕ) : Type 0 where
   pub someone : Wakes r t
   pub first : (u : ℕ) → Wakes r u → t ≤ u
 
--- the limit is answered where the next tick is later
+-- `Limit` is returned if the next tick is later
 pub record IsPast (r : Runner) (limit : ℕ) : Type 0 where
   pub is : limit ≡ r.limit
   pub next : ℕ
@@ -49,7 +49,7 @@ abbrev pub PassesLimit : Runner → RunFault → Type 0
 PassesLimit r (Limit limit) = IsPast r limit
 PassesLimit r NoMemory = Unit {0}
 
--- A task slept to a tick until the clock came to this one, which is not after it.
+-- A task slept to a tick until the clock reached this one, which is not after it.
 pub record Slept (world : World) (due : ℕ) (task : Task) : Type 0 where
   pub ticks : ℕ
   pub since : ℕ
@@ -65,7 +65,8 @@ pub record IsAnyNow (roster : Roster) (world : World) (clock : Clock) : Type 0 w
   pub timer : due_of clock id ≡ Some due
   pub timely : (due ≤ world.tick) ⊎ (reached (sight_in roster world id) world.tick ≡ true)
 
--- The clock came to a later tick, and so did the world. Those that are timely are being made ready.
+-- The clock reached a later tick, and so did the world. Sleepers that may continue are being made
+-- ready.
 pub record IsWaking (r : Runner) : Type 0 where
   pub agree : IsRoster r.roster
   pub homes : AreHomesOf (crew_in r) (parent_of r.roster)

@@ -1,4 +1,4 @@
--- What clauses read of a runner.
+-- What clauses state about a runner.
 use Rattle.std.specs.Prelude.{Option, Some, None, List, [], ◌∷◌}
 use Rattle.batch_commit.specs.declared.entry.Entry.{Entry}
 use Rattle.run_crew.specs.Crew.{Gone}
@@ -7,7 +7,8 @@ use Rattle.job_runner.specs.declared.runner.Phase.{Phase}
 use Rattle.job_runner.specs.declared.runner.Phase.TheVariants.{Ready, Blocked, Over}
 use Rattle.job_runner.specs.declared.runner.Runner.{Runner}
 
--- Tasks are ready as long as one stands in the current batch; where none does, the run is over once the root has ended.
+-- Tasks are ready while the current batch has one; if it has none, the run is over if the root has ended, and blocked
+-- otherwise.
 abbrev pub phase_by : List Entry → Option Gone → Phase
 phase_by (e ∷ es) ended = Ready
 phase_by [] (Some g) = Over

@@ -1,4 +1,4 @@
--- What clauses read of a run.
+-- What clauses state about a run.
 use Rattle.std.specs.Prelude.{◌≡◌, ℕ, ◌<◌, Bool, true, false, List, [], ◌∷◌, map}
 use Rattle.job_tree.specs.Tree.{Tree}
 use Rattle.job_meaning.specs.Log.{Table}
@@ -23,7 +23,7 @@ records_in run = run.records.items
 abbrev pub rows_of : Run → List Row
 rows_of run = map row_in (records_in run)
 
--- whether the root, whose row is the first, ended well
+-- whether the root, whose row is the first, ended without an exception
 abbrev pub is_well : Ending → Bool
 is_well well = true
 is_well by_cancellation = false
@@ -48,23 +48,23 @@ turns_of run = run.turns
 abbrev pub scope_froms_of : Run → List From
 scope_froms_of run = map from_of (froms_in run)
 
--- the run of a job over an input is its meaning's
+-- the run of a job over an input is that of its meaning
 pub record IsRun (job : Tree) (input : List ℕ) (run : Run) : Type 0 where
   pub name : name_of run ≡ job.name
   pub rows : rows_of run ≡ meaning_rows job input
   pub slices : AreSlices input (records_in run)
   pub froms : scope_froms_of run ≡ meaning_froms job input
 
--- And it is what following a table comes to: its records, and the froms that the table has.
+-- And it is the result of following a table: its records, and the froms in the table.
 pub record IsFollowed (table : Table) (job : Tree) (input : List ℕ) (run : Run) : Type 0 where
   pub rows : rows_of run ≡ map (row_of input) (records_of (root_log job (follow table job input)))
   pub froms : scope_froms_of run ≡ froms_by table (all_entered (root_log job (follow table job input)))
 
--- whichever settled table it is
+-- for any settled table
 abbrev pub FollowsEach : Tree → List ℕ → Run → Type 0
 FollowsEach job input run = (table : Table) → IsSettled table job input → IsFollowed table job input run
 
--- the limit is answered where the meaning ends later
+-- `Limit` is returned if the meaning ends later
 abbrev pub IsLate : Tree → List ℕ → ℕ → RunFault → Type 0
 IsLate job input limit (Limit l) = (l ≡ limit) × (limit < meaning_end job input)
 IsLate job input limit NoMemory = Unit {0}

@@ -1,5 +1,5 @@
--- Where the tasks of a run stand between their turns: in the current batch or the next one, among the sleepers, or waiting for a
--- nursery of which a member runs.
+-- Where the tasks of a run are kept between their turns: in the current batch or the next one, among the sleepers, or waiting
+-- for a nursery of which a member runs.
 use Rattle.std.specs.Prelude.{◌≡◌, ◌≢◌, ℕ, ◌+◌, ◌<◌, ◌≤◌, if◌then◌else◌, false, Option, Some, None, [], map, All, IsSomeAnd}
 use Rattle.std.specs.Option.{ForSome}
 use Rattle.autojump_clock.specs.Clock.{Clock, now_of, limit_of, due_of}
@@ -45,12 +45,12 @@ abbrev pub IsRight : Call → Option Answer → Type 0
 IsRight (Ask request) (Some answer) = IsAnswer request.kernel request.part answer
 IsRight call answer = Unit {0}
 
--- a task that is ready by this call may go on, with whatever right answer
+-- a task that is ready by this call may continue, with any right answer
 abbrev pub GoesBy : World → Task → Call → Type 0
 GoesBy world task call = (answer : Option Answer) (wake : Wake) → IsRight call answer → wake_of call answer ≡ Some wake →
     MayGo world task wake
 
--- the task under an id lives, and is ready by this call
+-- the task with an id has not ended, and is ready by this call
 abbrev pub IsCalled : Roster → World → ℕ → Call → Type 0
 IsCalled roster world id call = IsSomeAnd (running_at roster id) (λ x. GoesBy world x.task call)
 
@@ -65,12 +65,12 @@ pub record IsAsleep (world : World) (due : ℕ) (task : Task) : Type 0 where
   pub began : since ≤ world.tick
   pub later : world.tick < due
 
--- and it sees nothing yet
+-- and it sees no cancellation yet
 pub record Dozes (world : World) (due : ℕ) (task : Task) : Type 0 where
   pub asleep : IsAsleep world due task
   pub unseen : seen (outer_of world.scopes (scope_of task)) world.tick ≡ false
 
--- each task that has a timer lives and dozes until it is due
+-- each task that has a timer has not ended, and sleeps without seeing a cancellation until it is due
 abbrev pub AllDoze : Roster → World → Clock → Type 0
 AllDoze roster world clock = (id due : ℕ) → due_of clock id ≡ Some due →
     IsSomeAnd (running_at roster id) (λ (x : Running). Dozes world due x.task)
@@ -81,34 +81,34 @@ berth_of None o = None
 berth_of (Some due) None = None
 berth_of (Some due) (Some x) = scope_of x.task
 
--- Each task that has a timer is known by the scope that it sleeps in, and each such scope by its sight, unless that was lowered
--- and the scope is still to be handed out.
+-- Each task that has a timer is known by the scope in which it sleeps, and each such scope by its effective deadline (`sight`),
+-- unless that was lowered and the scope is still marked as changed.
 pub record AreKnown (roster : Roster) (world : World) (clock : Clock) (sleepers : Sleeping) : Type 0 where
   pub berths : (id : ℕ) → scope_in sleepers id ≡ berth_of (due_of clock id) (running_at roster id)
   pub sights : (id key : ℕ) → scope_in sleepers id ≡ Some key → Shows world.scopes key (sight_of sleepers key)
 
--- no scope is left to hand out
+-- no scope is marked as changed
 abbrev pub NoneChanged : World → Type 0
 NoneChanged world = (key : ℕ) → is_changed world.scopes key ≡ false
 
--- ---- each task stands in one place
+-- ---- each task is kept once
 
--- how often the task of a timer stands among the sleepers
+-- how often the task of a timer is among the sleepers
 abbrev pub timer_times : Option ℕ → ℕ
 timer_times None = 0
 timer_times (Some due) = 1
 
--- how often an id stands among entries, what was added, and sleepers
+-- how often an id is among entries, what was added, and sleepers
 abbrev pub times_shelved : Batches → Clock → ℕ → ℕ
 times_shelved batch clock id =
     times id (map (λ (e : Entry). e.task) batch.current) + times id (map (λ (a : Added). a.0) batch.next) + timer_times (due_of clock id)
 
--- how often the task of a nursery that is waited for has to stand there
+-- how often the task of a nursery that is waited for has to be there
 abbrev pub settled_times : Option Nursery → ℕ
 settled_times None = 0
 settled_times (Some n) = if is_settled n then 1 else 0
 
--- and a task, by what it goes on with: once, but for one that waits for a nursery of which a member runs
+-- and a task, by its blocked state: once, except for one that waits for a nursery of which a member runs
 abbrev pub halt_times : NurseryBook → Halt → ℕ
 halt_times book ToBegin = 1
 halt_times book (Asked kernel purpose) = 1
@@ -120,14 +120,14 @@ abbrev pub running_times : NurseryBook → Option Running → ℕ
 running_times book None = 0
 running_times book (Some x) = halt_times book x.task.halt
 
--- an id that is not the one which is away
+-- an id that is not the one of the task that has its turn
 abbrev pub IsElse : Option ℕ → ℕ → Type 0
 IsElse None id = Unit {0}
 IsElse (Some away) id = id ≢ away
 
 -- ---- a run between turns
 
--- What the runner keeps fits together. The task under one id may be away: it is having its turn.
+-- What the runner keeps is consistent. The task with one id may be missing: it is having its turn.
 pub record AreShelved (turning : Option ℕ) (r : Runner) : Type 0 where
   pub agree : IsRoster r.roster
   pub homes : AreHomesOf (crew_of r.roster r.world r.turns) (parent_of r.roster)
@@ -143,11 +143,11 @@ pub record AreShelved (turning : Option ℕ) (r : Runner) : Type 0 where
   pub once : (id : ℕ) → IsElse turning id → times_shelved r.batch r.clock id ≡ running_times r.world.book (running_at r.roster id)
   pub away : ForSome turning (λ (id : ℕ). times_shelved r.batch r.clock id ≡ 0)
 
--- the crew of a runner
+-- the tasks of the program, as a runner keeps them
 abbrev pub crew_in : Runner → Crew
 crew_in r = crew_of r.roster r.world r.turns
 
--- For each settled table it is a run of the definitions.
+-- For each settled table they are a run of the definitions.
 abbrev pub AreOnCourse : Runner → Type 0
 AreOnCourse r = (k : Table) → IsSettled k r.job.now r.input.now →
     IsCrew k r.job.now r.input.now r.world.tick (many r.roster) None (crew_in r)
@@ -158,19 +158,19 @@ pub record IsSameJob (old new : Runner) : Type 0 where
   pub input : new.input ≡ old.input
   pub limit : new.limit ≡ old.limit
 
--- what is known of each job that was read
+-- what holds for each job that was read
 pub record IsSound (job : Tree) : Type 0 where
   pub names : GivesNamesOnce job
   pub starts : StartsInNurseries job
   pub modest : IsModest job
 
--- A run between two turns, or in one of the task under an id that is away.
+-- A run between two turns, or during the turn of the task with this id.
 pub record IsGoing (away : Option ℕ) (r : Runner) : Type 0 where
   pub sound : IsSound r.job.now
   pub shelved : AreShelved away r
   pub course : AreOnCourse r
 
--- A run whose next batch is asked for, or has no one in it.
+-- A run between two calls of its caller: no answers are placed for its batch, and no task was added to the next one.
 pub record IsUnderway (r : Runner) : Type 0 where
   pub going : IsGoing None r
   pub unchanged : NoneChanged r.world

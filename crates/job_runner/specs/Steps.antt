@@ -1,4 +1,4 @@
--- What the steps of a turn leave, one after the other.
+-- The state after each step of a turn.
 use Rattle.std.specs.Prelude.{◌≡◌, ◌≢◌, ℕ, ◌+◌, ◌<◌, ◌≤◌, Bool, true, false, Option, Some, None, List, [], ◌∷◌, ◌++◌, length, map, slice_get, IsSomeAnd}
 use Rattle.exc_groups.specs.Exceptions.{Exc}
 use Rattle.batch_commit.specs.declared.entry.Call.TheVariants.{Begin, Settled}
@@ -18,12 +18,12 @@ use Rattle.task_roster.specs.declared.roster.Running.{Running}
 use Rattle.job_runner.specs.declared.runner.Runner.{Runner}
 use Rattle.job_runner.specs.Shelves.{IsSound, AreShelved, crew_in}
 
--- ---- the tasks that one started
+-- ---- the tasks that a task started
 
 -- These tasks were started in that tick by the one of that row, and have the next rows and these ids.
 pub record StartsAll (old new : Roster) (parent : ℕ) (tasks : List Task) (tick : ℕ) (ids : List ℕ) : Type 0 where
   pub as_many : length ids ≡ length tasks
-  -- each lives under its id, under which nothing lived
+  -- each has its id, which no task had before
   pub lives :
       (i id : ℕ) (task : Task) → slice_get ids i ≡ Some id → slice_get tasks i ≡ Some task →
       (running_at old id ≡ None) × (running_at new id ≡ Some (record { task = task; row = many old + i }))
@@ -58,7 +58,7 @@ pub record TakesStarted (old new : Runner) (parent : ℕ) : Type 0 where
 
 -- ---- a task that stopped
 
--- The task under an id, of that row, stopped so in its turn, and the runner has not done yet what comes of it.
+-- The task with an id and a row stopped so in its turn, and the runner has not handled the stop yet.
 pub record IsStopping (id row : ℕ) (stop : Stop) (r : Runner) : Type 0 where
   pub sound : IsSound r.job.now
   pub shelved : AreShelved (Some id) r
@@ -66,7 +66,7 @@ pub record IsStopping (id row : ℕ) (stop : Stop) (r : Runner) : Type 0 where
   pub course : (k : Table) → IsSettled k r.job.now r.input.now →
       StoppedIn k r.job.now r.input.now r.world.tick (many r.roster) row stop (crew_in r)
 
--- what does not change where the runner does what comes of a stop
+-- what does not change when the runner handles a stop
 pub record IsSameTurn (old new : Runner) : Type 0 where
   pub job : new.job ≡ old.job
   pub input : new.input ≡ old.input
@@ -74,23 +74,23 @@ pub record IsSameTurn (old new : Runner) : Type 0 where
   pub turns : new.turns ≡ old.turns
   pub current : new.batch.current ≡ old.batch.current
 
--- ---- the end of a child is told
+-- ---- the end of a child is recorded
 
 abbrev pub called_if : Bool → ℕ → List Added
 called_if true id = (id, Settled) ∷ []
 called_if false id = []
 
--- The nursery was told of the end of the child at that place, and the task under an id, which waits for it, is ready if it is
--- settled now.
+-- The end of the child at that place was recorded in the nursery, and the task with an id, which waits for it, is ready if it
+-- is settled now.
 pub record TellsEnd (old new : Runner) (nursery place : ℕ) (exc : Option Exc) (waiter : ℕ) : Type 0 where
   pub book : Changes old.world.book new.world.book nursery (with_child place exc)
   pub next : HasNursery new.world.book nursery (λ (n : Nursery). new.batch.next ≡ old.batch.next ++ called_if (is_settled n) waiter)
   pub current : new.batch.current ≡ old.batch.current
   pub rest : new ≡ record old { world = record old.world { book = new.world.book }; batch = new.batch }
 
--- ---- sights that were lowered
+-- ---- effective deadlines that were lowered
 
--- nothing but what is known of sleepers changed, and which scopes are still to be handed out
+-- nothing changed except what is known of sleepers, and which scopes are marked as changed
 abbrev pub SeesOnly : Runner → Runner → Type 0
 SeesOnly old new =
     new ≡ record old {

@@ -1,4 +1,4 @@
--- The turns of a batch, one after the other, in the order of the picks.
+-- The turns of a batch, one after another, in the order of the picks.
 use Rattle.std.specs.Prelude.{◌≡◌, ℕ, ◌+◌, List, [], map}
 use Rattle.batch_commit.specs.Batch.{Batches, HandsOut}
 use Rattle.batch_commit.specs.Entries.{placed, unplaced}
@@ -12,7 +12,7 @@ use Rattle.task_roster.specs.Roster.{HasTurn, Ends}
 use Rattle.job_runner.specs.declared.runner.Runner.{Runner}
 use Rattle.job_runner.specs.Steps.{TakesStarted}
 
--- The task under an id went on with this wake to its next stop, and the tasks that it started were taken from the world.
+-- The task with an id continued with this wake to its next stop, and the tasks that it started were taken from the world.
 pub record GoesOn (id : ℕ) (wake : Wake) (stop : Stop) (old new : Runner) : Type 0 where
   pub roster : Roster
   pub world : World
@@ -23,7 +23,8 @@ pub record GoesOn (id : ℕ) (wake : Wake) (stop : Stop) (old new : Runner) : Ty
 abbrev pub IsSameCrew : Runner → Runner → Type 0
 IsSameCrew old new = (new.roster ≡ old.roster) × (new.world ≡ old.world)
 
--- What comes of a stop: a task that has ended leaves, and its nursery may be told. After another stop all tasks stay as they are.
+-- How a stop is handled: a task that has ended leaves, and its end may be recorded in its nursery. After another stop all tasks
+-- stay as they are.
 abbrev pub ComesOf : ℕ → Stop → Runner → Runner → Type 0
 ComesOf id (Ask request) old new = IsSameCrew old new
 ComesOf id (Sleep due) old new = IsSameCrew old new
@@ -31,15 +32,15 @@ ComesOf id (Wait nursery) old new = IsSameCrew old new
 ComesOf id (Ended exc) old new =
     Ends old.roster new.roster id old.world.tick exc × (new.world ≡ record old.world { book = new.world.book })
 
--- the task under an id had one turn, and nobody else had
+-- the task with an id had one turn, and no other task had
 pub record TakesTurn (id : ℕ) (wake : Wake) (old new : Runner) : Type 0 where
   pub stop : Stop
   pub went : Runner
   pub goes : GoesOn id wake stop old went
   pub stopped : ComesOf id stop went new
 
--- Entries of the current batch were handed out as the picker picked them among those left, and each had its turn with the wake of
--- its call and its answer.
+-- Entries of the current batch were taken as the picker picked them among those left, and each had its turn with the wake of its
+-- call and its answer.
 pub data TakesTurns {P : Type 0} (picks : P → ℕ → ℕ → P → Type 0) : Runner → P → Runner → P → Type 0 where
   no_turn : (r : Runner) (picker : P) → TakesTurns picks r picker r picker
   and_turn :
@@ -47,12 +48,12 @@ pub data TakesTurns {P : Type 0} (picks : P → ℕ → ℕ → P → Type 0) : 
       HandsOut picks last.batch batch picker after id wake → TakesTurn id wake (record last { batch = batch }) new →
       TakesTurns picks first before new after
 
--- a runner once the i-th answer is placed for the i-th request of its batch
+-- a runner after the i-th answer is placed for the i-th request of its batch
 abbrev pub with_answers : Runner → List Answer → Runner
 with_answers r answers = record r { batch = record { current = placed r.batch.current answers; next = r.batch.next } }
 
 -- Every entry of the current batch had its turn, in the order of the picks, in the same tick. What the turns added is the current
--- batch now, and the sleepers were told of the sights that were lowered.
+-- batch now, and the sleepers were updated with the effective deadlines that were lowered.
 pub record Commits {P : Type 0} (picks : P → ℕ → ℕ → P → Type 0) (old new : Runner) (answers : List Answer) (before after : P) : Type 0 where
   pub last : Runner
   pub turns : TakesTurns picks (with_answers old answers) before last after

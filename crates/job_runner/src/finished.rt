@@ -2,7 +2,7 @@ use job_tree::Name;
 use task_machine::ScopeFrom;
 use task_roster::{Outcome, Record};
 
-/// A finished run: the records of the job's meaning, the root's first.
+/// A finished run: the records of the job's meaning.
 #[derive(Drop)]
 pub struct Run<'a> {
     name: Name,
@@ -15,7 +15,7 @@ impl<'a> Run<'a> {
     ghost use Rattle.std.specs.Prelude.{◌≡◌};
     ghost use Rattle.job_runner.specs.Runs.{name_of, records_in, rows_of, froms_in, turns_of, root_is_well, root_end};
 
-    /// A run of these parts.
+    /// Returns a run of these parts.
     pub(crate) fn new(
         name: Name,
         records: Vec<Record<'a>>,
@@ -35,21 +35,22 @@ impl<'a> Run<'a> {
         }
     }
 
-    /// The job's name.
+    /// Returns the job's name.
     pub fn name(&self) -> Name
         ensures { result ≡ name_of self.now }
     {
         self.name
     }
 
-    /// The records: the root's, and behind each its descendants' in the order of their starts.
+    /// Returns the records: the root's, and each followed by those of its descendants in the order of
+    /// their starts.
     pub fn records(&self) -> &[Record<'a>]
         ensures { result.now ≡ records_in self.now }
     {
         self.records.as_slice()
     }
 
-    /// Whether the root ended well.
+    /// Returns whether the root ended without an exception.
     pub fn is_well(&self) -> bool
         ensures { result ≡ root_is_well (rows_of self.now) }
     {
@@ -59,7 +60,7 @@ impl<'a> Run<'a> {
         }
     }
 
-    /// The tick in which the root ended.
+    /// Returns the tick in which the root ended.
     pub fn end(&self) -> u64
         ensures { result ≡ root_end (rows_of self.now) }
     {
@@ -69,14 +70,15 @@ impl<'a> Run<'a> {
         }
     }
 
-    /// From which tick each scope and nursery was cancelled, in the order of the records and of entering.
+    /// Returns the scopes and nurseries with the tick from which each was cancelled, in the order of the
+    /// records and of entering.
     pub fn froms(&self) -> &[ScopeFrom]
         ensures { result.now ≡ froms_in self.now }
     {
         self.froms.as_slice()
     }
 
-    /// The same, without the records.
+    /// Returns the same as `froms`, without the records.
     pub fn into_froms(self) -> Vec<ScopeFrom>
         ensures { result.items ≡ froms_in self.entry }
     {
@@ -84,7 +86,7 @@ impl<'a> Run<'a> {
         froms
     }
 
-    /// How many turns the tasks had.
+    /// Returns the number of turns of all tasks.
     pub fn turns(&self) -> u64
         ensures { result ≡ turns_of self.now }
     {

@@ -12,9 +12,10 @@ use batch_commit::Call;
 use std::alloc::AllocError;
 
 impl<'a> Runner<'a> {
-    /// The clock jumps to the next tick in which a task goes on: the first in which a sleeper is due, or sees a cancellation.
-    /// Whoever does is ready. The caller sees to it that every task is blocked. `Limit` exactly where that tick is past the
-    /// limit, and then the job's meaning ends later; otherwise want of memory is the only error.
+    /// Lets the clock jump to the next tick in which a task continues: the first in which a sleeper is due, or sees a
+    /// cancellation. Those sleepers are ready then. The caller must ensure that every task is blocked (`Phase::Blocked`). The
+    /// errors are `Limit`, exactly if that tick is after the limit, and then the job's meaning ends later than the limit; or
+    /// that memory was refused.
     pub fn jump(self) -> Result<Runner<'a>, RunFault>
         requires underway { IsUnderway self }
         requires blocked { phase_of self ≡ Blocked }
@@ -42,7 +43,7 @@ impl<'a> Runner<'a> {
         }
     }
 
-    // Whoever sees a cancellation now is ready.
+    // Each sleeper that sees a cancellation now is ready.
     fn wake_seen(&mut self) -> Result<(), AllocError>
         requires { IsWaking self.old }
         ensures waking { OnOk result (IsWaking self.new) }
@@ -56,7 +57,7 @@ impl<'a> Runner<'a> {
         Ok(())
     }
 
-    // Whoever is due now is ready. The others sleep on.
+    // Each sleeper that is due now is ready. The others continue to sleep.
     fn wake_due(&mut self) -> Result<(), AllocError>
         requires waking { IsWaking self.old }
         requires unseen { NoneSees self.old }

@@ -1,9 +1,9 @@
-//! Runs a job over an input: the records of the job's meaning, or the limit.
+//! Runs a job over an input, with the result of the job's meaning, or up to a limit.
 //!
-//! The layer promises that `run` answers the records of the one-thread meaning (`job_meaning`), for every number of
-//! workers, every picker and every gate, or the limit exactly where the meaning ends later. `run_to_end` has no limit. `Runner`
-//! is a run batch by batch: its tasks have their turns (`task_machine`), stand in a roster (`task_roster`), and the clock jumps
-//! where every task is blocked. That its records are those of the meaning is the law of crews (`run_crew`).
+//! The layer promises that `run` returns the records of the one-thread meaning (`job_meaning`), for every number of workers,
+//! every picker and every gate, or the limit exactly if the meaning ends later. `run_to_end` has no limit. `Runner` is a run
+//! batch by batch: its tasks have their turns (`task_machine`), are kept in a task table (`task_roster`), and the clock jumps
+//! when every task is blocked. That its records are those of the meaning follows from the law of `run_crew`.
 #![tactic(auto)]
 
 mod fault;

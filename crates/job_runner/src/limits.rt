@@ -1,5 +1,5 @@
-/// The most workers of a run.
+/// The maximum number of workers of a run.
 pub const MOST_WORKERS: usize = 64;
 
-/// The greatest limit of a run, in ticks.
+/// The maximum limit of a run, in ticks.
 pub const GREATEST_LIMIT: u64 = 4_294_967_295;

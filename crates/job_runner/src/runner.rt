@@ -27,15 +27,15 @@ use task_roster::{Roster, records_of};
 /// What a run waits for.
 #[derive(Clone, Copy, Debug, PartialEq, Eq)]
 pub enum Phase {
-    /// Tasks are ready: the answers to the batch's requests.
+    /// Tasks are ready: it waits for the answers to the requests of the batch (`Runner::commit`).
     Ready,
-    /// Every task is blocked: a jump of the clock.
+    /// Every task is blocked: it waits for a jump of the clock (`Runner::jump`).
     Blocked,
-    /// Nothing: the root has ended.
+    /// The root has ended: it waits for nothing (`Runner::finish`).
     Over,
 }
 
-/// A job that is run, one batch of ready tasks after the other, and one tick after the other.
+/// A run of a job, one batch of ready tasks after another, and one tick after another.
 #[derive(Drop)]
 pub struct Runner<'a> {
     pub(crate) alloc: Global,
@@ -45,15 +45,15 @@ pub struct Runner<'a> {
     pub(crate) world: World<'a>,
     pub(crate) clock: MockClock,
     pub(crate) roster: Roster<'a>,
-    // Those that sleep in a cancel scope.
+    // The tasks that sleep in a cancel scope.
     pub(crate) sleepers: Sleepers,
     pub(crate) batch: ReadyBatch<'a>,
     pub(crate) turns: u64,
 }
 
 impl<'a> Runner<'a> {
-    /// A run at tick 0, whose root is ready to begin. The limit is the last tick that it goes to. Want of memory is the only
-    /// error.
+    /// Returns a run at tick 0, whose root is ready to begin. The input has at most `MOST_INPUT` bytes. The limit is the
+    /// last tick to which the clock may jump, at most `LAST_TICK`. The only error is that memory was refused.
     pub fn open(
         alloc: Global,
         job: &'a Job,
@@ -90,7 +90,7 @@ impl<'a> Runner<'a> {
         })
     }
 
-    /// What the run waits for.
+    /// Returns what the run waits for.
     pub fn phase(&self) -> Phase
         requires { IsUnderway self.now }
         ensures { result ≡ phase_of self.now }
@@ -104,22 +104,22 @@ impl<'a> Runner<'a> {
         Phase::Blocked
     }
 
-    /// How many turns the tasks had so far.
+    /// Returns the number of turns that the tasks had so far.
     pub fn turns(&self) -> u64
         ensures { result ≡ self.now.turns }
     {
         self.turns
     }
 
-    /// The requests of the ready tasks, in the order of the batch.
+    /// Returns the requests of the ready tasks, in the order of the batch. The only error is that memory was refused.
     pub fn requests(&self) -> Result<Vec<Request<'a>>, AllocError>
         ensures { IfOk result (λ requests. requests.items ≡ requests_of self.now.batch.current) }
     {
         self.batch.requests()
     }
 
-    /// Each ready task has one turn, in the order that the picker picks, and the tick stays. The caller sees to it that each
-    /// answer is that of the request at its place. Want of memory is the only error.
+    /// Executes one turn of each ready task, in the order that the picker picks. The tick stays the same. The caller must
+    /// ensure that each answer is that of the request at the same place. The only error is that memory was refused.
     pub fn commit<P: Pick>(
         self,
         answers: Vec<Answer<'a>>,
@@ -143,7 +143,7 @@ impl<'a> Runner<'a> {
         Ok(runner)
     }
 
-    // The sleepers are told of each sight that a cancellation lowered.
+    // The sleepers are updated with each effective deadline (`sight`) that a cancellation lowered.
     fn see_changed(&mut self) -> Result<(), AllocError>
         requires going { IsGoing None self.old }
         ensures going { OnOk result (IsGoing None self.new) }
@@ -157,7 +157,7 @@ impl<'a> Runner<'a> {
         Ok(())
     }
 
-    // The task under an id has its turn.
+    // Executes a turn of the task with an id.
     fn take_turn(&mut self, id: TaskId, wake: Wake<'a>) -> Result<(), AllocError>
         requires going { IsGoing (Some id) self.old }
         requires goes { IsSomeAnd (running_at self.old.roster id) (λ x. MayGo self.old.world x.task wake) }
@@ -173,7 +173,7 @@ impl<'a> Runner<'a> {
         Ok(())
     }
 
-    // The task under an id, of that row, goes on to its next stop, and those that it started are ready to begin.
+    // The task with an id and a row continues to its next stop, and those that it started are ready to begin.
     fn go(&mut self, id: TaskId, row: usize, wake: Wake<'a>) -> Result<Stop<'a>, AllocError>
         requires going { IsGoing (Some id) self.old }
         requires goes { IsSomeAnd (running_at self.old.roster id) (λ x. MayGo self.old.world x.task wake) }
@@ -192,7 +192,7 @@ impl<'a> Runner<'a> {
         Ok(stop)
     }
 
-    // The tasks that the one of that row started are ready to begin.
+    // The tasks that the one of this row started are ready to begin.
     fn take_started(&mut self, row: usize) -> Result<(), AllocError>
         requires agree { IsRoster self.old.roster }
         requires row { row < many self.old.roster }
@@ -205,8 +205,8 @@ impl<'a> Runner<'a> {
         Ok(())
     }
 
-    /// The records of a run that is over: those of the job's meaning, which are those of following whichever settled table.
-    /// Want of memory is the only error.
+    /// Returns the records of a run that is over: those of the job's meaning, which are those of following any settled
+    /// table. The caller must ensure that the run is over (`Phase::Over`). The only error is that memory was refused.
     pub fn finish(self) -> Result<Run<'a>, AllocError>
         requires underway { IsUnderway self }
         requires over { phase_of self ≡ Over }

@@ -21,10 +21,10 @@ use scoped_workers::{Gate, work};
 use std::alloc::{AllocError, Global};
 use std::thread::Threads;
 
-/// Runs a job over an input, in turns of its tasks, one tick after the other. The answer is that of the job's one-thread
-/// meaning, whatever the number of workers, the order of picks and the gate: its records, or `Limit` exactly where the meaning
-/// ends later than the limit. Want of memory may stand in the place of either. The picker picks each turn. The workers answer
-/// the requests of all tasks that are ready together, and call the gate round each.
+/// Runs a job over an input of at most `MOST_INPUT` bytes, in turns of its tasks, one tick after another. The result is that of
+/// the job's one-thread meaning, whatever the number of workers, the order of picks and the gate: its records, or `Limit` exactly
+/// if the meaning ends later than the limit. Instead of either it may return that memory was refused. The picker picks each turn.
+/// The workers compute the answers to the requests of all tasks that are ready together, and call the gate before and after each.
 pub fn run<'a, R: Threads + Sync, P: Pick, G: Gate + Sync>(
     rt: &R,
     alloc: Global,
@@ -56,9 +56,9 @@ pub fn run<'a, R: Threads + Sync, P: Pick, G: Gate + Sync>(
     Ok(run)
 }
 
-/// Runs a job over an input to its end, however late that is: a task that waits forever goes on at tick two to the 40. So the answer
-/// is that of the job's meaning in every case, with the tick from which each scope and nursery is cancelled. Want of memory is the only
-/// error. Picker, workers and gate are those of [`run`].
+/// Runs a job over an input to its end, however late that is: `forever` sleeps until tick two to the 40. So the result is that of
+/// the job's meaning in every case, with the tick from which each scope and nursery is cancelled. There are 1 to 64 workers. The
+/// only error is that memory was refused. Picker and gate are those of [`run`].
 pub fn run_to_end<'a, R: Threads + Sync, P: Pick, G: Gate + Sync>(
     rt: &R,
     alloc: Global,
@@ -87,7 +87,7 @@ pub fn run_to_end<'a, R: Threads + Sync, P: Pick, G: Gate + Sync>(
     }
 }
 
-// Runs a job in turns of its tasks, one tick after the other, up to a limit.
+// Runs a job in turns of its tasks, one tick after another, up to a limit.
 fn run_until<'a, R: Threads + Sync, P: Pick, G: Gate + Sync>(
     rt: &R,
     alloc: Global,

@@ -4,7 +4,7 @@ ghost use Rattle.job_runner.specs.declared.limits.TheConstants.{MOST_WORKERS, GR
 use crate::limits::{GREATEST_LIMIT, MOST_WORKERS};
 use std::marker::Model;
 
-/// How a job is run: the number of workers, 1 to 64, and the limit, the last tick at which it may end.
+/// How a job is run: the number of workers, 1 to 64, and the limit, the last tick at which the job may end.
 #[derive(Clone, Copy)]
 pub struct Settings {
     workers: usize,
@@ -26,8 +26,8 @@ impl Model for Settings {
 }
 
 impl Settings {
-    /// Settings with that many workers and that limit: none unless there are 1 to 64 workers and the limit is at most
-    /// 4,294,967,295.
+    /// Returns settings with that number of workers and that limit, or `None` unless there are 1 to 64 workers and
+    /// the limit is at most 4,294,967,295.
     pub fn new(workers: usize, limit: u64) -> Option<Settings>
         ensures fits { IsSome result ↔ ((1 ≤ workers) × (workers ≤ MOST_WORKERS) × (limit ≤ GREATEST_LIMIT)) }
         ensures value { IfSome result (λ settings. settings ≡ record { workers = workers; limit = limit }) }
@@ -38,7 +38,7 @@ impl Settings {
         Some(Settings { workers, limit })
     }
 
-    /// The number of workers.
+    /// Returns the number of workers.
     pub fn workers(self) -> usize
         ensures value { result ≡ self.workers }
         ensures some { 1 ≤ result }
@@ -47,7 +47,7 @@ impl Settings {
         self.workers
     }
 
-    /// The limit, in ticks.
+    /// Returns the limit, in ticks.
     pub fn limit(self) -> u64
         ensures value { result ≡ self.limit }
         ensures within { result ≤ GREATEST_LIMIT }

@@ -18,7 +18,7 @@ use std::alloc::{AllocError, Global};
 use task_machine::Stop;
 
 impl<'a> Runner<'a> {
-    // What comes of the stop of the task under an id, of that row.
+    // Handles the stop of the task with an id and a row.
     pub(crate) fn stopped(
         &mut self,
         id: TaskId,
@@ -39,7 +39,7 @@ impl<'a> Runner<'a> {
         Ok(())
     }
 
-    // It is in the next batch with its request.
+    // The task is added to the next batch with its request.
     fn asks(&mut self, id: TaskId, row: usize, request: Request<'a>) -> Result<(), AllocError>
         requires { IsStopping id row (Ask request) self.old }
         ensures going { OnOk result (IsGoing None self.new) }
@@ -51,7 +51,7 @@ impl<'a> Runner<'a> {
         Ok(())
     }
 
-    // It is one of the sleepers.
+    // The task is added to the sleepers.
     fn falls_asleep(&mut self, id: TaskId, row: usize, due: u64) -> Result<(), AllocError>
         requires { IsStopping id row (Sleep due) self.old }
         ensures going { OnOk result (IsGoing None self.new) }
@@ -67,7 +67,7 @@ impl<'a> Runner<'a> {
         Ok(())
     }
 
-    // It is in the next batch where its nursery is settled already, and waits otherwise.
+    // The task is added to the next batch if its nursery is settled already, and waits otherwise.
     fn waits(&mut self, id: TaskId, row: usize, nursery: NurseryId) -> Result<(), AllocError>
         requires { IsStopping id row (Wait nursery) self.old }
         ensures going { OnOk result (IsGoing None self.new) }
@@ -81,7 +81,8 @@ impl<'a> Runner<'a> {
         Ok(())
     }
 
-    // Its nursery is told of its end, if it has one, and its row keeps what is left of it.
+    // The task's end is recorded in its nursery, if it has one, and its row keeps what is left of
+    // it.
     fn ends(&mut self, id: TaskId, row: usize, exc: Option<Exc>) -> Result<(), AllocError>
         requires { IsStopping id row (Ended exc) self.old }
         ensures going { OnOk result (IsGoing None self.new) }
@@ -98,7 +99,7 @@ impl<'a> Runner<'a> {
         Ok(())
     }
 
-    // A nursery is told how its child at that place ended, which is the task of that row.
+    // Records in a nursery how its child at that place ended, which is the task of that row.
     fn tell(
         &mut self,
         row: usize,
