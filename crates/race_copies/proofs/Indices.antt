@@ -1,4 +1,4 @@
--- Indices that differ in the last one alone, by the last ones and those before.
+-- Indices that differ only in the last one, compared by the last ones and those before.
 use Rattle.std.proofs.Common.{◌≡◌, refl, ap, ◌∙◌, sym, eq-eqb, ne_eqb}
 use Rattle.std.proofs.Math.Bool.{and-false}
 use Rattle.std.proofs.lemmas.List.{nil_from_length}
@@ -18,7 +18,7 @@ swapped true b c = refl
 swapped false true c = refl
 swapped false false c = refl
 
--- where both are taken apart at the last index, they differ in the last one alone if those differ and those before are the same
+-- both lists taken apart at the last index: they differ only in the last one if the last ones differ and those before are equal
 differ_at_last : (before others : List ℕ) (i j : ℕ) →
     (not (i == j) && bytes_eq before others) ≡ differ_last (before ++ i ∷ []) (others ++ j ∷ [])
 differ_at_last [] [] i j = and_true (not (i == j))
@@ -37,13 +37,13 @@ taken_apart : (xs ys before others : List ℕ) (i j : ℕ) → xs ≡ before ++ 
 taken_apart xs ys before others i j one other =
     differ_at_last before others i j ∙ ap (λ zs. differ_last zs (others ++ j ∷ [])) (sym one) ∙ ap (differ_last xs) (sym other)
 
--- where the last ones differ, it hangs on those before
+-- if the last ones differ, the result depends on those before
 pub last_differ : (xs ys before others : List ℕ) (i j : ℕ) (same : Bool) → xs ≡ before ++ i ∷ [] → ys ≡ others ++ j ∷ [] →
     (i ≡ j → ⊥) → same ≡ bytes_eq before others → same ≡ differ_last xs ys
 last_differ xs ys before others i j same one other differ by =
     by ∙ sym (ap (λ b. not b && bytes_eq before others) (ne_eqb i j differ)) ∙ taken_apart xs ys before others i j one other
 
--- where they do not, nor do the indices so
+-- if the last ones are equal, the result is that they do not
 pub last_same : (xs ys before others : List ℕ) (i j : ℕ) → xs ≡ before ++ i ∷ [] → ys ≡ others ++ j ∷ [] →
     i ≡ j → not (i == j) ≡ differ_last xs ys
 last_same xs ys before others i j one other same =
@@ -54,6 +54,6 @@ ends_none [] = refl
 ends_none (x ∷ []) = refl
 ends_none (x ∷ z ∷ zs) = refl
 
--- with none there is no last one
+-- an empty list has no last index
 pub none_differ : (xs ys : List ℕ) → length ys ≡ 0 → false ≡ differ_last xs ys
 none_differ xs ys none = ends_none xs ∙ ap (differ_last xs) (sym (nil_from_length ys none))

@@ -9,7 +9,7 @@ use Rattle.job_story.specs.Limit.{is_start, is_end}
 
 -- ---- what happens to copies
 
--- an event of a copy, or of a task below it
+-- an event of a copy, or of a descendant of the copy
 pub record Sight : Type 0 where
   pub copy : Label
   pub tick : ℕ
@@ -18,7 +18,7 @@ pub record Sight : Type 0 where
 abbrev pub sight : Label → Event → Sight
 sight copy e = record { copy = copy; tick = e.tick; what = e.what }
 
--- a task of this name starts
+-- a task with this name starts
 abbrev pub starts_copy : List ℕ → Event → Bool
 starts_copy name e = is_start e.what && bytes_eq e.task.name name
 
@@ -26,12 +26,12 @@ starts_copy name e = is_start e.what && bytes_eq e.task.name name
 abbrev pub ends_copy : Label → Event → Bool
 ends_copy copy e = is_end e.what && same_label e.task copy
 
--- the copy that an event is of: one that has started, or the one that starts with it
+-- the copy that an event is of: one that has started, or the one that starts with this event
 abbrev pub copy_at : List ℕ → Option Label → Event → Option Label
 copy_at name None e = if starts_copy name e then Some e.task else None
 copy_at name (Some copy) e = Some copy
 
--- the copy that has not ended after an event of it
+-- the copy, if it has not ended after an event of it
 abbrev pub still_open : Option Label → Event → Option Label
 still_open None e = None
 still_open (Some copy) e = if ends_copy copy e then None else Some copy
@@ -40,8 +40,9 @@ abbrev pub with_sight : Option Label → Event → List Sight → List Sight
 with_sight None e others = others
 with_sight (Some copy) e others = sight copy e ∷ others
 
--- The events of the tasks of a name and of all tasks below them, by the events of a story in the order of the walk: there they stand from the
--- task's start to its end. One of these tasks may have started, and not have ended.
+-- The events of the tasks with this name and of all their descendants, given the events of a story in the order of the walk:
+-- there they are between the start and the end of the task. `current` is such a task that has started and has not ended, if
+-- there is one.
 abbrev pub sights_from : List ℕ → Option Label → List Event → List Sight
 sights_from name current [] = []
 sights_from name current (e ∷ es) =
@@ -52,7 +53,7 @@ sights_of name es = sights_from name None es
 
 -- ---- which of them meet
 
--- an exception has a leaf other than `Cancelled`
+-- an exception is or contains one other than `Cancelled`
 abbrev mutual
   pub is_failure : Exc → Bool
   is_failure cancelled = false
@@ -64,19 +65,19 @@ abbrev mutual
   some_failure no_parts = false
   some_failure (part e es) = is_failure e || some_failure es
 
--- it cancels something: a scope or nursery by `cancel`, or its nursery by ending with an exception
+-- the event cancels something: a scope or nursery by a `cancel`, or the task's nursery because the task ends with an exception
 abbrev pub cancels_some : What → Bool
 cancels_some (happens (cancels label)) = true
 cancels_some (ends home (Some e)) = is_failure e
 cancels_some _ = false
 
--- it is neither a start nor a cancellation
+-- the event is neither a start nor a cancellation
 abbrev pub acts : What → Bool
 acts (starts home lent) = false
 acts (happens (is_cancelled by since in_cleanup)) = false
 acts _ = true
 
--- indices that differ in the last one alone
+-- indices that differ only in the last one
 abbrev pub differ_last : List ℕ → List ℕ → Bool
 differ_last (i ∷ []) (j ∷ []) = not (i == j)
 differ_last (i ∷ is) (j ∷ js) = i == j && differ_last is js
@@ -90,21 +91,21 @@ within hair t u = nat_le (t - hair) u && nat_le (u - hair) t
 abbrev pub meets : ℕ → Sight → Sight → Bool
 meets hair a b = cancels_some a.what && (acts b.what && (differ_last a.copy.indices b.copy.indices && within hair a.tick b.tick))
 
--- ---- the first that do
+-- ---- the first meeting
 
--- the copy that cancels something and when, and the one that acts
+-- the copy that cancels something and when, and the copy that acts
 pub record Meeting : Type 0 where
   pub one : Label
   pub other : Label
   pub tick : ℕ
 
--- with the first of these that an event meets
+-- the first of these events that an event meets
 abbrev pub first_met : ℕ → Sight → List Sight → Option Meeting
 first_met hair a [] = None
 first_met hair a (b ∷ bs) =
     if meets hair a b then Some (record { one = a.copy; other = b.copy; tick = a.tick }) else first_met hair a bs
 
--- the earlier of two, the first where both are in the same tick
+-- the earlier of two meetings, or the first if both are at the same tick
 abbrev pub earlier : Option Meeting → Option Meeting → Option Meeting
 earlier None m = m
 earlier (Some m) None = Some m
@@ -114,6 +115,6 @@ abbrev pub first_among : ℕ → List Sight → List Sight → Option Meeting
 first_among hair all [] = None
 first_among hair all (a ∷ others) = earlier (first_met hair a all) (first_among hair all others)
 
--- the first meeting of copies of a name, by the events of a story in the order of the walk
+-- the earliest meeting of copies with this name, given the events of a story in the order of the walk
 abbrev pub meeting_in : ℕ → List ℕ → List Event → Option Meeting
 meeting_in hair name es = first_among hair (sights_of name es) (sights_of name es)

@@ -1,4 +1,4 @@
--- Sights and meetings as the code holds them.
+-- The events of copies and the meetings of the code, as the definitions see them.
 use Rattle.std.specs.Prelude.{Option}
 use Rattle.std.specs.Borrow.{Bor}
 use Rattle.std.specs.Option.{option_map}
@@ -15,7 +15,7 @@ label_seen label = option_map (λ (l : Bor Label). l.now) label
 abbrev pub sight_held : Sight → told.Sight
 sight_held s = record { copy = s.copy.now; tick = s.event.now.tick; what = what_of s.event.now.what }
 
--- a meeting with labels that are borrowed
+-- a meeting with borrowed labels
 abbrev pub met_held : Met → told.Meeting
 met_held m = record { one = m.one.now; other = m.other.now; tick = m.tick }
 

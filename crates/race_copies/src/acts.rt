@@ -6,7 +6,8 @@ ghost use Rattle.race_copies.specs.Copies.{is_failure, some_failure, cancels_som
 use exc_groups::Exc;
 use job_story::{Happening, What};
 
-// Whether an event cancels something: a scope or nursery by `cancel`, or the task's nursery by ending with an exception.
+// Returns whether an event cancels something: a scope or nursery by a `cancel`, or the task's nursery because the task
+// ends with an exception other than `Cancelled`.
 pub(crate) fn cancels_some(what: &What) -> bool
     ensures { result ≡ cancels_some (what_of what.now) }
 {
@@ -17,7 +18,7 @@ pub(crate) fn cancels_some(what: &What) -> bool
     }
 }
 
-// Whether an event is neither a start nor a cancellation.
+// Returns whether an event is neither a start nor a cancellation.
 pub(crate) fn acts(what: &What) -> bool
     ensures { result ≡ acts (what_of what.now) }
 {
@@ -28,7 +29,7 @@ pub(crate) fn acts(what: &What) -> bool
     }
 }
 
-// Whether an exception has a leaf other than `Cancelled`.
+// Returns whether an exception is or contains one other than `Cancelled`.
 #[cycle(leaves)]
 fn is_failure(exc: &Exc) -> bool
     ensures { result ≡ is_failure (exc_of exc.now) }
@@ -40,7 +41,7 @@ fn is_failure(exc: &Exc) -> bool
     }
 }
 
-// Whether one of the parts of a group has one.
+// Returns whether one of the parts of a group is or contains such an exception.
 #[cycle(leaves)]
 fn some_failure(parts: &[Exc]) -> bool
     ensures { result ≡ some_failure (excs_of parts.now) }

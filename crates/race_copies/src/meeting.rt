@@ -14,15 +14,15 @@ use std::alloc::{AllocError, Global};
 /// Two copies of a task that meet.
 #[derive(Drop)]
 pub struct Meeting {
-    /// The copy that cancels something.
+    /// The copy that cancels something. This may be done by a descendant of the copy.
     pub one: Label,
-    /// The copy to which something happens within a hair of that.
+    /// The copy to which something happens within a hair of that. This may happen to a descendant of the copy.
     pub other: Label,
-    /// The tick in which the first one does so.
+    /// The tick at which the first copy does so.
     pub tick: u64,
 }
 
-// The same with labels that are borrowed.
+// The same with borrowed labels.
 #[derive(Clone, Copy)]
 struct Met<'e> {
     one: &'e Label,
@@ -30,9 +30,11 @@ struct Met<'e> {
     tick: u64,
 }
 
-/// The first meeting of two tasks of this name that were started together by one `start .. over`: one of them, or a task below it, cancels
-/// something, and the other, or a task below it, has an event within a hair of that which is neither a start nor a cancellation. The events
-/// are those of a story in the order of the walk, and a hair is a number of ticks. None where none meet. Want of memory is the only error.
+/// Returns the earliest meeting of two tasks with this name that one `start .. over` started together, or `None` if there is
+/// none. They meet if one of them, or a descendant of it, cancels something, and the other, or a descendant of it, has an event
+/// at most a hair earlier or later that is neither a start nor a cancellation. If several meetings are at the same tick, the
+/// first in the order of the walk is returned. `walked` are the events of a story in the order of the walk, and `hair` is a
+/// number of ticks. The only error is that memory was refused.
 pub fn meeting_of(
     alloc: Global,
     hair: u64,
@@ -52,7 +54,7 @@ pub fn meeting_of(
     }))
 }
 
-// The first meeting among the events of copies.
+// Returns the first meeting among the events of copies.
 fn first_among<'e>(hair: u64, sights: &[Sight<'e>]) -> Option<Met<'e>>
     ensures { option_map met_held result ≡ first_among hair (map sight_held sights.now) (map sight_held sights.now) }
 {
@@ -65,7 +67,7 @@ fn first_among<'e>(hair: u64, sights: &[Sight<'e>]) -> Option<Met<'e>>
     found
 }
 
-// The first of these that an event of a copy meets.
+// Returns the first of these events that an event of a copy meets.
 fn first_met<'e>(hair: u64, one: Sight<'e>, sights: &[Sight<'e>]) -> Option<Met<'e>>
     ensures { option_map met_held result ≡ first_met hair (sight_held one.entry) (map sight_held sights.now) }
 {
@@ -84,7 +86,7 @@ fn first_met<'e>(hair: u64, one: Sight<'e>, sights: &[Sight<'e>]) -> Option<Met<
     None
 }
 
-// The earlier of two meetings, the first where both are in the same tick.
+// Returns the earlier of two meetings, or the first if both are at the same tick.
 fn earlier<'e>(first: Option<Met<'e>>, second: Option<Met<'e>>) -> Option<Met<'e>>
     ensures { option_map met_held result ≡ earlier (option_map met_held first.entry) (option_map met_held second.entry) }
 {
@@ -101,7 +103,7 @@ fn earlier<'e>(first: Option<Met<'e>>, second: Option<Met<'e>>) -> Option<Met<'e
     }
 }
 
-// Whether the first of two events cancels something and the second one, of another copy, is within a hair of it.
+// Returns whether the first of two events cancels something, and the second one, of another copy, is within a hair of it.
 fn meets(hair: u64, one: Sight<'_>, other: Sight<'_>) -> bool
     ensures { result ≡ meets hair (sight_held one.entry) (sight_held other.entry) }
 {
@@ -111,14 +113,14 @@ fn meets(hair: u64, one: Sight<'_>, other: Sight<'_>) -> bool
         && within(hair, one.event.tick, other.event.tick)
 }
 
-// Whether two ticks are at most a hair apart.
+// Returns whether two ticks are at most a hair apart.
 fn within(hair: u64, t: u64, u: u64) -> bool
     ensures { result ≡ within hair t u }
 {
     t.saturating_sub(hair) <= u && u.saturating_sub(hair) <= t
 }
 
-// Whether these indices differ in the last one alone.
+// Returns whether these indices differ only in the last one.
 fn differ_last(one: &[u64], other: &[u64]) -> bool
     ensures { result ≡ differ_last one.now other.now }
 {

@@ -12,14 +12,15 @@ use job_story::{Event, What};
 use job_tree::Name;
 use std::alloc::{AllocError, Global};
 
-// An event of a copy of a task, or of a task below it.
+// An event of a copy of a task, or of a descendant of the copy.
 #[derive(Clone, Copy)]
 pub(crate) struct Sight<'e> {
     pub copy: &'e Label,
     pub event: &'e Event,
 }
 
-// The events of the tasks of a name and of all tasks below them, by the events of a story in the order of the walk.
+// Returns the events of the tasks with this name and of all their descendants, given the events of a story in the
+// order of the walk.
 pub(crate) fn sights_of<'e>(
     alloc: Global,
     name: Name,
@@ -37,7 +38,7 @@ pub(crate) fn sights_of<'e>(
     Ok(sights)
 }
 
-// Appends an event, where it is of a copy. The clause has what a loop appends later, `later`, on both sides.
+// Appends an event, if it is of a copy. The clause has what a loop appends later, `later`, on both sides.
 fn push_sight<'e>(
     sights: &mut Vec<Sight<'e>>,
     copy: Option<&'e Label>,
@@ -53,7 +54,7 @@ fn push_sight<'e>(
     Ok(())
 }
 
-// The copy that an event is of: one that has started, or the one that starts with it.
+// Returns the copy that an event is of: one that has started, or the one that starts with this event.
 fn copy_at<'e>(name: Name, current: Option<&'e Label>, event: &'e Event) -> Option<&'e Label>
     ensures { label_seen result ≡ copy_at name (label_seen current.entry) (event_of event.entry.now) }
 {
@@ -69,7 +70,7 @@ fn copy_at<'e>(name: Name, current: Option<&'e Label>, event: &'e Event) -> Opti
     }
 }
 
-// The copy that has not ended after an event of it.
+// Returns the copy, if it has not ended after an event of it.
 fn still_open<'e>(copy: Option<&'e Label>, event: &Event) -> Option<&'e Label>
     ensures { label_seen result ≡ still_open (label_seen copy.entry) (event_of event.now) }
 {
@@ -80,14 +81,14 @@ fn still_open<'e>(copy: Option<&'e Label>, event: &Event) -> Option<&'e Label>
     Some(copy)
 }
 
-// Whether a task of this name starts.
+// Returns whether a task with this name starts.
 fn starts_copy(name: Name, event: &Event) -> bool
     ensures { result ≡ starts_copy name (event_of event.now) }
 {
     matches!(event.what, What::Starts { .. }) && event.task.name() == name
 }
 
-// Whether this task ends.
+// Returns whether this task ends.
 fn ends_copy(copy: &Label, event: &Event) -> bool
     ensures { result ≡ ends_copy copy.now (event_of event.now) }
 {
