@@ -19,17 +19,17 @@ or_none : (found : Option (List (List ℕ))) → or_names found None ≡ found
 or_none None = refl
 or_none (Some names) = refl
 
--- what a search finds in all cancels, whatever cancels follow
+-- the result of a search over all cancels, whatever cancels follow
 pub whole : (found : Option (List (List ℕ))) (cs : List Cancel) →
     ((more : List Cancel) → around_stray (cs ++ more) ≡ or_names found (around_stray more)) → found ≡ around_stray cs
 whole found cs is = sym (or_none found) ∙ sym (is []) ∙ ap around_stray (append-nil cs)
 
--- nothing is found where the code holds nothing
+-- nothing is found if the code holds nothing
 held_none : (found : Option (Vec (List ℕ))) → is_some found ≡ false → names_held found ≡ None
 held_none None is = refl
 held_none (Some names) is = absurd cc
 
--- What is found in the last of three parts, where the first two, of which one is a block, have no stray `cancel`.
+-- What is found in the last of three parts, if the first two, of which one is a block, have no stray `cancel`.
 pub after_two : (ns : List (List ℕ)) (steps own : Steps) (hs cs : List Cancel) (first second third : Option (Vec (List ℕ))) →
     steps ≡ own → is_some first ≡ false → is_some second ≡ false
     → ((more : List Cancel) → around_stray (cancels_of ns steps ++ more) ≡ or_names (names_held first) (around_stray more))
@@ -54,14 +54,14 @@ pub some_read : {X : Type 0} (view : X → Tree) (x : X) (found : Option X) (rea
     read ≡ Some (view x)
 some_read view x found read gives is = subst (λ (y : Option _). Gives view y read) is gives
 
--- what could be cancelled in a job that is read, by its steps
+-- what could be cancelled in a job that is read, given its steps
 pub names_in : (names : Option (List (List ℕ))) (steps own : Steps) (name : List ℕ) (format : Format) (read : Option Tree) →
     read ≡ Some (record { format = format; name = name; steps = own }) → steps ≡ own → names ≡ around_stray (cancels_of [] steps)
     → names ≡ cancellable read
 names_in names steps own name format read is same found =
     found ∙ ap (λ (s : Steps). around_stray (cancels_of [] s)) same ∙ sym (ap cancellable is)
 
--- the size of a job that is read, by its steps
+-- the size of a job that is read, given its steps
 pub size_in : (size : ℕ) (steps own : Steps) (name : List ℕ) (format : Format) (read : Option Tree) →
     read ≡ Some (record { format = format; name = name; steps = own }) → steps ≡ own → size ≡ min (size_of steps) 18446744073709551615
     → Some (hint.Size size) ≡ size_hint read

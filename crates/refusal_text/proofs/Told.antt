@@ -1,4 +1,4 @@
--- The text that tells a refusal.
+-- The message for a refusal.
 use Rattle.std.proofs.Common.{◌≡◌, ℕ, zero, suc, ◌-◌, List, [], ◌∷◌, ◌++◌, refl, length, take, drop, min, map, ap, subst, ◌∙◌, append_assoc}
 use Rattle.std.specs.Prelude.{IfOk, Option, None, Result, Ok, Err, slice_get}
 use Rattle.std.specs.List.{before_first}
@@ -20,7 +20,7 @@ use Rattle.refusal_text.specs.Scanning.{shape_at, last_before}
 use Rattle.refusal_text.specs.Hinting.{advised, reserved_advice, syntax_hint, twice_hint, IsTwiceHint}
 use Rattle.refusal_text.specs.Explaining.{headed, shown_byte, is_newline, last_of, width_before, before, after, most_before, most_after}
 
--- what the grammar asks for after the tokens is what it asks for in the text
+-- what the grammar expects after the tokens is what it expects in the text
 pub expects : (format : Format) (text body : List ℕ) (tokens given : List Token) (fault : Option ℕ)
     (r : Result (Option Symbol) AllocError) →
     format ≡ format_of text → body ≡ drop 11 text → Lexes (length text) body tokens fault → given ≡ tokens
@@ -41,12 +41,12 @@ cut_front bytes front n m is min_is = is ∙ ap (λ (x : ℕ). take x bytes) min
 pub cut_back : (bytes back : List ℕ) (n m : ℕ) → back ≡ drop m bytes → m ≡ min n (length bytes) → back ≡ drop n bytes
 cut_back bytes back n m is min_is = is ∙ ap (λ (x : ℕ). drop x bytes) min_is ∙ drop_min n bytes
 
--- how many bytes are shown in front of a place, by its column
+-- how many bytes are shown before a place, by its column
 pub width_is : (text : List ℕ) (at column shown : ℕ) → column ≡ column_of text at → shown ≡ min (column - 1) most_before →
     shown ≡ width_before text at
 width_is text at column shown column_is is = is ∙ ap (λ (x : ℕ). min (x - 1) most_before) column_is
 
--- what is shown in front of a place, cut from the bytes up to it
+-- what is shown before a place, cut from the bytes up to it
 pub before_is : (text front last : List ℕ) (at shown : ℕ) → front ≡ take at text → shown ≡ width_before text at →
     last ≡ last_of shown front → map shown_byte last ≡ before text at
 before_is text front last at shown front_is width is =
@@ -68,7 +68,7 @@ get_drop (b ∷ bs) (suc at) = get_drop bs at
 pub first_at : (text rest : List ℕ) (at : ℕ) → rest ≡ drop at text → slice_get rest 0 ≡ slice_get text at
 first_at text rest at is = ap (λ (x : List ℕ). slice_get x 0) is ∙ get_drop text at
 
--- the first line of what is told, by the line, the column and the sentence in it
+-- the first line of the message, given the line, the column and the sentence
 pub headed_same : (job sentence wanted : List ℕ) (line line' column column' : ℕ) → line ≡ line' → column ≡ column' → sentence ≡ wanted →
     headed job line column sentence ≡ headed job line' column' wanted
 headed_same job sentence wanted line line' column column' line_is column_is is =
@@ -100,14 +100,14 @@ pieces head front back newline spaces caret h0 h1 h2 h3 h4 h5 is0 is1 is2 is3 is
     is4 ∙ ap (λ (x : List ℕ). x ++ spaces) three ∙ append_assoc head ((front ++ back) ++ newline) spaces in
     is5 ∙ ap (λ (x : List ℕ). x ++ caret) four ∙ append_assoc head (((front ++ back) ++ newline) ++ spaces) caret
 
--- what is said of the tokens that `lex` gives is said of the tokens of the text
+-- what holds of the tokens that `lex` returns holds of the tokens of the text
 pub of_tokens : (text body : List ℕ) (tokens given : List Token) (fault : Option ℕ) (Says : List Token → Type 0) → body ≡ drop 11 text
     → Lexes (length text) body tokens fault → given ≡ tokens → Says given
     → (ts : List Token) × (f : Option ℕ) × HasTokens text ts f × Says ts
 of_tokens text body tokens given fault Says is lexes same said =
     (tokens, fault, subst (λ (b : List ℕ). Lexes (length text) b tokens fault) is lexes, subst Says same said)
 
--- what helps where tokens leave the grammar
+-- the hint where tokens leave the grammar
 pub helps : (format : Format) (text : List ℕ) (at : ℕ) (given : List Token) (before shape : Option Shape) (h : Option Hint) →
     format ≡ format_of text → before ≡ last_before at None given → shape ≡ shape_at at given → h ≡ syntax_hint format given before shape
     → h ≡ syntax_hint (format_of text) given (last_before at None given) (shape_at at given)
@@ -115,7 +115,7 @@ helps format text at given before shape h of before_is shape_is is =
     is ∙ ap (syntax_hint format given before) shape_is ∙ ap (λ (b : Option Shape). syntax_hint format given b (shape_at at given)) before_is
     ∙ ap (λ (f : Format). syntax_hint f given (last_before at None given) (shape_at at given)) of
 
--- what helps where a name is reserved
+-- the hint where a name is reserved
 pub helps_reserved : (at : ℕ) (given : List Token) (before shape : Option Shape) (a : Option Advice) (h : Option Hint) →
     before ≡ last_before at None given → shape ≡ shape_at at given → a ≡ reserved_advice before shape → h ≡ advised a
     → h ≡ advised (reserved_advice (last_before at None given) (shape_at at given))
@@ -123,7 +123,7 @@ helps_reserved at given before shape a h before_is shape_is a_is is =
     is ∙ ap advised (a_is ∙ ap (reserved_advice before) shape_is
     ∙ ap (λ (b : Option Shape). reserved_advice b (shape_at at given)) before_is)
 
--- what helps where a name is given twice, found by the tokens of the text and what they are for
+-- the hint where a name is given twice, found by the tokens of the text and their roles
 pub helps_twice : (format : Format) (text body : List ℕ) (tokens given : List Token) (roles shown : List Role) (fault stop : Option ℕ)
     (at : ℕ)
     (shape : Option Shape) (h : Option Hint) → format ≡ format_of text → body ≡ drop 11 text → Lexes (length text) body tokens fault

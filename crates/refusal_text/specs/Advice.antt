@@ -1,4 +1,4 @@
--- Hints that are the same sentence wherever they are given.
+-- Hints that are always the same sentence.
 use Rattle.std.specs.Prelude.{ℕ, ◌||◌, if◌then◌else◌, List, Option, Some, None, codes}
 use Rattle.std.specs.Str.{bytes_eq}
 use Rattle.refusal_text.specs.declared.advice.Advice.{Advice}
@@ -32,7 +32,7 @@ advice_text advice.OpenNursery = codes "Trio's `open_nursery` is `nursery NAME {
 advice_text advice.StartSoon = codes "Trio's `start_soon` is `start NAME { .. }` here, right inside a nursery\n"
 advice_text advice.SleepForever = codes "Trio's `sleep_forever` is `forever;` here\n"
 
--- what stands in a job for a word of a program on Trio
+-- what a job has in place of a word of a program on Trio
 abbrev pub trio_advice : List ℕ → Option Advice
 trio_advice word =
     if bytes_eq word (codes "move_on_after") || bytes_eq word (codes "move_on_at") then Some advice.MoveOn

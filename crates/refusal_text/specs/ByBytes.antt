@@ -1,4 +1,4 @@
--- Hints that the bytes of a text give.
+-- Hints by the bytes of a text.
 use Rattle.std.specs.Prelude.{ℕ, ◌-◌, Bool, false, ◌&&◌, ◌||◌, ◌==◌, nat_eq, nat_lt, nat_le, if◌then◌else◌, List, [], ◌∷◌, length, take, Option, Some, None, codes, slice_get}
 use Rattle.std.specs.List.{starts_with}
 use Rattle.std.specs.Str.{bytes_eq}
@@ -7,7 +7,7 @@ use Rattle.nursery_app.specs.Feed.{feed_parts}
 use Rattle.refusal_text.specs.declared.advice.Advice.{Advice}
 use Rattle.refusal_text.specs.declared.advice.Advice.TheVariants as advice
 
--- a line that is exactly `%input` begins at a place or before it
+-- a line that is exactly `%input` begins at or before this place
 abbrev pub is_in_feed : List ℕ → ℕ → Bool
 is_in_feed text at = nat_lt (length (feed_parts text).0) (length text) && nat_le (length (feed_parts text).0) at
 
@@ -20,26 +20,26 @@ has_order_mark text =
     bytes_eq (take 3 text) (239 ∷ 187 ∷ 191 ∷ [])
     || (bytes_eq (take 2 text) (255 ∷ 254 ∷ []) || bytes_eq (take 2 text) (254 ∷ 255 ∷ []))
 
--- where a byte is not ASCII
+-- the hint for a byte that is not ASCII
 abbrev pub ascii_advice : List ℕ → ℕ → Option Advice
 ascii_advice text at = if has_order_mark text then Some advice.ByteOrderMark else feed_advice text at
 
--- the first line has other line ends
+-- the first line ends with a carriage return and a newline
 abbrev pub has_returns : List ℕ → Bool
 has_returns text = starts_with nat_eq text (codes "trio-job 1\r\n") || starts_with nat_eq text (codes "trio-job 2\r\n")
 
--- a blank follows the number of the first line
+-- a blank follows the number in the first line
 abbrev pub has_blank : List ℕ → Bool
 has_blank text = starts_with nat_eq text (codes "trio-job 1 ") || starts_with nat_eq text (codes "trio-job 2 ")
 
--- where the first line is none of those with which a job text begins
+-- the hint for a text that begins with the first line of neither format
 abbrev pub version_advice : List ℕ → Option Advice
 version_advice text =
     if has_returns text then Some advice.CarriageReturn
     else if has_blank text then Some advice.BlankAfterVersion
     else None
 
--- ---- where no token begins
+-- ---- the hint where no token begins
 
 -- `.`, after this byte
 abbrev pub dot_advice : Option ℕ → Advice
@@ -51,7 +51,7 @@ abbrev pub hyphen_advice : Option ℕ → Option Advice
 hyphen_advice None = None
 hyphen_advice (Some before) = if is_word_byte before then Some advice.NoHyphens else None
 
--- a byte that stands for itself in other languages
+-- the hint for a byte that other languages use
 abbrev pub plain_advice : ℕ → Option Advice
 plain_advice b =
     if b == 35 || b == 47 then Some advice.NoComments
@@ -62,7 +62,7 @@ plain_advice b =
     else if b == 42 then Some advice.NoStars
     else None
 
--- a byte, after another
+-- the hint for a byte, given the byte before it
 abbrev pub byte_advice : (before : Option ℕ) → (byte : Option ℕ) → Option Advice
 byte_advice before None = None
 byte_advice before (Some b) =

@@ -1,4 +1,4 @@
--- How a refusal is told to the user: its place, a sentence, the line of the job text, and a caret under the place.
+-- How a refusal is explained to the user: its place, a sentence, the line of the job text, and a caret under the place.
 use Rattle.std.specs.Prelude.{◌≡◌, ℕ, ◌-◌, ◌==◌, ◌&&◌, ◌||◌, Bool, min, nat_le, if◌then◌else◌, List, [], ◌∷◌, ◌++◌, length, take, drop, map, replicate, Option, Some, None, codes, decimal, slice_get}
 use Rattle.std.specs.List.{before_first}
 use Rattle.job_syntax.specs.declared.symbol.Symbol.{Symbol}
@@ -13,14 +13,14 @@ use Rattle.refusal_text.specs.Hinting.{IsHint}
 use Rattle.refusal_text.specs.Scopes.{IsListed}
 use Rattle.refusal_text.specs.Sentences.{sentence_of}
 
--- the most bytes of a line that are shown before a place, and from it on
+-- the maximum number of bytes of a line that are shown before a place, and from that place on
 abbrev pub most_before : ℕ
 most_before = 60
 
 abbrev pub most_after : ℕ
 most_after = 40
 
--- a byte as it is shown: a tab and a carriage return as a space, and what else is not printable as `?`
+-- a byte as it is shown: a tab and a carriage return as a space, and any other byte that is not printable as `?`
 abbrev pub shown_byte : ℕ → ℕ
 shown_byte b = if nat_le 32 b && nat_le b 126 then b else if b == 9 || b == 13 then 32 else 63
 
@@ -30,15 +30,15 @@ is_newline b = b == 10
 abbrev pub last_of : ℕ → List ℕ → List ℕ
 last_of n bytes = drop (length bytes - n) bytes
 
--- how many bytes of its line are shown before a place
+-- how many bytes of the line are shown before a place
 abbrev pub width_before : List ℕ → ℕ → ℕ
 width_before text at = min (column_of text at - 1) most_before
 
--- what is shown of its line before a place
+-- what is shown of the line before a place
 abbrev pub before : List ℕ → ℕ → List ℕ
 before text at = map shown_byte (last_of (width_before text at) (take at text))
 
--- what is shown of its line from a place on
+-- what is shown of the line from a place on
 abbrev pub after : List ℕ → ℕ → List ℕ
 after text at = map shown_byte (before_first is_newline (take most_after (drop at text)))
 
@@ -50,14 +50,14 @@ headed job line column sentence = job ++ codes ":" ++ decimal line ++ codes ":" 
 abbrev pub pointed : List ℕ → ℕ → List ℕ
 pointed text at = before text at ++ after text at ++ codes "\n" ++ replicate (width_before text at) 32 ++ codes "^\n"
 
--- what is said of a place
+-- the message about a place
 abbrev pub pointed_message : List ℕ → List ℕ → ℕ → List ℕ → List ℕ
 pointed_message job text at sentence = headed job (line_of text at) (column_of text at) sentence ++ pointed text at
 
 abbrev pub meant_line : List ℕ → List ℕ
 meant_line bytes = codes "did you mean `" ++ map shown_byte bytes ++ codes "`?\n"
 
--- something, and a place as `JOB:LINE:COLUMN`
+-- some words, and a place as `JOB:LINE:COLUMN`
 abbrev pub place_line : List ℕ → List ℕ → List ℕ → ℕ → List ℕ
 place_line what job text at = what ++ job ++ codes ":" ++ decimal (line_of text at) ++ codes ":" ++ decimal (column_of text at)
     ++ codes "\n"
@@ -66,7 +66,7 @@ place_line what job text at = what ++ job ++ codes ":" ++ decimal (line_of text 
 abbrev pub size_line : ℕ → List ℕ
 size_line n = codes "the job has " ++ decimal n ++ codes " steps\n"
 
--- the line that tells a hint
+-- the line of a hint
 abbrev pub hint_line : List ℕ → List ℕ → Hint → List ℕ
 hint_line job text (hint.Advice a) = advice_text a
 hint_line job text (hint.Meant keyword) = meant_line (spelling keyword)
@@ -74,7 +74,7 @@ hint_line job text (hint.OpenSince at) = place_line (codes "the innermost block 
 hint_line job text (hint.GivenAt at) = place_line (codes "it was first given at ") job text at
 hint_line job text (hint.Size n) = size_line n
 
--- the line of what helps, where something does
+-- the line of a hint, if there is one
 abbrev pub hint_of : List ℕ → List ℕ → Option Hint → List ℕ
 hint_of job text None = []
 hint_of job text (Some h) = hint_line job text h
@@ -87,7 +87,7 @@ abbrev pub more_quoted : List (List ℕ) → List ℕ
 more_quoted [] = []
 more_quoted (n ∷ ns) = codes ", " ++ quoted n ++ more_quoted ns
 
--- the line that lists what could be cancelled at a place, where it is listed
+-- the line that lists what could be cancelled at a place, if it is to be listed
 abbrev pub names_line : List (List ℕ) → List ℕ
 names_line [] = codes "no scope or nursery is around this `cancel`\n"
 names_line (n ∷ ns) = codes "what can be cancelled here: " ++ quoted n ++ more_quoted ns ++ codes "\n"
@@ -96,8 +96,8 @@ abbrev pub names_of : Option (List (List ℕ)) → List ℕ
 names_of None = []
 names_of (Some names) = names_line names
 
--- The text that tells a refusal of a job text: its sentence is that of its kind, of the byte at the place, and of what the
--- grammar asks for. What may help follows it, and a list of what could be cancelled.
+-- The message for a refusal of a job text: its sentence depends on its kind, on the byte at the place, and on what the
+-- grammar expects. A hint follows, and a list of what could be cancelled.
 abbrev pub Tells : List ℕ → List ℕ → JobFault → List ℕ → Type 0
 Tells job text fault message =
     (symbol : Option Symbol) × (help : Option Hint) × (names : Option (List (List ℕ)))

@@ -1,4 +1,4 @@
--- What may help beside the sentence of a refusal.
+-- The hint that is added to the sentence of a refusal.
 use Rattle.std.specs.Prelude.{◌≡◌, ℕ, ◌-◌, Bool, true, false, is_some, ◌==◌, ◌&&◌, if◌then◌else◌, List, [], length, min, Option, Some, None, slice_get}
 use Rattle.job_tree.specs.Tree.{Tree}
 use Rattle.job_tree.specs.Names.{size_of}
@@ -39,7 +39,7 @@ or_advice (Some a) other = Some a
 
 -- ---- words
 
--- what stands in a job for a token that is a word of a program on Trio
+-- what a job has in place of a token that is a word of a program on Trio
 abbrev pub word_advice : Option Shape → Option Advice
 word_advice shape = shape >>= λ s. word_in s >>= λ w. trio_advice w
 
@@ -73,9 +73,10 @@ is_head_word shape = if_keyword is_head (keyword_in shape)
 abbrev pub gives_name : Option Shape → Bool
 gives_name shape = if_keyword is_named (keyword_in shape)
 
--- ---- where no token begins
+-- ---- the hint where no token begins
 
--- by the token before the place, the byte before it and the byte there: a word of Trio's that is called, or else what the bytes say
+-- given the token before the place, the byte before it and the byte there: the hint for a word of Trio that is called, or
+-- otherwise for the bytes
 abbrev pub called_or_byte : Option Shape → Option ℕ → Option ℕ → Option Advice
 called_or_byte word before None = byte_advice before None
 called_or_byte word before (Some b) =
@@ -88,26 +89,26 @@ abbrev pub IsTokenHint : List ℕ → ℕ → Option Hint → Type 0
 IsTokenHint text at h = (tokens : List Token) × (fault : Option ℕ) × HasTokens text tokens fault
     × (h ≡ advised (token_advice text at (last_before at None tokens)))
 
--- ---- where tokens leave the grammar
+-- ---- the hint where tokens leave the grammar
 
--- that a text is of format 1, and in format 2 something would follow
+-- the text has format 1, and in format 2 the token would be allowed
 abbrev pub is_newer : Format → Rest → Bool
 is_newer One rest = is_some rest
 is_newer Two rest = false
 
--- the keyword that a token nearly is, of those that may stand for the symbol
+-- the keyword that a token nearly is, among those that may be read for the nonterminal
 abbrev pub nearly : Format → Symbol → Shape → Option Hint
 nearly format symbol shape = word_in shape >>= λ bytes. first_near (words_for format symbol) bytes >>= λ k. Some (hint.Meant k)
 
--- after a name that is a word of a head, the name was left out
+-- after a name that is a word of a head, the name is missing
 abbrev pub unnamed_after : Option Shape → Option Advice
 unnamed_after before = if is_head_word before then Some advice.Unnamed else None
 
--- a word of a head stands too late in it
+-- a word of a head that comes too late in it
 abbrev pub order_advice : Shape → Option Advice
 order_advice shape = if is_head_word (Some shape) then Some advice.HeadOrder else None
 
--- a sentence on a token where one for the symbol was to stand, after another token
+-- the sentence for a token that cannot be read for the nonterminal, after another token
 abbrev pub symbol_advice : Symbol → Option Shape → Shape → Option Advice
 symbol_advice symbol.Given before shape = Some advice.Unnamed
 symbol_advice symbol.Scope before shape = unnamed_after before
@@ -127,13 +128,15 @@ abbrev pub or_nearly : Option Advice → Format → Symbol → Shape → Option 
 or_nearly None format symbol shape = nearly format symbol shape
 or_nearly (Some a) format symbol shape = Some (hint.Advice a)
 
--- that in format 2 a token may stand for the symbol, or a sentence, or the keyword that it nearly is, of those that may stand for the symbol
+-- the hint that a token is allowed in format 2, or a sentence, or the keyword that the token nearly is, among those that may be
+-- read for the nonterminal
 abbrev pub meant_by : Format → Option Symbol → Option Shape → Shape → Option Hint
 meant_by format symbol before shape = symbol >>= λ s.
     if is_newer format (next Two s shape) then Some (hint.Advice advice.NewerFormat)
     else or_nearly (symbol_advice s before shape) format s shape
 
--- where tokens leave the grammar: with a token at that place what was meant, and with none the block that is open
+-- the hint where tokens leave the grammar: for a token at that place, what was meant; at the end of the text, the block that is
+-- open
 abbrev pub syntax_hint : Format → List Token → Option Shape → Option Shape → Option Hint
 syntax_hint format tokens before None = slice_get (open_in [] tokens) 0 >>= λ at. Some (hint.OpenSince at)
 syntax_hint format tokens before (Some shape) = meant_by format (expected_in format whole_job tokens) before shape
@@ -142,9 +145,9 @@ abbrev pub IsSyntaxHint : List ℕ → ℕ → Option Hint → Type 0
 IsSyntaxHint text at h = (tokens : List Token) × (fault : Option ℕ) × HasTokens text tokens fault
     × (h ≡ syntax_hint (format_of text) tokens (last_before at None tokens) (shape_at at tokens))
 
--- ---- where a name is reserved
+-- ---- the hint where a name is reserved
 
--- a word of a head stands where a name is to be given
+-- a word of a head where a name is to be given
 abbrev pub reserved_advice : Option Shape → Option Shape → Option Advice
 reserved_advice before shape = if gives_name before && is_head_word shape then Some advice.Unnamed else None
 
@@ -152,9 +155,9 @@ abbrev pub IsReservedHint : List ℕ → ℕ → Option Hint → Type 0
 IsReservedHint text at h = (tokens : List Token) × (fault : Option ℕ) × HasTokens text tokens fault
     × (h ≡ advised (reserved_advice (last_before at None tokens) (shape_at at tokens)))
 
--- ---- where a job is too large
+-- ---- the hint where a job is too large
 
--- how many step instances it has, as far as 64 bits tell
+-- the number of step instances of a job, or the maximum `u64` if it has more
 abbrev pub size_hint : Option Tree → Option Hint
 size_hint None = None
 size_hint (Some job) = Some (hint.Size (min (size_of job.steps) 18446744073709551615))
@@ -163,9 +166,9 @@ abbrev pub IsSizeHint : List ℕ → Option Hint → Type 0
 IsSizeHint text h = (tokens : List Token) × (fault : Option ℕ) × HasTokens text tokens fault
     × (h ≡ size_hint (job_at (format_of text) (shapes_of tokens)))
 
--- ---- where a name is given twice
+-- ---- the hint where a name is given twice
 
--- the place at which the name at a place was first given
+-- where the name at a place was first given
 abbrev pub twice_hint : List Token → List Role → Option Shape → Option Hint
 twice_hint tokens roles shape = shape >>= λ s. word_in s >>= λ name. first_given name tokens roles >>= λ at. Some (hint.GivenAt at)
 
@@ -175,7 +178,7 @@ IsTwiceHint text at h =
     × (fault_at (format_of text) (length text) whole_job tokens ≡ None → roles ≡ roles_at (format_of text) whole_job tokens)
     × (h ≡ twice_hint tokens roles (shape_at at tokens))
 
--- what helps with a refusal of that kind at a place, where something does
+-- the hint for a refusal of this kind at a place, if there is one
 abbrev pub IsHint : JobKind → List ℕ → ℕ → Option Hint → Type 0
 IsHint kind.TooLong text at h = h ≡ advised (feed_advice text at)
 IsHint kind.NotAscii text at h = h ≡ advised (ascii_advice text at)

@@ -1,4 +1,4 @@
--- What tokens have at a place, which blocks they leave open, and where they give a name.
+-- The token at a place, the blocks that tokens leave open, and where they give a name.
 use Rattle.std.specs.Prelude.{ℕ, ◌==◌, nat_lt, Bool, false, if◌then◌else◌, List, [], ◌∷◌, drop, Option, Some, None}
 use Rattle.std.specs.Str.{bytes_eq}
 use Rattle.job_tokens.specs.declared.token.Mark.{Mark}
@@ -14,7 +14,7 @@ abbrev pub shape_at : ℕ → List Token → Option Shape
 shape_at at [] = None
 shape_at at (t ∷ ts) = if t.at == at then Some t.shape else shape_at at ts
 
--- the last token before a place, or what is given where none is
+-- the last token before a place, or `found` if there is none
 abbrev pub last_before : ℕ → Option Shape → List Token → Option Shape
 last_before at found [] = found
 last_before at found (t ∷ ts) = if nat_lt t.at at then last_before at (Some t.shape) ts else found

@@ -1,4 +1,4 @@
--- What could be cancelled where a `cancel` names nothing around it.
+-- What could be cancelled where a `cancel` names no enclosing scope or nursery.
 use Rattle.std.specs.Prelude.{◌≡◌, ℕ, List, [], ◌∷◌, ◌++◌, Option, Some, None, if◌then◌else◌}
 use Rattle.std.specs.Option.{option_map}
 use Rattle.std.specs.Global.{Vec}
@@ -13,7 +13,7 @@ use Rattle.job_grammar.specs.declared.fault.JobKind.TheVariants as kind
 use Rattle.job_grammar.specs.Refusals.{HasTokens, format_of}
 use Rattle.refusal_text.specs.declared.scopes.Around.{Around, Nothing, Inside'}
 
--- the names around the first `cancel` whose name is not among them, the innermost first
+-- the names that enclose the first `cancel` whose name is not among them, the innermost first
 abbrev pub around_stray : List Cancel → Option (List (List ℕ))
 around_stray [] = None
 around_stray (c ∷ cs) = if is_among c.round c.name then around_stray cs else Some c.round
@@ -28,7 +28,7 @@ abbrev pub IsCancellable : List ℕ → Option (List (List ℕ)) → Type 0
 IsCancellable text names = (tokens : List Token) × (fault : Option ℕ) × HasTokens text tokens fault
     × (names ≡ cancellable (job_at (format_of text) (shapes_of tokens)))
 
--- what is listed beside a refusal of that kind, where something is
+-- what is listed with a refusal of this kind, if anything
 abbrev pub IsListed : JobKind → List ℕ → Option (List (List ℕ)) → Type 0
 IsListed kind.NotEnclosing text names = IsCancellable text names
 IsListed kind.TooLong text names = names ≡ None
@@ -43,9 +43,9 @@ IsListed kind.Reserved text names = names ≡ None
 IsListed kind.TooLarge text names = names ≡ None
 IsListed kind.NoMemory text names = names ≡ None
 
--- ---- as the code holds them
+-- ---- the values of the code
 
--- the names of the scopes and nurseries around a block, the innermost first
+-- the names of the scopes and nurseries that enclose a block, the innermost first
 abbrev pub names_around : Around → List (List ℕ)
 names_around Nothing = []
 names_around (Inside' name p outer) = name.now ∷ names_around outer
@@ -53,7 +53,7 @@ names_around (Inside' name p outer) = name.now ∷ names_around outer
 abbrev pub names_held : Option (Vec (List ℕ)) → Option (List (List ℕ))
 names_held names = option_map (λ v. v.items) names
 
--- what was found, or else what follows finds
+-- what was found, or otherwise what is found later
 abbrev pub or_names : Option (List (List ℕ)) → Option (List (List ℕ)) → Option (List (List ℕ))
 or_names None others = others
 or_names (Some names) others = Some names

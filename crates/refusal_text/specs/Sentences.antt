@@ -15,7 +15,7 @@ token_sentence (Some b) =
     else if is_letter b then codes "this word has more than 32 bytes"
     else codes "a word, a number, a string or one of `{`, `}` and `;` was expected"
 
--- what the grammar asks for at a place; none where it asks for the text's end
+-- what the grammar expects at a place; `None` is the end of the text
 abbrev pub expected_sentence : Option Symbol → List ℕ
 expected_sentence None = codes "expected the text's end: nothing may follow the job's `}`"
 expected_sentence (Some symbol.Job) = codes "expected `job NAME { .. }`"
@@ -40,7 +40,7 @@ expected_sentence (Some symbol.Text) = codes "expected a string, as `\"error\"`"
 expected_sentence (Some symbol.Open) = codes "expected `{`"
 expected_sentence (Some symbol.Semicolon) = codes "expected `;`"
 
--- what is wrong at a place with that byte (none is the text's end), where the grammar asks for that
+-- what is wrong at a place with this byte (`None` is the end of the text), where the grammar expects this
 abbrev pub sentence_of : JobKind → Option ℕ → Option Symbol → List ℕ
 sentence_of TooLong byte asked = codes "the job text has more than 65536 bytes"
 sentence_of NotAscii byte asked = codes "this byte is not ASCII"

@@ -3,7 +3,7 @@ ghost use Rattle.refusal_text.specs.Advice.{advice_text, trio_advice};
 
 use job_tree::Name;
 
-/// A hint that is the same sentence wherever it is given.
+/// A hint that is always the same sentence.
 #[derive(Clone, Copy)]
 pub(crate) enum Advice {
     /// The first line ends with a carriage return and a newline.
@@ -14,7 +14,7 @@ pub(crate) enum Advice {
     ByteOrderMark,
     /// The text is a feed: its input follows the job.
     Feed,
-    /// What stands there begins a comment in other languages.
+    /// What is there begins a comment in other languages.
     NoComments,
     /// A fraction of a tick.
     WholeTicks,
@@ -26,13 +26,13 @@ pub(crate) enum Advice {
     NoHyphens,
     /// Parentheses after a word.
     NoParentheses,
-    /// The colon in front of a block of Python.
+    /// The colon before a block of Python.
     NoColons,
-    /// Several exceptions of one handler.
+    /// Several exceptions in one handler.
     OneException,
     /// The star of `except*`.
     NoStars,
-    /// What stands there may stand there in format 2.
+    /// What is there would be allowed in format 2.
     NewerFormat,
     /// A scope, nursery, start or job without a name.
     Unnamed,
@@ -55,7 +55,7 @@ pub(crate) enum Advice {
 }
 
 impl Advice {
-    // The sentence, with its newline.
+    // Returns the sentence, with its newline.
     pub fn text(self) -> &'static str
         ensures { result.now ≡ advice_text self }
     {
@@ -121,7 +121,7 @@ impl Advice {
     }
 }
 
-// What stands in a job for a word of a program on Trio.
+// Returns what a job has in place of a word of a program on Trio.
 pub(crate) fn trio_advice(word: Name) -> Option<Advice>
     ensures { result ≡ trio_advice word }
 {

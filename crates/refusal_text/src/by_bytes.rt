@@ -5,7 +5,7 @@ use crate::advice::Advice;
 use job_tree::{is_digit, is_word_byte};
 use nursery_app::split_feed;
 
-// What helps where the text goes on with its input.
+// Returns the hint for a text that continues with its input.
 pub(crate) fn feed_advice(text: &[u8], at: usize) -> Option<Advice>
     ensures { result ≡ feed_advice text.now at }
 {
@@ -15,7 +15,7 @@ pub(crate) fn feed_advice(text: &[u8], at: usize) -> Option<Advice>
     None
 }
 
-// Whether a line that is exactly `%input` begins at a place or before it.
+// Returns whether a line that is exactly `%input` begins at or before this place.
 fn is_in_feed(text: &[u8], at: usize) -> bool
     ensures { result ≡ is_in_feed text.now at }
 {
@@ -23,7 +23,7 @@ fn is_in_feed(text: &[u8], at: usize) -> bool
     job.len() < text.len() && job.len() <= at
 }
 
-// What helps where a byte is not ASCII.
+// Returns the hint for a byte that is not ASCII.
 pub(crate) fn ascii_advice(text: &[u8], at: usize) -> Option<Advice>
     ensures { result ≡ ascii_advice text.now at }
 {
@@ -33,7 +33,7 @@ pub(crate) fn ascii_advice(text: &[u8], at: usize) -> Option<Advice>
     feed_advice(text, at)
 }
 
-// Whether the text begins with the byte order mark of UTF-8 or of UTF-16.
+// Returns whether the text begins with the byte order mark of UTF-8 or of UTF-16.
 fn has_order_mark(text: &[u8]) -> bool
     ensures { result ≡ has_order_mark text.now }
 {
@@ -41,7 +41,7 @@ fn has_order_mark(text: &[u8]) -> bool
         || (text.starts_with(b"\xff\xfe") || text.starts_with(b"\xfe\xff"))
 }
 
-// What helps where the first line is none of those with which a job text begins.
+// Returns the hint for a text that begins with the first line of neither format.
 pub(crate) fn version_advice(text: &[u8]) -> Option<Advice>
     ensures { result ≡ version_advice text.now }
 {
@@ -54,21 +54,21 @@ pub(crate) fn version_advice(text: &[u8]) -> Option<Advice>
     None
 }
 
-// Whether the first line ends with a carriage return and a newline.
+// Returns whether the first line ends with a carriage return and a newline.
 fn has_returns(text: &[u8]) -> bool
     ensures { result ≡ has_returns text.now }
 {
     text.starts_with(b"trio-job 1\r\n") || text.starts_with(b"trio-job 2\r\n")
 }
 
-// Whether a blank follows the number of the first line.
+// Returns whether a blank follows the number in the first line.
 fn has_blank(text: &[u8]) -> bool
     ensures { result ≡ has_blank text.now }
 {
     text.starts_with(b"trio-job 1 ") || text.starts_with(b"trio-job 2 ")
 }
 
-// What helps where no token begins with a byte, after another.
+// Returns the hint for a byte with which no token begins, given the byte before it.
 pub(crate) fn byte_advice(before: Option<u8>, byte: Option<u8>) -> Option<Advice>
     ensures { result ≡ byte_advice before byte }
 {
@@ -80,7 +80,7 @@ pub(crate) fn byte_advice(before: Option<u8>, byte: Option<u8>) -> Option<Advice
     }
 }
 
-// What helps with a `.`: a fraction, or a dotted name.
+// Returns the hint for a `.`: a fraction, or a dotted name.
 fn dot_advice(before: Option<u8>) -> Advice
     ensures { result ≡ dot_advice before }
 {
@@ -90,7 +90,7 @@ fn dot_advice(before: Option<u8>) -> Advice
     }
 }
 
-// What helps with a `-` in a name.
+// Returns the hint for a `-` in a name.
 fn hyphen_advice(before: Option<u8>) -> Option<Advice>
     ensures { result ≡ hyphen_advice before }
 {
@@ -100,7 +100,7 @@ fn hyphen_advice(before: Option<u8>) -> Option<Advice>
     }
 }
 
-// What helps with a byte that other languages use.
+// Returns the hint for a byte that other languages use.
 fn plain_advice(byte: u8) -> Option<Advice>
     ensures { result ≡ plain_advice byte }
 {

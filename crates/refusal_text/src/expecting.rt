@@ -7,7 +7,8 @@ use job_syntax::Symbol;
 use job_tokens::{Token, lex};
 use std::alloc::{AllocError, Global};
 
-// What the sentence of a refusal asks for. The text's tokens are looked at again only where it goes on wrongly.
+// Returns what the sentence of a refusal says is expected. The tokens of the text are read again only for a refusal
+// of the kind `Syntax`.
 pub(crate) fn asked(alloc: Global, text: &[u8], kind: JobKind) -> Result<Option<Symbol>, AllocError>
     ensures { IfOk result (IsAsked kind text.now) }
 {
@@ -27,7 +28,8 @@ pub(crate) fn asked(alloc: Global, text: &[u8], kind: JobKind) -> Result<Option<
     }
 }
 
-// What the grammar asks for where the tokens of a text leave it; none where it asks for the text's end.
+// Returns what the grammar expects at the place where the tokens of a text leave it, or `None` if it expects the
+// end of the text.
 fn expected(alloc: Global, text: &[u8]) -> Result<Option<Symbol>, AllocError>
     ensures { IfOk result (IsExpected text.now) }
 {
@@ -36,7 +38,7 @@ fn expected(alloc: Global, text: &[u8]) -> Result<Option<Symbol>, AllocError>
     expected_at(alloc, format_of(text), lexed.tokens.as_slice())
 }
 
-// The same of tokens, in a format.
+// The same for given tokens, in a format.
 pub(crate) fn expected_at(
     alloc: Global,
     format: Format,

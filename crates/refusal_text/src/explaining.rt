@@ -17,14 +17,15 @@ use job_tree::Name;
 use nursery_app::{column_of, line_of};
 use std::alloc::{AllocError, Global};
 
-// The most bytes of a line that are shown before a place, and from it on.
+// The maximum number of bytes of a line that are shown before a place, and from that place on.
 const MOST_BEFORE: usize = 60;
 
 const MOST_AFTER: usize = 40;
 
-/// The message that explains a refusal to the user: what `pointed_message` gives, with a sentence for the kind of the refusal. Where something may
-/// help, one more line says it, such as a keyword that was nearly spelled, the block that is not closed, what a word of Trio's is in a job, or
-/// which scopes and nurseries could be cancelled there. `job` is the name that the user gave the text. Want of memory is the only error.
+/// Returns the message that explains a refusal to the user: that of `pointed_message`, with a sentence for the kind of the
+/// refusal. If there is a hint, one more line has it: such as a keyword that is nearly spelled, a block that is not closed,
+/// what a job has in place of a word of Trio, or which scopes and nurseries could be cancelled there. `job` is the name that
+/// the user gave the text. The only error is that memory was refused.
 pub fn refusal_message(
     alloc: Global,
     job: &str,
@@ -42,10 +43,10 @@ pub fn refusal_message(
     Ok(message)
 }
 
-/// Says something of a place of a job text to the user: `JOB:LINE:COLUMN: ` and a sentence, the line of the job text, and a caret under
-/// the place. Of a long line the 60 bytes before the place and the 40 from it on are shown. A byte that is no printable
-/// ASCII is shown as `?`, and a tab or a carriage return as a space. `job` is the name that the user gave the text. Want of memory is
-/// the only error.
+/// Returns a message about a place of a job text: `JOB:LINE:COLUMN: ` and a sentence, the line of the job text, and a caret
+/// under the place. `at` is the place in bytes. Of a long line, the 60 bytes before the place and the 40 bytes from it on are
+/// shown. A byte that is not printable ASCII is shown as `?`, and a tab or a carriage return as a space. `job` is the name that
+/// the user gave the text. The only error is that memory was refused.
 pub fn pointed_message(
     alloc: Global,
     job: &str,
@@ -68,7 +69,7 @@ pub fn pointed_message(
     Ok(message)
 }
 
-// The place and the sentence.
+// Returns the place and the sentence.
 fn headed(
     alloc: Global,
     job: &str,
@@ -96,7 +97,7 @@ fn push_place(message: &mut String, n: usize) -> Result<(), AllocError>
     message.push_str(buffer.format(n as u64))
 }
 
-// The last so many bytes.
+// Returns the last `count` bytes. Requires that there are as many.
 fn last_bytes(bytes: &[u8], count: usize) -> &[u8]
     requires { count ≤ length bytes.now }
     ensures { result.now ≡ last_of count bytes.now }
@@ -105,7 +106,7 @@ fn last_bytes(bytes: &[u8], count: usize) -> &[u8]
     last
 }
 
-// The first bytes, as many as are shown.
+// Returns the first bytes, as many as are shown.
 fn first_bytes(bytes: &[u8]) -> &[u8]
     ensures { result.now ≡ take most_after bytes.now }
 {
@@ -113,7 +114,7 @@ fn first_bytes(bytes: &[u8]) -> &[u8]
     first
 }
 
-// The bytes before the first newline.
+// Returns the bytes before the first newline.
 fn first_line(bytes: &[u8]) -> &[u8]
     ensures { result.now ≡ before_first is_newline bytes.now }
 {
@@ -145,7 +146,7 @@ fn push_spaces(message: &mut String, count: usize) -> Result<(), AllocError>
     Ok(())
 }
 
-// The character that stands for a byte.
+// Returns the character that is shown for a byte.
 fn shown_byte(byte: u8) -> char
     ensures value { result ≡ shown_byte byte }
     ensures ascii { result < 128 }
@@ -157,7 +158,7 @@ fn shown_byte(byte: u8) -> char
     }
 }
 
-// Appends what may help.
+// Appends a hint, if there is one.
 fn push_help(
     message: &mut String,
     job: &str,
@@ -172,7 +173,7 @@ fn push_help(
     }
 }
 
-// Appends the line that tells a hint.
+// Appends the line of a hint.
 fn push_hint(message: &mut String, job: &str, text: &[u8], hint: Hint) -> Result<(), AllocError>
     ensures { OnOk result (string_bytes message.new ≡ string_bytes message.old ++ hint_line job.now text.now hint) }
 {
@@ -191,7 +192,7 @@ fn push_hint(message: &mut String, job: &str, text: &[u8], hint: Hint) -> Result
     }
 }
 
-// Appends how many step instances a job has.
+// Appends the number of step instances of a job.
 fn push_size(message: &mut String, size: u64) -> Result<(), AllocError>
     ensures { OnOk result (string_bytes message.new ≡ string_bytes message.old ++ size_line size) }
 {
@@ -209,7 +210,7 @@ fn push_number(message: &mut String, n: u64) -> Result<(), AllocError>
     message.push_str(buffer.format(n))
 }
 
-// Appends the line that lists what could be cancelled, where it is listed.
+// Appends the line that lists what could be cancelled, if it is to be listed.
 fn push_names(message: &mut String, names: &Option<Vec<Name>>) -> Result<(), AllocError>
     ensures { OnOk result (string_bytes message.new ≡ string_bytes message.old ++ names_of (names_held names.now)) }
 {
@@ -229,7 +230,7 @@ fn push_list(message: &mut String, names: &[Name]) -> Result<(), AllocError>
     Ok(())
 }
 
-// The same of at least one name.
+// The same for at least one name.
 fn push_some(message: &mut String, first: Name, others: &[Name]) -> Result<(), AllocError>
     ensures { OnOk result (string_bytes message.new ≡ string_bytes message.old ++ names_line (first ∷ others.now)) }
 {

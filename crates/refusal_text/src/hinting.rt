@@ -14,22 +14,22 @@ use job_syntax::{Keyword, Role, Symbol, follow};
 use job_tokens::{Shape, Token, lex};
 use std::alloc::{AllocError, Global};
 
-/// What may help beside the sentence of a refusal.
+/// A hint that is added to the sentence of a refusal.
 #[derive(Clone, Copy)]
 pub(crate) enum Hint {
     /// A sentence.
     Advice(Advice),
-    /// A keyword that may stand there is spelled nearly so.
+    /// The word is nearly this keyword, which is allowed there.
     Meant(Keyword),
     /// The innermost block that is not closed begins at this place.
     OpenSince(usize),
     /// The name was first given at this place.
     GivenAt(usize),
-    /// The job has so many step instances.
+    /// The job has this number of step instances.
     Size(u64),
 }
 
-// What helps with a refused text, where something does.
+// Returns the hint for a refused text, if there is one.
 pub(crate) fn hint_for(
     alloc: Global,
     text: &[u8],
@@ -50,7 +50,7 @@ pub(crate) fn hint_for(
     }
 }
 
-// A sentence as a hint.
+// Returns a sentence as a hint.
 fn advised(advice: Option<Advice>) -> Option<Hint>
     ensures { result ≡ advised advice }
 {
@@ -60,7 +60,7 @@ fn advised(advice: Option<Advice>) -> Option<Hint>
     }
 }
 
-// What helps where no token begins.
+// Returns the hint for a place where no token begins.
 fn token_hint(alloc: Global, text: &[u8], at: usize) -> Result<Option<Hint>, AllocError>
     ensures { IfOk result (IsTokenHint text.now at) }
 {
@@ -70,7 +70,7 @@ fn token_hint(alloc: Global, text: &[u8], at: usize) -> Result<Option<Hint>, All
     Ok(advised(token_advice(text, at, before)))
 }
 
-// The same by the token before the place.
+// The same, given the token before the place.
 fn token_advice(text: &[u8], at: usize, before: Option<Shape>) -> Option<Advice>
     ensures { result ≡ token_advice text.now at before }
 {
@@ -80,14 +80,14 @@ fn token_advice(text: &[u8], at: usize, before: Option<Shape>) -> Option<Advice>
     called_or_byte(before, byte_before(text, at), text.get(at).copied())
 }
 
-// The byte before a place.
+// Returns the byte before a place.
 fn byte_before(text: &[u8], at: usize) -> Option<u8>
     ensures { result ≡ slice_get text.now (at - 1) }
 {
     text.get(at.saturating_sub(1)).copied()
 }
 
-// What helps with a byte after another: a word of Trio's that is called, or else what the bytes say.
+// Returns the hint for a byte after another one: for a word of Trio that is called, or otherwise for the bytes.
 fn called_or_byte(word: Option<Shape>, before: Option<u8>, byte: Option<u8>) -> Option<Advice>
     ensures { result ≡ called_or_byte word before byte }
 {
@@ -99,7 +99,7 @@ fn called_or_byte(word: Option<Shape>, before: Option<u8>, byte: Option<u8>) -> 
     byte_advice(before, byte)
 }
 
-// What stands in a job for a token that is a word of a program on Trio.
+// Returns what a job has in place of a token that is a word of a program on Trio.
 fn word_advice(shape: Option<Shape>) -> Option<Advice>
     ensures { result ≡ word_advice shape }
 {
@@ -107,8 +107,8 @@ fn word_advice(shape: Option<Shape>) -> Option<Advice>
     trio_advice(word)
 }
 
-// What may stand there in format 2, a word that is nearly one of those which may stand there, or at the text's end the block
-// that is not closed.
+// Returns the hint for a syntax fault: what is allowed there in format 2, a word that is nearly one of those that are
+// allowed there, or, at the end of the text, the block that is not closed.
 fn syntax_hint(alloc: Global, text: &[u8], at: usize) -> Result<Option<Hint>, AllocError>
     ensures { IfOk result (IsSyntaxHint text.now at) }
 {
@@ -120,7 +120,7 @@ fn syntax_hint(alloc: Global, text: &[u8], at: usize) -> Result<Option<Hint>, Al
     Ok(hint)
 }
 
-// The same of tokens, with the one at the place where they leave the grammar and the one before it.
+// The same for given tokens, with the token at the place where they leave the grammar and the token before it.
 fn hint_at(
     alloc: Global,
     format: Format,
@@ -139,7 +139,7 @@ fn hint_at(
     }
 }
 
-// What helps with a token where one for the symbol was to stand.
+// Returns the hint for a token that cannot be read for the nonterminal.
 fn meant_by(
     format: Format,
     symbol: Option<Symbol>,
@@ -155,7 +155,7 @@ fn meant_by(
     or_nearly(symbol_advice(symbol, before, shape), format, symbol, shape)
 }
 
-// A sentence, or else the keyword that a token nearly is.
+// Returns a sentence, or otherwise the keyword that a token nearly is.
 fn or_nearly(advice: Option<Advice>, format: Format, symbol: Symbol, shape: &Shape) -> Option<Hint>
     ensures { result ≡ or_nearly advice format symbol shape.now }
 {
@@ -165,7 +165,7 @@ fn or_nearly(advice: Option<Advice>, format: Format, symbol: Symbol, shape: &Sha
     }
 }
 
-// Whether a text of format 1 has a token that may stand there in format 2.
+// Returns whether the text has format 1 and the token would be allowed there in format 2.
 fn is_newer(format: Format, symbol: Symbol, shape: &Shape) -> bool
     ensures { result ≡ is_newer format (next Two symbol shape.now) }
 {
@@ -175,7 +175,7 @@ fn is_newer(format: Format, symbol: Symbol, shape: &Shape) -> bool
     }
 }
 
-// The keyword that a token nearly is, of those that may stand for the symbol.
+// Returns the keyword that a token nearly is, among those that may be read for the nonterminal.
 fn nearly(format: Format, symbol: Symbol, shape: &Shape) -> Option<Hint>
     ensures { result ≡ nearly format symbol shape.now }
 {
@@ -184,7 +184,7 @@ fn nearly(format: Format, symbol: Symbol, shape: &Shape) -> Option<Hint>
     Some(Hint::Meant(keyword))
 }
 
-// The sentence that helps with a token where one for the symbol was to stand, after another token.
+// Returns the sentence for a token that cannot be read for the nonterminal, after another token.
 fn symbol_advice(symbol: Symbol, before: Option<Shape>, shape: &Shape) -> Option<Advice>
     ensures { result ≡ symbol_advice symbol before shape.now }
 {
@@ -207,7 +207,7 @@ fn symbol_advice(symbol: Symbol, before: Option<Shape>, shape: &Shape) -> Option
     }
 }
 
-// What helps after a name that is a word of a head: the name was left out.
+// Returns the sentence after a name that is a word of a head: the name is missing.
 fn unnamed_after(before: Option<Shape>) -> Option<Advice>
     ensures { result ≡ unnamed_after before }
 {
@@ -217,7 +217,7 @@ fn unnamed_after(before: Option<Shape>) -> Option<Advice>
     None
 }
 
-// What helps with a word of a head that stands too late in it.
+// Returns the sentence for a word of a head that comes too late in it.
 fn order_advice(shape: &Shape) -> Option<Advice>
     ensures { result ≡ order_advice shape.now }
 {
@@ -227,7 +227,7 @@ fn order_advice(shape: &Shape) -> Option<Advice>
     None
 }
 
-// Whether a token is one of the words that may follow the name of a scope, a nursery or a start.
+// Returns whether a token is one of the words that may follow the name of a scope, a nursery or a start.
 fn is_head_word(shape: Option<Shape>) -> bool
     ensures { result ≡ is_head_word shape }
 {
@@ -237,7 +237,7 @@ fn is_head_word(shape: Option<Shape>) -> bool
     }
 }
 
-// The keyword that a token is.
+// Returns the keyword that a token is, if it is one.
 fn keyword_in(shape: Option<Shape>) -> Option<Keyword>
     ensures { result ≡ keyword_in shape }
 {
@@ -254,7 +254,7 @@ fn is_head(keyword: Keyword) -> bool
     )
 }
 
-// Whether a token begins what has a name: a job, a scope, a nursery or a start.
+// Returns whether a token begins something that has a name: a job, a scope, a nursery or a start.
 fn gives_name(shape: Option<Shape>) -> bool
     ensures { result ≡ gives_name shape }
 {
@@ -273,7 +273,7 @@ fn is_named(keyword: Keyword) -> bool
     )
 }
 
-// What helps with a name that is reserved.
+// Returns the hint for a name that is reserved.
 fn reserved_hint(alloc: Global, text: &[u8], at: usize) -> Result<Option<Hint>, AllocError>
     ensures { IfOk result (IsReservedHint text.now at) }
 {
@@ -283,7 +283,7 @@ fn reserved_hint(alloc: Global, text: &[u8], at: usize) -> Result<Option<Hint>, 
     Ok(advised(reserved_advice(last_before(tokens, at), shape_at(tokens, at))))
 }
 
-// A word of a head stands where a name is to be given.
+// Returns the hint for a word of a head where a name is to be given.
 fn reserved_advice(before: Option<Shape>, shape: Option<Shape>) -> Option<Advice>
     ensures { result ≡ reserved_advice before shape }
 {
@@ -293,7 +293,7 @@ fn reserved_advice(before: Option<Shape>, shape: Option<Shape>) -> Option<Advice
     None
 }
 
-// Where the name at a place was first given.
+// Returns where the name at a place was first given.
 fn twice_hint(alloc: Global, text: &[u8], at: usize) -> Result<Option<Hint>, AllocError>
     ensures { IfOk result (IsTwiceHint text.now at) }
 {

@@ -1,8 +1,9 @@
-//! What is said to the user of a refused job text: `refusal_message`.
+//! Explains a refused job text to the user: `refusal_message`.
 //!
-//! The layer promises that the message is the place, a sentence, the line of the job text with a caret under the place, and a hint where one may
-//! help, each of them by a definition over the text and its tokens (`specs/Explaining.antt`, `specs/Sentences.antt`, `specs/Hinting.antt`). It stands on
-//! `job_tokens` and `job_syntax` for what a text's tokens are and where they leave the grammar.
+//! The message is the place, a sentence, the line of the job text with a caret under the place, and a hint where there is one.
+//! Each of them is defined over the text and its tokens (`specs/Explaining.antt`, `specs/Sentences.antt`,
+//! `specs/Hinting.antt`). The crate uses `job_tokens` and `job_syntax` for the tokens of a text and the place where they leave
+//! the grammar.
 #![tactic(auto)]
 
 mod advice;

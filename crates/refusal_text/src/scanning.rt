@@ -6,7 +6,7 @@ use job_tokens::{Mark, Shape, Token};
 use job_tree::Name;
 use std::alloc::{AllocError, Global};
 
-// The token at a place.
+// Returns the token at a place.
 pub(crate) fn shape_at(tokens: &[Token], at: usize) -> Option<Shape>
     ensures { result ≡ shape_at at tokens.now }
 {
@@ -18,7 +18,7 @@ pub(crate) fn shape_at(tokens: &[Token], at: usize) -> Option<Shape>
     None
 }
 
-// The last token before a place.
+// Returns the last token before a place.
 pub(crate) fn last_before(tokens: &[Token], at: usize) -> Option<Shape>
     ensures { result ≡ last_before at None tokens.now }
 {
@@ -32,7 +32,7 @@ pub(crate) fn last_before(tokens: &[Token], at: usize) -> Option<Shape>
     last
 }
 
-// The place of the innermost `{` that is not closed.
+// Returns the place of the innermost `{` that is not closed.
 pub(crate) fn innermost_open(alloc: Global, tokens: &[Token]) -> Result<Option<usize>, AllocError>
     ensures { IfOk result (λ at. at ≡ slice_get (open_in [] tokens.now) 0) }
 {
@@ -49,7 +49,7 @@ pub(crate) fn innermost_open(alloc: Global, tokens: &[Token]) -> Result<Option<u
     Ok(open.pop())
 }
 
-// The place of the first token that gives a name.
+// Returns the place of the first token that gives this name.
 pub(crate) fn first_given(tokens: &[Token], roles: &[Role], name: Name) -> Option<usize>
     ensures { result ≡ first_given name tokens.now roles.now }
 {

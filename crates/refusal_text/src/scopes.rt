@@ -10,7 +10,8 @@ use job_tokens::lex;
 use job_tree::{Body, Handler, Name, Step};
 use std::alloc::{AllocError, Global};
 
-// The names that are listed beside a refusal of that kind: those of the scopes and nurseries around a `cancel` that names none of them.
+// Returns the names that are listed with a refusal of this kind: those of the scopes and nurseries that enclose a `cancel` that
+// names none of them.
 pub(crate) fn listed_names(
     alloc: Global,
     text: &[u8],
@@ -34,7 +35,7 @@ pub(crate) fn listed_names(
     }
 }
 
-// The names around the first `cancel` of a text that names none of them.
+// Returns the names that enclose the first `cancel` of a text that names none of them.
 fn cancellable(alloc: Global, text: &[u8]) -> Result<Option<Vec<Name>>, AllocError>
     ensures { IfOk result (λ names. IsCancellable text.now (names_held names)) }
 {
@@ -48,7 +49,7 @@ fn cancellable(alloc: Global, text: &[u8]) -> Result<Option<Vec<Name>>, AllocErr
     Ok(names)
 }
 
-// The same of the steps of a job.
+// The same for the steps of a job.
 fn names_around_stray(alloc: Global, steps: &[Step]) -> Result<Option<Vec<Name>>, AllocError>
     ensures { IfOk result (λ names. names_held names ≡ around_stray (cancels_of [] (steps_of steps.now))) }
 {
@@ -56,7 +57,7 @@ fn names_around_stray(alloc: Global, steps: &[Step]) -> Result<Option<Vec<Name>>
     Ok(found)
 }
 
-// The scopes and nurseries around a block, the innermost first.
+// The scopes and nurseries that enclose a block, the innermost first.
 #[derive(Clone, Copy)]
 enum Around<'a> {
     Nothing,
@@ -160,7 +161,7 @@ fn search_cleanup(
     }
 }
 
-// The names around a `cancel`, where its own is not among them.
+// Returns the names that enclose a `cancel`, if its own is not among them.
 fn search_cancel(
     alloc: Global,
     name: &Name,
@@ -177,7 +178,7 @@ fn search_cancel(
     Ok(Some(names))
 }
 
-// Whether a scope or nursery of that name is around a block.
+// Returns whether an enclosing scope or nursery has this name.
 fn is_around(name: &Name, around: &Around) -> bool
     ensures { result ≡ is_among (names_around around.now) name.now }
 {
@@ -187,7 +188,7 @@ fn is_around(name: &Name, around: &Around) -> bool
     }
 }
 
-// Appends the names of the scopes and nurseries around a block.
+// Appends the names of the scopes and nurseries that enclose a block.
 fn push_names(names: &mut Vec<Name>, around: &Around) -> Result<(), AllocError>
     ensures { OnOk result (names.new.items ≡ names.old.items ++ names_around around.now) }
 {

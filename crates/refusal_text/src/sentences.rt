@@ -4,7 +4,8 @@ ghost use Rattle.refusal_text.specs.Sentences.{sentence_of, token_sentence, expe
 use job_grammar::JobKind;
 use job_syntax::Symbol;
 
-// What is wrong at a place with that byte (none is the text's end), where the grammar asks for that symbol.
+// Returns the sentence for a refusal of this kind at a place with this byte (`None` at the end of the text), where
+// the grammar expects this nonterminal.
 pub(crate) fn sentence_of(kind: JobKind, byte: Option<u8>, asked: Option<Symbol>) -> &'static str
     ensures { result.now ≡ sentence_of kind byte asked }
 {
@@ -30,7 +31,7 @@ pub(crate) fn sentence_of(kind: JobKind, byte: Option<u8>, asked: Option<Symbol>
     }
 }
 
-// Why no token begins with that byte.
+// Returns why no token begins with this byte.
 fn token_sentence(byte: Option<u8>) -> &'static str
     ensures { result.now ≡ token_sentence byte }
 {
@@ -44,7 +45,7 @@ fn token_sentence(byte: Option<u8>) -> &'static str
     }
 }
 
-// What the grammar asks for at a place; none where it asks for the text's end.
+// Returns what the grammar expects at a place; `None` is the end of the text.
 fn expected_sentence(symbol: Option<Symbol>) -> &'static str
     ensures { result.now ≡ expected_sentence symbol }
 {

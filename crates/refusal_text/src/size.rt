@@ -8,7 +8,7 @@ use job_syntax::job_at;
 use job_tokens::lex;
 use std::alloc::{AllocError, Global};
 
-// How many step instances the job of a text has, where its tokens spell one.
+// Returns the number of step instances of the job of a text, if its tokens spell one.
 pub(crate) fn size_hint(alloc: Global, text: &[u8]) -> Result<Option<Hint>, AllocError>
     ensures { IfOk result (IsSizeHint text.now) }
 {
