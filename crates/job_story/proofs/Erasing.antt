@@ -1,4 +1,4 @@
--- A story with all erased that a log does not hold is the log of following the table.
+-- A story with everything erased that a log does not contain is the log of following the table.
 use Rattle.std.proofs.Common.{◌≡◌, ℕ, zero, suc, ◌+◌, ◌-◌, Bool, true, false, Option, Some, None, List, [], refl, ap, sym, ◌∙◌}
 use Rattle.std.specs.Prelude.{nat_le, if◌then◌else◌}
 use Rattle.job_tree.specs.Tree.{Step, sleep, checkpoint, forever, pace, find, head, longest, need, raise, cancel, scope, nursery, start, repeat, attempt, Steps, stop, step, Handled, unhandled, except, Cleaned, uncleaned, finally}
@@ -21,7 +21,7 @@ use Rattle.job_story.specs.Laws.{TellingIsFollowing, StoriesAreTrue}
 
 -- ---- stories, one after another
 
--- what a log holds of a happening stands before the rest
+-- what a log contains of a happening is before the rest
 erased_before : (t : ℕ) (what : Happening) (a b : Log) → followed_by (erased_one t what a) b ≡ erased_one t what (followed_by a b)
 erased_before t (enters kind label deadline shield) a b = refl
 erased_before t (sleeps until) a b = refl
@@ -50,7 +50,7 @@ with_log a l e = ap (λ (x : Log). record { end = a.end; exc = a.exc; members = 
 joined_is : (a b : Tale) → result_of (and_tale a b) ≡ joined (result_of a) (result_of b)
 joined_is a b = with_log (and_tale a b) (followed_by (erased a.story) (erased b.story)) (erased_then a.story b.story)
 
--- one tale and then another, by what both come to
+-- one tale and then another, from the results of both
 then_is : (a : Tale) (r : Result) (go : ℕ → Tale) (walked : ℕ → Result) → result_of a ≡ r → ((u : ℕ) → result_of (go u) ≡ walked u) →
     result_of (then_tale a go) ≡ and_then r walked
 unfolding then_tale and_then
@@ -194,7 +194,7 @@ cleaned_is a r go walked e h =
 mutual
   unfolding tell walk
 
-  -- telling the steps of a block gives what walking them does
+  -- the story of the steps of a block is the log of walking them
   pub tell_is : (k : Table) (b : Steps) (scene : Scene) (st : Stack) (t : ℕ) →
       result_of (tell k b scene st t) ≡ walk (by_table k) b scene.here st t
   tell_is k stop scene st t = refl

@@ -40,7 +40,7 @@ no_deadline l (task m s u e mine rest) own all =
     let second = not_in_both l (all_entered mine) (all_entered rest) first.1 in
     ap (λ (o : Option Tick). either o (deadline_of l rest)) (no_deadline l mine first.0 second.0) ∙ no_deadline l rest own second.1
 
--- setting the froms that a table gives for labels: each of them then has it, and every other what it had
+-- after the ticks that a table has for some labels are set, each of these has its tick, and every other what it had
 set_is : (table before : Table) (ls : List Label) (l : Label) →
     set_in before (froms_by table ls) l ≡ (if is_one l ls then table l else before l)
 set_is table before [] l = refl

@@ -4,7 +4,7 @@ use Rattle.buffer_parts.specs.Lines.{Range}
 use Rattle.exc_groups.specs.Exceptions.{Label, Exc}
 use Rattle.job_story.specs.Story.{Happening, Story, no_more, happened, started}
 
--- what an event is: a task starts in a nursery (the root in none) with its part, something happens to it, or it ends
+-- the kind of an event: a task starts in a nursery (the root task in none) with its part, something happens to it, or it ends
 pub data What : Type 0 where
   starts : (home : Option Label) → (part : Range) → What
   happens : (what : Happening) → What
@@ -18,19 +18,19 @@ pub record Event : Type 0 where
 abbrev pub event : ℕ → Label → What → Event
 event t task what = record { tick = t; task = task; what = what }
 
--- The events of a task's story in the order of the walk: those of a task that it started stand where it was started.
+-- The events of a task's story in the order of the walk, in which the events of a started task are where it was started.
 abbrev pub events_of : Label → Story → List Event
 events_of me no_more = []
 events_of me (happened t what rest) = event t me (happens what) ∷ events_of me rest
 events_of me (started l home part s u e own rest) =
     event s l (starts home part) ∷ (events_of l own ++ event u l (ends home e) ∷ events_of me rest)
 
--- an event before those that are later or in the same tick
+-- inserts an event before those that are later or in the same tick
 abbrev pub put_in : Event → List Event → List Event
 put_in e [] = e ∷ []
 put_in e (x ∷ xs) = if nat_le e.tick x.tick then e ∷ x ∷ xs else x ∷ put_in e xs
 
--- by tick, and within a tick in the order of the walk
+-- the events sorted by tick, and within a tick in the order of the walk
 abbrev pub in_order : List Event → List Event
 in_order [] = []
 in_order (e ∷ es) = put_in e (in_order es)

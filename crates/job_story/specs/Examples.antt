@@ -1,4 +1,4 @@
--- The words in which worked stories are written, and one of them, by computing: a sibling fails, and its cleanup has a shield.
+-- Definitions for the worked stories, and one of them, proved by computing: a sibling fails, and a cleanup has a shield.
 use Rattle.std.specs.Prelude.{◌≡◌, ℕ, List, [], ◌∷◌, ◌++◌, codes, refl}
 use Rattle.std.specs.Fmt.{digits}
 use Rattle.job_tree.specs.declared.format.Format.TheVariants.{Two}
@@ -9,7 +9,7 @@ use Rattle.job_meaning.specs.Examples.{block_of, nursery_of, start_of, timed_shi
 use Rattle.job_story.specs.Tell.{tell, then_tale, tell_sleep, tell_lines, tell_need, tell_raise, tell_cancel, tell_block, tell_wait, tell_gathered, tell_child, tell_handled, tell_cleaned, tale_by}
 use Rattle.job_story.specs.Sentences.{story_text}
 
--- a job of that name
+-- a job with this name
 abbrev pub job_named : List ℕ → List Step → Tree
 job_named name ss = record { format = Two; name = name; steps = block_of ss }
 

@@ -1,4 +1,4 @@
--- Worked stories, by computing: who cancels whom, and attempts that are too slow.
+-- Worked stories, proved by computing: which task cancels which, and attempts that are too slow.
 use Rattle.std.specs.Prelude.{◌≡◌, [], ◌∷◌, codes, refl}
 use Rattle.std.specs.Fmt.{digits}
 use Rattle.job_tree.specs.Tree.{sleep, find, raise, cancel, repeat, Tree}

@@ -1,4 +1,4 @@
--- Worked stories, by computing: cleanups, with a shield and without one, and shields with deadlines.
+-- Worked stories, proved by computing: cleanups with and without a shield, and shields with deadlines.
 use Rattle.std.specs.Prelude.{◌≡◌, [], ◌∷◌, codes, refl}
 use Rattle.std.specs.Fmt.{digits}
 use Rattle.job_tree.specs.Tree.{sleep, forever, find, Tree}

@@ -1,4 +1,4 @@
--- The part of a worked story that concerns one task, by computing.
+-- The part of a worked story that concerns one task, proved by computing.
 use Rattle.std.specs.Prelude.{◌≡◌, ℕ, List, [], ◌∷◌, codes, refl}
 use Rattle.std.specs.Fmt.{digits}
 use Rattle.job_tree.specs.Tree.{Tree}
@@ -17,7 +17,7 @@ unfolding meaning walk and_then sleeping showing needing cancelling block signed
 told_for job input task =
     story_of_task (meaning_table job input) job input task
 
--- `late` of the race: it is cancelled by `stop`
+-- the task `late` of the race, which is cancelled by `stop`
 pub who_cancelled_late :
     told_for race (lines_of (codes "GET /a" ∷ codes "PUT /b" ∷ [])) (label_named (codes "late"))
     ≡ lines_of

@@ -1,4 +1,4 @@
--- A worked story up to a limit, by computing.
+-- A worked story up to a limit, proved by computing.
 use Rattle.std.specs.Prelude.{◌≡◌, ℕ, List, [], ◌∷◌, codes, refl}
 use Rattle.std.specs.Fmt.{digits}
 use Rattle.job_tree.specs.Tree.{sleep, forever, Tree}

@@ -1,4 +1,4 @@
--- The part of a story that concerns one task: its own events, and those of each task that caused one of its cancellations, and so on.
+-- The part of a story that concerns one task: its own events, those of each task that caused one of its cancellations, and so on.
 use Rattle.std.specs.Prelude.{ℕ, zero, suc, Bool, true, false, ◌&&◌, ◌||◌, not, Option, Some, None, List, [], ◌∷◌, length, if◌then◌else◌}
 use Rattle.std.specs.Str.{bytes_eq}
 use Rattle.job_tree.specs.Tree.{Tree}
@@ -10,7 +10,7 @@ use Rattle.job_story.specs.Causes.{Cause, by_deadline, by_task, by_failure, by_c
 use Rattle.job_story.specs.Sentences.{label_text, kept_text, job_events}
 use Rattle.job_story.specs.Limit.{kept_text_to, walked_to}
 
--- the task that is a cause, where it is one
+-- the task of a cause, or `None` where the cause is a deadline
 abbrev pub task_of : Option Cause → Option Label
 task_of None = None
 task_of (Some by_deadline) = None
@@ -22,7 +22,7 @@ abbrev pub cause_by : Table → List Event → Option Label → Option Label
 cause_by table all None = None
 cause_by table all (Some l) = task_of (cause_of table all l)
 
--- the task that caused a cancellation, where an event is one
+-- the task that caused an event, where the event is a cancellation
 abbrev pub causer_of : Table → List Event → What → Option Label
 causer_of table all (happens (is_cancelled by since in_cleanup)) = cause_by table all by
 causer_of table all _ = None
@@ -31,13 +31,13 @@ abbrev pub is_some_label : Label → Option Label → Bool
 is_some_label l None = false
 is_some_label l (Some m) = same_label l m
 
--- whether some event of the task `whose` is a cancellation that the task `l` caused
+-- whether an event of the task `whose` is a cancellation that the task `l` caused
 abbrev pub caused : Table → List Event → Label → Label → List Event → Bool
 caused table all l whose [] = false
 caused table all l whose (e ∷ es) =
     (if same_label whose e.task then is_some_label l (causer_of table all e.what) else false) || caused table all l whose es
 
--- these, and each task of an event that caused a cancellation of one of them
+-- these tasks, and each task of an event that caused a cancellation of one of them
 abbrev pub is_among : Label → List Label → Bool
 is_among l [] = false
 is_among l (m ∷ ms) = same_label l m || is_among l ms
@@ -56,7 +56,7 @@ with_causers table all kept (e ∷ es) =
     let rest = with_causers table all kept es in
     add_if (caused_some table all e.task kept && not (is_among e.task rest)) e.task rest
 
--- so many times over
+-- the same, repeated n times
 abbrev pub causers_in : ℕ → Table → List Event → List Label → List Label
 causers_in zero table all kept = kept
 causers_in (suc n) table all kept = causers_in n table all (with_causers table all kept all)
@@ -75,7 +75,7 @@ story_of_task table job input l =
     let all = job_events table job input in
     kept_text table all (of_tasks (concerned table all l) all)
 
--- the same up to a limit
+-- the same up to a limit, with what the tasks do that have not ended by then
 abbrev pub story_of_task_to : Table → ℕ → Tree → List ℕ → Label → List ℕ
 story_of_task_to table limit job input l =
     let walked = walked_to table limit job input in

@@ -1,4 +1,4 @@
--- From which tick scopes and nurseries are cancelled, as the code holds it.
+-- What contracts see of the table with the ticks from which scopes and nurseries are cancelled.
 use Rattle.std.specs.Prelude.{Option, Some, None, List, [], ◌∷◌, if◌then◌else◌}
 use Rattle.indexmap.specs.IndexMap.{get}
 use Rattle.cancel_scopes.specs.Sight.{Tick}
@@ -6,7 +6,7 @@ use Rattle.job_meaning.specs.Log.{Table, same_label}
 use Rattle.job_meaning.specs.Meaning.{From}
 use Rattle.job_story.specs.declared.froms.Froms.{Froms}
 
--- never, where nothing is known
+-- the tick of an entry, or never where there is none
 abbrev pub or_never : Option Tick → Tick
 or_never None = None
 or_never (Some from) = from
@@ -15,7 +15,7 @@ or_never (Some from) = from
 abbrev pub table_in : Froms → Table
 table_in froms label = or_never (get same_label froms.all label)
 
--- the table of nothing
+-- the empty table, in which every label is never cancelled
 abbrev pub never : Table
 never label = None
 

@@ -1,4 +1,4 @@
--- Events as the code holds them.
+-- The events of the code, as the definitions see them.
 use Rattle.std.specs.Prelude.{Option, map}
 use Rattle.std.specs.Option.{option_map}
 use Rattle.std.specs.Global.{Box}
@@ -29,7 +29,7 @@ range_in range = record { from = range.from; to = range.to }
 abbrev pub span_in : Span → lines.Span
 span_in span = record { at = span.at; len = span.len }
 
--- an exception in a box, if there is one
+-- a boxed exception, if there is one
 abbrev pub boxed : Option (Box Exc) → Option tree.Exc
 boxed exc = option_map (λ (b : Box Exc). exc_of b.value) exc
 

@@ -1,4 +1,4 @@
--- The laws of stories. They are the contract of a function that does nothing.
+-- The laws of stories. They are the contracts of functions that do nothing.
 use Rattle.std.specs.Prelude.{◌≡◌, ℕ, List}
 use Rattle.job_tree.specs.Tree.{Tree}
 use Rattle.job_tree.specs.Names.{GivesNamesOnce}
@@ -9,17 +9,17 @@ use Rattle.job_story.specs.Froms.{never, set_in}
 use Rattle.job_story.specs.Story.{result_of, erased}
 use Rattle.job_story.specs.Tell.{tale_by, story_by}
 
--- Telling by a table is following it: with all erased that a log does not hold, its story is the log.
+-- The story by a table, with everything erased that a log does not contain, is the log of following the table.
 abbrev pub TellingIsFollowing : Type 0
 TellingIsFollowing = (table : Table) (job : Tree) (input : List ℕ) → result_of (tale_by table job input) ≡ follow table job input
 
 -- So the story by a settled table is true: its starts, ends, outcomes and entries are the records of the meaning, and its deadlines
--- and signs give the table of the meaning.
+-- and signs determine the table of the meaning.
 abbrev pub StoriesAreTrue : Type 0
 StoriesAreTrue =
     (table : Table) (job : Tree) (input : List ℕ) → GivesNamesOnce job → IsSettled table job input →
     erased (story_by table job input) ≡ root_log job (meaning job input)
 
--- The ticks from which the scopes and nurseries of a meaning are cancelled, set in an empty table, give the table of the meaning.
+-- The ticks from which the scopes and nurseries of a meaning are cancelled, set in an empty table, make the table of the meaning.
 abbrev pub FromsGiveTheTable : Type 0
 FromsGiveTheTable = (job : Tree) (input : List ℕ) → set_in never (meaning_froms job input) ≡ meaning_table job input

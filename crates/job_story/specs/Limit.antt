@@ -1,4 +1,4 @@
--- The story up to a limit, of a job that does not end by it.
+-- The story up to a limit, of a job that does not end by then.
 use Rattle.std.specs.Prelude.{ℕ, Bool, true, false, ◌&&◌, ◌||◌, not, List, [], ◌∷◌, ◌++◌, codes, decimal, nat_le, if◌then◌else◌}
 use Rattle.exc_groups.specs.Exceptions.{Label}
 use Rattle.job_tree.specs.Tree.{Tree}
@@ -14,14 +14,14 @@ abbrev pub by_limit : ℕ → List Event → List Event
 by_limit limit [] = []
 by_limit limit (e ∷ es) = if nat_le e.tick limit then e ∷ by_limit limit es else by_limit limit es
 
--- ---- who still runs
+-- ---- which tasks still run
 
 abbrev pub is_end : What → Bool
 is_end (starts home lent) = false
 is_end (happens what) = false
 is_end (ends home exc) = true
 
--- whether a task has ended, by these events
+-- whether a task has ended in these events
 abbrev pub has_ended : Label → List Event → Bool
 has_ended l [] = false
 has_ended l (e ∷ es) = (is_end e.what && same_label l e.task) || has_ended l es
@@ -42,13 +42,13 @@ running_in all (e ∷ es) = start_if (is_start e.what && not (has_ended e.task a
 
 -- ---- what they do
 
--- A task that has not ended sleeps, or waits for a nursery.
+-- What a task does after this event: a task that has not ended sleeps, or waits for a nursery.
 abbrev pub doing_text : ℕ → What → List ℕ
 doing_text t (happens (sleeps until)) = codes "sleeping " ++ until_text until ++ codes " since " ++ decimal t
 doing_text t (happens (waits nursery exc)) = codes "waiting for nursery " ++ label_text nursery ++ codes " since " ++ decimal t
 doing_text t _ = []
 
--- by the last thing that happened to it
+-- what a task does after the last event of its own
 abbrev pub last_of : Label → List Event → List ℕ → List ℕ
 last_of l [] text = text
 last_of l (e ∷ es) text = last_of l es (if same_label l e.task then doing_text e.tick e.what else text)
@@ -60,7 +60,7 @@ running_text width es (l ∷ ls) =
 
 -- ---- the text
 
--- the text of some events of a story up to a limit, in order and in the order of the walk, with all events up to it in view
+-- the text of selected events of a story up to a limit, given in order and in the order of the walk; `all` has all events up to it
 abbrev pub kept_text_to : Table → ℕ → List Event → List Event → List Event → List ℕ
 kept_text_to table limit all sorted walked =
     kept_text table all sorted ++ codes "limit " ++ decimal limit ++ codes "\n"
@@ -70,7 +70,7 @@ kept_text_to table limit all sorted walked =
 abbrev pub walked_to : Table → ℕ → Tree → List ℕ → List Event
 walked_to table limit job input = by_limit limit (events_of (root_label job.name) (story_by table job input))
 
--- the story of a job by a table up to a limit, and what the tasks do that have not ended by then
+-- the text of the story of a job by a table up to a limit, and what the tasks do that have not ended by then
 abbrev pub story_to : Table → ℕ → Tree → List ℕ → List ℕ
 story_to table limit job input =
     let walked = walked_to table limit job input in

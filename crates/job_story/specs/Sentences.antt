@@ -49,7 +49,7 @@ abbrev pub kind_text : Kind → List ℕ
 kind_text (a_scope fail) = codes "scope "
 kind_text a_nursery = codes "nursery "
 
--- what is told of an exception, where there is one
+-- the text of an exception between two others, where there is one
 abbrev pub with_exc : List ℕ → Option Exc → List ℕ → List ℕ
 with_exc before None after = []
 with_exc before (Some e) after = before ++ exc_text e ++ after
@@ -79,7 +79,7 @@ cause_text (Some (by_task task t)) = codes " (cancelled by " ++ label_text task 
 cause_text (Some (by_failure task t)) = codes " (" ++ label_text task ++ codes " failed at " ++ decimal t ++ codes ")"
 cause_text (Some (by_cancellation task t)) = codes " (" ++ label_text task ++ codes " was cancelled at " ++ decimal t ++ codes ")"
 
--- a scope or nursery, with the word for what it is
+-- the label of a scope or nursery, after the word for its kind
 abbrev pub entered_text : Option Entering → Label → List ℕ
 entered_text None l = label_text l
 entered_text (Some e) l = kind_text e.kind ++ label_text l
@@ -87,7 +87,7 @@ entered_text (Some e) l = kind_text e.kind ++ label_text l
 abbrev pub count_text : ℕ → List ℕ
 count_text n = decimal n ++ (if n == 1 then codes " line" else codes " lines")
 
--- what goes on where a cancellation was caught: what is left of the exception, or a `TooSlow` where nothing is
+-- what propagates where a cancellation was caught: the rest of the exception, or a `TooSlow` where nothing is left
 abbrev pub caught_text : Option Exc → Option Exc → List ℕ
 caught_text left None = []
 caught_text None (Some e) = codes ", raises " ++ exc_text e
@@ -103,14 +103,14 @@ end_text None = codes "done"
 end_text (Some cancelled) = codes "cancelled"
 end_text (Some e) = codes "raised " ++ exc_text e
 
--- who ends with an exception cancels its nursery from the next tick on, if the table says so
+-- a task that ends with an exception cancels its nursery from the next tick on, if the table says so
 abbrev pub sign_text : Table → Option Label → Option Exc → ℕ → List ℕ
 sign_text table None e t = []
 sign_text table (Some l) None t = []
 sign_text table (Some l) (Some e) t =
     if is_from (table l) (t + 1) then codes "; nursery " ++ label_text l ++ codes " is cancelled from " ++ decimal (t + 1) else []
 
--- a `cancel` of what is cancelled already changes nothing
+-- a `cancel` of a scope or nursery that is already cancelled changes nothing
 abbrev pub cancel_text : Table → List Event → Option Label → ℕ → List ℕ
 cancel_text table es None t = []
 cancel_text table es (Some l) t =
@@ -162,7 +162,7 @@ abbrev pub line_text : Table → List Event → ℕ → Event → List ℕ
 line_text table es width e =
     codes "  " ++ padded width (label_text e.task) ++ codes "  " ++ what_text table es e.tick e.what ++ codes "\n"
 
--- a line for each tick in which something happens, and then one for each event
+-- a line for a tick, where the event before is of another tick; a line for each event of the tick follows
 abbrev pub tick_text : Tick → ℕ → List ℕ
 tick_text before t = if is_from before t then [] else codes "tick " ++ decimal t ++ codes "\n"
 
@@ -175,7 +175,7 @@ lines_text table es width before (e ∷ rest) =
 abbrev pub job_events : Table → Tree → List ℕ → List Event
 job_events table job input = in_order (events_of (root_label job.name) (story_by table job input))
 
--- the text of some events of a story, with all of its events in view
+-- the text of selected events of a story, of which `all` has all events
 abbrev pub kept_text : Table → List Event → List Event → List ℕ
 kept_text table all kept = lines_text table all (widest kept) None kept
 

@@ -1,4 +1,4 @@
--- The story of a task: what happened to it, in order, with the stories of the tasks that it started.
+-- The story of a task: what happened to it, in order, and the stories of the tasks that it started.
 use Rattle.std.specs.Prelude.{ℕ, Bool, Option, Some, List}
 use Rattle.buffer_parts.specs.Lines.{Range, Span}
 use Rattle.exc_groups.specs.Exceptions.{Label, Exc}
@@ -8,32 +8,32 @@ use Rattle.job_meaning.specs.Walk.{Kind, left_as, log_of_lines, sign_if, sign_of
 
 -- One thing that happened to a task.
 pub data Happening : Type 0 where
-  -- it entered a scope or a nursery
+  -- the task entered a scope or a nursery
   enters : (kind : Kind) → (label : Label) → (deadline : Tick) → (shield : Bool) → Happening
-  -- it fell asleep until a tick, or forever, where that takes time
+  -- it fell asleep until a tick, or forever; a sleep that takes no time does not count
   sleeps : (until : Tick) → Happening
-  -- `Cancelled` was raised: by which scope or nursery; asleep since a tick, or at a checkpoint; in a `finally` block or not
+  -- `Cancelled` was raised: by which scope or nursery; since when it slept, or at a checkpoint; in a `finally` block or not
   is_cancelled : (by : Option Label) → (since : Tick) → (in_cleanup : Bool) → Happening
-  -- a kernel answered these lines
+  -- a kernel found these lines
   finds : (lines : List Span) → Happening
   -- `need` found no line, and raised this name
   misses : (name : List ℕ) → Happening
   raises : (name : List ℕ) → Happening
-  -- a `cancel` step, of the scope or nursery of its name around the task
+  -- a `cancel` step, of the innermost scope or nursery of its name that encloses the task, if there is one
   cancels : (label : Option Label) → Happening
-  -- a handler begins: what matched, and what is left of the exception
+  -- a handler begins: the part of the exception that matches, and the rest
   handles : (matched : Exc) → (rest : Option Exc) → Happening
-  -- a `finally` block begins, with the exception that the block or its handler ended with
+  -- a `finally` block begins, with the exception with which the block before it or its handler ended
   cleans : (exc : Option Exc) → Happening
-  -- a cleanup raised in the place of an earlier exception, which is lost
+  -- a cleanup ended with an exception, which replaces an earlier one
   replaces : (lost fresh : Exc) → Happening
   -- the body of a nursery ended, and the task waits for the children
   waits : (nursery : Label) → (exc : Option Exc) → Happening
-  -- it left a scope or nursery: with which exception, whether a cancellation was caught, and what goes on
+  -- it left a scope or nursery: the exception inside, whether a cancellation was caught, and the exception that propagates
   leaves : (kind : Kind) → (label : Label) → (inside : Option Exc) → (caught : Bool) → (outside : Option Exc) → Happening
 
--- What happened to a task, each with its tick, and the tasks that it started: a task has the nursery in which it was started (none
--- for the root), its part of the input, its start and end, how it ended, and its own story.
+-- What happened to a task, each with its tick, and the tasks that it started. A started task has the nursery in which it was started
+-- (`None` for the root), its part of the input, the ticks of its start and end, how it ended, and its own story.
 pub data Story : Type 0 where
   no_more : Story
   happened : (tick : ℕ) → (what : Happening) → (rest : Story) → Story
@@ -45,7 +45,7 @@ then_story no_more others = others
 then_story (happened t what rest) others = happened t what (then_story rest others)
 then_story (started l home part s u e own rest) others = started l home part s u e own (then_story rest others)
 
--- what a log holds of a happening: the lines, the labels entered, the signs, and the exits
+-- what a log contains of a happening: the lines, the labels entered, the signs, and the exits
 abbrev pub erased_one : ℕ → Happening → Log → Log
 erased_one t (enters kind label deadline shield) rest = entered label t deadline rest
 erased_one t (sleeps until) rest = rest
@@ -60,13 +60,13 @@ erased_one t (replaces lost fresh) rest = rest
 erased_one t (waits nursery exc) rest = followed_by (sign_if exc (Some nursery) t) rest
 erased_one t (leaves kind label inside caught outside) rest = entry t (left_as kind label caught) rest
 
--- a story with all erased that a log does not hold
+-- a story with everything erased that a log does not contain
 abbrev pub erased : Story → Log
 erased no_more = nil
 erased (happened t what rest) = erased_one t what (erased rest)
 erased (started l home part s u e own rest) = task l s u e (followed_by (erased own) (sign_if e home u)) (erased rest)
 
--- the result of telling: as a `Result`, with a story in the place of the log
+-- the result of a walk that makes a story: like a `Result`, with a story in place of the log
 pub record Tale : Type 0 where
   pub end : ℕ
   pub exc : Option Exc

@@ -1,4 +1,4 @@
--- Telling a job's steps by a table: the walk of its tree, with a story in the place of the log.
+-- The story of a job's steps by a table: the walk of its tree, with a story in place of the log.
 use Rattle.std.specs.Prelude.{ℕ, zero, suc, ◌+◌, ◌-◌, ◌==◌, Bool, true, false, Option, Some, None, List, [], ◌∷◌, ◌++◌, nat_le, if◌then◌else◌}
 use Rattle.job_tree.specs.Tree.{Step, sleep, checkpoint, forever, pace, find, head, longest, need, raise, cancel, scope, nursery, start, repeat, attempt, Steps, stop, step, Handled, unhandled, except, Cleaned, uncleaned, finally, Tree}
 use Rattle.buffer_parts.specs.Lines.{Span}
@@ -12,7 +12,7 @@ use Rattle.job_meaning.specs.Meaning.{root_label, root_here}
 use Rattle.job_meaning.specs.Walk.{far, Stack, Here, label_here, paced, label_on, due, Left, left_with, Kind, a_scope, a_nursery, exc_after, within, home_of, latest, with_exc, excs_of, in_pass, here_in, label_over, handler_exc, outcome_after}
 use Rattle.job_story.specs.Story.{Happening, enters, sleeps, is_cancelled, finds, misses, raises, cancels, handles, cleans, replaces, waits, leaves, Story, no_more, happened, started, then_story, Tale}
 
--- where a walk is, and whether it is in a `finally` block, of this task or of one that started it
+-- the place of a walk, and whether it is in a `finally` block of this task or of one that started it
 pub record Scene : Type 0 where
   pub here : Here
   pub in_cleanup : Bool
@@ -20,7 +20,7 @@ pub record Scene : Type 0 where
 abbrev pub told_at : ℕ → Story → Tale
 told_at t story = record { end = t; exc = None; members = []; story = story }
 
--- this happened, and nothing else, in a tick
+-- the story in which only this happened, in this tick
 abbrev pub only : ℕ → Happening → Story
 only t what = happened t what no_more
 
@@ -38,7 +38,7 @@ tale_if (Some e) a go = a
 unfoldable pub then_tale : Tale → (ℕ → Tale) → Tale
 then_tale a go = tale_if a.exc a go
 
--- a tale with something more at its front, or at its end
+-- a tale with one more event before it, or after it
 abbrev pub after_this : ℕ → Happening → Tale → Tale
 after_this t what a = record a { story = happened t what a.story }
 
@@ -47,22 +47,23 @@ before_this a t what = record a { story = then_story a.story (only t what) }
 
 -- ---- sleeps
 
--- whether a level's from is this tick
+-- whether a scope is cancelled from exactly this tick on
 abbrev pub is_from : Tick → ℕ → Bool
 is_from None t = false
 is_from (Some f) t = f == t
 
--- the innermost scope or nursery that gives the sight: the first whose from it is, up to and including the first shielded one
+-- the innermost scope or nursery that determines the effective deadline (`sight`) t: the first that is cancelled from t on, up to and
+-- including the first shielded one
 abbrev pub seer : Stack → ℕ → Option Label
 seer [] t = None
 seer (l ∷ ls) t = if is_from l.from t then Some l.label else (if l.shield then None else seer ls t)
 
--- a sleep that takes no time is none
+-- a sleep that takes no time is not an event
 abbrev pub asleep_for : ℕ → ℕ → Tick → Story
 asleep_for zero t until = no_more
 asleep_for (suc n) t until = only t (sleeps until)
 
--- a sleep of n ticks, of which the story says that it is until that tick, or forever
+-- a sleep of n ticks; the story says that it is until the tick `until`, or forever
 abbrev pub tell_slept : Tick → ℕ → ℕ → Stack → Bool → Tick → Tale
 tell_slept None n t stack cleanup until = told_at (t + n) (asleep_for n t until)
 tell_slept (Some from) n t stack cleanup until =
@@ -94,7 +95,7 @@ tell_cancel label t = told_at t (only t (cancels label))
 
 -- ---- blocks
 
--- a scope or nursery, entered in tick t, is left where its inside ends
+-- a scope or nursery that was entered in tick t is left when its inside ends
 abbrev pub tell_left : Kind → Label → ℕ → Tick → Bool → Left → Tale → Tale
 tell_left kind label t deadline shield left a =
     record {
@@ -115,7 +116,7 @@ tell_block table kind label t deadline shield stack inside =
 unfoldable pub tell_wait : Label → Tale → Tale
 tell_wait label a = before_this a a.end (waits label a.exc)
 
--- and the nursery ends with its last member, with the group of what they raised
+-- the nursery ends with its last member, with the group of the exceptions of its members
 unfoldable pub tell_gathered : Label → Tale → Tale
 tell_gathered label a =
     record {
@@ -125,7 +126,7 @@ tell_gathered label a =
       story = a.story;
     }
 
--- a started task stands in the story of its starter where it was started
+-- a started task is in the story of the task that started it, at the place where it was started
 unfoldable pub tell_child : Label → Option Label → Scene → ℕ → Tale → Tale
 tell_child label home scene t a =
     record {
@@ -162,7 +163,7 @@ handled_exc (Some e) wanted a go = handled_if (keep wanted e) (drop wanted e) a 
 unfoldable pub tell_handled : Wanted → Tale → (ℕ → Tale) → Tale
 tell_handled wanted a go = handled_exc a.exc wanted a go
 
--- an exception of a cleanup takes the place of an earlier one
+-- an exception of a cleanup replaces an earlier one
 abbrev pub replaced : Option Exc → Option Exc → ℕ → Story
 replaced None fresh t = no_more
 replaced (Some lost) None t = no_more
@@ -182,7 +183,7 @@ tell_cleaned a go = cleaned_by a (go a.end)
 
 -- ---- the walk
 
--- the same place of the same task, elsewhere in the tree
+-- the same walk at another place
 abbrev pub at_place : Here → Scene → Scene
 at_place here scene = record scene { here = here }
 
@@ -232,15 +233,15 @@ unfoldable mutual
   tell_cleanup k uncleaned scene st a = a
   tell_cleanup k (finally body) scene st a = tell_cleaned a (λ u. tell k body (record scene { in_cleanup = true }) st u)
 
--- the root of a job, from tick 0, with no scope around it
+-- the root task of a job, at tick 0, with no enclosing scope
 abbrev pub root_scene : Tree → List ℕ → Scene
 root_scene job input = record { here = root_here job input; in_cleanup = false }
 
--- the tale of a job's root by a table
+-- the tale of a job's root task by a table
 unfoldable pub tale_by : Table → Tree → List ℕ → Tale
 tale_by table job input = tell table job.steps (root_scene job input) [] 0
 
--- and the story of the job: the root's, as a started task
+-- the story of the job, which is that of the root as a started task
 abbrev pub story_by : Table → Tree → List ℕ → Story
 story_by table job input =
     let a = tale_by table job input in

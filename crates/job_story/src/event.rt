@@ -1,7 +1,7 @@
 use exc_groups::{Exc, Label};
 use job_tree::Name;
 
-/// A part of the input: the place of its first byte, and the place after its last one.
+/// A part of the input: the place of its first byte, and the place after its last byte. Places are in bytes.
 #[derive(Clone, Copy, Debug, PartialEq, Eq)]
 pub struct Range {
     /// The place of the first byte.
@@ -10,19 +10,19 @@ pub struct Range {
     pub to: usize,
 }
 
-/// A line of the input: the place of its first byte, and how many bytes it has.
+/// A line of the input: the place of its first byte, and its length in bytes without the newline.
 #[derive(Clone, Copy, Debug, PartialEq, Eq)]
 pub struct Span {
-    /// The place of the first byte.
+    /// The place of the first byte, or of the newline if the line is empty.
     pub at: usize,
-    /// How many bytes it has, without the newline.
+    /// The length in bytes, without the newline.
     pub len: usize,
 }
 
 /// What a block is: a cancel scope or a nursery.
 #[derive(Clone, Copy, Debug, PartialEq, Eq)]
 pub enum Kind {
-    /// A cancel scope. A `fail` scope raises `TooSlow` where it caught a cancellation and nothing else is left.
+    /// A cancel scope. A `fail` scope raises `TooSlow` if it caught a cancellation and nothing else is left.
     Scope {
         /// Whether it is a `fail` scope.
         fail: bool,
@@ -31,42 +31,44 @@ pub enum Kind {
     Nursery,
 }
 
-/// One thing that happened to a task. Exceptions stand in boxes: most events have none, and are not to have room for one.
+/// One thing that happened to a task. Exceptions are boxed, so that the many events without one take less memory.
 #[derive(Drop)]
 pub enum Happening {
-    /// It entered a scope or a nursery.
+    /// The task entered a scope or a nursery.
     Enters {
-        /// What it entered.
+        /// Whether it entered a scope or a nursery.
         kind: Kind,
-        /// Its label.
+        /// The label of the scope or nursery.
         label: Label,
-        /// The tick from which its deadline cancels it: none is never.
+        /// The tick from which its deadline cancels it, or `None` if it has no deadline.
         deadline: Option<u64>,
-        /// Whether it hides cancellations from outside.
+        /// Whether it is shielded, so that it hides cancellations from outside.
         shield: bool,
     },
-    /// It fell asleep, where that takes time.
+    /// The task fell asleep. A sleep that takes no time is not an event.
     Sleeps {
-        /// The tick at which it is due: none for `forever`.
+        /// The tick at which the sleep is due, or `None` for `forever`.
         until: Option<u64>,
     },
-    /// `Cancelled` was raised in it.
+    /// `Cancelled` was raised in the task.
     IsCancelled {
-        /// The innermost scope or nursery that gives the sight.
+        /// The innermost scope or nursery whose cancellation is the one that the task saw: the first, from the inside, that is
+        /// cancelled from the effective deadline (`sight`) on. `None` if there is no such scope or nursery, which does not occur
+        /// in the story of a job.
         by: Option<Label>,
-        /// Since which tick it slept: none where it was cancelled at a checkpoint.
+        /// The tick since which the task slept, or `None` if it was cancelled at a checkpoint and did not fall asleep.
         since: Option<u64>,
-        /// Whether it was in a `finally` block, of its own or of a task that started it.
+        /// Whether the task was in a `finally` block, its own or that of a task that started it.
         in_cleanup: bool,
     },
-    /// A kernel answered these lines.
+    /// A kernel found these lines.
     Finds {
-        /// The lines.
+        /// The lines, in order. There may be none, except for a `need`.
         lines: Vec<Span>,
     },
-    /// `need` found no line.
+    /// A `need` step found no line.
     Misses {
-        /// The name of the exception that it raised.
+        /// The name of the exception that the step raised.
         name: Name,
     },
     /// A `raise` step.
@@ -76,78 +78,78 @@ pub enum Happening {
     },
     /// A `cancel` step.
     Cancels {
-        /// The scope or nursery of that name around the task.
+        /// The innermost scope or nursery of that name that encloses the task, or `None` if there is none.
         label: Option<Label>,
     },
     /// A handler begins.
     Handles {
-        /// The leaves that it handles.
+        /// The exception with the leaves that match.
         matched: Box<Exc>,
-        /// What is left of the exception.
+        /// The exception with the other leaves, or `None` if every leaf matches.
         rest: Option<Box<Exc>>,
     },
     /// A `finally` block begins.
     Cleans {
-        /// The exception that the block, or its handler, ended with.
+        /// The exception with which the block before it, or the handler of that block, ended, or `None` if it ended without one.
         exc: Option<Box<Exc>>,
     },
-    /// A cleanup raised in the place of an earlier exception.
+    /// A cleanup (a `finally` block) ended with an exception, which replaces an earlier one.
     Replaces {
-        /// The exception that is lost.
+        /// The earlier exception, which is lost.
         lost: Box<Exc>,
-        /// The one in its place.
+        /// The exception that replaces it.
         fresh: Box<Exc>,
     },
     /// The body of a nursery ended, and the task waits for the children.
     Waits {
         /// The nursery.
         nursery: Label,
-        /// The exception that the body ended with.
+        /// The exception with which the body ended, or `None` if it ended without one.
         exc: Option<Box<Exc>>,
     },
-    /// It left a scope or a nursery.
+    /// The task left a scope or a nursery.
     Leaves {
-        /// What it left.
+        /// Whether it left a scope or a nursery.
         kind: Kind,
-        /// Its label.
+        /// The label of the scope or nursery.
         label: Label,
-        /// The exception with which the inside ended.
+        /// The exception with which the inside ended, or `None` if it ended without one.
         inside: Option<Box<Exc>>,
         /// Whether a cancellation was caught.
         caught: bool,
-        /// The exception that goes on.
+        /// The exception that propagates from it, or `None` if none does.
         outside: Option<Box<Exc>>,
     },
 }
 
-/// What an event is.
+/// The kind of an event.
 #[derive(Drop)]
 pub enum What {
     /// The task starts.
     Starts {
-        /// The nursery in which it was started: none for the root.
+        /// The nursery in which it was started, or `None` for the root task.
         home: Option<Label>,
-        /// Its part of the input.
+        /// The task's part of the input.
         part: Range,
     },
-    /// Something happens to it.
+    /// Something happens to the task between its start and its end.
     Happens(Happening),
-    /// It ends.
+    /// The task ends.
     Ends {
-        /// The nursery in which it was started: none for the root.
+        /// The nursery in which it was started, or `None` for the root task.
         home: Option<Label>,
-        /// The exception that it ended with.
+        /// The exception with which it ended, or `None` if it ended without one.
         exc: Option<Box<Exc>>,
     },
 }
 
-/// An event of a story.
+/// An event of a story: one thing that happened to one task.
 #[derive(Drop)]
 pub struct Event {
-    /// The tick.
+    /// The tick in which it happened.
     pub tick: u64,
-    /// The task.
+    /// The label of the task.
     pub task: Label,
-    /// What it is.
+    /// What happened.
     pub what: What,
 }

@@ -7,14 +7,14 @@ use exc_groups::Label;
 use indexmap::IndexMap;
 use std::alloc::{AllocError, Global};
 
-/// From which tick each scope and nursery is cancelled: a table, kept by labels. A look-up takes constant time.
+/// A table with the tick from which each scope and nursery is cancelled, by label. A look-up takes constant time.
 #[derive(Drop)]
 pub struct Froms {
     pub(crate) all: IndexMap<Label, Option<u64>>,
 }
 
 impl Froms {
-    /// An empty table: no scope or nursery is ever cancelled. Takes no memory.
+    /// Creates an empty table, in which no scope or nursery is ever cancelled. Does not allocate.
     pub fn new(alloc: Global) -> Froms
         ensures { (label : tree.Label) → table_in result label ≡ None }
     {
@@ -23,8 +23,8 @@ impl Froms {
         }
     }
 
-    /// From now on the scope or nursery of this label is cancelled from this tick on, or never where it is none. Where there is no
-    /// memory for it, the table stays as it is.
+    /// Sets the tick from which the scope or nursery with this label is cancelled; `None` is never. Other labels keep their
+    /// ticks. Returns `AllocError` if memory is refused; every label then keeps its tick.
     pub fn set(&mut self, label: Label, from: Option<u64>) -> Result<(), AllocError>
         ensures set { OnOk result ((other : tree.Label) →
             table_in self.new other ≡ (if same_label label other then from else table_in self.old other)) }
@@ -34,7 +34,7 @@ impl Froms {
         Ok(())
     }
 
-    /// From which tick the scope or nursery of this label is cancelled: none is never.
+    /// Returns the tick from which the scope or nursery with this label is cancelled, or `None` if it never is.
     pub fn of(&self, label: &Label) -> Option<u64>
         ensures { result ≡ table_in self.now label.now }
     {

@@ -1,9 +1,9 @@
 //! The story of a run: what happened to each task, in which tick and why.
 //!
-//! The layer defines what is told of a job by a table (`specs/Tell.antt`), as the walk of `job_meaning` with a story in the place of
-//! the log, and the text of a story (`specs/Sentences.antt`, `specs/Limit.antt`). It promises that the story by a settled table is
-//! true: with all erased that a log does not hold, it is the log of the job's meaning (`specs/Laws.antt`). At run time it has the
-//! events and the table alone, as values.
+//! The layer defines the story of a job by a table (`specs/Tell.antt`), as the walk of `job_meaning` with a story in place of the
+//! log, and the text of a story (`specs/Sentences.antt`, `specs/Limit.antt`). It promises that the story by a settled table is
+//! true: with everything erased that a log does not contain, it is the log of the job's meaning (`specs/Laws.antt`). At run time the
+//! crate has only the types of the events and the table.
 #![tactic(auto)]
 
 mod event;
