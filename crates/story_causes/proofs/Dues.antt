@@ -10,16 +10,16 @@ use Rattle.job_story.specs.Causes.{Cause}
 use Rattle.story_causes.proofs.Puts.{first_elsewhere}
 use Rattle.story_causes.proofs.LabelLemmas.{same_label_is}
 
--- a test of which both answers are one
+-- a test with the same result in both cases
 same_either : {X : Type 0} (b : Bool) (x : X) → x ≡ (if b then x else x)
 same_either true x = refl
 same_either false x = refl
 
--- equality of ticks either way
+-- equality of ticks in both directions
 same_tick : (t from : ℕ) → (from == t) ≡ (t == from)
 same_tick t from = grind arith
 
--- the label that an event cancels is this one, and the event is of the tick before its from
+-- the event cancels this label, in the tick before the one from which it is cancelled
 due_at : (b : Bool) (table : Table) (l m : Label) (from t : ℕ) (x : Option Cause) → same_label l m ≡ b → table l ≡ Some from →
     (if b then (if is_from (table m) t then x else None) else None) ≡ (if t == from then (if b then x else None) else None)
 due_at true table l m from t x same is =
@@ -39,14 +39,14 @@ none_due table l m from t x o n signs late is =
     ∙ due in
     first_elsewhere o ∙ ap (option_or o) (none ∙ ap (λ i. if t == from then i else None) signs)
 
--- what is noted first, as the definitions have it
+-- what is recorded first, as the definitions see it
 noted : {X Y : Type 0} (f : X → Y) (old new : Option X) (v : X) (b : Bool) → new ≡ option_or old (if b then Some v else None) →
     option_map f new ≡ option_or (option_map f old) (if b then Some (f v) else None)
 noted f None new v true is = ap (option_map f) is
 noted f None new v false is = ap (option_map f) is
 noted f (Some x) new v b is = ap (option_map f) is
 
--- an event of the tick before is noted where no other was
+-- an event of the tick before is recorded where no other was
 pub one_due : {C : Type 0} (f : C → Cause) (table : Table) (l m : Label) (from t : ℕ) (x : C) (old new : Option C) (n : Option Cause) →
     (if same_label l m then Some (f x) else None) ≡ n → is_from (table m) t ≡ true → table l ≡ Some from →
     new ≡ option_or old (if same_label m l then Some x else None) →

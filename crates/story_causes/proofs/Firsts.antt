@@ -18,7 +18,7 @@ sign_from l from e = if e.tick + 1 == from then cause_in l e.tick e.task e.what 
 
 -- ---- how a label was entered
 
--- what comes last stays last under a test
+-- what is last stays last under a test
 if_first : (b : Bool) (x : Entering) (o n : Option Entering) →
     (if b then Some x else option_or o n) ≡ option_or (if b then Some x else o) n
 if_first true x o n = refl
@@ -48,7 +48,7 @@ entering_of_more l (x ∷ es) e =
 
 -- ---- what cancelled it
 
--- what comes last stays last under an earlier cause
+-- what is last stays last under an earlier cause
 or_later_first : (c o n : Option Cause) → or_later c (option_or o n) ≡ option_or (or_later c o) n
 or_later_first None o n = refl
 or_later_first (Some c) o n = refl
@@ -58,7 +58,7 @@ or_later_none : (c : Option Cause) → or_later c None ≡ c
 or_later_none None = refl
 or_later_none (Some c) = refl
 
--- one more event adds the cause that it is where there was none before
+-- one more event adds its cause where there was none before
 pub signed_by_more : (l : Label) (from : ℕ) (es : List Event) (e : Event) →
     signed_by l from (es ++ e ∷ []) ≡ option_or (signed_by l from es) (sign_from l from e)
 signed_by_more l from [] e = or_later_none (sign_from l from e)

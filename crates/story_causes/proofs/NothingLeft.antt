@@ -1,4 +1,4 @@
--- Nothing is left of an exception without its `Cancelled` leaves where it has no other.
+-- Nothing is left of an exception without its `Cancelled` leaves if it has no other leaves.
 use Rattle.std.proofs.Common.{◌≡◌, refl, ◌∙◌}
 use Rattle.std.specs.Prelude.{Bool, true, false, not, ◌&&◌, Option, Some, None, is_none}
 use Rattle.exc_groups.specs.Exceptions.{Whose, Exc, cancelled, raised, too_slow, group, Excs, no_parts, part, group_of}

@@ -1,4 +1,4 @@
--- A value put at a label that has none.
+-- A value inserted for a label that has none.
 use Rattle.std.proofs.Common.{◌≡◌, refl, sym, ap, ◌∙◌, cond}
 use Rattle.std.specs.Prelude.{Bool, true, false, Option, Some, None, is_some, if◌then◌else◌}
 use Rattle.std.specs.Option.{option_or}
@@ -25,7 +25,7 @@ put_by : {V : Type 0} (b : Bool) (f : Label → Option V) (k l : Label) (v : V) 
 put_by true f k l v same none = first_there (f l) v (ap (λ m. is_some (f m)) (sym (same_label_is k l same)) ∙ none)
 put_by false f k l v same none = first_elsewhere (f l)
 
--- an insertion at a label that had no value puts the value there, and nothing elsewhere
+-- an insertion for a label that had no value sets its value, and no other
 pub put_there : {V S : Type 0} (old new : IndexMap (Bor Label) V S) (k : Bor Label) (v : V) →
     Updates (λ x y. same_label x.now y.now) old new k (Some v) → is_some (value_at old k.now) ≡ false →
     (l : Label) → value_at new l ≡ option_or (value_at old l) (if same_label k.now l then Some v else None)

@@ -1,4 +1,4 @@
--- What the code holds of enterings and causes, as the definitions have it.
+-- The enterings and causes of the code, as the definitions see them.
 use Rattle.std.specs.Prelude.{ℕ, Bool, false, Option, Some, None, if◌then◌else◌}
 use Rattle.std.specs.Borrow.{Bor}
 use Rattle.indexmap.specs.IndexMap.{IndexMap, get_by}
@@ -23,16 +23,16 @@ cause_in_code (Task task tick) = why.by_task task.now tick
 cause_in_code (Failure task tick) = why.by_failure task.now tick
 cause_in_code (Cancellation task tick) = why.by_cancellation task.now tick
 
--- the cause that a sign is for the cancellation of a label
+-- the cause that a sign is for the cancellation of a label, if it is one
 abbrev pub sign_at : Label → Option Sign → Option why.Cause
 sign_at l None = None
 sign_at l (Some sign) = if same_label l sign.label.now then Some (cause_in_code sign.cause) else None
 
--- whether the deadline is this tick
+-- whether the label was entered with a deadline at this tick
 abbrev pub is_due_at : Option why.Entering → ℕ → Bool
 is_due_at None t = false
 is_due_at (Some entering) t = is_from entering.deadline t
 
--- what a map from labels has at this one
+-- the value of a map from labels at this label
 abbrev pub value_at : {V S : Type 0} → IndexMap (Bor Label) V S → Label → Option V
 value_at map l = get_by (λ k. same_label l k.now) map

@@ -1,4 +1,4 @@
--- An event that is borrowed, as the definitions have it.
+-- A borrowed event, as the definitions see it.
 use Rattle.std.specs.Borrow.{Bor}
 use Rattle.job_story.specs.Events as told
 use Rattle.job_story.specs.Held.{event_of}

@@ -19,28 +19,31 @@ use std::alloc::{AllocError, Global};
 /// How a scope or nursery was first entered.
 #[derive(Clone, Copy)]
 pub struct Entering {
-    /// What it is.
+    /// Whether it is a scope or a nursery.
     pub kind: Kind,
-    /// The tick from which its deadline cancels it: none is never.
+    /// The tick from which its deadline cancels it, or `None` if it has no deadline.
     pub deadline: Option<u64>,
 }
 
-/// An index over the events of a story: how each scope and nursery was first entered, and why it is cancelled. Each answer takes
-/// constant time. It borrows the events, and copies none of their labels.
+/// An index over the events of a story, which says how each scope and nursery was first entered, and why it is cancelled. Each answer
+/// takes constant time. It borrows the events and the table, and copies no label.
 #[derive(Drop)]
 pub struct Causes<'e> {
-    // From which tick each label is cancelled.
+    // The tick from which each label is cancelled.
     froms: &'e Froms,
     // How each label was first entered.
     entered: IndexMap<&'e Label, Entering>,
-    // Why each label is cancelled, if not by its deadline: the first event that cancelled it in the tick before its from.
+    // Why each label is cancelled, if not by its deadline: the first event that cancelled it, in the tick before the one from which it
+    // is cancelled.
     signed: IndexMap<&'e Label, Cause<'e>>,
 }
 
 impl<'e> Causes<'e> {
-    /// Reads the events of a story in order, and notes how each scope and nursery was first entered, and which event cancelled it first
-    /// in the tick before the one from which the table says that it is cancelled. Each event takes constant time, and only scopes and
-    /// nurseries take memory. The error is want of memory.
+    /// Creates an index over events. It reads the events once, in the order in which they are given, and does not sort them. It records
+    /// for each scope and nursery how it was first entered, and, if `froms` says that it is cancelled, the first event that cancelled it
+    /// in the tick before. First means first in the order given, so for the answers of a story the caller passes its events in order.
+    ///
+    /// Each event takes constant time, and only scopes and nurseries take memory. Returns `AllocError` if memory is refused.
     pub fn of(
         alloc: Global,
         events: &[&'e Event],
@@ -69,7 +72,7 @@ impl<'e> Causes<'e> {
         Ok(())
     }
 
-    /// How a scope or nursery was first entered: none where it never was.
+    /// Returns how a scope or nursery was first entered, or `None` if no event enters it.
     pub fn entering(&self, label: &Label) -> Option<Entering>
         ensures { (table : Table) (es : List told.Event) → Knows self.now table es →
             option_map entering_in_code result ≡ entering_of label.now es }
@@ -77,7 +80,8 @@ impl<'e> Causes<'e> {
         self.entered.get(&label).copied()
     }
 
-    /// Why a scope or nursery is cancelled: none where it never is.
+    /// Returns why a scope or nursery is cancelled: by its deadline, if that is the tick from which it is cancelled, and otherwise by the
+    /// first event that cancelled it in the tick before. Returns `None` if it never is cancelled, or if there is no such event.
     pub fn cause(&self, label: &Label) -> Option<Cause<'e>>
         ensures { (table : Table) (es : List told.Event) → Knows self.now table es →
             option_map cause_in_code result ≡ cause_of table es label.now }
@@ -91,7 +95,7 @@ impl<'e> Causes<'e> {
         self.signed.get(&label).copied()
     }
 
-    /// The tick from which a scope or nursery is cancelled: none is never.
+    /// Returns the tick from which a scope or nursery is cancelled, or `None` if it never is.
     pub fn from(&self, label: &Label) -> Option<u64>
         ensures { (table : Table) (es : List told.Event) → Knows self.now table es → result ≡ table label.now }
     {
@@ -99,7 +103,7 @@ impl<'e> Causes<'e> {
     }
 }
 
-// Whether a deadline is this tick.
+// Returns whether the label was entered with a deadline at this tick.
 fn is_due(entering: Option<Entering>, tick: u64) -> bool
     ensures { result ≡ is_due_at (option_map entering_in_code entering) tick }
 {

@@ -5,7 +5,7 @@ ghost use Rattle.story_causes.specs.Leaves.{all_cancelled, all_in};
 
 use exc_groups::Exc;
 
-/// Whether every leaf of an exception is `Cancelled`.
+/// Returns whether every leaf of an exception is `Cancelled`.
 #[tactic(auto, using(crate::proofs::NothingLeft::nothing_left))]
 pub fn is_cancellation(exc: &Exc) -> bool
     ensures { result ≡ is_none (drop is_cancelled (exc_of exc.now)) }
@@ -13,7 +13,7 @@ pub fn is_cancellation(exc: &Exc) -> bool
     has_no_other(exc)
 }
 
-// Whether every leaf is `Cancelled`, leaf by leaf.
+// Returns whether every leaf is `Cancelled`, by looking at each leaf.
 #[cycle(leaves)]
 fn has_no_other(exc: &Exc) -> bool
     ensures { result ≡ all_cancelled (exc_of exc.now) }
@@ -25,7 +25,7 @@ fn has_no_other(exc: &Exc) -> bool
     }
 }
 
-// Whether every leaf of every part is `Cancelled`.
+// Returns whether every leaf of every part is `Cancelled`.
 #[cycle(leaves)]
 fn have_no_other(parts: &[Exc]) -> bool
     ensures { result ≡ all_in (excs_of parts.now) }

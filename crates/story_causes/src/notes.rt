@@ -15,7 +15,7 @@ use indexmap::IndexMap;
 use job_story::{Event, Froms, Happening, What};
 use std::alloc::AllocError;
 
-// Notes how a label was entered, if the event is that and the label was not entered before.
+// Records how a label was entered, if the event enters a label that was not entered before.
 pub(crate) fn note_entering<'e>(
     entered: &mut IndexMap<&'e Label, Entering>,
     what: &'e What,
@@ -42,7 +42,8 @@ pub(crate) fn note_entering<'e>(
     Ok(())
 }
 
-// Notes why a label is cancelled, if the event cancels it in the tick before its from and no event did so before.
+// Records why a label is cancelled, if the event cancels it in the tick before the one from which it is cancelled and no earlier
+// event did so.
 pub(crate) fn note_sign<'e>(
     signed: &mut IndexMap<&'e Label, Cause<'e>>,
     froms: &Froms,
@@ -63,7 +64,7 @@ pub(crate) fn note_sign<'e>(
     Ok(())
 }
 
-// Whether the second tick is the one after the first.
+// Returns whether the second tick is the one after the first. `None` is never.
 fn is_next(tick: u64, from: Option<u64>) -> bool
     ensures { result ≡ is_from from (tick + 1) }
 {
@@ -73,7 +74,7 @@ fn is_next(tick: u64, from: Option<u64>) -> bool
     }
 }
 
-// Puts a value at a label that has none.
+// Inserts a value for a label, unless the label already has one.
 fn put_first<'e, V: Copy>(
     map: &mut IndexMap<&'e Label, V>,
     label: &'e Label,

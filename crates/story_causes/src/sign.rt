@@ -15,41 +15,41 @@ use job_story::{Event, Happening, What};
 /// Why a scope or nursery is cancelled.
 #[derive(Clone, Copy)]
 pub enum Cause<'e> {
-    /// Its deadline passed.
+    /// Its deadline cancelled it.
     Deadline,
-    /// A task cancelled it by a `cancel` step.
+    /// A task cancelled it with a `cancel` step.
     Task {
-        /// The task.
+        /// The label of the task.
         task: &'e Label,
         /// The tick of the step, which is the one before it is cancelled.
         tick: u64,
     },
-    /// A member of the nursery, or its own body, ended with an exception.
+    /// A child of the nursery, or its own body, ended with an exception of which not every leaf is `Cancelled`.
     Failure {
-        /// The task that ended, or whose body of the nursery did.
+        /// The label of the child that ended, or of the task that ran the body of the nursery.
         task: &'e Label,
         /// The tick of that end, which is the one before the nursery is cancelled.
         tick: u64,
     },
-    /// The same, where every leaf of the exception is `Cancelled`.
+    /// A child of the nursery, or its own body, ended with an exception of which every leaf is `Cancelled`.
     Cancellation {
-        /// The task that ended, or whose body of the nursery did.
+        /// The label of the child that ended, or of the task that ran the body of the nursery.
         task: &'e Label,
         /// The tick of that end, which is the one before the nursery is cancelled.
         tick: u64,
     },
 }
 
-// What an event cancels, and why.
+// The scope or nursery that an event cancels, and why.
 #[derive(Clone, Copy)]
 pub(crate) struct Sign<'e> {
-    // The scope or nursery.
+    // The label of the scope or nursery.
     pub(crate) label: &'e Label,
     // Why it is cancelled.
     pub(crate) cause: Cause<'e>,
 }
 
-// What an event cancels, if it does.
+// Returns what an event cancels, or `None` if it cancels nothing.
 pub(crate) fn sign_of<'e>(event: &'e Event) -> Option<Sign<'e>>
     ensures { (l : tree.Label) → sign_at l result ≡ cause_in l event.now.tick event.now.task (what_of event.now.what) }
 {
@@ -63,7 +63,7 @@ pub(crate) fn sign_of<'e>(event: &'e Event) -> Option<Sign<'e>>
     }
 }
 
-// The same of what happens to a task between its start and its end.
+// Returns what a happening between the start and the end of a task cancels.
 fn sign_in<'e>(happening: &'e Happening, task: &'e Label, tick: u64) -> Option<Sign<'e>>
     ensures { (l : tree.Label) → sign_at l result ≡ cause_in l tick task.entry.now (told.happens (happening_of happening.now)) }
 {
@@ -74,7 +74,7 @@ fn sign_in<'e>(happening: &'e Happening, task: &'e Label, tick: u64) -> Option<S
     }
 }
 
-// A task cancels a scope or nursery by a step: none where no scope or nursery of that name is around it.
+// Returns what a `cancel` step cancels, or `None` if no scope or nursery of its name encloses the task.
 fn sign_step<'e>(label: &'e Option<Label>, task: &'e Label, tick: u64) -> Option<Sign<'e>>
     ensures { (l : tree.Label) → sign_at l result ≡ cause_in l tick task.entry.now (told.happens (story.cancels label.entry.now)) }
 {
@@ -87,7 +87,7 @@ fn sign_step<'e>(label: &'e Option<Label>, task: &'e Label, tick: u64) -> Option
     })
 }
 
-// A nursery is cancelled where a task ends with an exception.
+// Returns that the nursery is cancelled if its child or body ended with an exception, or `None` if it ended without one.
 #[tactic(auto, using(crate::proofs::SignLemmas::no_sign, crate::proofs::SignLemmas::some_sign))]
 fn sign_by<'e>(
     label: &'e Label,
@@ -106,7 +106,7 @@ fn sign_by<'e>(
     })
 }
 
-// The cause that the end of a task with an exception is.
+// Returns the cause that the end of a task with an exception is.
 fn cause_of_end<'e>(exc: &Exc, task: &'e Label, tick: u64) -> Cause<'e>
     ensures { cause_in_code result ≡ cause_by (exc_of exc.now) task.entry.now tick }
 {
