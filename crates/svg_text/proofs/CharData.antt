@@ -4,7 +4,7 @@ use Rattle.std.proofs.lemmas.Bool.{cases_Bool}
 use Rattle.std.specs.Prelude.{◌==◌}
 use Rattle.svg_text.specs.Escaping.{is_char, escaped_byte, escaped, is_char_data}
 
--- A character that needs no reference, before character data, gives character data.
+-- A character that needs no reference, in front of character data, makes character data.
 plain : (b : ℕ) (rest : List ℕ) → (b == 38) ≡ false → (b == 60) ≡ false → (b == 62) ≡ false → (b == 34) ≡ false → is_char b ≡ true →
     is_char_data rest ≡ true → is_char_data (b ∷ rest) ≡ true
 plain b rest amp lt gt quot char known = rw (amp, lt, gt, quot, char) known

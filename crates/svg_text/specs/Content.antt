@@ -1,4 +1,4 @@
--- What stands in an XML document: elements with their attributes, and text (XML 1.0, 3 and 3.1).
+-- The content of an XML document: elements with their attributes, and text.
 use Rattle.std.specs.Prelude.{◌≡◌, ℕ, Bool, true, false, ◌&&◌, ◌||◌, not, List, [], ◌∷◌, ◌++◌, codes}
 use Rattle.std.specs.Str.{bytes_eq}
 use Rattle.svg_text.specs.Escaping.{escaped}
@@ -95,7 +95,7 @@ abbrev pub has_name : Attr → List Attribute → Bool
 has_name name [] = false
 has_name name (a ∷ others) = bytes_eq (attr_name name) (attr_name a.name) || has_name name others
 
--- no attribute stands twice in one start tag
+-- no attribute occurs twice in one start tag
 abbrev pub are_distinct : List Attribute → Bool
 are_distinct [] = true
 are_distinct (a ∷ others) = not (has_name a.name others) && are_distinct others
@@ -105,8 +105,8 @@ is_well_formed nothing = true
 is_well_formed (text bytes rest) = is_well_formed rest
 is_well_formed (element tag attributes inside rest) = are_distinct attributes && (is_well_formed inside && is_well_formed rest)
 
--- Bytes are a well-formed document: those of one element, in which each element is closed, no attribute stands twice in a tag, and text is
--- character data.
+-- The bytes are a well-formed document: those of one element, in which each element is closed, no attribute occurs twice in a tag, and
+-- text is escaped, so that it is character data.
 pub record IsDocument (bytes : List ℕ) : Type 0 where
   pub tag : Tag
   pub attributes : List Attribute

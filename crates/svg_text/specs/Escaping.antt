@@ -6,7 +6,7 @@ use Rattle.std.specs.Str.{bytes_eq}
 abbrev pub is_char : ℕ → Bool
 is_char b = (nat_le 32 b && nat_le b 126) || b == 10
 
--- A byte of text as it is written: by a reference where it would be read as markup, and as a question mark where it is no character.
+-- A byte of text as it is written: as a reference where it would be read as markup, and as a question mark where it is no character.
 abbrev pub escaped_byte : ℕ → List ℕ
 escaped_byte b =
     if b == 38 then codes "&amp;"
@@ -19,18 +19,18 @@ unfoldable pub escaped : List ℕ → List ℕ
 escaped [] = []
 escaped (b ∷ bs) = escaped_byte b ++ escaped bs
 
--- ---- character data, which ends at no `<` and no `"`, and has `&` only where a reference begins
+-- ---- character data, which has no `<` and no `"`, and has `&` only where a reference begins
 
 abbrev pub is_plain : ℕ → Bool
 is_plain b = is_char b && not (b == 38 || (b == 60 || (b == 62 || b == 34)))
 
--- the names that a document without a declaration of types can refer to (XML 1.0, 4.6)
+-- the names that a document without a document type declaration can refer to
 abbrev pub is_known : List ℕ → Bool
 is_known name =
     bytes_eq name (codes "amp") || (bytes_eq name (codes "lt") || (bytes_eq name (codes "gt")
     || (bytes_eq name (codes "quot") || bytes_eq name (codes "apos"))))
 
--- after an `&` a known name stands up to the next `;`
+-- the text from an `&` to the next `;` is a known name
 abbrev mutual
   pub is_char_data : List ℕ → Bool
   is_char_data [] = true

@@ -1,9 +1,9 @@
-//! The law of escaped text. The function does nothing: its contract is the law.
+//! The law about escaped text. The function does nothing: its contract is the law.
 
 ghost use Rattle.std.specs.Prelude.{◌≡◌, ℕ, List, true};
 ghost use Rattle.svg_text.specs.Escaping.{escaped, is_char_data};
 
-/// Escaped text is character data, whatever the bytes are.
+/// A law, which does nothing at run time. Escaped text is character data, whatever the bytes are.
 pub fn law_escaped()
     ensures { (bytes : List ℕ) → is_char_data (escaped bytes) ≡ true }
 {}

@@ -1,20 +1,20 @@
 ghost use Rattle.std.specs.Prelude.{◌≡◌};
 ghost use Rattle.svg_text.specs.Content.{tag_name, attr_name};
 
-/// The elements of SVG that charts are made of.
+/// The elements of SVG that charts use.
 #[derive(Clone, Copy, Debug, PartialEq, Eq)]
 pub enum Tag {
-    /// The document.
+    /// The whole document, `svg`.
     Svg,
-    /// What a browser shows of the element around it.
+    /// A title, which a browser shows for the enclosing element.
     Title,
     /// A style sheet.
     Style,
-    /// Definitions of what is used elsewhere.
+    /// Definitions of elements that are used elsewhere.
     Defs,
-    /// The head of an arrow.
+    /// A marker, such as the head of an arrow.
     Marker,
-    /// What an area is filled with.
+    /// A pattern, with which an area is filled.
     Pattern,
     /// A path.
     Path,
@@ -26,12 +26,12 @@ pub enum Tag {
     Line,
     /// A circle.
     Circle,
-    /// A copy of something that is defined.
+    /// A copy of an element that is defined elsewhere.
     Use,
 }
 
 impl Tag {
-    // Its name.
+    // Returns the name of the element, as in SVG.
     pub(crate) fn name(self) -> &'static [u8]
         ensures { result.now ≡ tag_name self }
     {
@@ -52,24 +52,24 @@ impl Tag {
     }
 }
 
-/// The attributes that they have here.
+/// The attributes of elements that charts use.
 #[derive(Clone, Copy, Debug, PartialEq, Eq)]
 pub enum Attr {
-    /// The namespace of the names.
+    /// The namespace of the element's names.
     Xmlns,
-    /// The part of the plane that is seen.
+    /// The part of the plane that is shown.
     ViewBox,
-    /// What it is called elsewhere in the document.
+    /// The name by which other elements of the document refer to the element.
     Id,
-    /// What the style sheet calls it.
+    /// The class of the element in the style sheet.
     Class,
-    /// How wide it is.
+    /// The width.
     Width,
-    /// How high it is.
+    /// The height.
     Height,
-    /// Where it begins, from the left.
+    /// The place where the element begins, from the left.
     X,
-    /// Where it begins, from the top.
+    /// The place where the element begins, from the top.
     Y,
     /// The start of a line, from the left.
     X1,
@@ -79,9 +79,9 @@ pub enum Attr {
     X2,
     /// The end of a line, from the top.
     Y2,
-    /// The middle of a circle, from the left.
+    /// The centre of a circle, from the left.
     Cx,
-    /// The middle of a circle, from the top.
+    /// The centre of a circle, from the top.
     Cy,
     /// The radius of a circle.
     R,
@@ -89,24 +89,24 @@ pub enum Attr {
     Rx,
     /// The steps of a path.
     D,
-    /// What is copied.
+    /// The element that is copied.
     Href,
-    /// Where the head of an arrow lies on the line's end, from the left.
+    /// The place in a marker that lies on the end of the line, from the left.
     RefX,
-    /// Where the head of an arrow lies on the line's end, from the top.
+    /// The place in a marker that lies on the end of the line, from the top.
     RefY,
-    /// How wide the head of an arrow is.
+    /// The width of a marker.
     MarkerWidth,
-    /// How high the head of an arrow is.
+    /// The height of a marker.
     MarkerHeight,
-    /// Which way the head of an arrow points.
+    /// The direction in which a marker points.
     Orient,
-    /// In what a pattern is measured.
+    /// The unit in which a pattern is measured.
     PatternUnits,
 }
 
 impl Attr {
-    // Its name.
+    // Returns the name of the attribute, as in SVG.
     pub(crate) fn name(self) -> &'static [u8]
         ensures { result.now ≡ attr_name self }
     {

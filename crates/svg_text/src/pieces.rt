@@ -7,7 +7,8 @@ use crate::names::{Attr, Tag};
 use itoa::Buffer;
 use std::alloc::AllocError;
 
-/// Begins an element: its attributes come next, and then `inside`. Want of memory is the only error, here and below.
+/// Begins an element. The caller appends its attributes next, and then calls `inside`. Returns `AllocError` if memory is refused; `out`
+/// may then end in a part of what was to be appended.
 pub fn begin(out: &mut Vec<u8>, tag: Tag) -> Result<(), AllocError>
     ensures { OnOk result (out.new.items ≡ out.old.items ++ (codes "<" ++ tag_name tag)) }
 {
@@ -15,7 +16,7 @@ pub fn begin(out: &mut Vec<u8>, tag: Tag) -> Result<(), AllocError>
     out.extend_from_slice(tag.name())
 }
 
-/// Appends an attribute of the element that was begun.
+/// Appends an attribute of the element that was begun. The value is escaped. Returns `AllocError` if memory is refused.
 #[tactic(auto, unfolding(crate::specs::Content::attribute_text))]
 pub fn attribute(out: &mut Vec<u8>, name: Attr, value: &[u8]) -> Result<(), AllocError>
     ensures { OnOk result (out.new.items ≡ out.old.items ++ attribute_text (content.attribute name value.now)) }
@@ -27,7 +28,7 @@ pub fn attribute(out: &mut Vec<u8>, name: Attr, value: &[u8]) -> Result<(), Allo
     out.extend_from_slice(b"\"")
 }
 
-/// Appends an attribute whose value is a number.
+/// Appends an attribute whose value is a number, in decimal digits. Returns `AllocError` if memory is refused.
 pub fn number(out: &mut Vec<u8>, name: Attr, n: u64) -> Result<(), AllocError>
     ensures { OnOk result (out.new.items ≡ out.old.items ++ attribute_text (content.attribute name (decimal n))) }
 {
@@ -35,14 +36,16 @@ pub fn number(out: &mut Vec<u8>, name: Attr, n: u64) -> Result<(), AllocError>
     attribute(out, name, buffer.format(n).as_bytes())
 }
 
-/// Ends the attributes of an element: what stands inside it comes next, and then `end`.
+/// Ends the attributes of an element. The caller appends the content of the element next, and then calls `end`. Returns `AllocError`
+/// if memory is refused.
 pub fn inside(out: &mut Vec<u8>) -> Result<(), AllocError>
     ensures { OnOk result (out.new.items ≡ out.old.items ++ codes ">") }
 {
     out.extend_from_slice(b">")
 }
 
-/// Appends text, escaped. A byte that is no printable character of ASCII and no newline is written as a question mark.
+/// Appends text, escaped. A byte that is neither a printable character of ASCII nor a newline is written as a question mark. Returns
+/// `AllocError` if memory is refused.
 #[tactic(auto, unfolding(crate::specs::Escaping::escaped))]
 pub fn text(out: &mut Vec<u8>, bytes: &[u8]) -> Result<(), AllocError>
     ensures { OnOk result (out.new.items ≡ out.old.items ++ escaped bytes.now) }
@@ -53,7 +56,7 @@ pub fn text(out: &mut Vec<u8>, bytes: &[u8]) -> Result<(), AllocError>
     Ok(())
 }
 
-// Appends a byte of text.
+// Appends a byte of text, escaped.
 fn escape(out: &mut Vec<u8>, byte: u8) -> Result<(), AllocError>
     ensures { OnOk result (out.new.items ≡ out.old.items ++ escaped_byte byte) }
 {
@@ -70,7 +73,7 @@ fn escape(out: &mut Vec<u8>, byte: u8) -> Result<(), AllocError>
     }
 }
 
-/// Ends an element.
+/// Ends an element, with its end tag. Returns `AllocError` if memory is refused.
 pub fn end(out: &mut Vec<u8>, tag: Tag) -> Result<(), AllocError>
     ensures { OnOk result (out.new.items ≡ out.old.items ++ end_tag tag) }
 {
