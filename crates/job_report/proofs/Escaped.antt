@@ -1,4 +1,4 @@
--- Bytes that stand for themselves.
+-- Bytes that are not escaped.
 use Rattle.std.proofs.Common.{◌≡◌, ℕ, zero, suc, ◌<◌, ◌≤◌, List, [], ◌∷◌, ◌++◌, length, take, drop, get_or, refl, ap, sym, ◌∙◌, append-nil, arith}
 use Rattle.std.proofs.lemmas.List.{take_all, length-drop, nil_from_length}
 use Rattle.std.specs.Prelude.{true}
@@ -26,7 +26,7 @@ escaped_none xs front back n h plain f b none =
     let rest : drop n xs ≡ [] = sym b ∙ nil_from_length back none in
     escaped_front xs n h plain ∙ rw (all, rest) (append-nil xs)
 
--- bytes before the first that needs an escape, that byte, and those behind it
+-- bytes before the first that needs an escape, that byte, and those after it
 pub escaped_some : (xs front back others : List ℕ) (x n : ℕ) → n ≤ length xs →
     ((k : ℕ) → k < n → stands_for_itself (get_or xs k 0) ≡ true) → front ≡ take n xs → back ≡ drop n xs → back ≡ x ∷ others →
     flat_map escaped xs ≡ front ++ (escaped x ++ flat_map escaped others)

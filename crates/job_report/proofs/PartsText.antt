@@ -7,7 +7,7 @@ use Rattle.exc_groups.specs.Held.{exc_of, excs_of}
 use Rattle.exc_groups.specs.Weigh.{weight_of, weight_in}
 use Rattle.job_report.specs.Text.{exc_text, more_text}
 
--- a further part stands behind a comma and a space
+-- a further part follows a comma and a space
 pub more_text-take : (es : List Exc) (i : ℕ) (d : Exc) → i < length es →
     more_text (excs_of (take (i + 1) es)) ≡ more_text (excs_of (take i es)) ++ (codes ", " ++ exc_text (exc_of (slice_index_or es i d)))
 more_text-take [] i d h = absurd (omega arith)

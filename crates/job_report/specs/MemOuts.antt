@@ -1,4 +1,4 @@
--- What clauses read of a writer into memory.
+-- What clauses state about a writer into memory.
 use Rattle.std.specs.Prelude.{ℕ, ◌-◌, Bool, false, Option, Some, None, List, ◌==◌, if◌then◌else◌}
 use Rattle.job_report.specs.declared.mem_out.MemOut.{MemOut}
 
@@ -11,7 +11,7 @@ room_of out = out.room
 abbrev pub piece_of : MemOut → ℕ
 piece_of out = out.piece
 
--- the puts still to come before the one that is to fail
+-- the number of puts before the one that must fail
 abbrev pub puts_before_fault : MemOut → Option ℕ
 puts_before_fault out = out.puts_left
 

@@ -19,7 +19,7 @@ abbrev pub whose_text : Whose → List ℕ
 whose_text (by_nursery label) = label_text label
 whose_text by_handler = codes "*"
 
--- an exception; the parts of a group stand between a comma and a space
+-- an exception; the parts of a group are separated by a comma and a space
 abbrev mutual
   pub exc_text : Exc → List ℕ
   exc_text cancelled = codes "Cancelled"
@@ -44,7 +44,7 @@ ending_text (with_exception e) = codes "raised " ++ exc_text e
 abbrev pub hex_digit : ℕ → ℕ
 hex_digit n = if nat_lt n 10 then n + 48 else n + 87
 
--- a byte that stands for itself: 32 to 126, but no backslash
+-- a byte that is not escaped: 32 to 126, but no backslash
 abbrev pub stands_for_itself : ℕ → Bool
 stands_for_itself b = (nat_le 32 b && nat_le b 126) && not (b == 92)
 

@@ -1,4 +1,4 @@
--- What clauses read of a writer of the system.
+-- What clauses state about a writer of the system.
 use Rattle.std.specs.Prelude.{ℕ}
 use Rattle.job_report.specs.declared.write_out.WriteOut.{WriteOut}
 

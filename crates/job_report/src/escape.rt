@@ -4,7 +4,8 @@ ghost use Rattle.job_report.specs.Text.{escaped, hex_digit, stands_for_itself};
 
 use std::alloc::AllocError;
 
-// Appends the bytes of a line as the report shows them: runs of plain bytes at once.
+// Appends the bytes of a line as the report shows them; a run of bytes that are not escaped is
+// appended at once.
 pub fn push_escaped(out: &mut Vec<u8>, text: &[u8]) -> Result<(), AllocError>
     ensures { OnOk result (out.new.items ≡ out.old.items ++ flat_map escaped text.now) }
 {
@@ -17,7 +18,7 @@ pub fn push_escaped(out: &mut Vec<u8>, text: &[u8]) -> Result<(), AllocError>
     out.extend_from_slice(rest)
 }
 
-// The bytes before the first that does not stand for itself, that byte, and the bytes behind it.
+// The bytes before the first that is escaped, that byte, and the bytes after it.
 fn split_special(text: &[u8]) -> Option<(&[u8], u8, &[u8])>
     ensures none { IfNone result (flat_map escaped text.now ≡ text.now) }
     ensures special { IfSome result (λ r. stands_for_itself r.1 ≡ false) }
@@ -31,7 +32,7 @@ fn split_special(text: &[u8]) -> Option<(&[u8], u8, &[u8])>
     Some((plain, *special, others))
 }
 
-// How many bytes from the front on stand for themselves.
+// How many bytes from the front on are not escaped.
 fn plain_len(text: &[u8]) -> usize
     ensures within { result ≤ length text.now }
     ensures plain { (k : ℕ) → k < result → stands_for_itself (slice_index text.now k) ≡ true }
@@ -51,7 +52,7 @@ fn is_plain_byte(b: u8) -> bool
     32 <= b && b <= 126 && b != 92
 }
 
-// Appends a byte that does not stand for itself.
+// Appends the escape of a byte.
 fn push_special(out: &mut Vec<u8>, b: u8) -> Result<(), AllocError>
     requires { stands_for_itself b ≡ false }
     ensures { OnOk result (out.new.items ≡ out.old.items ++ escaped b) }

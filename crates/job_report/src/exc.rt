@@ -6,7 +6,7 @@ use crate::label::{push_label, push_place};
 use exc_groups::{Exc, Whose};
 use std::alloc::AllocError;
 
-// Appends who made a group.
+// Appends the origin of a group.
 fn push_whose(out: &mut Vec<u8>, whose: &Whose) -> Result<(), AllocError>
     ensures { OnOk result (out.new.items ≡ out.old.items ++ whose_text (whose_of whose.now)) }
 {
@@ -52,7 +52,7 @@ fn push_parts(out: &mut Vec<u8>, parts: &[Exc]) -> Result<(), AllocError>
     push_more(out, others)
 }
 
-// Appends each part behind a comma and a space.
+// Appends each part, preceded by a comma and a space.
 #[cycle(exc)]
 fn push_more(out: &mut Vec<u8>, parts: &[Exc]) -> Result<(), AllocError>
     ensures { OnOk result (out.new.items ≡ out.old.items ++ more_text (excs_of parts.now)) }

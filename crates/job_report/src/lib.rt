@@ -1,7 +1,7 @@
 //! The text of a report, and sending bytes to a writer.
 //!
-//! The layer promises that `report` is the text of a run's records, and that `send` stops only where the writer
-//! failed. It stands on `job_runner`.
+//! The layer promises that `report` is the text of a run's records, and that `send` stops only if the writer
+//! failed. It uses `job_runner`.
 #![tactic(auto)]
 
 mod escape;

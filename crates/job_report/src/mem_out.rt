@@ -3,7 +3,7 @@ ghost use Rattle.std.specs.Prelude.{◌≡◌, ◌≢◌, ℕ, ◌+◌, ◌-◌,
 use crate::out::{Out, PutFault};
 use std::alloc::{AllocError, Global};
 
-/// A writer into a room of its own in memory, for tests and for callers that keep the bytes. It can be told to fail.
+/// A writer into memory, for tests and for callers that keep the bytes. It can be made to fail.
 #[derive(Drop)]
 pub struct MemOut {
     bytes: Vec<u8>,
@@ -19,8 +19,9 @@ pub struct MemOut {
 impl MemOut {
     ghost use Rattle.job_report.specs.MemOuts.{held_by, room_of, piece_of, puts_before_fault, puts_after, is_due, faults_of};
 
-    /// A writer with room for that many bytes, which takes at most `piece` bytes a put. It fails at the put of number
-    /// `fail_at`, counted from 0, and wherever no room is left.
+    /// Returns a writer with space for `room` bytes, which takes at most `piece` bytes for each put. It fails at the
+    /// put with the number `fail_at`, counted from 0, and at each put when no space is left. The caller must ensure
+    /// that `piece` is not 0. The only error is that memory was refused.
     pub fn new(
         alloc: Global,
         room: usize,
@@ -44,14 +45,14 @@ impl MemOut {
         })
     }
 
-    /// The bytes that were taken.
+    /// Returns the bytes that were taken.
     pub fn taken(&self) -> &[u8]
         ensures { result.now ≡ held_by self.now }
     {
         self.bytes.as_slice()
     }
 
-    // Counts a put, and says whether it is the one that is to fail.
+    // Counts a put, and returns whether it is the one that must fail.
     fn is_told_to_fail(&mut self) -> bool
         ensures told { result ≡ is_due (puts_before_fault self.old) }
         ensures left { self.new ≡ record self.old { puts_left = puts_after (puts_before_fault self.old) } }

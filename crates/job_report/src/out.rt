@@ -10,13 +10,14 @@ pub struct PutFault;
 
 /// A writer of bytes that counts its failures.
 pub trait Out {
-    /// The failures so far.
+    /// The number of failures so far.
     ghost failed: { Self → ℕ };
 
-    /// The bytes that the writer holds, where they are known.
+    /// The bytes that the writer holds, if they are known.
     ghost contents: { Self → Option (List ℕ) };
 
-    /// Takes some bytes from the front, at least one, and says how many; or fails, takes none, and counts the failure.
+    /// Takes at least one byte from the front of `bytes` and returns how many it took; or takes none, counts the
+    /// failure, and returns `PutFault`. The caller must ensure that `bytes` is not empty.
     fn put(&mut self, bytes: &[u8]) -> Result<usize, PutFault>
         requires some { 0 < length bytes.now }
         requires countable { failed self.old < 18446744073709551615 }
@@ -26,12 +27,12 @@ pub trait Out {
         ensures fault { OnErr result (failed self.new ≡ failed self.old + 1) }
         ensures none_taken { OnErr result (Keeps (contents self.old) (contents self.new)) };
 
-    /// How many times the writer failed.
+    /// Returns how many times the writer failed.
     fn failures(&self) -> u64
         ensures { result ≡ failed self.now };
 }
 
-/// A writer stopped a sending: `sent` bytes were taken before it failed.
+/// A writer failed while bytes were sent, after it took `sent` of them.
 #[derive(Clone, Copy, Debug, PartialEq, Eq, Error)]
 #[error("the writer failed after {sent} bytes")]
 pub struct SendFault {
@@ -39,7 +40,8 @@ pub struct SendFault {
     pub sent: usize,
 }
 
-/// Sends all bytes to a writer. It stops only where the writer fails, and takes no memory.
+/// Sends all bytes to a writer. It stops only if the writer fails, and takes no memory. The error says how many bytes
+/// were taken before.
 pub fn send<W: Out>(bytes: &[u8], out: &mut W) -> Result<(), SendFault>
     requires { W.failed out.old < 18446744073709551615 }
     ensures all { OnOk result (Appends (W.contents out.old) (W.contents out.new) bytes.now) }

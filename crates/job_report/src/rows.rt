@@ -116,8 +116,8 @@ pub fn push_rows(out: &mut Vec<u8>, rows: &[Record<'_>]) -> Result<(), AllocErro
     Ok(())
 }
 
-// An empty text with room for the lines of all tasks, at least where no byte of a line of the input is escaped. Where there is
-// less, it grows.
+// An empty text with space for the lines of all tasks, at least if no byte of a line of the input is escaped. Otherwise it
+// grows.
 pub fn text_for(alloc: Global, rows: &[Record<'_>]) -> Result<Vec<u8>, AllocError>
     ensures { IfOk result (λ text. text.items ≡ []) }
 {
@@ -128,7 +128,7 @@ pub fn text_for(alloc: Global, rows: &[Record<'_>]) -> Result<Vec<u8>, AllocErro
     Vec::with_capacity(alloc, room)
 }
 
-// Room for the lines of a task.
+// Space for the lines of a task.
 fn room_of(row: &Record<'_>) -> usize {
     let mut room: usize = 128;
     'entries: for entry in row.entries.as_slice() {
@@ -137,7 +137,7 @@ fn room_of(row: &Record<'_>) -> usize {
     room
 }
 
-// Room for the line for an entry: of one for a line of the input, that and two numbers of eight digits.
+// Space for the line of an entry: for a line of the input, its length and two numbers of eight digits.
 fn entry_room(entry: &Entry<'_>) -> usize {
     match entry {
         Entry::Line(line) => line.text().len().saturating_add(26),

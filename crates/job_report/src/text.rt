@@ -8,7 +8,8 @@ use crate::rows::{push_rows, text_for};
 use job_runner::{Record, Run};
 use std::alloc::{AllocError, Global};
 
-/// The text of a run's report: a line for the job, and for each task a line and one for each of its entries.
+/// Returns the text of a run's report: a line for the job, and for each task a line and one for each of its
+/// entries. The only error is that memory was refused.
 pub fn report(alloc: Global, run: &Run<'_>) -> Result<Vec<u8>, AllocError>
     ensures { IfOk result (λ text. text.items ≡ report_text (name_of run.now) (rows_of run.now)) }
 {

@@ -3,7 +3,8 @@ ghost use Rattle.std.specs.Prelude.{◌≡◌, ℕ, ◌+◌, ◌<◌, ◌≤◌,
 use crate::out::{Out, PutFault};
 use std::io::Write;
 
-/// A writer of the system, as standard output. An answer of zero bytes is a failure, and so is an error of any kind.
+/// A writer of the system, such as standard output. If it takes zero bytes, that is a failure, and so is an error of
+/// any kind.
 #[derive(Drop)]
 pub struct WriteOut<W> {
     writer: W,
