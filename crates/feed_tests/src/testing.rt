@@ -142,7 +142,7 @@ fn test_parts<R: Files + Print + Eprint + Threads + Sync + AllocGlobal>(
     requires { length feed.now.input.now ≤ MOST_INPUT }
 {
     let mut tested = false;
-    'outputs: for kind in Output::ALL {
+    'outputs: for kind in Output::all() {
         if test_output(rt, feed, kind, tally)? {
             tested = true;
         }

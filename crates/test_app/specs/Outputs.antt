@@ -1,5 +1,5 @@
 -- The outputs of a job text over an input that are kept beside a feed.
-use Rattle.std.specs.Prelude.{ℕ, false, None, List, codes}
+use Rattle.std.specs.Prelude.{ℕ, false, None, List, [], ◌∷◌, codes}
 use Rattle.nursery_app.specs.Verdict as reports
 use Rattle.nursery_app.specs.declared.verdict.Verdict.{Verdict}
 use Rattle.story_app.specs.Stories as stories
@@ -13,6 +13,10 @@ use Rattle.race_app.specs.declared.verdict.RacesVerdict.{RacesVerdict}
 use Rattle.expect_text.specs.Expectations.{no_kind}
 use Rattle.test_app.specs.declared.outputs.Output.{Output}
 use Rattle.test_app.specs.declared.outputs.Output.TheVariants.{Report, Story, Chart, Faults, Races}
+
+-- every kind of output, in the order in which they are compared
+abbrev pub all_outputs : List Output
+all_outputs = Report ∷ Story ∷ Chart ∷ Faults ∷ Races ∷ []
 
 -- the report of the job's meaning, or the refusal or the line of the limit that stands for it
 abbrev pub IsReport : (text input : List ℕ) → (limit : ℕ) → (bytes : List ℕ) → Type 0

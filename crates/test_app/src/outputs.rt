@@ -1,5 +1,5 @@
 ghost use Rattle.std.specs.Prelude.{◌≡◌};
-ghost use Rattle.test_app.specs.Outputs.{extension_text};
+ghost use Rattle.test_app.specs.Outputs.{all_outputs, extension_text};
 
 /// What a run of a feed can be compared in.
 #[derive(Clone, Copy, Debug, PartialEq, Eq)]
@@ -17,14 +17,18 @@ pub enum Output {
 }
 
 impl Output {
-    /// Every kind of output, in the order in which they are compared.
-    pub const ALL: [Output; 5] = [
-        Output::Report,
-        Output::Story,
-        Output::Chart,
-        Output::Faults,
-        Output::Races,
-    ];
+    /// Returns every kind of output, in the order in which `nursery test` compares them.
+    pub fn all() -> [Output; 5]
+        ensures { result ≡ all_outputs }
+    {
+        [
+            Output::Report,
+            Output::Story,
+            Output::Chart,
+            Output::Faults,
+            Output::Races,
+        ]
+    }
 
     /// The extension of the file that keeps such an output, without the dot.
     pub fn extension(self) -> &'static str
