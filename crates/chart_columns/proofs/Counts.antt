@@ -1,4 +1,4 @@
--- How much happens at the first of the columns.
+-- How many things happen at the first of the columns.
 use Rattle.std.proofs.Common.{◌≡◌, ℕ, suc, ◌+◌, ◌-◌, ◌^◌, ◌<◌, ◌≤◌, min, List, [], ◌∷◌, ◌++◌, length, sym, ap, ◌∙◌, subst, arith, eq-eqb}
 use Rattle.std.specs.Prelude.{Bool, true, false, ◌==◌, if◌then◌else◌, map, reverse}
 use Rattle.std.proofs.lemmas.Bool.{cond-true}
@@ -9,12 +9,12 @@ use Rattle.chart_columns.specs.Held.{column_of}
 use Rattle.chart_columns.specs.declared.column.Column.{Column}
 use Rattle.chart_columns.proofs.Lists.{reverse_push}
 
--- no more than so much happens at the first of some columns
+-- at most the given number of things happen at the first of some columns
 abbrev FewFirst : ℕ → List columns.Column → Type 0
 FewFirst n [] = Unit {0}
 FewFirst n (c ∷ cs) = c.count ≤ n
 
--- one more thing that happens makes it one more at most
+-- one more thing that happens adds at most one
 few_if : (n t : ℕ) (b : Bool) (c : columns.Column) (cs : List columns.Column) → c.count ≤ n →
     FewFirst (suc n) (if b then record { tick = t; count = c.count + 1 } ∷ cs else record { tick = t; count = 1 } ∷ c ∷ cs)
 few_if n t true c cs few = omega (arith, few)
@@ -28,11 +28,11 @@ few_first : (ts : List ℕ) → FewFirst (length ts) (columns_in ts)
 few_first [] = tt
 few_first (t ∷ ts) = few_counted (length ts) t (columns_in ts) (few_first ts)
 
--- as much happens at the first of the columns of some ticks as there are ticks, at most
+-- at most as many things happen at the first of the columns of some ticks as there are ticks
 few_at_first : (ts : List ℕ) (c : columns.Column) (cs : List columns.Column) → columns_in ts ≡ c ∷ cs → c.count ≤ length ts
 few_at_first ts c cs is = subst (FewFirst (length ts)) is (few_first ts)
 
--- columns that are held backwards, with another last one
+-- columns in reverse order, with another last one
 reverse_held : (rest : List Column) (c : Column) → reverse (map column_of (rest ++ c ∷ [])) ≡ column_of c ∷ reverse (map column_of rest)
 reverse_held rest c = ap reverse (map-append column_of rest (c ∷ [])) ∙ reverse_push (map column_of rest) (column_of c)
 

@@ -28,7 +28,7 @@ fits_no_more left at wanted i cs d whole within is little so_far =
     ap (λ b. b && fits_from (left - gap at c.tick) c.tick (map column_of (drop (i + 1) cs))) (sym test)
     ∙ sym (at_drop_more (λ l. fits_from left at (map column_of l)) cs i d within) ∙ so_far
 
--- and else they fit where those after it do
+-- otherwise they fit where those after it do
 pub fits_more : (left at wanted i : ℕ) (cs : List Column) (d : Column) (whole : Bool) → i < length cs →
     wanted ≡ gap at (get_or cs i d).tick → wanted ≤ left → fits_from left at (map column_of (drop i cs)) ≡ whole →
     fits_from (left - wanted) (get_or cs i d).tick (map column_of (drop (i + 1) cs)) ≡ whole

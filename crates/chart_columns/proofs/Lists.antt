@@ -29,7 +29,7 @@ last_tick_is (a ∷ xs) (suc n) x whole is =
 
 -- ---- a list taken through to its last element
 
--- the walk to the last element hands on the first, all between, and the last
+-- the walk to the last element passes on the first, all between, and the last
 with_last_is : (go : columns.Column → List columns.Column → columns.Column → List columns.Column) (first : columns.Column)
     (between : List columns.Column) (b : columns.Column) (bs : List columns.Column) (z : columns.Column) →
     with_last go first between b (bs ++ z ∷ []) ≡ go first (between ++ b ∷ bs) z

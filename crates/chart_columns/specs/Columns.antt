@@ -1,8 +1,8 @@
--- The columns of a chart: the ticks at which something happens, or those of them for which there is room.
+-- The columns of a chart: the ticks at which something happens, or as many of them as there is room for.
 use Rattle.std.specs.Prelude.{ℕ, zero, suc, ◌+◌, ◌-◌, ◌*◌, ◌/◌, ◌==◌, Bool, true, ◌&&◌, List, [], ◌∷◌, ◌++◌, length, decimal, nat_le, if◌then◌else◌}
 use Rattle.chart_columns.specs.Sorting.{sorted_by}
 
--- a tick, and how much happens at it
+-- a tick, and the number of things that happen at it
 pub record Column : Type 0 where
   pub tick : ℕ
   pub count : ℕ
@@ -15,7 +15,7 @@ count_of c = c.count
 
 -- ---- all columns
 
--- each of these ticks once, with how often it is there, where they are in order
+-- the columns with one more thing at the tick t, which is not later than theirs
 abbrev pub counted : ℕ → List Column → List Column
 counted t [] = record { tick = t; count = 1 } ∷ []
 counted t (c ∷ cs) =
@@ -33,7 +33,7 @@ columns_of ts = columns_in (sorted_by same ts)
 
 -- ---- the room that they take
 
--- how often a number can be halved until it is at most 1, in at most so many steps
+-- how often a number can be halved until it is at most 1, in at most the given number of steps
 abbrev pub halvings : ℕ → ℕ → ℕ
 halvings zero n = 0
 halvings (suc k) n = if nat_le 2 n then halvings k (n / 2) + 1 else 0
@@ -42,16 +42,16 @@ halvings (suc k) n = if nat_le 2 n then halvings k (n / 2) + 1 else 0
 abbrev pub log2 : ℕ → ℕ
 log2 n = halvings 64 n
 
--- from a tick to the next one: room for its digits and a space, and more the longer it takes
+-- the room from a tick to the next one: its digits, a space, and the logarithm of the ticks between them
 abbrev pub gap : ℕ → ℕ → ℕ
 gap t u = length (decimal t) + 1 + log2 (u - t)
 
--- whether a tick and those after it fit into so much room, with the digits of the last
+-- whether a tick and the columns after it fit into the room, including the digits of the last one
 abbrev pub fits_from : ℕ → ℕ → List Column → Bool
 fits_from room t [] = nat_le (length (decimal t)) room
 fits_from room t (c ∷ cs) = nat_le (gap t c.tick) room && fits_from (room - gap t c.tick) c.tick cs
 
--- whether columns fit, where each is given two places at least
+-- whether columns fit into the room, where each takes at least two places
 abbrev pub fits : ℕ → List Column → Bool
 fits room [] = true
 fits room (c ∷ cs) = nat_le (2 * length (c ∷ cs)) room && fits_from room c.tick cs
@@ -62,17 +62,17 @@ fits room (c ∷ cs) = nat_le (2 * length (c ∷ cs)) room && fits_from room c.t
 abbrev pub framed : Column → Column → List Column → List Column
 framed first last between = first ∷ (sorted_by tick_of between ++ last ∷ [])
 
--- those between that are left where the rest fits, the first of them dropped first
+-- the columns that fit, where those between are dropped from the front
 abbrev pub fitting : ℕ → Column → Column → List Column → List Column
 fitting room first last [] = framed first last []
 fitting room first last (c ∷ cs) =
     if fits room (framed first last (c ∷ cs)) then framed first last (c ∷ cs) else fitting room first last cs
 
--- those with the fewest events are dropped first, and never the first and the last column
+-- the columns with the least counts are dropped first, but never the first and the last column
 abbrev pub dropped_to_fit : ℕ → Column → List Column → Column → List Column
 dropped_to_fit room first between last = fitting room first last (sorted_by count_of between)
 
--- a list of columns as its first, those between and its last
+-- applies a function to the first column of a list, those between, and the last
 abbrev pub with_last : (Column → List Column → Column → List Column) → Column → List Column → Column → List Column → List Column
 with_last go first between last [] = go first between last
 with_last go first between last (c ∷ cs) = with_last go first (between ++ last ∷ []) c cs
@@ -92,23 +92,23 @@ abbrev pub column_from : ℕ → List Column → ℕ → ℕ
 column_from before [] t = before
 column_from before (c ∷ cs) t = if nat_le c.tick t then column_from c.tick cs t else before
 
--- the tick of the last column that is not after a tick
+-- the tick of the last column that is not after a tick, or of the first column where all are after it
 abbrev pub column_at : List Column → ℕ → ℕ
 column_at [] t = t
 column_at (c ∷ cs) t = column_from c.tick cs t
 
--- the tick of the last column of all
+-- the tick of the last column, or 0 where there is none
 abbrev pub last_tick : List Column → ℕ
 last_tick [] = 0
 last_tick (c ∷ []) = c.tick
 last_tick (c ∷ d ∷ cs) = last_tick (d ∷ cs)
 
--- the first of these columns that is not before a tick, or the last of all
+-- the tick of the first of these columns that is not before a tick, or `last` where there is none
 abbrev pub column_by_or : ℕ → List Column → ℕ → ℕ
 column_by_or last [] t = last
 column_by_or last (c ∷ cs) t = if nat_le t c.tick then c.tick else column_by_or last cs t
 
--- the tick of the first column that is not before a tick, and of the last one where all are
+-- the tick of the first column that is not before a tick, or of the last column where all are before it
 abbrev pub column_by : List Column → ℕ → ℕ
 column_by cs t = column_by_or (last_tick cs) cs t
 

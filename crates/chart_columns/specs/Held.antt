@@ -1,4 +1,4 @@
--- Columns as the code holds them.
+-- The columns of the code, as the definitions see them.
 use Rattle.chart_columns.specs.Columns as columns
 use Rattle.chart_columns.specs.declared.column.Column.{Column}
 

@@ -2,7 +2,7 @@
 use Rattle.std.specs.Prelude.{ℕ, List, [], ◌∷◌, nat_le, if◌then◌else◌}
 
 module _ {X : Type 0} (key : X → ℕ) where
-  -- an element before those whose number is the same or greater
+  -- inserts an element before those with the same number or a greater one
   abbrev pub put_by : X → List X → List X
   put_by e [] = e ∷ []
   put_by e (x ∷ xs) = if nat_le (key e) (key x) then e ∷ x ∷ xs else x ∷ put_by e xs

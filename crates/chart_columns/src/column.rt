@@ -1,8 +1,8 @@
-/// A column of a chart.
+/// A column of a chart: a tick, and the number of things that happen at it.
 #[derive(Clone, Copy, Debug, PartialEq, Eq)]
 pub struct Column {
-    /// Its tick.
+    /// The tick of the column.
     pub tick: u64,
-    /// How much happens at it.
+    /// The number of things that happen at the tick.
     pub count: u64,
 }

@@ -7,8 +7,9 @@ use crate::gaps::{digits, gap};
 use crate::sorting::{sort_by_count, sort_by_tick};
 use std::alloc::{AllocError, Global};
 
-/// The columns that are shown in so many places of text: all that there are, or else without those at which the fewest things happen, as many
-/// as must be left out. The first and the last are always shown, even where they do not fit. Want of memory is the only error.
+/// Returns the columns that are shown in `room` places of text: all of them if they fit. Otherwise the columns with the least counts are
+/// dropped, as many as must be. The first and the last column are always kept, even if they do not fit. Returns `AllocError` if memory
+/// is refused.
 pub fn shown(alloc: Global, room: usize, columns: &[Column]) -> Result<Vec<Column>, AllocError>
     ensures { IfOk result (λ kept. map column_of kept.items ≡ shown room (map column_of columns.now)) }
 {
@@ -18,7 +19,7 @@ pub fn shown(alloc: Global, room: usize, columns: &[Column]) -> Result<Vec<Colum
     dropped_in(alloc, room, columns)
 }
 
-// The same of columns that do not all fit.
+// Returns the columns that are shown, if they do not all fit.
 fn dropped_in(alloc: Global, room: usize, columns: &[Column]) -> Result<Vec<Column>, AllocError>
     ensures { IfOk result (λ kept. map column_of kept.items ≡ dropped_in room (map column_of columns.now)) }
 {
@@ -31,7 +32,7 @@ fn dropped_in(alloc: Global, room: usize, columns: &[Column]) -> Result<Vec<Colu
     dropped_to_fit(alloc, room, *first, between, *last)
 }
 
-// The first column, those between that are left, and the last.
+// Returns the first column, those between that are kept, and the last.
 fn dropped_to_fit(
     alloc: Global,
     room: usize,
@@ -47,7 +48,7 @@ fn dropped_to_fit(
     fitting(alloc, room, first, last, by_count.as_slice())
 }
 
-// Drops the first of those between, one after the other, until the rest fits.
+// Drops the columns between from the front, one after the other, until the rest fits.
 fn fitting(
     alloc: Global,
     room: usize,
@@ -68,7 +69,7 @@ fn fitting(
     framed(alloc, first, last, &[])
 }
 
-// The first column, those between by tick, and the last, or nothing where they do not fit. Where they are too many, they are not put in order.
+// Returns the first column, those between by tick, and the last, or `None` if they do not fit. If there are too many, they are not sorted.
 fn framed_if_fits(
     alloc: Global,
     room: usize,
@@ -91,7 +92,7 @@ fn framed_if_fits(
     Ok(None)
 }
 
-// The first column, those between by tick, and the last.
+// Returns the first column, those between by tick, and the last.
 fn framed(
     alloc: Global,
     first: Column,
@@ -110,7 +111,7 @@ fn framed(
     Ok(kept)
 }
 
-// Whether columns fit.
+// Returns whether the columns fit into the room.
 fn fits(room: usize, columns: &[Column]) -> bool
     ensures { result ≡ fits room (map column_of columns.now) }
 {
@@ -120,7 +121,7 @@ fn fits(room: usize, columns: &[Column]) -> bool
     columns.len() <= room / 2 && fits_from(room, first.tick, others)
 }
 
-// Whether a tick and those after it fit, with the digits of the last.
+// Returns whether a tick and the columns after it fit, including the digits of the last one.
 fn fits_from(room: usize, tick: u64, after: &[Column]) -> bool
     ensures { result ≡ fits_from room tick (map column_of after.now) }
 {

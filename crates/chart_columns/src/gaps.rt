@@ -5,14 +5,15 @@ ghost use Rattle.chart_columns.specs.Held.{column_of};
 use crate::column::Column;
 use itoa::Buffer;
 
-/// The room from a tick to the next one that is shown, in places of text: for its digits and a space, and more the longer it takes.
+/// Returns the room from a tick to the next one that is shown, in places of text: the number of its digits, one space, and the
+/// logarithm to base 2, rounded down, of the ticks between them.
 pub fn gap(tick: u64, next: u64) -> usize
     ensures { result ≡ gap tick next }
 {
     digits(tick) + 1 + log2(next.saturating_sub(tick))
 }
 
-/// The room from a column to the first of those after it, and 1 where it is the last.
+/// Returns the room from a column to the first of those in `after`, in places of text, or 1 if `after` is empty.
 pub fn gap_to(column: &Column, after: &[Column]) -> usize
     ensures { result ≡ gap_to (column_of column.now) (map column_of after.now) }
 {
@@ -22,7 +23,7 @@ pub fn gap_to(column: &Column, after: &[Column]) -> usize
     }
 }
 
-// How many decimal digits a number has.
+// Returns how many decimal digits a number has.
 pub(crate) fn digits(n: u64) -> usize
     ensures value { result ≡ length (decimal n) }
     ensures small { result ≤ 20 }
@@ -31,7 +32,7 @@ pub(crate) fn digits(n: u64) -> usize
     buffer.format(n).len()
 }
 
-// The logarithm of a number to base 2, rounded down, and 0 for 0.
+// Returns the logarithm of a number to base 2, rounded down, and 0 for 0.
 fn log2(n: u64) -> usize
     ensures value { result ≡ log2 n }
     ensures small { result ≤ 63 }

@@ -4,7 +4,8 @@ ghost use Rattle.chart_columns.specs.Held.{column_of};
 
 use crate::column::Column;
 
-/// The tick of the last column that is not after this tick: where what happens at it is shown. The first column's where all are after it.
+/// Returns the tick of the last column that is not after `tick`, at which something that happens at `tick` is shown. Returns the tick of
+/// the first column if all are after `tick`, and `tick` itself if there are no columns. The columns are expected in order of ticks.
 pub fn column_at(columns: &[Column], tick: u64) -> u64
     ensures { result ≡ column_at (map column_of columns.now) tick }
 {
@@ -14,7 +15,7 @@ pub fn column_at(columns: &[Column], tick: u64) -> u64
     column_from(first.tick, others, tick)
 }
 
-// The same, where a column of this tick stands before these.
+// Returns the same, where there is a column of the tick `before` in front of these.
 fn column_from(before: u64, columns: &[Column], tick: u64) -> u64
     ensures { result ≡ column_from before (map column_of columns.now) tick }
 {
@@ -28,7 +29,8 @@ fn column_from(before: u64, columns: &[Column], tick: u64) -> u64
     found
 }
 
-/// The tick of the first column that is not before this tick: where what holds from it on begins to be shown. The last column's where all are before it.
+/// Returns the tick of the first column that is not before `tick`, at which something that holds from `tick` on begins to be shown.
+/// Returns the tick of the last column if all are before `tick`, and 0 if there are no columns. The columns are expected in order of ticks.
 pub fn column_by(columns: &[Column], tick: u64) -> u64
     ensures { result ≡ column_by (map column_of columns.now) tick }
 {
@@ -36,7 +38,7 @@ pub fn column_by(columns: &[Column], tick: u64) -> u64
     column_by_or(last, columns, tick)
 }
 
-// The same, and another tick where all of these are before it.
+// Returns the same, or `last` if all of these are before the tick.
 fn column_by_or(last: u64, columns: &[Column], tick: u64) -> u64
     ensures { result ≡ column_by_or last (map column_of columns.now) tick }
 {
@@ -48,7 +50,7 @@ fn column_by_or(last: u64, columns: &[Column], tick: u64) -> u64
     last
 }
 
-/// The tick of the last column, and 0 where there is none.
+/// Returns the tick of the last column, or 0 if there is none.
 pub fn last_tick(columns: &[Column]) -> u64
     ensures { result ≡ last_tick (map column_of columns.now) }
 {

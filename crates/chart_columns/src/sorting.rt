@@ -13,14 +13,14 @@ pub(crate) fn sort_ticks(alloc: Global, ticks: &mut [u64]) -> Result<(), AllocEr
     ticks.sort_by_key(alloc, |tick| *tick)
 }
 
-// Sorts columns by tick. Those of one tick keep their order.
+// Sorts columns by tick. Columns with the same tick keep their order.
 pub(crate) fn sort_by_tick(alloc: Global, columns: &mut [Column]) -> Result<(), AllocError>
     ensures { OnOk result (map column_of columns.new ≡ sorted_by tick_of (map column_of columns.old)) }
 {
     columns.sort_by_key(alloc, |column| column.tick)
 }
 
-// Sorts columns by how much happens at them. Those where the same count of things does keep their order.
+// Sorts columns by count. Columns with the same count keep their order.
 pub(crate) fn sort_by_count(alloc: Global, columns: &mut [Column]) -> Result<(), AllocError>
     ensures { OnOk result (map column_of columns.new ≡ sorted_by count_of (map column_of columns.old)) }
 {

@@ -6,8 +6,8 @@ use crate::column::Column;
 use crate::sorting::sort_ticks;
 use std::alloc::{AllocError, Global};
 
-/// The columns of a chart in which something happens at these ticks, in any order, one for each thing that happens: each tick once and in order,
-/// with how much happens at it. Want of memory is the only error.
+/// Returns the columns for these ticks, which may be in any order, with one for each thing that happens. The result has each tick once and
+/// in order, with the number of times that it was given. Returns `AllocError` if memory is refused.
 pub fn columns_of(alloc: Global, ticks: &[u64]) -> Result<Vec<Column>, AllocError>
     ensures { IfOk result (λ columns. map column_of columns.items ≡ columns_of ticks.now) }
 {
@@ -16,7 +16,7 @@ pub fn columns_of(alloc: Global, ticks: &[u64]) -> Result<Vec<Column>, AllocErro
     columns_in(alloc, sorted.as_slice())
 }
 
-// A column for each of these ticks, which are in order.
+// Returns the columns for these ticks, which are in order.
 fn columns_in(alloc: Global, ticks: &[u64]) -> Result<Vec<Column>, AllocError>
     ensures { IfOk result (λ columns. map column_of columns.items ≡ columns_in ticks.now) }
 {
@@ -30,7 +30,7 @@ fn columns_in(alloc: Global, ticks: &[u64]) -> Result<Vec<Column>, AllocError>
     Ok(columns)
 }
 
-// Counts one more thing that happens at a tick, which is no later than those of these columns, the last of which is the first.
+// Counts one more thing that happens at a tick. The columns are in reverse order, and the tick is not later than any of theirs.
 fn count(columns: &mut Vec<Column>, tick: u64) -> Result<(), AllocError>
     ensures { (ts : List ℕ) → length ts < 2 ^ 63 → columns_in ts ≡ reverse (map column_of columns.old.items)
         → OnOk result (reverse (map column_of columns.new.items) ≡ columns_in (tick ∷ ts)) }
