@@ -1,4 +1,4 @@
--- From a summary to what becomes of a job.
+-- From a summary to the outcome of a job.
 use Rattle.std.proofs.Common.{◌≡◌, ℕ, ◌≤◌, ◌<◌, Bool, true, false, Option, List, map, refl, sym, ap, subst, ◌∙◌, arith, nat_le}
 use Rattle.std.proofs.lemmas.Bool.Decides.{nat_tests}
 use Rattle.std.specs.Option.{option_map}
@@ -21,7 +21,7 @@ le_test m n h = grind (arith, nat_tests)
 gt_test : (m n : ℕ) → n < m → nat_le m n ≡ false
 gt_test m n h = grind (arith, nat_tests)
 
--- a job that ends later than the limit is stuck
+-- a job that ends after the limit is stuck
 pub stuck_is : (job : Tree) (input : List ℕ) (limit : ℕ) (name : Option (List ℕ)) (s : Summary) (sleeping : List Label) →
     IsSummary job input s → limit < s.end → sleeping ≡ sleeping_in (by_limit limit (map event_of s.events.items)) →
     stuck sleeping ≡ fate_of limit name job input
@@ -30,7 +30,7 @@ stuck_is job input limit name s sleeping is late tasks =
     ∙ ap (λ b. fate_by b limit name (meaning_end job input) (meaning job input).exc (meaning_rows job input) (walked job input))
     (sym (gt_test (meaning_end job input) limit (subst (λ n. limit < n) is.end late)))
 
--- and another one ends
+-- any other job ends
 pub ended_is : (job : Tree) (input : List ℕ) (limit : ℕ) (name : Option (List ℕ)) (s : Summary) (fate : Fate) →
     IsSummary job input s → s.end ≤ limit →
     fate ≡ ended s.end (option_map exc_of s.exc) s.cancelled.items (cut_in (in_order (map event_of s.events.items)))

@@ -1,4 +1,4 @@
--- The exception of a root, by how it ended.
+-- The exception of a root task, by how it ended.
 use Rattle.std.proofs.Common.{◌≡◌, Option, Some, None, refl}
 use Rattle.exc_groups.specs.Exceptions.{Exc, cancelled, raised, too_slow, group}
 use Rattle.job_meaning.specs.Shown.{well, by_cancellation, with_exception, ending_of}

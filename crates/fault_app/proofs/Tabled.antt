@@ -17,7 +17,7 @@ use Rattle.slot_work.proofs.Answered.{seen_as}
 use Rattle.fault_app.specs.Fates.{IsLine}
 use Rattle.fault_app.specs.Verdicts.{AreFaultLines, IsTable}
 
--- by the limit of the settings, the text's tokens, and the variants as they were given on
+-- given the limit of the settings, the tokens of the text, and the variants, as they were passed on
 pub are_lines : (text input : List ℕ) (limit l : ℕ) (name : List ℕ) (job : Tree) (tokens ts us : List Token) (variants vs : List Variant)
     (plan : Plan) (first : told.Fate) (lines : List Line) →
     HasTokens text tokens None → l ≡ limit → ts ≡ tokens → variants ≡ variants_in ts → us ≡ tokens → plan ≡ plan_of name us →
@@ -40,7 +40,7 @@ are_lines text input limit l name job tokens ts us variants vs plan first lines 
       first_is = f ∙ ap (λ (n : ℕ). told.fate_of n None job input) at;
     }
 
--- by the limit of the settings, and the lines as they were given on
+-- given the limit of the settings and the lines, as they were passed on
 pub is_table : (text input : List ℕ) (limit l : ℕ) (name : List ℕ) (deny : Deny) (bytes denied : List ℕ) (job : Tree) (first : told.Fate)
     (lines ks ms : List Line) →
     Spells text job → AreFaultLines text input limit name job first (map line_held lines) → l ≡ limit → ks ≡ lines →

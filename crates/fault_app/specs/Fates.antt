@@ -1,4 +1,4 @@
--- What becomes of a text that is read as a job, over an input.
+-- The outcome of a text that is read as a job, over an input.
 use Rattle.std.specs.Prelude.{◌≡◌, ◌⊎◌, ℕ, Bool, true, Option, List, [], ◌∷◌}
 use Rattle.job_tree.specs.Tree.{Tree}
 use Rattle.job_grammar.specs.declared.fault.JobFault.{JobFault}
@@ -11,20 +11,20 @@ use Rattle.job_edits.specs.declared.plan.Plan.{Plan}
 use Rattle.fault_text.specs.Fates.{Fate, refused, fate_of, reaches}
 use Rattle.fault_text.specs.Table.{Line}
 
--- what becomes of the job that a text spells, or the text is refused
+-- the outcome of the job that a text spells, or that the text is refused
 abbrev pub IsFate : List ℕ → List ℕ → ℕ → Option (List ℕ) → Fate → Type 0
 IsFate text input limit name fate =
     ((job : Tree) × Spells text job × (fate ≡ fate_of limit name job input))
     ⊎ ((fault : JobFault) × IsRefused text fault.kind fault.at × (fate ≡ refused))
 
--- whether the job that a text spells raises an exception of a name by the limit; where the text is refused, nothing is said of that
+-- whether the job that a text spells raises an exception with this name by the limit; nothing is said of a text that is refused
 abbrev pub IsReached : List ℕ → List ℕ → ℕ → List ℕ → Bool → Type 0
 IsReached text input limit name reached =
     ((job : Tree) × Spells text job × (reached ≡ reaches limit name job input))
     ⊎ ((fault : JobFault) × IsRefused text fault.kind fault.at × (reached ≡ true))
 
--- A line tells of the text that a fault of a step makes of the author's text: what becomes of it, and whether the fault is reached. Its place is
--- that of the step in the author's text.
+-- A line has the outcome of the text that a fault of a step makes of the original text, and whether the fault is reached. Its
+-- place is that of the step in the original text.
 pub record IsLine (text input : List ℕ) (limit : ℕ) (plan : Plan) (variant : Variant) (l : Line) : Type 0 where
   pub told : l.variant ≡ variant
   pub line : l.line ≡ line_of text variant.step.from

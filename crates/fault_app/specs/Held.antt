@@ -1,4 +1,4 @@
--- What is kept of a run, and what is true of a line, as the code holds them.
+-- What is kept of a run, and what holds of a line, for the values of the code.
 use Rattle.std.specs.Prelude.{◌≡◌, ◌≤◌, ℕ, List, [], ◌∷◌, length, map}
 use Rattle.std.specs.Option.{option_map}
 use Rattle.exc_groups.specs.Held.{exc_of}
@@ -22,15 +22,15 @@ pub record IsSummary (job : Tree) (input : List ℕ) (s : Summary) : Type 0 wher
   pub cancelled : s.cancelled.items ≡ cancelled_in (meaning_rows job input)
   pub events : map event_of s.events.items ≡ walked job input
 
--- how the root ended, whose row is the first
+-- how the root task ended; its row is the first
 abbrev pub root_ending : List Row → Ending
 root_ending [] = well
 root_ending (r ∷ rs) = r.ending
 
--- the input is no longer than an input may be
+-- the input is not longer than the maximum
 abbrev pub HasRoom : Author → Type 0
 HasRoom author = length author.input.now ≤ MOST_INPUT
 
--- a line is true of the author's text, for a fault of a step
+-- a line is that of a fault of a step of the original text
 abbrev pub IsLineOf : Author → Variant → Line → Type 0
 IsLineOf author variant l = IsLine author.text.now author.input.now author.limit author.plan variant (line_held l)

@@ -1,4 +1,4 @@
--- What `faults` answers: what becomes of a job with each fault, or the refusal of its text.
+-- The results of `faults`: the outcome of a job with each fault, or the refusal of its text.
 use Rattle.std.specs.Prelude.{◌≡◌, ℕ, ◌<◌, Option, None, List, [], length, take}
 use Rattle.std.specs.Io.KnownBytes.{Appends}
 use Rattle.job_tree.specs.Tree.{Tree}
@@ -16,14 +16,16 @@ use Rattle.fault_app.specs.Fates.{IsLine}
 use Rattle.fault_app.specs.declared.verdict.FaultsVerdict.{FaultsVerdict}
 use Rattle.fault_app.specs.declared.verdict.FaultsVerdict.TheVariants.{Told, JobRefused}
 
--- What becomes of a job as it is, and, in the order of places, with each fault of each waiting step of its text, each kind once.
+-- The outcome of a job without a fault, and, in the order of places, with each fault of each waiting step of its text, each
+-- kind once.
 pub record AreFaultLines (text input : List ℕ) (limit : ℕ) (name : List ℕ) (job : Tree) (first : Fate) (lines : List Line) : Type 0 where
   pub tokens : List Token
   pub tokens_are : HasTokens text tokens None
   pub lines_are : AreAnswers (IsLine text input limit (plan_of name tokens)) (variants_in tokens) lines
   pub first_is : first ≡ fate_of limit None job input
 
--- These bytes tell of the job that the text spells, as it is and in a line each with each fault; and these lines of them are denied.
+-- These bytes are the table of the job that the text spells, without a fault and with each fault in one line; and these lines
+-- of it are denied.
 pub record IsTable (text input : List ℕ) (limit : ℕ) (name : List ℕ) (deny : Deny) (bytes denied : List ℕ) : Type 0 where
   pub job : Tree
   pub spells : Spells text job
@@ -38,7 +40,7 @@ abbrev pub IsVerdict : List ℕ → List ℕ → ℕ → List ℕ → Deny → F
 IsVerdict text input limit name deny (Told denied) bytes = IsTable text input limit name deny bytes denied.items
 IsVerdict text input limit name deny (JobRefused fault) bytes = IsRefused text fault.kind fault.at × (bytes ≡ refusal_line fault)
 
--- The verdict's bytes were sent, all of them.
+-- All bytes of the verdict were sent.
 abbrev pub IsSent : List ℕ → List ℕ → ℕ → List ℕ → Deny → Option (List ℕ) → Option (List ℕ) → FaultsVerdict → Type 0
 IsSent text input limit name deny before after verdict =
     (bytes : List ℕ) × IsVerdict text input limit name deny verdict bytes × Appends before after bytes

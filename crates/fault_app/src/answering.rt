@@ -15,14 +15,15 @@ use nursery_app::{Gate, ServeFault, refusal};
 use std::alloc::{AllocError, Global};
 use std::thread::Threads;
 
-/// Writes what becomes of a job over an input: as it is, and with each fault of each of its waiting steps, one line for each, in the order of
-/// the steps' places; and how many faults are of each kind. A fault is a change of the job text (`job_edits`), and its line tells of the
-/// changed text by the job's one-thread meaning: the tick at which the job ends and how, or that it does not end by the limit, and
-/// what is to be noted of it. A step that fails raises an exception of the given name. A job text that is refused has its refusal written.
+/// Writes the outcome of a job over an input: without a fault, and with each fault of each of its waiting steps, one line for
+/// each, in the order of the places of the steps; and then how many faults there are of each kind. A fault is a change of the
+/// job text (`job_edits`). Its line says what the changed text does by the meaning of the job: the tick at which the job ends
+/// and how, or that it does not end by the limit, and notes. A step that fails raises an exception with the given name. For a
+/// job text that is refused, its refusal is written. The input must have at most 16,777,216 bytes.
 ///
-/// The settings' number of workers is the number of threads among which the faults are split; the gate is called around each fault, with its
-/// place among the lines, by the thread that works on it. Neither changes a byte. All bytes are built
-/// before the first is sent, so after `NoMemory` nothing was sent.
+/// The number of workers in `settings` is the number of threads that run the faults. The gate is called before and after each
+/// fault, with the place of the fault among the lines, by the thread that runs it. Neither changes a byte. All bytes are built
+/// before the first is sent, so after `NoMemory` nothing was sent. If the writer fails, it took the first of those bytes.
 pub fn faults<R: Threads + Sync, G: Gate + Sync, W: Out>(
     rt: &R,
     alloc: Global,
@@ -37,11 +38,11 @@ pub fn faults<R: Threads + Sync, G: Gate + Sync, W: Out>(
     requires input { length input.now ≤ MOST_INPUT }
     requires countable { W.failed out.old < 18446744073709551615 }
 
-    // The bytes written tell of each fault, or are the refusal of the text.
+    // The bytes written are the table of all faults, or the refusal of the text.
     ensures sent { IfOk result (IsSent job_text.now input.now settings.limit name deny (W.contents out.old) (W.contents out.new)) }
     ensures well { OnOk result (W.failed out.new ≡ W.failed out.old) }
 
-    // A writer that failed took the front of those bytes; after want of memory nothing was sent.
+    // A writer that failed took the first of those bytes; if memory was refused, nothing was sent.
     ensures fault { IfErr result (IsFaultsFault job_text.now input.now settings.limit name deny (W.contents out.old) (W.contents out.new)) }
     ensures counted { IfErr result (CountsFailure (W.failed out.old) (W.failed out.new)) }
 {
@@ -50,7 +51,7 @@ pub fn faults<R: Threads + Sync, G: Gate + Sync, W: Out>(
     Ok(verdict)
 }
 
-// The verdict and all its bytes.
+// Returns the verdict and all its bytes.
 fn answer<R: Threads + Sync, G: Gate + Sync>(
     rt: &R,
     alloc: Global,
@@ -75,7 +76,7 @@ fn answer<R: Threads + Sync, G: Gate + Sync>(
     }
 }
 
-// The lines that are denied, and the bytes of the table.
+// Returns the lines that are denied, and the bytes of the table.
 fn table_and_denied<R: Threads + Sync, G: Gate + Sync>(
     rt: &R,
     alloc: Global,
@@ -98,7 +99,8 @@ fn table_and_denied<R: Threads + Sync, G: Gate + Sync>(
     Ok((denied, bytes))
 }
 
-/// The tokens of a text that spells a job. Want of memory is the only error.
+/// Returns the tokens of a text. The caller must ensure that the text spells the job. The only error is that memory was
+/// refused.
 pub fn tokens_of(alloc: Global, text: &[u8], job: &Job) -> Result<Vec<Token>, AllocError>
     requires { Spells text.now job.now }
     ensures { IfOk result (λ tokens. HasTokens text.now tokens.items None) }
@@ -110,7 +112,7 @@ pub fn tokens_of(alloc: Global, text: &[u8], job: &Job) -> Result<Vec<Token>, Al
     }
 }
 
-// The bytes after the first line of a text.
+// Returns the bytes after the first line of a text.
 fn after_first_line(text: &[u8]) -> &[u8]
     ensures { result.now ≡ drop 11 text.now }
 {

@@ -23,8 +23,9 @@ use std::thread::Threads;
 use story_app::told_until;
 use story_text::in_order;
 
-/// What becomes of the job that a text spells, by a limit in ticks, where the fault in it raises an exception of this name or none. A text
-/// that is refused is one of the fates. The job runs in the calling thread. Want of memory is the only error.
+/// Returns the outcome of the job that a text spells, over an input and up to a limit in ticks. `name` is the exception that
+/// the fault in the text raises, or `None` if it raises none. A text that is refused is one of the outcomes. The job runs in
+/// the calling thread. The input must have at most 16,777,216 bytes. The only error is that memory was refused.
 pub fn fate_of_text<R: Threads + Sync>(
     rt: &R,
     alloc: Global,
@@ -48,7 +49,7 @@ pub fn fate_of_text<R: Threads + Sync>(
     }
 }
 
-// Whether the job that a text spells raises an exception of this name by the limit; where the text is refused, yes.
+// Returns whether the job that a text spells raises an exception with this name by the limit, or `true` if the text is refused.
 pub(crate) fn reaches_in_text<R: Threads + Sync>(
     rt: &R,
     alloc: Global,
@@ -72,8 +73,9 @@ pub(crate) fn reaches_in_text<R: Threads + Sync>(
     }
 }
 
-/// What becomes of a job by a limit in ticks, where the fault in it raises an exception of this name or none. It runs in the calling
-/// thread. Want of memory is the only error.
+/// Returns the outcome of a job over an input and up to a limit in ticks. `name` is the exception that the fault in the job
+/// raises, or `None` if it raises none. The job runs in the calling thread. The input must have at most 16,777,216 bytes. The
+/// only error is that memory was refused.
 #[tactic(auto, using(crate::proofs::Fated::stuck_is, crate::proofs::Fated::ended_is))]
 pub fn fate_of_job<R: Threads + Sync>(
     rt: &R,
@@ -94,7 +96,7 @@ pub fn fate_of_job<R: Threads + Sync>(
     ended(alloc, summary, name)
 }
 
-// Whether a job raises an exception of this name by the limit.
+// Returns whether a job raises an exception with this name by the limit.
 #[tactic(auto, using(crate::proofs::Fated::reaches_is))]
 fn reaches_in_job<R: Threads + Sync>(
     rt: &R,
@@ -112,7 +114,7 @@ fn reaches_in_job<R: Threads + Sync>(
     Ok(is_raised(walked.as_slice(), name))
 }
 
-// What becomes of a job that ends by the limit.
+// Returns the outcome of a job that ends by the limit.
 fn ended(alloc: Global, summary: Summary, name: Option<Name>) -> Result<Fate, AllocError>
     ensures { IfOk result (λ fate. fate_held fate ≡ fates.ended summary.end (option_map exc_of summary.exc) summary.cancelled.items
         (cut_in (in_order (map event_of summary.events.items))) (loses name (map event_of summary.events.items))) }
@@ -134,7 +136,7 @@ fn ended(alloc: Global, summary: Summary, name: Option<Name>) -> Result<Fate, Al
     })
 }
 
-// The tasks that sleep forever at the limit.
+// Returns the tasks that sleep forever at the limit.
 fn sleeping_tasks(alloc: Global, events: &[Event], limit: u64) -> Result<Vec<Label>, AllocError>
     ensures { IfOk result (λ tasks. tasks.items ≡ sleeping_in (by_limit limit (map event_of events.now))) }
 {
@@ -143,7 +145,7 @@ fn sleeping_tasks(alloc: Global, events: &[Event], limit: u64) -> Result<Vec<Lab
     copies(alloc, tasks.as_slice())
 }
 
-// The tasks that were cancelled in a cleanup.
+// Returns the tasks that were cancelled in a cleanup.
 fn cut_tasks(alloc: Global, events: &[Event]) -> Result<Vec<Label>, AllocError>
     ensures { IfOk result (λ tasks. tasks.items ≡ cut_in (in_order (map event_of events.now))) }
 {
@@ -153,7 +155,7 @@ fn cut_tasks(alloc: Global, events: &[Event]) -> Result<Vec<Label>, AllocError>
     copies(alloc, tasks.as_slice())
 }
 
-// Whether the exception that the fault raises is lost, where it raises one.
+// Returns whether the exception that the fault raises is lost, if it raises one.
 fn loses(alloc: Global, events: &[Event], name: Option<Name>) -> Result<bool, AllocError>
     ensures { IfOk result (λ lost. lost ≡ loses name (map event_of events.now)) }
 {
@@ -164,7 +166,7 @@ fn loses(alloc: Global, events: &[Event], name: Option<Name>) -> Result<bool, Al
     Ok(is_lost(walked.as_slice(), name))
 }
 
-// Labels of their own.
+// Returns copies of the labels.
 fn copies(alloc: Global, labels: &[&Label]) -> Result<Vec<Label>, AllocError>
     ensures { IfOk result (λ copies. copies.items ≡ labels_in labels.now) }
 {

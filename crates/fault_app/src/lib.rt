@@ -1,9 +1,9 @@
-//! A job text and an input in, what becomes of the job with each fault out: `faults`.
+//! Takes a job text and an input, and writes the outcome of the job with each fault: `faults`.
 //!
-//! The layer promises that the bytes which `faults` writes tell of each fault of each waiting step of the text, in the order of their places:
-//! what becomes, by the job's one-thread meaning, of the text that the fault makes of the author's; or that they are the refusal which the
-//! text's meaning names. The number of workers changes no byte. It stands on `job_edits` for the changed texts, on `job_runner` and
-//! `job_teller` for the events of each, and on `fault_notes` and `fault_text` for what is said of them.
+//! The bytes that `faults` writes are a line for each fault of each waiting step of the text, in the order of their places: the
+//! outcome, by the meaning, of the text that the fault makes of the original text. Or they are the refusal that the meaning of
+//! the text names. The number of workers changes no byte. The crate uses `job_edits` for the changed texts, `job_runner` and
+//! `job_teller` for the events of each run, and `fault_notes` and `fault_text` for the notes and the text.
 #![tactic(auto)]
 
 mod answering;

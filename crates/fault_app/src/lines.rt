@@ -15,10 +15,10 @@ use slot_work::Work;
 use std::alloc::{AllocError, Global};
 use std::thread::Threads;
 
-/// What all lines are about.
+/// What all lines have in common.
 #[derive(Clone, Copy)]
 pub(crate) struct Author<'a> {
-    /// The author's job text.
+    /// The original job text.
     pub text: &'a [u8],
     /// The input.
     pub input: &'a [u8],
@@ -49,7 +49,7 @@ impl Work for Author<'_> {
     }
 }
 
-// The same fault of the same step.
+// Returns a copy of the variant.
 fn twin(variant: &Variant) -> Variant
     ensures { result ≡ variant.now }
 {
@@ -65,14 +65,14 @@ fn twin(variant: &Variant) -> Variant
     }
 }
 
-// The name of the exception that a fault raises, where it raises one.
+// Returns the name of the exception that a fault raises, if it raises one.
 fn raised_with(plan: &Plan, variant: &Variant) -> Option<Name>
     ensures { result ≡ raised_by plan.now variant.now.fault }
 {
     plan.raised(variant.fault)
 }
 
-// What becomes of the job with a fault, which raises an exception of this name or none.
+// Returns the outcome of the job with a fault, which raises an exception with this name or none.
 fn fate_with<R: Threads + Sync>(
     rt: &R,
     alloc: Global,
@@ -96,7 +96,7 @@ fn fate_with<R: Threads + Sync>(
     )
 }
 
-// Whether a fault is reached.
+// Returns whether a fault is reached.
 fn reached_with<R: Threads + Sync>(
     rt: &R,
     alloc: Global,
@@ -118,7 +118,7 @@ fn reached_with<R: Threads + Sync>(
     )
 }
 
-// The line of a fault: its place, what becomes of the job, and whether the fault is reached.
+// Returns the line of a fault: its place, the outcome of the job, and whether the fault is reached.
 fn line_with<R: Threads + Sync>(
     rt: &R,
     alloc: Global,

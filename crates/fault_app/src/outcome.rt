@@ -10,7 +10,7 @@ use exc_groups::{Exc, Label};
 use std::alloc::{AllocError, Global};
 use task_roster::{Outcome, Record};
 
-// The exception that a task ended with, by its outcome.
+// Returns the exception that a task ended with, given its outcome.
 #[tactic(auto, using(crate::proofs::Outcomes::none_of, crate::proofs::Outcomes::cancelled_of, crate::proofs::Outcomes::raised_of))]
 pub(crate) fn exc_in(alloc: Global, outcome: &Outcome) -> Result<Option<Exc>, AllocError>
     ensures { IfOk result (λ exc. (o : Option tree.Exc) → ending_in outcome.now ≡ ending_of o → option_map exc_of exc ≡ o) }
@@ -22,7 +22,7 @@ pub(crate) fn exc_in(alloc: Global, outcome: &Outcome) -> Result<Option<Exc>, Al
     }
 }
 
-// The tasks that ended cancelled, in the order of the records.
+// Returns the tasks that ended cancelled, in the order of the records.
 pub(crate) fn cancelled_tasks(
     alloc: Global,
     records: &[Record<'_>],
@@ -36,7 +36,8 @@ pub(crate) fn cancelled_tasks(
     Ok(tasks)
 }
 
-// Appends the task of a record, if it ended cancelled. The clause has the labels that a loop appends later, `ls`, on both sides.
+// Appends the task of a record, if it ended cancelled. The clause has the labels that a loop appends later, `ls`, on both
+// sides.
 fn push_if_cancelled(
     alloc: Global,
     tasks: &mut Vec<Label>,

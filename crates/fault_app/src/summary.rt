@@ -17,20 +17,21 @@ use std::alloc::{AllocError, Global};
 use std::thread::Threads;
 use story_app::table_of;
 
-/// What is kept of a job's run to its end.
+/// What is kept of the run of a job to its end.
 #[derive(Drop)]
 pub struct Summary {
     /// The tick at which the job ends.
     pub end: u64,
-    /// The exception that it ends with.
+    /// The exception that it ends with, or `None` if it ends without one.
     pub exc: Option<Exc>,
-    /// The tasks that end cancelled.
+    /// The tasks that end cancelled, in the order of a report.
     pub cancelled: Vec<Label>,
     /// The events of its story, in the order of the walk.
     pub events: Vec<Event>,
 }
 
-/// Runs a job over an input to its end, in the calling thread, and tells its events. Want of memory is the only error.
+/// Runs a job over an input to its end, in the calling thread, and returns its end and its events. The input must have
+/// at most 16,777,216 bytes. The only error is that memory was refused.
 #[tactic(auto, using(crate::proofs::Summaries::is_summary))]
 pub fn summary_of<R: Threads + Sync>(
     rt: &R,
@@ -56,7 +57,7 @@ pub fn summary_of<R: Threads + Sync>(
     })
 }
 
-// The exception that the root of a run ended with.
+// Returns the exception that the root task of a run ended with.
 #[tactic(auto, using(crate::proofs::Outcomes::none_of))]
 fn exc_of_root(alloc: Global, run: &Run<'_>) -> Result<Option<Exc>, AllocError>
     ensures { IfOk result (λ exc. (o : Option tree.Exc) → root_ending (rows_of run.now) ≡ ending_of o → option_map exc_of exc ≡ o) }

@@ -16,20 +16,22 @@ use slot_work::answers_for;
 use std::alloc::{AllocError, Global};
 use std::thread::Threads;
 
-/// What becomes of a job: as it is, and with each fault of each of its waiting steps.
+/// The outcome of a job without a fault, and with each fault of each of its waiting steps.
 #[derive(Drop)]
 pub struct FaultLines {
-    /// What becomes of the job as it is.
+    /// The outcome of the job without a fault.
     pub first: Fate,
-    /// What becomes of it with each fault, in the order of the steps' places.
+    /// The outcome of the job with each fault, in the order of the places of the steps.
     pub lines: Vec<Line>,
 }
 
-/// What becomes of the job that a text spells, over an input: as it is, and with each fault of each of its waiting steps, each kind once. A step that
-/// fails raises an exception of the given name.
+/// Returns the outcome of a job over an input: without a fault, and with each fault of each of its waiting steps, each kind
+/// once. A step that fails raises an exception with the given name. The caller must ensure that the text spells the job, and
+/// that the input has at most 16,777,216 bytes.
 ///
-/// The settings' number of workers is the number of threads among which the faults are split; the gate is called around each fault, with its
-/// place among the lines, by the thread that works on it. Neither changes a line. Want of memory is the only error.
+/// The number of workers in `settings` is the number of threads that run the faults. The gate is called before and after each
+/// fault, with the place of the fault among the lines, by the thread that runs it. Neither changes a line. The only error is
+/// that memory was refused.
 pub fn fault_lines<R: Threads + Sync, G: Gate + Sync>(
     rt: &R,
     alloc: Global,

@@ -6,9 +6,9 @@ use job_grammar::JobFault;
 /// What `faults` wrote.
 #[derive(Debug, Drop)]
 pub enum FaultsVerdict {
-    /// What becomes of the job with each fault.
+    /// The outcome of the job with each fault.
     Told {
-        /// The lines that are denied, as they stand among all: empty where none is.
+        /// The lines of the table that are denied, as they are in it. Empty if there are none.
         denied: Vec<u8>,
     },
     /// The refusal of the job text.
@@ -16,7 +16,8 @@ pub enum FaultsVerdict {
 }
 
 impl FaultsVerdict {
-    /// The exit status of the program that wrote this: 0 where no line is denied, 1 where one is, 2 where the job text was refused.
+    /// Returns the exit status of the program that wrote this: 0 if no line is denied, 1 if a line is, and 2 if the job text
+    /// was refused.
     pub fn status(&self) -> u8
         ensures { result ≡ faults_status_of self.now }
     {
