@@ -1,4 +1,4 @@
--- What is told of a job for each value, and the text of it.
+-- The outcome of a job for each value, and the text of it.
 use Rattle.std.proofs.Common.{◌≡◌, ℕ, None, List, map, ap, subst, ◌∙◌}
 use Rattle.job_tree.specs.Tree.{Tree}
 use Rattle.job_tokens.specs.declared.token.Token.{Token}
@@ -30,7 +30,7 @@ are_seen text input limit number job values first vs f are =
       vs_are = seen_as (IsValue text input limit number) value_held values vs are;
     }
 
--- by the tokens and the limit as they were given on
+-- given the tokens and the limit, as they were passed on
 pub are_values : (text : List ℕ) (job : Tree) (input : List ℕ) (limit l : ℕ) (target : Target) (values : List ℕ) (tokens ts : List Token)
     (number : Number) (first : Fate) (vs : List told.Value) →
     HasTokens text tokens None → ts ≡ tokens → IsNumber text ts target number → l ≡ limit →
@@ -53,7 +53,7 @@ is_without_target text target missing tokens ts has same is =
       reason = subst (λ (xs : List Token). IsMissing text xs target missing) same is;
     }
 
--- by the limit and the values as they were given on
+-- given the limit and the values, as they were passed on
 pub is_sweep : (text : List ℕ) (job : Tree) (input : List ℕ) (limit l : ℕ) (target : Target) (values bytes : List ℕ) (first : Fate)
     (vs us : List Value) →
     AreSweepValues text job input limit target values first (map value_held vs) → l ≡ limit → us ≡ vs →

@@ -1,4 +1,4 @@
--- What comes of a sweep over a number of a text that spells a job.
+-- The result of a sweep over a number of a text that spells a job.
 use Rattle.std.specs.Prelude.{◌≡◌, ℕ, None, List, map}
 use Rattle.job_tree.specs.Tree.{Tree}
 use Rattle.job_tokens.specs.declared.token.Token.{Token}
@@ -18,12 +18,12 @@ use Rattle.sweep_app.specs.declared.told.SweepValues.{SweepValues}
 use Rattle.sweep_app.specs.declared.told.SweepAnswer.{SweepAnswer}
 use Rattle.sweep_app.specs.declared.told.SweepAnswer.TheVariants.{Values, NoTarget}
 
--- what becomes of a job as it is, and in turn of its text with each value in the place of a number
+-- the outcome of a job with its own value, and in turn of its text with each value in place of a number
 pub record AreValues (text input : List ℕ) (limit : ℕ) (number : Number) (job : Tree) (values : List ℕ) (first : Fate) (vs : List Value) : Type 0 where
   pub first_is : first ≡ fate_of limit None job input
   pub vs_are : AreAnswers (IsValue text input limit number) values vs
 
--- the same of the number of the text that is meant
+-- the same for the number of the text that is meant
 pub record AreSweepValues (text : List ℕ) (job : Tree) (input : List ℕ) (limit : ℕ) (target : Target) (values : List ℕ) (first : Fate) (vs : List Value) : Type 0 where
   pub tokens : List Token
   pub tokens_are : HasTokens text tokens None
@@ -37,7 +37,7 @@ pub record IsWithoutTarget (text : List ℕ) (target : Target) (missing : Missin
   pub tokens_are : HasTokens text tokens None
   pub reason : IsMissing text tokens target missing
 
--- ---- as the code holds them
+-- ---- the values of the code
 
 abbrev pub AreValuesOf : Tree → Swept → List ℕ → SweepValues → Type 0
 AreValuesOf job swept values told =

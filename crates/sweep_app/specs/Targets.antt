@@ -1,4 +1,4 @@
--- The number of a job text that is meant, by the text's tokens.
+-- The number of a job text that is meant, found among the tokens of the text.
 use Rattle.std.specs.Prelude.{◌≡◌, ℕ, true, false, Some, None, List}
 use Rattle.job_tokens.specs.declared.token.Token.{Token}
 use Rattle.nursery_app.specs.Places.{IsPlace, IsPlaceOf}
@@ -17,7 +17,7 @@ abbrev pub IsNumber : List ℕ → List Token → Target → Number → Type 0
 IsNumber text tokens (DeadlineOf name) number = deadline_of name tokens ≡ Some number
 IsNumber text tokens (At line column) number = (at : ℕ) × IsPlace text line column at × (number_at at tokens ≡ Some number)
 
--- why a deadline is missing: no scope or nursery has the name, or it has no deadline
+-- why a deadline is missing: no scope or nursery has the name, or the first one that has it has no deadline
 abbrev pub IsMissingDeadline : List ℕ → List Token → Missing → Type 0
 IsMissingDeadline name tokens (NoBlock nearest) =
     (is_one_of name (blocks_in tokens) ≡ false) × (nearest ≡ nearest_in name (blocks_in tokens))

@@ -1,4 +1,4 @@
--- What becomes of a job for each value of a number.
+-- The outcome of a job for each value of a number.
 use Rattle.std.specs.Prelude.{◌≡◌, ◌≤◌, ℕ, None, List, [], ◌∷◌, length}
 use Rattle.job_meaning.specs.declared.limits.TheConstants.{MOST_INPUT}
 use Rattle.job_edits.specs.Changes.{changed}
@@ -10,14 +10,14 @@ use Rattle.sweep_text.specs.Views.{value_held}
 use Rattle.sweep_text.specs.declared.value.Value.{Value}
 use Rattle.sweep_app.specs.declared.values.Swept.{Swept}
 
--- what becomes of the text with this value in the place of the number
+-- the outcome of the text with this value in place of the number
 pub record IsValue (text input : List ℕ) (limit : ℕ) (number : Number) (n : ℕ) (v : told.Value) : Type 0 where
   pub value : v.value ≡ n
   pub fate : IsFate (changed text (set_to number n ∷ [])) input limit None v.fate
 
--- ---- as the code holds them
+-- ---- the values of the code
 
--- the input is no longer than an input may be
+-- the input is not longer than the maximum
 abbrev pub HasRoom : Swept → Type 0
 HasRoom swept = length swept.input.now ≤ MOST_INPUT
 

@@ -1,4 +1,5 @@
--- What `sweep` answers: what becomes of a job for each value of a number, or the refusal of its text, or that it has no such number.
+-- The results of `sweep`: the outcome of a job for each value of a number, or the refusal of its text, or that it has no such
+-- number.
 use Rattle.std.specs.Prelude.{◌≡◌, ℕ, ◌<◌, Option, List, [], length, take}
 use Rattle.std.specs.Io.KnownBytes.{Appends}
 use Rattle.job_tree.specs.Tree.{Tree}
@@ -14,14 +15,14 @@ use Rattle.sweep_app.specs.Answers.{AreSweepValues, IsWithoutTarget}
 use Rattle.sweep_app.specs.declared.verdict.SweepVerdict.{SweepVerdict}
 use Rattle.sweep_app.specs.declared.verdict.SweepVerdict.TheVariants.{Told, JobRefused, NoTarget}
 
--- these bytes tell what becomes of the job as it is, and for each value of the number that is meant
+-- these bytes are the text of the outcomes of the job with its own value, and with each value of the number that is meant
 pub record IsSweep (text : List ℕ) (job : Tree) (input : List ℕ) (limit : ℕ) (target : Target) (values bytes : List ℕ) : Type 0 where
   pub first : Fate
   pub vs : List Value
   pub told : AreSweepValues text job input limit target values first vs
   pub text_is : bytes ≡ sweep_text limit first vs
 
--- a verdict on a text that spells a job, and its bytes
+-- a verdict for a text that spells a job, and its bytes
 abbrev pub IsJobVerdict : List ℕ → Tree → List ℕ → ℕ → Target → List ℕ → SweepVerdict → List ℕ → Type 0
 IsJobVerdict text job input limit target values Told bytes = IsSweep text job input limit target values bytes
 IsJobVerdict text job input limit target values (JobRefused fault) bytes = ⊥
@@ -34,7 +35,7 @@ IsVerdict text input limit target values (JobRefused fault) bytes = IsRefused te
 IsVerdict text input limit target values verdict bytes =
     (job : Tree) × Spells text job × IsJobVerdict text job input limit target values verdict bytes
 
--- The verdict's bytes were sent, all of them.
+-- All bytes of the verdict were sent.
 abbrev pub IsSent : List ℕ → List ℕ → ℕ → Target → List ℕ → Option (List ℕ) → Option (List ℕ) → SweepVerdict → Type 0
 IsSent text input limit target values before after verdict =
     (bytes : List ℕ) × IsVerdict text input limit target values verdict bytes × Appends before after bytes

@@ -1,9 +1,9 @@
-//! A job text and an input in, what becomes of the job for each value of one of its numbers out: `sweep`.
+//! Takes a job text and an input, and writes the outcome of the job for each value of one of its numbers: `sweep`.
 //!
-//! The layer promises that the bytes which `sweep` writes tell what becomes, by the job's one-thread meaning, of the text with each value in
-//! the place of the number that is meant; or that they are the refusal which the text's meaning names; or that the text has no such
-//! number. The number of workers changes no byte. It stands on `job_edits` for the numbers of a text, on `fault_app` for what becomes of a
-//! changed text, and on `sweep_text` for what is written of that.
+//! The bytes that `sweep` writes are the outcomes, by the meaning, of the text with each value in place of the number that is
+//! meant. Or they are the refusal that the meaning of the text names; or there are none, because the text has no such number.
+//! The number of workers changes no byte. The crate uses `job_edits` for the numbers of a text, `fault_app` for the outcome of
+//! a changed text, and `sweep_text` for the text that is written.
 #![tactic(auto)]
 
 mod nearest;

@@ -19,7 +19,7 @@ pub enum Found {
     Missing(Missing),
 }
 
-/// The number of a text of these tokens that is meant.
+/// Returns the number that is meant, in a text with these tokens.
 pub(crate) fn number_for(
     alloc: Global,
     text: &[u8],
@@ -34,7 +34,7 @@ pub(crate) fn number_for(
     }
 }
 
-// The deadline of the scope or nursery of a name.
+// Returns the deadline of the first scope or nursery with this name.
 fn deadline_for(
     alloc: Global,
     text: &[u8],
@@ -54,7 +54,7 @@ fn deadline_for(
     }
 }
 
-// The number at a line and a column.
+// Returns the number at a line and a column.
 fn number_on(
     alloc: Global,
     text: &[u8],

@@ -15,15 +15,16 @@ use std::alloc::{AllocError, Global};
 use std::thread::Threads;
 use sweep_text::sweep_table;
 
-/// Writes what becomes of a job over an input for each of these values of one of its numbers, in their order: as it is first, then a line
-/// for each group of neighbouring values for which the same becomes of the job apart from ticks, and how many values are of each kind. A
-/// value is put into the job text in the place of the number's digits, and its line tells of the changed text by the job's one-thread
-/// meaning; a value that the text cannot have there is told as refused. A job text that is refused has its refusal written. Where the text
-/// does not have the number that is meant, nothing is written.
+/// Writes the outcome of a job over an input for each of these values of one of its numbers, in their order: first the outcome
+/// of the job with its own value, then a line for each group of neighbouring values with the same outcome apart from ticks, and
+/// then how many values there are of each kind. A value is put into the job text in place of the digits of the number, and its
+/// line has the outcome of the changed text by the meaning of the job. A value that the text cannot have there counts as
+/// refused. For a job text that is refused, its refusal is written. If the text does not have the number that is meant, nothing
+/// is written. The input must have at most 16,777,216 bytes.
 ///
-/// The settings' number of workers is the number of threads among which the values are split; the gate is called around each value, with its
-/// place among them, by the thread that works on it. Neither changes a byte. All bytes are built before the first is sent, so after
-/// `NoMemory` nothing was sent.
+/// The number of workers in `settings` is the number of threads that run the values. The gate is called before and after each
+/// value, with the place of the value among them, by the thread that runs it. Neither changes a byte. All bytes are built
+/// before the first is sent, so after `NoMemory` nothing was sent. If the writer fails, it took the first of those bytes.
 pub fn sweep<R: Threads + Sync, G: Gate + Sync, W: Out>(
     rt: &R,
     alloc: Global,
@@ -38,11 +39,11 @@ pub fn sweep<R: Threads + Sync, G: Gate + Sync, W: Out>(
     requires input { length input.now ≤ MOST_INPUT }
     requires countable { W.failed out.old < 18446744073709551615 }
 
-    // The bytes written tell of each value, or are the refusal of the text, or are none.
+    // The bytes written are the text of all values, or the refusal of the text, or there are none.
     ensures sent { IfOk result (IsSent job_text.now input.now settings.limit target values.now (W.contents out.old) (W.contents out.new)) }
     ensures well { OnOk result (W.failed out.new ≡ W.failed out.old) }
 
-    // A writer that failed took the front of those bytes; after want of memory nothing was sent.
+    // A writer that failed took the first of those bytes; if memory was refused, nothing was sent.
     ensures fault { IfErr result (IsSweepFault job_text.now input.now settings.limit target values.now (W.contents out.old) (W.contents out.new)) }
     ensures counted { IfErr result (CountsFailure (W.failed out.old) (W.failed out.new)) }
 {
@@ -51,7 +52,7 @@ pub fn sweep<R: Threads + Sync, G: Gate + Sync, W: Out>(
     Ok(verdict)
 }
 
-// The verdict and all its bytes.
+// Returns the verdict and all its bytes.
 fn answer<R: Threads + Sync, G: Gate + Sync>(
     rt: &R,
     alloc: Global,
@@ -76,7 +77,7 @@ fn answer<R: Threads + Sync, G: Gate + Sync>(
     }
 }
 
-// The verdict on a text that spells a job, and all its bytes.
+// Returns the verdict for a text that spells a job, and all its bytes.
 #[tactic(auto, using(crate::proofs::Tabled::is_sweep))]
 fn answer_for_job<R: Threads + Sync, G: Gate + Sync>(
     rt: &R,

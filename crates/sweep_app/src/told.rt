@@ -17,29 +17,31 @@ use std::alloc::{AllocError, Global};
 use std::thread::Threads;
 use sweep_text::Value;
 
-/// What becomes of a job: as it is, and for each value of one of its numbers.
+/// The outcome of a job with its own value, and with each value of one of its numbers.
 #[derive(Drop)]
 pub struct SweepValues {
-    /// What becomes of the job as it is.
+    /// The outcome of the job with its own value.
     pub first: Fate,
-    /// What becomes of it for each value, in their order.
+    /// The outcome of the job with each value, in the order of the values.
     pub values: Vec<Value>,
 }
 
-/// What comes of a sweep over a number of a job text.
+/// The result of a sweep over a number of a job text.
 #[derive(Drop)]
 pub enum SweepAnswer {
-    /// What becomes of the job for each value.
+    /// The outcome of the job for each value.
     Values(SweepValues),
     /// The text does not have the number that is meant.
     NoTarget(Missing),
 }
 
-/// What becomes of the job that a text spells, over an input: as it is, and for each of these values of one of its numbers, in their order; or why the
-/// text does not have the number that is meant. A value that the text cannot have there is told as refused.
+/// Returns the outcome of a job over an input, with its own value and with each of these values of one of its numbers, in their
+/// order; or why the text does not have the number that is meant. A value that the text cannot have there counts as refused.
+/// The caller must ensure that the text spells the job, and that the input has at most 16,777,216 bytes.
 ///
-/// The settings' number of workers is the number of threads among which the values are split; the gate is called around each value, with its
-/// place among them, by the thread that works on it. Neither changes an answer. Want of memory is the only error.
+/// The number of workers in `settings` is the number of threads that run the values. The gate is called before and after each
+/// value, with the place of the value among them, by the thread that runs it. Neither changes a result. The only error is that
+/// memory was refused.
 #[tactic(auto, using(crate::proofs::Tabled::are_values, crate::proofs::Tabled::is_without_target))]
 pub fn sweep_values<R: Threads + Sync, G: Gate + Sync>(
     rt: &R,
@@ -72,7 +74,7 @@ pub fn sweep_values<R: Threads + Sync, G: Gate + Sync>(
     }
 }
 
-// What becomes of the job as it is, and for each value of its number.
+// Returns the outcome of the job with its own value, and with each value of its number.
 fn values_of<R: Threads + Sync, G: Gate + Sync>(
     rt: &R,
     alloc: Global,

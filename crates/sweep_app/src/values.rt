@@ -9,10 +9,10 @@ use std::alloc::{AllocError, Global};
 use std::thread::Threads;
 use sweep_text::Value;
 
-/// What all values are about.
+/// What all values have in common.
 #[derive(Clone, Copy)]
 pub(crate) struct Swept<'a> {
-    /// The author's job text.
+    /// The original job text.
     pub text: &'a [u8],
     /// The input.
     pub input: &'a [u8],
@@ -43,7 +43,7 @@ impl Work for Swept<'_> {
     }
 }
 
-// What becomes of the job for a value.
+// Returns the outcome of the job for a value.
 fn value_with<R: Threads + Sync>(
     rt: &R,
     alloc: Global,

@@ -9,16 +9,16 @@ use job_tree::Name;
 pub enum Missing {
     /// No scope or nursery has the name.
     NoBlock {
-        /// The name of a scope or nursery that is the nearest to it: none where the job has neither.
+        /// The name of a scope or nursery that is nearest to it, or `None` if the job has neither.
         nearest: Option<Name>,
     },
-    /// The first scope or nursery of that name has no deadline.
+    /// The first scope or nursery with that name has no deadline.
     NoDeadline,
     /// The text has no such line, or the line has no such column.
     NoPlace,
-    /// No number begins at the place.
+    /// No number with a value begins at the place.
     NoNumber {
-        /// The place, as the number of bytes before it.
+        /// The place, in bytes from the start of the text.
         at: usize,
     },
 }
@@ -26,7 +26,7 @@ pub enum Missing {
 /// What `sweep` wrote.
 #[derive(Drop)]
 pub enum SweepVerdict {
-    /// What becomes of the job for each value.
+    /// The outcome of the job for each value.
     Told,
     /// The refusal of the job text.
     JobRefused(JobFault),
@@ -35,7 +35,8 @@ pub enum SweepVerdict {
 }
 
 impl SweepVerdict {
-    /// The exit status of the program that wrote this: 0, or 2 where the job text was refused or does not have the number that is meant.
+    /// Returns the exit status of the program that wrote this: 0, or 2 if the job text was refused or does not have the number
+    /// that is meant.
     pub fn status(&self) -> u8
         ensures { result ≡ sweep_status_of self.now }
     {
