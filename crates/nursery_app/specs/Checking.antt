@@ -1,4 +1,4 @@
--- What `check` and `upgrade` answer: the canonical text of a job, or its refusal.
+-- What `check` and `upgrade` write: the canonical text of a job, or its refusal.
 use Rattle.std.specs.Prelude.{◌≡◌, ℕ, ◌<◌, Option, List, ◌++◌, length, take, codes}
 use Rattle.job_tree.specs.Tree.{Tree}
 use Rattle.job_grammar.specs.Refusals.{Spells, IsRefused}
@@ -15,7 +15,7 @@ abbrev pub IsAnswer : (Tree → Tree) → List ℕ → CheckVerdict → List ℕ
 IsAnswer shown text Fine bytes = (job : Tree) × Spells text job × (bytes ≡ canon (shown job) ++ codes "\n")
 IsAnswer shown text (JobRefused fault) bytes = IsRefused text fault.kind fault.at × (bytes ≡ refusal_line fault)
 
--- It was sent whole.
+-- All of it was sent.
 abbrev pub IsAnswerSent : (Tree → Tree) → List ℕ → Option (List ℕ) → Option (List ℕ) → CheckVerdict → Type 0
 IsAnswerSent shown text before after verdict = (bytes : List ℕ) × IsAnswer shown text verdict bytes × Appends before after bytes
 

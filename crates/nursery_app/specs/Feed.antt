@@ -17,7 +17,7 @@ begins_with_mark bytes = starts_with nat_eq bytes mark && ends_line (drop 6 byte
 abbrev pub with_first : ℕ → List ℕ × List ℕ → List ℕ × List ℕ
 with_first b parts = (b ∷ parts.0, parts.1)
 
--- the bytes before the first line that is the mark, and those behind that line; without one, all bytes and none
+-- the bytes before the first line that is the mark, and those after that line; without one, all bytes and none
 abbrev pub feed_from : Bool → List ℕ → List ℕ × List ℕ
 feed_from starts [] = ([], [])
 feed_from starts (b ∷ bs) =

@@ -25,7 +25,7 @@ pub record IsPlace (text : List ℕ) (line column at : ℕ) : Type 0 where
   pub line_is : line_of text at ≡ line
   pub column_is : column_of text at ≡ column
 
--- the place of a line and a column: none where no place of the text is there
+-- the place of a line and a column, or none if no place of the text has them
 abbrev pub IsPlaceOf : List ℕ → ℕ → ℕ → Option ℕ → Type 0
 IsPlaceOf text line column None = (at : ℕ) → IsPlace text line column at → ⊥
 IsPlaceOf text line column (Some at) = IsPlace text line column at

@@ -1,4 +1,4 @@
--- What a reader gave, where its bytes are known.
+-- The bytes of a reader, if they are known.
 use Rattle.std.specs.Prelude.{◌≡◌, ℕ, ◌<◌, Option, List, length, IfSome}
 
 -- these are all the bytes that the reader had

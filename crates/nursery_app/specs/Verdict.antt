@@ -1,4 +1,4 @@
--- What `serve` answers: the report of a job's meaning over an input, or the refusal which that meaning names.
+-- What `serve` writes: the report of a job's meaning over an input, or the refusal that the meaning names.
 use Rattle.std.specs.Prelude.{◌≡◌, ℕ, ◌+◌, ◌<◌, ◌≤◌, Option, List, ◌++◌, length, take, codes, decimal, IsSome, IsNone}
 use Rattle.job_tree.specs.Tree.{Tree}
 use Rattle.job_grammar.specs.declared.fault.JobFault.{JobFault}
@@ -13,7 +13,7 @@ use Rattle.nursery_app.specs.declared.verdict.Verdict.TheVariants.{Done, Raised,
 use Rattle.nursery_app.specs.declared.verdict.ServeFault.{ServeFault}
 use Rattle.nursery_app.specs.declared.verdict.ServeFault.TheVariants.{Send, NoMemory}
 
--- the line for a refused job, as `refused J6 Syntax at 27`
+-- the line for a refused job, such as `refused J6 Syntax at 27`
 abbrev pub refusal_line : JobFault → List ℕ
 refusal_line fault = codes "refused J" ++ decimal (number_of fault.kind) ++ codes " " ++ name_of fault.kind ++ codes " at "
     ++ decimal fault.at ++ codes "\n"
@@ -32,14 +32,15 @@ pub record IsReport (text input : List ℕ) (limit : ℕ) (job : Tree) (bytes : 
   pub in_time : meaning_end job input ≤ limit
   pub report : bytes ≡ meaning_report job input
 
--- A verdict and its bytes: the report where the job ends by the limit, and else the refusal which the meaning names.
+-- A verdict and its bytes: the report if the job ends by the limit, the line of the limit if it ends later, or else
+-- the refusal that the meaning names.
 abbrev pub IsVerdict : List ℕ → List ℕ → ℕ → Verdict → List ℕ → Type 0
 IsVerdict text input limit Done bytes = (job : Tree) × IsReport text input limit job bytes × IsNone (meaning job input).exc
 IsVerdict text input limit Raised bytes = (job : Tree) × IsReport text input limit job bytes × IsSome (meaning job input).exc
 IsVerdict text input limit (JobRefused fault) bytes = IsRefused text fault.kind fault.at × (bytes ≡ refusal_line fault)
 IsVerdict text input limit Limit bytes = (job : Tree) × Spells text job × (limit < meaning_end job input) × (bytes ≡ limit_line limit)
 
--- The verdict's bytes were sent, all of them.
+-- All of the verdict's bytes were sent.
 abbrev pub IsSent : List ℕ → List ℕ → ℕ → Option (List ℕ) → Option (List ℕ) → Verdict → Type 0
 IsSent text input limit before after verdict = (bytes : List ℕ) × IsVerdict text input limit verdict bytes × Appends before after bytes
 
@@ -50,7 +51,7 @@ IsServeFault text input limit before after (Send sent) =
     × Appends before after (take sent bytes)
 IsServeFault text input limit before after NoMemory = after ≡ before
 
--- the count of a writer's failures rises by one where a sending stops, and else stays
+-- the count of a writer's failures rises by one if a sending stops, and otherwise stays
 abbrev pub CountsFailure : ℕ → ℕ → ServeFault → Type 0
 CountsFailure before after (Send sent) = after ≡ before + 1
 CountsFailure before after NoMemory = after ≡ before

@@ -10,8 +10,9 @@ use job_grammar::{Job, read_job, to_format_2, write_job};
 use job_report::{Out, send};
 use std::alloc::{AllocError, Global};
 
-/// Writes the canonical text of the job that a text spells and a newline, or the line of its refusal. All bytes are
-/// built before the first is sent, so after `NoMemory` nothing was sent.
+/// Writes the canonical text of the job that a text spells and a newline, or the line of its refusal, and returns which.
+/// All bytes are built before the first is sent, so after `NoMemory` nothing was sent. After `Send` the writer took the
+/// first `sent` bytes.
 pub fn check<W: Out>(
     alloc: Global,
     job_text: &[u8],
@@ -38,8 +39,9 @@ fn checked(alloc: Global, job_text: &[u8]) -> Result<(CheckVerdict, Vec<u8>), Al
     }
 }
 
-/// Writes the canonical text of the same job in format 2 and a newline, or the line of the text's refusal. All bytes are
-/// built before the first is sent, so after `NoMemory` nothing was sent.
+/// Writes the canonical text of the same job in format 2 and a newline, or the line of the text's refusal, and returns
+/// which. All bytes are built before the first is sent, so after `NoMemory` nothing was sent. After `Send` the writer
+/// took the first `sent` bytes.
 pub fn upgrade<W: Out>(
     alloc: Global,
     job_text: &[u8],

@@ -1,8 +1,8 @@
 ghost use Rattle.std.specs.Prelude.{◌≡◌, length, drop, ◌≤◌};
 ghost use Rattle.nursery_app.specs.Feed.{feed_parts, begins_with_mark, ends_line};
 
-/// Cuts a feed at the first line that is exactly `%input`: the bytes before that line, and those behind it. Without
-/// such a line, all bytes and none.
+/// Splits a feed at the first line that is exactly `%input`. Returns the bytes before that line, and those after
+/// it; if there is no such line, all bytes and none.
 pub fn split_feed(feed: &[u8]) -> (&[u8], &[u8])
     ensures { (result.0.now, result.1.now) ≡ feed_parts feed.now }
 {
@@ -17,7 +17,7 @@ pub fn split_feed(feed: &[u8]) -> (&[u8], &[u8])
     (feed, &[])
 }
 
-// Whether the first line is the mark.
+// Whether the first line is the `%input` mark.
 fn has_mark(bytes: &[u8]) -> bool
     ensures { result ≡ begins_with_mark bytes.now }
 {
@@ -36,7 +36,7 @@ fn is_line_end(bytes: &[u8]) -> bool
     }
 }
 
-// The bytes behind the mark and its newline.
+// The bytes after the mark and its newline.
 fn behind_mark(bytes: &[u8]) -> &[u8]
     ensures { result.now ≡ drop 7 bytes.now }
 {

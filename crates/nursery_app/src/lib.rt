@@ -1,4 +1,4 @@
-//! A job text and an input in, a report out: `serve`, `check`, `upgrade`, and what the program around them needs.
+//! A job text and an input in, a report out: `serve`, `check`, `upgrade`, and what a program that calls them needs.
 //!
 //! The layer promises the product's headline, as the contract of `serve`: for every job text, input, number of workers
 //! and order of picks, the bytes written are the report of the job's one-thread meaning over that input, or the refusal

@@ -14,8 +14,8 @@ fn push_number(out: &mut Vec<u8>, n: u64) -> Result<(), AllocError>
     out.extend_from_slice(buffer.format(n).as_bytes())
 }
 
-/// The line for a refused job text, as `refused J6 Syntax at 27`, with its newline. Want of memory is not a refusal: a fault of that
-/// kind is an error here too, as is memory that is refused for the line.
+/// Returns the line for a refused job text, such as `refused J6 Syntax at 27`, with its newline. It is an error if memory was
+/// refused for the line, or if the fault itself is `NoMemory`, which is not a refusal.
 pub fn refusal(alloc: Global, fault: JobFault) -> Result<Vec<u8>, AllocError>
     ensures line { IfOk result (λ line. line.items ≡ refusal_line fault) }
     ensures kind { OnOk result (fault.kind ≢ kinds.NoMemory) }
@@ -33,7 +33,8 @@ pub fn refusal(alloc: Global, fault: JobFault) -> Result<Vec<u8>, AllocError>
     Ok(line)
 }
 
-/// The line for a job that ends later than the limit, as `limit 100`, with its newline. Want of memory is the only error.
+/// Returns the line for a job that ends later than the limit, such as `limit 100`, with its newline. The only error is that
+/// memory was refused.
 pub fn past_limit(alloc: Global, limit: u64) -> Result<Vec<u8>, AllocError>
     ensures { IfOk result (λ line. line.items ≡ limit_line limit) }
 {

@@ -1,7 +1,7 @@
 ghost use Rattle.std.specs.Prelude.{◌≡◌, ◌≤◌, ◌+◌, length, take};
 ghost use Rattle.nursery_app.specs.Places.{line_of, column_of, IsPlaceOf};
 
-/// The line of a place in a text, counted from 1: the place is a number of bytes from the start of the text.
+/// Returns the line of a place in a text, counted from 1. The place is a number of bytes from the start of the text.
 pub fn line_of(text: &[u8], at: usize) -> usize
     ensures value { result ≡ line_of text.now at }
     ensures from_one { 1 ≤ result }
@@ -16,7 +16,7 @@ pub fn line_of(text: &[u8], at: usize) -> usize
     line
 }
 
-/// The column of a place in a text, in bytes, counted from 1.
+/// Returns the column of a place in a text, in bytes, counted from 1.
 pub fn column_of(text: &[u8], at: usize) -> usize
     ensures value { result ≡ column_of text.now at }
     ensures from_one { 1 ≤ result }
@@ -30,8 +30,8 @@ pub fn column_of(text: &[u8], at: usize) -> usize
     column
 }
 
-/// The place of a line and a column of a text, both counted from 1: the number of bytes before it. It may be the place of a newline, or
-/// the text's end. None where the text has fewer lines, or the line fewer columns.
+/// Returns the place of a line and a column of a text, both counted from 1: the number of bytes before it. It may be the place of
+/// a newline, or the text's end. Returns `None` if the text has fewer lines, or the line fewer columns.
 #[tactic(auto, using(crate::proofs::Placed::line_next, crate::proofs::Placed::column_next))]
 pub fn place_at(text: &[u8], line: usize, column: usize) -> Option<usize>
     ensures { IsPlaceOf text.now line column result }

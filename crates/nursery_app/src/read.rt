@@ -5,13 +5,14 @@ use std::alloc::{AllocError, Global};
 use std::io::Read;
 use thiserror::Error;
 
-/// Why a reader was not read whole. What was read is gone.
+/// Why not all bytes of a reader were read. The bytes that were read are lost.
 #[derive(Clone, Copy, Debug, PartialEq, Eq, Error)]
 pub enum ReadFault {
-    /// More bytes came than were allowed.
+    /// The reader has more bytes than are allowed.
     #[error("input too long")]
     TooLong,
-    /// A read answered an error, of whatever kind.
+    /// A read returned an error, of any kind. The reader may be any reader, although the text of
+    /// this error names the input file.
     #[error("cannot read the input file")]
     Device,
     /// Memory was refused.
@@ -19,7 +20,8 @@ pub enum ReadFault {
     NoMemory,
 }
 
-/// All bytes that a reader gives, of which there may be `most`. It makes at most `most + 2` reads.
+/// Returns all bytes of a reader, which may be at most `most`. It makes at most `most + 2` reads.
+/// The errors are `TooLong` if there are more bytes, `Device` if a read failed, and `NoMemory`.
 pub fn read_whole<R: Read>(alloc: Global, reader: &mut R, most: usize) -> Result<Vec<u8>, ReadFault>
     ensures whole { IfOk result (λ bytes. IsAllOf (R.remaining reader.old) bytes.items) }
     ensures within { IfOk result (λ bytes. vec_len bytes ≤ most) }

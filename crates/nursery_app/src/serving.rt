@@ -10,10 +10,11 @@ use job_runner::{Gate, Pick, RunFault, Settings, run};
 use std::alloc::{AllocError, Global};
 use std::thread::Threads;
 
-/// Runs a job text over an input, and writes the report of the job's one-thread meaning, or the refusal which that
-/// meaning names. The number of workers, the picker and the gate change no byte of it. All bytes are built before the
-/// first is sent, so after `NoMemory` nothing was sent. The picker is asked for each turn of a batch of tasks that are ready, and
-/// the gate is called before and after each request that a worker computes.
+/// Runs a job text over an input, and writes the report of the job's one-thread meaning, or the refusal that the meaning names,
+/// or the line for a job that ends later than the limit, and returns which. The input has at most `MOST_INPUT` bytes. The number
+/// of workers, the picker and the gate do not change any byte of it. All bytes are built before the first is sent, so after
+/// `NoMemory` nothing was sent. After `Send` the writer took the first `sent` bytes. The picker is asked for each turn of a batch
+/// of tasks that are ready, and the gate is called before and after each request that a worker computes.
 pub fn serve<R: Threads + Sync, P: Pick, G: Gate + Sync, W: Out>(
     rt: &R,
     alloc: Global,
@@ -27,11 +28,11 @@ pub fn serve<R: Threads + Sync, P: Pick, G: Gate + Sync, W: Out>(
     requires input { length input.now ≤ MOST_INPUT }
     requires countable { W.failed out.old < 18446744073709551615 }
 
-    // The bytes written are the report of the meaning, or the refusal which it names.
+    // The bytes written are the report of the meaning, or the refusal that it names.
     ensures sent { IfOk result (IsSent job_text.now input.now settings.limit (W.contents out.old) (W.contents out.new)) }
     ensures well { OnOk result (W.failed out.new ≡ W.failed out.old) }
 
-    // A writer that failed took the front of those bytes; after want of memory nothing was sent.
+    // A writer that failed took the front of those bytes; after memory was refused, nothing was sent.
     ensures fault { IfErr result (IsServeFault job_text.now input.now settings.limit (W.contents out.old) (W.contents out.new)) }
     ensures counted { IfErr result (CountsFailure (W.failed out.old) (W.failed out.new)) }
 {

@@ -10,7 +10,7 @@ use thiserror::Error;
 /// What `serve` wrote.
 #[derive(Clone, Copy, Debug)]
 pub enum Verdict {
-    /// The report of a job whose root ended well.
+    /// The report of a job whose root ended without an exception.
     Done,
     /// The report of a job whose root ended with an exception.
     Raised,
@@ -21,8 +21,8 @@ pub enum Verdict {
 }
 
 impl Verdict {
-    /// The exit status of the program that wrote this: 0 where the job ended well, 1 where it raised, 2 where its text
-    /// was refused, 3 where it ends later than the limit.
+    /// Returns the exit status of the program that wrote this: 0 if the job ended without an exception, 1 if it
+    /// raised, 2 if its text was refused, 3 if it ends later than the limit.
     pub fn status(self) -> u8
         ensures { result ≡ status_of self }
     {
@@ -45,7 +45,7 @@ pub enum CheckVerdict {
 }
 
 impl CheckVerdict {
-    /// The exit status of the program that wrote this: 0 for a job, 2 for a refused text.
+    /// Returns the exit status of the program that wrote this: 0 for a job, 2 for a refused text.
     pub fn status(self) -> u8
         ensures { result ≡ check_status_of self }
     {
@@ -59,7 +59,7 @@ impl CheckVerdict {
 /// Why not all bytes were sent.
 #[derive(Clone, Copy, Debug, PartialEq, Eq, Error)]
 pub enum ServeFault {
-    /// The writer failed behind the first `sent` bytes.
+    /// The writer failed after the first `sent` bytes.
     #[error("cannot write")]
     Send {
         /// How many bytes from the front were taken.

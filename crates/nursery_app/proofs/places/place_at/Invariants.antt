@@ -1,5 +1,5 @@
--- The counters are the line and the column of the place that the search has come to,
--- and no place before it is on the line and at the column.
+-- The counters are the line and the column of the place that the search has reached, and no place
+-- before it is on the line and at the column.
 use Rattle.std.proofs.Common.{◌≡◌, ℕ, ◌+◌, ◌<◌, ◌≤◌}
 use Rattle.nursery_app.specs.Places.{line_of, column_of, IsPlace}
 use Rattle.nursery_app.proofs.places.place_at.Given as goal
