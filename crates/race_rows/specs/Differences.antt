@@ -1,4 +1,4 @@
--- The tasks of which two runs do not show the same.
+-- The tasks for which two runs do not show the same.
 use Rattle.std.specs.Prelude.{ℕ, Bool, if◌then◌else◌, List, [], ◌∷◌, ◌++◌, Option, Some, None, codes}
 use Rattle.std.specs.Str.{bytes_eq}
 use Rattle.exc_groups.specs.Exceptions.{Label}
@@ -6,7 +6,8 @@ use Rattle.exc_groups.specs.Labels.{same_label}
 use Rattle.job_meaning.specs.Shown.{Row}
 use Rattle.race_rows.specs.Same.{outcome_text, same_entries}
 
--- A task ends otherwise: how before and after. Or it ends alike, and has other lines, scopes or nurseries.
+-- A task ends in another way: how before and after. Or it ends in the same way, and has other lines, scopes or
+-- nurseries.
 pub data Difference : Type 0 where
   otherwise : (task : Label) → (before : List ℕ) → (after : List ℕ) → Difference
   inside : (task : Label) → Difference

@@ -15,7 +15,7 @@ of_roots a [] b after = []
 of_roots a (r ∷ rs) b [] = []
 of_roots a (r ∷ rs) b (s ∷ ss) = otherwise r.label (root_text a r) (root_text b s) ∷ []
 
--- The tasks that differ where both ended by the limit; the root alone where one of them did; none where neither did.
+-- The tasks that differ if both ended by the limit; the root alone if one of them did; none if neither did.
 abbrev pub of_runs : Bool → List Row → Bool → List Row → List Difference
 of_runs true before true after = differences before after
 of_runs true before false after = of_roots true before false after

@@ -1,4 +1,4 @@
--- Tasks of two runs that are alike apart from ticks.
+-- Tasks of two runs that are the same apart from ticks.
 use Rattle.std.specs.Prelude.{ℕ, ◌==◌, ◌&&◌, Bool, true, false, List, [], ◌∷◌, ◌++◌, codes}
 use Rattle.std.specs.Bool.{beq}
 use Rattle.std.specs.Str.{bytes_eq}
@@ -12,7 +12,8 @@ outcome_text well = codes "done"
 outcome_text by_cancellation = codes "cancelled"
 outcome_text (with_exception e) = codes "raised " ++ sans_text e
 
--- two entries are the same line, or exits of the same scope or nursery that caught or did not
+-- two entries are the same line, or exits of the same scope or nursery that both caught or both did
+-- not
 abbrev pub same_entry : Shown → Shown → Bool
 same_entry (line_shown at text) (line_shown at' text') = at == at' && bytes_eq text text'
 same_entry (scope_shown l t caught) (scope_shown l' t' caught') = same_label l l' && beq caught caught'

@@ -6,8 +6,8 @@ use std::alloc::{AllocError, Global};
 use sweep_text::push_sans;
 use task_roster::Outcome;
 
-/// Appends how a task ended, without the ticks in exceptions: `done`, `cancelled` or `raised` and the exception. Want of memory is the
-/// only error.
+/// Appends how a task ended, without the ticks in exceptions: `done`, `cancelled`, or `raised` and the exception. The only error
+/// is that memory was refused.
 pub fn push_outcome(out: &mut Vec<u8>, outcome: &Outcome) -> Result<(), AllocError>
     ensures { OnOk result (out.new.items ≡ out.old.items ++ outcome_text (ending_in outcome.now)) }
 {

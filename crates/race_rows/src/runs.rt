@@ -17,8 +17,9 @@ pub struct Ran<'r> {
     pub in_time: bool,
 }
 
-/// What two runs show differently of their tasks, apart from ticks: as [`differences`] where both jobs ended by the limit. Where one did not,
-/// its root is told as `stuck` and other tasks are not compared; where neither did, nothing is told. Want of memory is the only error.
+/// Returns the differences between the tasks of two runs, apart from ticks: as [`differences`] if both jobs ended by the limit.
+/// If one did not, only the roots are compared, and the outcome of its root is `stuck`; if neither did, there is no difference.
+/// The only error is that memory was refused.
 pub fn run_differences(
     alloc: Global,
     before: &Ran<'_>,

@@ -7,7 +7,8 @@ ghost use Rattle.race_rows.specs.Same.{same_entry, same_entries};
 use exc_groups::Label;
 use task_machine::Entry;
 
-// Whether two entries are the same line, or exits of the same scope or nursery that caught or did not.
+// Whether two entries are the same line, or exits of the same scope or nursery that both caught or
+// both did not.
 fn is_same_entry(a: &Entry<'_>, b: &Entry<'_>) -> bool
     ensures { result ≡ same_entry (entry_of a.now) (entry_of b.now) }
 {
@@ -33,7 +34,7 @@ fn is_same_entry(a: &Entry<'_>, b: &Entry<'_>) -> bool
     }
 }
 
-// Whether two exits are of the same scope or nursery, and caught or did not.
+// Whether two exits are of the same scope or nursery, and both caught or both did not.
 fn is_same_exit(label: &Label, caught: bool, other: &Label, also: bool) -> bool
     ensures { result ≡ (same_label label.now other.now && beq caught also) }
 {

@@ -10,27 +10,27 @@ use exc_groups::Label;
 use std::alloc::{AllocError, Global};
 use task_roster::Record;
 
-/// A task of which two runs do not show the same.
+/// A difference between two runs for one task.
 #[derive(Drop)]
 pub enum Difference {
-    /// It ends otherwise.
+    /// The task ends in another way.
     Otherwise {
         /// The task.
         task: Label,
-        /// How it ends in the first run, without ticks: `not started` where it does not exist there.
+        /// How it ends in the first run, without ticks, or `not started` if it does not exist there.
         before: Vec<u8>,
-        /// How it ends in the second run.
+        /// How it ends in the second run, without ticks, or `not started` if it does not exist there.
         after: Vec<u8>,
     },
-    /// It ends alike, and has other lines, scopes or nurseries.
+    /// The task ends in the same way, and has other lines, or left other scopes or nurseries, or did so in another way.
     Inside {
         /// The task.
         task: Label,
     },
 }
 
-/// Each task of which the records of two runs do not show the same, apart from ticks: those of the first run, in the order of its records,
-/// and then those that only the second has. Want of memory is the only error.
+/// Returns each task for which the records of two runs do not show the same, apart from ticks: those of the first run, in the
+/// order of its records, and then those that only the second has. The only error is that memory was refused.
 pub fn differences(
     alloc: Global,
     before: &[Record<'_>],
@@ -128,7 +128,7 @@ fn push_new(alloc: Global, found: &mut Vec<Difference>, row: &Record<'_>) -> Res
     push_otherwise(alloc, found, &row.label, before, after)
 }
 
-// Appends that a task ends otherwise.
+// Appends that a task ends in another way.
 pub(crate) fn push_otherwise(
     alloc: Global,
     found: &mut Vec<Difference>,
