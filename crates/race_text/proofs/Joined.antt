@@ -21,7 +21,7 @@ columned w l old place step hair a b c d e f ps ss hs pa pb pc pd pe pf =
     let five : e ≡ d ++ left_text w.hair (hair_text l) = pe ∙ ap (λ t. d ++ left_text w.hair t) hs in
     two _ _ _ _ _ (two _ _ _ _ _ (two _ _ _ _ _ (two _ _ _ _ _ (two _ _ _ _ _ one pb) three) pd) five) pf
 
--- the columns, what is told and the end of the line
+-- the columns, what the line says, and the end of the line
 pub lined : (w : Widths) (l : Line) (old f g new : List ℕ) →
     f ≡ old
     ++ (right_text w.place (place_text l) ++ codes "  " ++ left_text w.step (step_text l) ++ codes "  " ++ left_text w.hair (hair_text l)

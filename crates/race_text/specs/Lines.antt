@@ -1,4 +1,4 @@
--- What is told of a job with one of its places moved by a hair.
+-- What the lines of the table say of a job with one of its places moved by a hair.
 use Rattle.std.specs.Prelude.{ℕ, zero, suc, Bool, true, false, List, [], ◌∷◌, ◌++◌, length, codes, decimal}
 use Rattle.exc_groups.specs.Exceptions.{Label}
 use Rattle.job_story.specs.Sentences.{label_text}
@@ -6,13 +6,14 @@ use Rattle.job_edits.specs.declared.site.Moment.{Moment}
 use Rattle.job_edits.specs.declared.shift.Hair.{Hair}
 use Rattle.race_rows.specs.Differences.{Difference, otherwise, inside}
 
--- what two runs do not show alike; or the changed text is refused
+-- the differences between two runs; or the changed text is refused
 pub data Found : Type 0 where
   refused : Found
   differs : (tasks : List Difference) → Found
 
--- A line: the job in finer ticks beside the job as it is; one place moved by a hair, beside the job in finer ticks; or two copies of one
--- `start .. over` that meet in a tick, which cannot be moved apart in the text. Places are those of the author's text.
+-- A line: the job in finer ticks compared with the job as it is; one place moved by a hair, compared with the job in finer ticks;
+-- or two copies of one `start .. over` that meet in a tick, which cannot be moved apart in the text. Places are those of the
+-- author's text.
 pub data Line : Type 0 where
   finer : (found : Found) → Line
   moved : (line : ℕ) → (column : ℕ) → (moment : Moment) → (hair : Hair) → (found : Found) → Line
@@ -25,7 +26,7 @@ is_some_found refused = true
 is_some_found (differs []) = false
 is_some_found (differs (d ∷ ds)) = true
 
--- a line is shown where something differs, a text is refused, or copies meet
+-- a line is shown if something differs, a text is refused, or copies meet
 abbrev pub is_shown : Line → Bool
 is_shown (finer found) = is_some_found found
 is_shown (moved line column moment hair found) = is_some_found found
@@ -51,13 +52,13 @@ is_refused (finer found) = is_refused_found found
 is_refused (moved line column moment hair found) = is_refused_found found
 is_refused (copies line column name count one other tick) = false
 
--- ---- what is told
+-- ---- what a line says
 
 abbrev pub difference_text : Difference → List ℕ
 difference_text (otherwise task before after) = label_text task ++ codes ": " ++ before ++ codes " -> " ++ after
 difference_text (inside task) = label_text task ++ codes ": other lines or scopes"
 
--- so many more, and how many are left out
+-- the given number of further differences, and how many are left out
 abbrev pub more_differences : ℕ → List Difference → List ℕ
 more_differences n [] = []
 more_differences zero (d ∷ ds) = codes "; and " ++ decimal (length (d ∷ ds)) ++ codes " more"

@@ -1,4 +1,4 @@
--- The table of the places of a job whose outcome hangs on a hair.
+-- The table of the places of a job where a hair changes the outcome.
 use Rattle.std.specs.Prelude.{ℕ, ◌==◌, Bool, max, if◌then◌else◌, List, [], ◌∷◌, ◌++◌, length, codes, decimal}
 use Rattle.job_story.specs.Sentences.{label_text}
 use Rattle.job_edits.specs.declared.shift.Hair.{Hair}
@@ -64,7 +64,7 @@ only test (l ∷ ls) = if test l then l ∷ only test ls else only test ls
 abbrev pub races_text : ℕ → List ℕ
 races_text n = if n == 0 then codes "no race" else decimal n ++ codes " races"
 
--- so many hairs were tried, and so many lines are races
+-- how many hairs were tried, and how many lines are races
 abbrev pub counts_text : ℕ → List Line → List ℕ
 counts_text hairs ls =
     decimal hairs ++ codes " hairs: " ++ races_text (length (only is_race ls)) ++ refused_text (length (only is_refused ls)) ++ codes "\n"
@@ -73,6 +73,6 @@ counts_text hairs ls =
 abbrev pub table_text : ℕ → List Line → List ℕ
 table_text hairs ls = lines_text (widths_of (only is_shown ls)) (only is_shown ls) ++ counts_text hairs ls
 
--- the lines of it that are races, as they stand there
+-- the lines of it that are races, as they are in the table
 abbrev pub denied_text : List Line → List ℕ
 denied_text ls = lines_text (widths_of (only is_shown ls)) (only is_race (only is_shown ls))

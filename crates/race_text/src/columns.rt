@@ -15,7 +15,7 @@ pub(crate) struct Widths {
     pub hair: usize,
 }
 
-// Appends a line and a column.
+// Appends a line and a column, both numbers.
 fn push_at(out: &mut Vec<u8>, line: usize, column: usize) -> Result<(), AllocError>
     ensures { OnOk result (out.new.items ≡ out.old.items ++ at_text line column) }
 {
@@ -24,7 +24,7 @@ fn push_at(out: &mut Vec<u8>, line: usize, column: usize) -> Result<(), AllocErr
     push_number(out, column as u64)
 }
 
-// The place of a line: nothing where it is about the whole job.
+// The place of a line, or nothing if it is about the whole job.
 pub(crate) fn place_of(alloc: Global, line: &Line) -> Result<Vec<u8>, AllocError>
     ensures { IfOk result (λ text. text.items ≡ place_text (line_held line.now)) }
 {
@@ -38,8 +38,8 @@ pub(crate) fn place_of(alloc: Global, line: &Line) -> Result<Vec<u8>, AllocError
     Ok(text)
 }
 
-/// What stands at the place of a line, as it is written in a job text: nothing where the line is about the whole job. Want of memory is the only
-/// error.
+/// Returns what is at the place of a line, as it is written in a job text, or nothing if the line is about the whole job. The
+/// only error is that memory was refused.
 pub fn step_of(alloc: Global, line: &Line) -> Result<Vec<u8>, AllocError>
     ensures { IfOk result (λ text. text.items ≡ step_text (line_held line.now)) }
 {

@@ -1,8 +1,9 @@
-//! The text that tells which places of a job its outcome hangs on by a hair.
+//! The text that lists the places of a job where a hair changes the outcome.
 //!
-//! The layer promises that `race_table` gives the text of these lines, as `specs/Table.antt` defines it: each line of which something is to be
-//! told, in columns, and last the counts; and that `race_denied` gives the lines of it that are races. It stands on `job_edits` for places and
-//! hairs, on `race_rows` for what differs, and on `fault_text` and `story_text` for columns, counts and labels.
+//! The layer promises that `race_table` returns the text of these lines, as `specs/Table.antt` defines it: each line that is
+//! shown, in columns, followed by the counts; and that `race_denied` returns those lines of it that are races. It uses
+//! `job_edits` for places and hairs, `race_rows` for what differs, and `fault_text` and `story_text` for columns, counts and
+//! labels.
 #![tactic(auto)]
 
 mod columns;

@@ -7,17 +7,17 @@ use job_edits::{Hair, Moment};
 use job_tree::Name;
 use race_rows::Difference;
 
-/// What comes of running a changed job text beside another one.
+/// The result of running a changed job text, compared with another one.
 #[derive(Drop)]
 pub enum Found {
     /// The changed text is refused.
     Refused,
-    /// The tasks that differ: none where the outcome is the same apart from ticks.
+    /// The tasks that differ; none if the outcome is the same apart from ticks.
     Differs(Vec<Difference>),
 }
 
 impl Found {
-    // Whether something is to be told.
+    // Whether there is something to show.
     fn is_some(&self) -> bool
         ensures { result ≡ is_some_found (found_held self.now) }
     {
@@ -37,7 +37,7 @@ impl Found {
         }
     }
 
-    /// Whether the text is refused.
+    /// Returns whether the text is refused.
     pub fn is_refused(&self) -> bool
         ensures { result ≡ is_refused_found (found_held self.now) }
     {
@@ -45,22 +45,23 @@ impl Found {
     }
 }
 
-/// What is told of a job with one of its places moved by a hair. Places are those of the author's text, as line and column, counted from 1.
+/// A line of the table: a job with one of its places moved by a hair, or two copies that meet. Places are those of the author's
+/// text, as line and column, counted from 1.
 #[derive(Drop)]
 pub enum Line {
-    /// The job in finer ticks, beside the job as it is.
+    /// The job in finer ticks, compared with the job as it is.
     Finer(Found),
-    /// One place moved by a hair, beside the job in finer ticks.
+    /// One place moved by a hair, compared with the job in finer ticks.
     Moved {
         /// The line of the place.
         line: usize,
         /// The column of the place, in bytes.
         column: usize,
-        /// What stands there.
+        /// What is at that place.
         moment: Moment,
-        /// In which direction it is moved.
+        /// The direction in which it is moved.
         hair: Hair,
-        /// What comes of that.
+        /// The result of running the changed text.
         found: Found,
     },
     /// Two copies of one `start .. over` that meet, and cannot be moved apart in the text.
@@ -71,7 +72,7 @@ pub enum Line {
         column: usize,
         /// The name of the tasks that it starts.
         name: Name,
-        /// How many it starts.
+        /// The number of tasks that it starts.
         count: u64,
         /// The copy that cancels something.
         one: Label,
@@ -83,7 +84,7 @@ pub enum Line {
 }
 
 impl Line {
-    /// Whether the line is shown: something differs, a text is refused, or copies meet.
+    /// Returns whether the line is shown: something differs, a text is refused, or copies meet.
     pub fn is_shown(&self) -> bool
         ensures { result ≡ is_shown (line_held self.now) }
     {

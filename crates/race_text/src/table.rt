@@ -9,8 +9,8 @@ use crate::told::push_told;
 use fault_text::{push_count, push_left, push_refused, push_right};
 use std::alloc::{AllocError, Global};
 
-/// The text that tells of these lines: each of which something is to be told, in their order, and how many hairs were tried and how many lines
-/// are races. Want of memory is the only error.
+/// Returns the text of the table: each line that is shown, in their order, and how many hairs were tried and how many lines are
+/// races. The only error is that memory was refused.
 pub fn race_table(alloc: Global, hairs: usize, lines: &[Line]) -> Result<Vec<u8>, AllocError>
     ensures { IfOk result (λ text. text.items ≡ table_text hairs (map line_held lines.now)) }
 {
@@ -25,7 +25,8 @@ pub fn race_table(alloc: Global, hairs: usize, lines: &[Line]) -> Result<Vec<u8>
     Ok(out)
 }
 
-/// Those of these lines that are races, as they stand in the text that tells of all. Want of memory is the only error.
+/// Returns those lines of the table that are races, as they are in the text of `race_table`. The only error is that memory was
+/// refused.
 pub fn race_denied(alloc: Global, lines: &[Line]) -> Result<Vec<u8>, AllocError>
     ensures { IfOk result (λ text. text.items ≡ denied_text (map line_held lines.now)) }
 {
@@ -89,14 +90,14 @@ fn push_counts(out: &mut Vec<u8>, hairs: usize, lines: &[Line]) -> Result<(), Al
     out.extend_from_slice(b"\n")
 }
 
-/// How many lines are races.
+/// Returns how many lines are races.
 pub fn races_in(lines: &[Line]) -> usize
     ensures { result ≡ length (only is_race (map line_held lines.now)) }
 {
     lines.iter().filter(|line| line.is_race()).count()
 }
 
-/// How many texts are refused.
+/// Returns how many texts are refused.
 pub fn refused_in(lines: &[Line]) -> usize
     ensures { result ≡ length (only is_refused (map line_held lines.now)) }
 {

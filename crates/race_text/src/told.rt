@@ -10,10 +10,10 @@ use race_rows::Difference;
 use std::alloc::AllocError;
 use story_text::{push_label, push_number};
 
-// How many differences are told after the first one.
+// How many differences are shown after the first one.
 const MORE: usize = 2;
 
-// Appends what is told in a line.
+// Appends what a line says of its place.
 pub(crate) fn push_told(out: &mut Vec<u8>, line: &Line) -> Result<(), AllocError>
     ensures { OnOk result (out.new.items ≡ out.old.items ++ told_text (line_held line.now)) }
 {
@@ -34,7 +34,7 @@ pub(crate) fn push_told(out: &mut Vec<u8>, line: &Line) -> Result<(), AllocError
     }
 }
 
-// Appends what comes of running a changed text.
+// Appends the result of running a changed text.
 fn push_found(out: &mut Vec<u8>, found: &Found) -> Result<(), AllocError>
     ensures { OnOk result (out.new.items ≡ out.old.items ++ found_text (found_held found.now)) }
 {
@@ -55,7 +55,7 @@ fn push_differences(out: &mut Vec<u8>, tasks: &[Difference]) -> Result<(), Alloc
     push_more(out, others)
 }
 
-// Appends each difference after a semicolon, as far as there is room, and how many are left.
+// Appends each difference after a semicolon, up to the maximum number, and how many are left.
 fn push_more(out: &mut Vec<u8>, tasks: &[Difference]) -> Result<(), AllocError>
     ensures { OnOk result (out.new.items ≡ out.old.items ++ more_differences 2 (map difference_held tasks.now)) }
 {
