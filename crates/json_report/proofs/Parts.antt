@@ -8,7 +8,7 @@ use Rattle.serde_json.specs.View.{view}
 use Rattle.serde_json.specs.declared.value.Value.{Value}
 use Rattle.json_report.specs.Values.{exc_json, parts_json}
 
--- a further part stands behind the others
+-- a further part is after the others
 parts_json-take : (es : List Exc) (i : ℕ) (d : Exc) → i < length es →
     parts_json (excs_of (take (i + 1) es)) ≡ parts_json (excs_of (take i es)) ++ exc_json (exc_of (slice_index_or es i d)) ∷ []
 parts_json-take [] i d h = absurd (omega arith)

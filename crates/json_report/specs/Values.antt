@@ -1,4 +1,4 @@
--- A report as a JSON value. The members of an object stand in the order of their keys.
+-- A report as a JSON value. The members of an object are in the order of their keys.
 use Rattle.std.specs.Prelude.{ℕ, true, List, [], ◌∷◌, ◌++◌, length, map, codes}
 use Rattle.std.specs.List.{flat_map}
 use Rattle.serde_json.specs.Data.{Data, null, boolean, number, unsigned, string, array, object, member, no_members}
@@ -55,7 +55,7 @@ outcome_json well = word (codes "done")
 outcome_json by_cancellation = word (codes "cancelled")
 outcome_json (with_exception e) = word (codes "raised")
 
--- and with which exception, if with one
+-- and with which exception, or `null`
 abbrev pub exception_json : Ending → Data
 exception_json well = null
 exception_json by_cancellation = exc_json cancelled

@@ -8,7 +8,7 @@ use exc_groups::{Exc, Whose};
 use serde_json::{Value, json};
 use std::alloc::{AllocError, Global};
 
-// Who made a group.
+// The origin of a group.
 fn whose_value(alloc: Global, whose: &Whose) -> Result<Value, AllocError>
     ensures { IfOk result (λ value. view value ≡ whose_json (whose_of whose.now)) }
 {
@@ -18,7 +18,8 @@ fn whose_value(alloc: Global, whose: &Whose) -> Result<Value, AllocError>
     }
 }
 
-/// An exception as a JSON object, a group with its parts in it. Want of memory is the only error.
+/// Returns an exception as a JSON object; a group contains its parts. The only error is that memory
+/// was refused.
 #[cycle(exc)]
 pub fn exc_value(alloc: Global, exc: &Exc) -> Result<Value, AllocError>
     ensures { IfOk result (λ value. view value ≡ exc_json (exc_of exc.now)) }

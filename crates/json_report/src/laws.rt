@@ -2,7 +2,7 @@
 
 ghost use Rattle.json_report.specs.Laws.{LabelsAreAsInAReport};
 
-/// A label as a JSON string is what a report shows, since nothing in a word is escaped.
+/// A label as a JSON string is the same text as in a report, since nothing in a word is escaped.
 pub fn law_labels()
     ensures { LabelsAreAsInAReport }
 {}

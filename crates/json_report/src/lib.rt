@@ -1,8 +1,8 @@
 //! A report as JSON: the values of exceptions, of a run's records and of a whole report, and their texts.
 //!
-//! The layer promises that `report_json` is the JSON text of a definition over a run's records (`Values`), and that no byte of a label, a name or
-//! a line stands in it other than as in a report. It stands on `job_runner` for the records, on `job_report` for how bytes are shown, and on
-//! `serde_json` for values and their texts.
+//! The layer promises that `report_json` is the JSON text of a definition over a run's records (`Values`), in which every byte of
+//! a label, a name or a line is written as in a report. It uses `job_runner` for the records, `job_report` for how bytes are
+//! shown, and `serde_json` for values and their texts.
 #![tactic(auto)]
 
 mod exc;

@@ -10,7 +10,8 @@ use itoa::Buffer;
 use serde_json::Value;
 use std::alloc::{AllocError, Global};
 
-/// Bytes as a JSON string, shown as a report shows a line: a byte that does not stand for itself is escaped. Want of memory is the only error.
+/// Returns bytes as a JSON string, shown as a report shows a line: backslashes and bytes that are not printable ASCII are
+/// escaped. The only error is that memory was refused.
 pub fn text_value(alloc: Global, bytes: &[u8]) -> Result<Value, AllocError>
     ensures { IfOk result (λ value. view value ≡ text_json bytes.now) }
 {
@@ -19,7 +20,7 @@ pub fn text_value(alloc: Global, bytes: &[u8]) -> Result<Value, AllocError>
     Ok(Value::String(text))
 }
 
-/// A label as a JSON string, as `p.1`. Want of memory is the only error.
+/// Returns a label as a JSON string, such as `p.1`. The only error is that memory was refused.
 pub fn label_value(alloc: Global, label: &Label) -> Result<Value, AllocError>
     ensures { IfOk result (λ value. view value ≡ label_json label.now) }
 {
@@ -30,7 +31,8 @@ pub fn label_value(alloc: Global, label: &Label) -> Result<Value, AllocError>
     Ok(Value::String(text))
 }
 
-/// The JSON text of a value that has no float, and a newline. Want of memory is the only error.
+/// Returns the JSON text of a value, and a newline. The caller must ensure that the value has no floating-point number. The only
+/// error is that memory was refused.
 pub fn document(alloc: Global, value: &Value) -> Result<Vec<u8>, AllocError>
     requires { has_float (view value.now) ≡ false }
     ensures { IfOk result (λ text. text.items ≡ document (view value.now)) }

@@ -9,8 +9,8 @@ use job_runner::Run;
 use serde_json::{Value, json};
 use std::alloc::{AllocError, Global};
 
-/// The report of a run as one JSON document, in compact form and with a newline: the job's name, the tick at which its root ended, and an
-/// object for each task in the order of the report. Want of memory is the only error.
+/// Returns the report of a run as one JSON document, in compact form and with a newline: the job's name, the tick at which its
+/// root ended, and an object for each task in the order of the report. The only error is that memory was refused.
 #[tactic(auto, using(crate::proofs::Integers::report_without_float))]
 pub fn report_json(alloc: Global, run: &Run<'_>) -> Result<Vec<u8>, AllocError>
     ensures { IfOk result (λ text. text.items ≡ document (report_json (name_of run.now) (rows_of run.now))) }
