@@ -11,7 +11,7 @@ use Rattle.job_story.specs.declared.event.Event.{Event}
 use Rattle.story_text.specs.Lasts.{event_at}
 use Rattle.json_story.specs.Lasts.{seen_last}
 
--- a label at some place
+-- a label at some index
 abbrev at_some : Label → Bor Label
 at_some l = record { ref_ptr = (0, 0); now = l }
 

@@ -1,4 +1,5 @@
--- The events of a story as JSON objects. Each has its `event`, its `task` and its `tick`, and its data at the names that stand here.
+-- The events of a story as JSON objects. Each has its `event`, its `task` and its `tick`, and its data under the names in this
+-- file.
 use Rattle.std.specs.Prelude.{ℕ, ◌+◌, Option, Some, None, List, map, codes, if◌then◌else◌}
 use Rattle.serde_json.specs.Data.{Data, null, boolean, object, Members, no_members, put}
 use Rattle.buffer_parts.specs.Lines.{Span}
@@ -28,7 +29,7 @@ exc_or_null (Some e) = exc_json e
 
 -- ---- why a scope or nursery is cancelled
 
--- `{"cause":WORD,"task":LABEL,"tick":T}`: by what a task did
+-- `{"cause":WORD,"task":LABEL,"tick":T}`: what a task did
 abbrev pub act_json : List ℕ → Label → ℕ → Data
 act_json cause task t =
     object (put (codes "tick") (integer t) (put (codes "task") (label_json task) (put (codes "cause") (word cause) no_members)))
@@ -44,7 +45,7 @@ abbrev pub why_json : Table → List Event → Option Label → Data
 why_json table es None = null
 why_json table es (Some l) = cause_json (cause_of table es l)
 
--- ---- from when something is cancelled
+-- ---- from which tick something is cancelled
 
 -- the next tick, if a label is cancelled from then on
 abbrev pub next_if : Tick → ℕ → Tick
@@ -83,7 +84,7 @@ happening_word (replaces lost fresh) = codes "replaces"
 happening_word (waits nursery exc) = codes "waits"
 happening_word (leaves kind label inside caught outside) = codes "leaves"
 
--- the data of what happens in a tick, put to the members that are there
+-- the data of what happens in a tick, added to the members that are there
 abbrev pub with_happening : Table → List Event → ℕ → Happening → Members → Members
 with_happening table es t (enters kind label deadline shield) ms =
     put (codes "shield") (boolean shield) (put (codes "deadline") (tick_json deadline) (put (kind_key kind) (label_json label) ms))

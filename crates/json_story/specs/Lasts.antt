@@ -8,7 +8,7 @@ use Rattle.job_story.specs.Events as told
 use Rattle.job_story.specs.declared.event.Event.{Event}
 use Rattle.story_causes.specs.Seen.{seen}
 
--- the last of these events that is one of a task, and the one found before where there is none
+-- the last of these events that is one of a task, or the one found before if there is none
 abbrev pub last_event : Label → List told.Event → Option told.Event → Option told.Event
 last_event l [] found = found
 last_event l (e ∷ es) found = last_event l es (if same_label l e.task then Some e else found)

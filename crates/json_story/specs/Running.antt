@@ -24,6 +24,6 @@ abbrev pub with_last : Option Event → Members → Members
 with_last None ms = idle ms
 with_last (Some e) ms = with_doing e.tick e.what ms
 
--- a task, by the last of these events that is one of its own
+-- a task, by the last of these events that is its own
 abbrev pub task_json : List Event → Label → Data
 task_json es l = object (with_last (last_event l es None) (put (codes "task") (label_json l) no_members))

@@ -1,4 +1,4 @@
--- A story as a JSON value. The members of an object stand in the order of their keys.
+-- A story as a JSON value. The members of an object are in the order of their keys.
 use Rattle.std.specs.Prelude.{ℕ, Option, Some, None, List, [], map, codes}
 use Rattle.serde_json.specs.Data.{Data, object, member, no_members}
 use Rattle.exc_groups.specs.Exceptions.{Label}
@@ -11,19 +11,19 @@ use Rattle.json_report.specs.Values.{list_of, text_json}
 use Rattle.json_story.specs.Events.{tick_json, event_json}
 use Rattle.json_story.specs.Running.{task_json}
 
--- of a story that is cut off at a limit, the tasks that have not ended by it
+-- the tasks that have not ended by the limit, if the story is cut off at one
 abbrev pub running_json : Tick → List Event → List Event → List Data
 running_json None sorted walked = []
 running_json (Some limit) sorted walked = map (task_json sorted) (running_in walked walked)
 
--- some events of a story, in order and in the order of the walk, with all of its events in view
+-- some events of a story, in order and in the order of the walk; causes are found among all of its events
 abbrev pub kept_json : List ℕ → Tick → Table → List Event → List Event → List Event → Data
 kept_json name until table all sorted walked =
     object (member (codes "events") (list_of (map (event_json table all) sorted)) (member (codes "job") (text_json name)
     (member (codes "limit") (tick_json until) (member (codes "running") (list_of (running_json until sorted walked)) no_members))))
 
--- A story of a job by a table, whole or cut off at a limit, by its events in the order of the walk: of all tasks, or of those that concern
--- one.
+-- A story of a job by a table, whole or cut off at a limit, by its events in the order of the walk: of all tasks, or of those
+-- that concern one.
 abbrev pub story_json : List ℕ → Tick → Table → Option Label → List Event → Data
 story_json name until table None walked = kept_json name until table (in_order walked) (in_order walked) walked
 story_json name until table (Some task) walked =

@@ -36,7 +36,7 @@ pub(crate) fn happening_word(happening: &Happening) -> &'static str
     }
 }
 
-// Puts the data of what happens in a tick.
+// Adds the data of what happens in a tick.
 pub(crate) fn put_happening(
     members: &mut Map<String, Value>,
     alloc: Global,
@@ -86,7 +86,7 @@ pub(crate) fn put_happening(
     }
 }
 
-// Puts the label of a scope or nursery at the word for what it is.
+// Adds the label of a scope or nursery under the word for its kind.
 fn put_kind(
     members: &mut Map<String, Value>,
     alloc: Global,
@@ -103,7 +103,7 @@ fn put_kind(
     }
 }
 
-// Puts how a scope or nursery is entered.
+// Adds how a scope or nursery is entered.
 fn put_enters(
     members: &mut Map<String, Value>,
     alloc: Global,
@@ -121,7 +121,8 @@ fn put_enters(
     put(members, alloc, "shield", Value::Bool(shield))
 }
 
-// Puts by what a task is cancelled, why that is, since when the task slept, and whether it was in a cleanup.
+// Adds by which scope or nursery a task is cancelled, why that is, since when the task slept, and whether it
+// was in a cleanup.
 fn put_cancelled(
     members: &mut Map<String, Value>,
     alloc: Global,
@@ -142,7 +143,7 @@ fn put_cancelled(
     put(members, alloc, "in_cleanup", Value::Bool(in_cleanup))
 }
 
-// Puts the places of the lines that a kernel answered.
+// Adds the places of the lines that a kernel answered.
 fn put_lines(
     members: &mut Map<String, Value>,
     alloc: Global,
@@ -174,7 +175,7 @@ fn span_value(alloc: Global, line: Span) -> Result<Value, AllocError>
     json!(in alloc; {"at": line.at, "length": line.len})
 }
 
-// Puts what a task cancels, and from when on, unless that is cancelled already.
+// Adds what a task cancels, and from which tick on, unless that is cancelled already.
 fn put_cancels(
     members: &mut Map<String, Value>,
     alloc: Global,
@@ -195,7 +196,7 @@ fn put_cancels(
     )
 }
 
-// Puts what a handler handles, and what is left of the exception.
+// Adds what a handler handles, and what is left of the exception.
 fn put_handles(
     members: &mut Map<String, Value>,
     alloc: Global,
@@ -211,7 +212,7 @@ fn put_handles(
     put(members, alloc, "rest", left)
 }
 
-// Puts the exception that is lost, and the one in its place.
+// Adds the exception that is lost, and the one that replaces it.
 fn put_replaces(
     members: &mut Map<String, Value>,
     alloc: Global,
@@ -227,7 +228,8 @@ fn put_replaces(
     put(members, alloc, "fresh", after)
 }
 
-// Puts the nursery that a task waits for, with what its body ended, and from when on that cancels the nursery.
+// Adds the nursery that a task waits for, with what its body ended, and from which tick on that cancels the
+// nursery.
 fn put_waits(
     members: &mut Map<String, Value>,
     alloc: Global,
@@ -253,7 +255,8 @@ fn put_waits(
     )
 }
 
-// Puts with what a scope or nursery is left, whether it caught a cancellation, and what goes on.
+// Adds the exception with which a scope or nursery is left, whether it caught a cancellation, and what
+// propagates.
 fn put_leaving(
     members: &mut Map<String, Value>,
     alloc: Global,

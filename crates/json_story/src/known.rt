@@ -6,7 +6,8 @@ ghost use Rattle.story_causes.specs.Seen.{seen};
 use job_story::{Event, Froms};
 use story_causes::Causes;
 
-// The events of a story in order, from which tick its scopes and nurseries are cancelled, and an index of both.
+// The events of a story in order, the tick from which each scope and nursery is cancelled, and an index of
+// both.
 #[derive(Drop)]
 pub(crate) struct Known<'k, 'e> {
     pub events: &'k [&'e Event],

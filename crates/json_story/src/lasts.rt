@@ -16,15 +16,15 @@ use indexmap::{IndexMap, IndexSet};
 use job_story::{Event, What};
 use std::alloc::{AllocError, Global};
 
-// What is known of the tasks of a story: who has ended, by the events in the order of the walk, and the last event of each, by the
-// events in order. A look-up takes constant time.
+// What is known of the tasks of a story: which have ended, by the events in the order of the walk, and the last event of each, by
+// the events in order. A look-up takes constant time.
 #[derive(Drop)]
 pub(crate) struct Tasks<'s, 'e> {
     pub sorted: &'s [&'e Event],
     pub walked: &'s [&'e Event],
     ended: IndexSet<&'e Label>,
     lasts: IndexMap<&'e Label, &'e Event>,
-    // An event has a code, with an exception in it as the one part of a group, so each fact has one proof at most.
+    // An event has a code, with an exception in it as the only part of a group, so each fact has at most one proof.
     ghost ends: { (l : tree.Label) → is_among ended l ≡ has_ended l (map seen walked.now) },
     ghost does: { (l : tree.Label) → seen_last (event_at lasts l) ≡ last_event l (map seen sorted.now) None } by { Prim.hlevel (props, code_by Excs excs_code (λ exc. part exc no_parts) (elim [ no_parts ↦ cancelled | part exc parts ↦ exc ]) (λ exc. refl)) },
 }

@@ -84,7 +84,7 @@ fn task_value(alloc: Global, tasks: &Tasks<'_, '_>, label: &Label) -> Result<Val
     Ok(Value::Object(members))
 }
 
-// Puts what a task is doing, by the last of its events.
+// Adds what a task is doing, by the last of its events.
 fn put_last(
     members: &mut Map<String, Value>,
     alloc: Global,
@@ -98,7 +98,7 @@ fn put_last(
     }
 }
 
-// Puts what a task is doing after an event: it sleeps, or it waits for a nursery.
+// Adds what a task is doing after an event: it sleeps, or it waits for a nursery.
 fn put_doing(
     members: &mut Map<String, Value>,
     alloc: Global,
@@ -114,7 +114,7 @@ fn put_doing(
     }
 }
 
-// The same of what happens to a task between its start and its end.
+// The same for what happens to a task between its start and its end.
 fn put_doing_in(
     members: &mut Map<String, Value>,
     alloc: Global,
@@ -138,7 +138,7 @@ fn put_doing_in(
     }
 }
 
-// Puts the word for what a task is doing, and since when.
+// Adds the word for what a task is doing, and since when.
 fn put_state(
     members: &mut Map<String, Value>,
     alloc: Global,
@@ -153,7 +153,7 @@ fn put_state(
     put(members, alloc, "since", Value::from(since))
 }
 
-// Puts that a task waits for nothing.
+// Adds that a task waits for nothing.
 fn put_idle(members: &mut Map<String, Value>, alloc: Global) -> Result<(), AllocError>
     ensures { OnOk result (members_view members.new.entries ≡ idle (members_view members.old.entries)) }
 {

@@ -23,9 +23,10 @@ use story_causes::Causes;
 use story_focus::{concerned, of_tasks};
 use story_text::in_order;
 
-/// The story of a job as one JSON document, in compact form and with a newline, by its events in the order of the walk and the table that says
-/// from which tick each scope and nursery is cancelled: of all tasks, or of those that concern one. With a last tick it is the story of a job
-/// that ends later, and tells what each task is doing that has not ended. Want of memory is the only error.
+/// Returns the story of a job as one JSON document, in compact form and with a newline, given its events in the order of the walk
+/// and the table with the tick from which each scope and nursery is cancelled: of all tasks, or of what concerns `task`. With
+/// `until`, the limit, it is the story of a job that ends later, and includes what each task that has not ended is doing. The
+/// only error is that memory was refused.
 pub fn story_json<'e>(
     alloc: Global,
     job: Name,
@@ -93,7 +94,7 @@ fn kept_value(
     json!(in alloc; {"job": name, "limit": tick_value(until), "events": events, "running": running})
 }
 
-// Of a story that is cut off at a limit, the tasks that have not ended by it.
+// The tasks that have not ended by the limit, if the story is cut off at one.
 fn running_until(
     alloc: Global,
     until: Option<u64>,

@@ -15,7 +15,7 @@ use job_story::{Event, Froms};
 use story_causes::{Cause, Causes};
 
 impl<'k, 'e> Known<'k, 'e> {
-    // What is known by an index of these events and this table.
+    // Indexes these events and this table.
     pub(crate) fn new(
         events: &'k [&'e Event],
         froms: &'k Froms,
@@ -32,7 +32,7 @@ impl<'k, 'e> Known<'k, 'e> {
         }
     }
 
-    // Why a scope or nursery is cancelled: none where it never is.
+    // Why a scope or nursery is cancelled, or `None` if it never is.
     pub(crate) fn cause(&self, label: &Label) -> Option<Cause<'e>>
         ensures { option_map cause_in_code result ≡ cause_of (froms_in self.now) (events_in self.now) label.now }
     {
@@ -49,7 +49,7 @@ impl<'k, 'e> Known<'k, 'e> {
         }
     }
 
-    // The same of a nursery whose member or body ended, if with an exception.
+    // The same for a nursery whose member or body ended, if with an exception.
     pub(crate) fn failure_from(
         &self,
         home: &Option<Label>,
@@ -64,7 +64,7 @@ impl<'k, 'e> Known<'k, 'e> {
         }
     }
 
-    // The same of a nursery whose body ended.
+    // The same for a nursery whose body ended.
     pub(crate) fn body_from(
         &self,
         nursery: &Label,
@@ -80,7 +80,7 @@ impl<'k, 'e> Known<'k, 'e> {
     }
 }
 
-// The tick after this one, where it is a from.
+// The tick after this one, if that is the from.
 fn next_if(from: Option<u64>, tick: u64) -> Option<u64>
     ensures { result ≡ next_if from tick }
 {
