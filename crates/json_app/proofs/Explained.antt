@@ -52,9 +52,9 @@ is_verdict job input limit rows verdict same is =
     subst (IsVerdictOn job input limit) (sym (is ∙ by_tests (nat_lt limit (root_end rows)) (root_is_well rows)))
     (ended_so job input limit (ending_by rows limit) (is_ending job input limit rows (ending_by rows limit) same refl))
 
--- ---- what is told
+-- ---- what is written
 
--- the events that are told are those of the meaning's story
+-- the events that are written are those of the meaning's story
 told_by : (job : Tree) (input : List ℕ) (limit : ℕ) (verdict : Verdict) → IsVerdictOn job input limit verdict →
     events_until (until_by verdict limit) (events_of (root_label job.name) (story_by (meaning_table job input) job input)) ≡ told limit job input
 told_by job input limit Done h = told_is job input limit ending.Done h
@@ -103,7 +103,7 @@ told_of_some name table until verdict asked text walked given bytes is =
 
 -- ---- the verdict on a job
 
--- the document of the events that are told is that of the meaning's story
+-- the document of the events that are written is that of the meaning's story
 story_is : (job : Tree) (input : List ℕ) (limit : ℕ) (verdict : Verdict) (task : Option Label) → IsVerdictOn job input limit verdict →
     document (story_json job.name (until_by verdict limit) (meaning_table job input) task (told limit job input))
     ≡ meaning_story limit job input task

@@ -1,4 +1,4 @@
--- A refusal and a limit as JSON values. The members of an object stand in the order of their keys.
+-- A refusal and a limit as JSON values. The members of an object are in the order of their keys.
 use Rattle.std.specs.Prelude.{ℕ, List, ◌++◌, codes, decimal}
 use Rattle.serde_json.specs.Data.{Data, object, member, no_members}
 use Rattle.job_grammar.specs.declared.fault.JobFault.{JobFault}

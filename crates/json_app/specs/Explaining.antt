@@ -1,4 +1,4 @@
--- What `explain_json` answers: the story of a job's meaning over an input as JSON, or the refusal which that meaning names.
+-- What `explain_json` writes: the story of a job's meaning over an input as JSON, or the refusal that the meaning names.
 use Rattle.std.specs.Prelude.{◌≡◌, ◌⊎◌, ℕ, ◌≤◌, ◌<◌, Bool, true, false, nat_le, nat_lt, if◌then◌else◌, Option, Some, None, List, [], length, take, IsSome, IsNone}
 use Rattle.std.specs.Global.{Vec}
 use Rattle.std.specs.Io.KnownBytes.{Appends}
@@ -22,12 +22,13 @@ use Rattle.json_report.specs.Values.{document}
 use Rattle.json_story.specs.Stories.{story_json}
 use Rattle.json_app.specs.Answers.{refusal_json}
 
--- the limit, where the story is cut off at it
+-- the limit, if the story is cut off at it
 abbrev pub until_if : Bool → ℕ → Tick
 until_if true limit = None
 until_if false limit = Some limit
 
--- the story of a meaning as a JSON document, or the part of it that concerns a task: whole where it ends by the limit, and else up to the limit
+-- the story of a meaning as a JSON document, or the part of it that concerns a task: whole if it ends by the limit, or else up to
+-- the limit
 abbrev pub meaning_story : ℕ → Tree → List ℕ → Option Label → List ℕ
 meaning_story limit job input task =
     document (story_json job.name (until_if (nat_le (meaning_end job input) limit) limit) (meaning_table job input) task
@@ -35,31 +36,31 @@ meaning_story limit job input task =
 
 -- ---- how a job ends, by a limit
 
--- how its meaning does
+-- how its meaning ends
 abbrev pub IsVerdictOn : Tree → List ℕ → ℕ → Verdict → Type 0
 IsVerdictOn job input limit Done = (meaning_end job input ≤ limit) × IsNone (meaning job input).exc
 IsVerdictOn job input limit Raised = (meaning_end job input ≤ limit) × IsSome (meaning job input).exc
 IsVerdictOn job input limit (JobRefused fault) = ⊥
 IsVerdictOn job input limit Limit = limit < meaning_end job input
 
--- how a run with these rows does
+-- how a run with these rows ends
 abbrev pub verdict_by : List Row → ℕ → Verdict
 verdict_by rows limit = if nat_lt limit (root_end rows) then Limit else (if root_is_well rows then Done else Raised)
 
--- the limit, where it ends later
+-- the limit, if it ends later
 abbrev pub until_by : Verdict → ℕ → Tick
 until_by Limit limit = Some limit
 until_by _ limit = None
 
 -- ---- verdicts
 
--- these bytes are the story of a meaning, or of the task that was asked for
+-- these bytes are the story of a meaning, or of the task that was requested
 pub record IsJobStory (job : Tree) (input : List ℕ) (limit : ℕ) (asked : Option (List ℕ)) (bytes : List ℕ) : Type 0 where
   pub task : Option Label
   pub about : IsAbout asked (told limit job input) task
   pub story : bytes ≡ meaning_story limit job input task
 
--- The verdict on a job that was read, and its bytes: the story of the meaning; nothing where no task has the label.
+-- The verdict on a job that was read, and its bytes: the story of the meaning; nothing if no task has the label.
 abbrev pub IsStoryVerdict : Tree → List ℕ → ℕ → Option (List ℕ) → StoryVerdict → List ℕ → Type 0
 IsStoryVerdict job input limit asked story.Done bytes =
     IsJobStory job input limit asked bytes × (meaning_end job input ≤ limit) × IsNone (meaning job input).exc
@@ -70,13 +71,13 @@ IsStoryVerdict job input limit asked story.Limit bytes = IsJobStory job input li
 IsStoryVerdict job input limit asked (story.NoTask nearest) bytes =
     IsAboutNone asked (told limit job input) nearest.items × (bytes ≡ [])
 
--- A verdict and its bytes: that on the job which the text spells, or the refusal which the meaning names.
+-- A verdict and its bytes: that on the job which the text spells, or the refusal that the meaning names.
 abbrev pub IsStory : List ℕ → List ℕ → ℕ → Option (List ℕ) → StoryVerdict → List ℕ → Type 0
 IsStory text input limit asked (story.JobRefused fault) bytes =
     IsRefused text fault.kind fault.at × (bytes ≡ document (refusal_json text fault))
 IsStory text input limit asked verdict bytes = (job : Tree) × Spells text job × IsStoryVerdict job input limit asked verdict bytes
 
--- The verdict's bytes were sent, all of them.
+-- All of the verdict's bytes were sent.
 abbrev pub IsStorySent : List ℕ → List ℕ → ℕ → Option (List ℕ) → Option (List ℕ) → Option (List ℕ) → StoryVerdict → Type 0
 IsStorySent text input limit asked before after verdict =
     (bytes : List ℕ) × IsStory text input limit asked verdict bytes × Appends before after bytes
@@ -97,7 +98,8 @@ verdict_of Raised = story.Raised
 verdict_of (JobRefused fault) = story.JobRefused fault
 verdict_of Limit = story.Limit
 
--- a verdict on a story with these events, and its bytes: of all tasks, or of those that concern one; nothing where no task has the label
+-- a verdict on a story with these events, and its bytes: of all tasks, or of those that concern one; nothing if no task has the
+-- label
 abbrev pub IsTold : List ℕ → Table → Tick → Verdict → Option (List ℕ) → List Event → StoryVerdict → List ℕ → Type 0
 IsTold name table until verdict asked walked given bytes =
     ((task : Option Label) × IsAbout asked walked task × (given ≡ verdict_of verdict)

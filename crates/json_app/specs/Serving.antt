@@ -1,4 +1,4 @@
--- What `serve_json` answers: the report of a job's meaning over an input as JSON, or the refusal which that meaning names.
+-- What `serve_json` writes: the report of a job's meaning over an input as JSON, or the refusal that the meaning names.
 use Rattle.std.specs.Prelude.{◌≡◌, ℕ, ◌≤◌, ◌<◌, Option, List, length, take, IsSome, IsNone}
 use Rattle.std.specs.Io.KnownBytes.{Appends}
 use Rattle.job_tree.specs.Tree.{Tree}
@@ -16,7 +16,7 @@ use Rattle.json_app.specs.Answers.{refusal_json, limit_json}
 abbrev pub meaning_report : Tree → List ℕ → List ℕ
 meaning_report job input = document (report_json job.name (meaning_rows job input))
 
--- The verdict on a job that was read, and its bytes: the report where the job ends by the limit, and else the limit.
+-- The verdict on a job that was read, and its bytes: the report if the job ends by the limit, or else the limit.
 abbrev pub IsJobVerdict : Tree → List ℕ → ℕ → Verdict → List ℕ → Type 0
 IsJobVerdict job input limit Done bytes = (meaning_end job input ≤ limit) × (bytes ≡ meaning_report job input)
     × IsNone (meaning job input).exc
@@ -25,13 +25,13 @@ IsJobVerdict job input limit Raised bytes = (meaning_end job input ≤ limit) ×
 IsJobVerdict job input limit (JobRefused fault) bytes = ⊥
 IsJobVerdict job input limit Limit bytes = (limit < meaning_end job input) × (bytes ≡ document (limit_json limit))
 
--- A verdict and its bytes: that on the job which the text spells, or the refusal which the meaning names.
+-- A verdict and its bytes: that on the job which the text spells, or the refusal that the meaning names.
 abbrev pub IsVerdict : List ℕ → List ℕ → ℕ → Verdict → List ℕ → Type 0
 IsVerdict text input limit (JobRefused fault) bytes =
     IsRefused text fault.kind fault.at × (bytes ≡ document (refusal_json text fault))
 IsVerdict text input limit verdict bytes = (job : Tree) × Spells text job × IsJobVerdict job input limit verdict bytes
 
--- The verdict's bytes were sent, all of them.
+-- All of the verdict's bytes were sent.
 abbrev pub IsSent : List ℕ → List ℕ → ℕ → Option (List ℕ) → Option (List ℕ) → Verdict → Type 0
 IsSent text input limit before after verdict = (bytes : List ℕ) × IsVerdict text input limit verdict bytes × Appends before after bytes
 

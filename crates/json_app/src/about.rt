@@ -18,7 +18,7 @@ use story_app::StoryVerdict;
 use story_focus::{nearest_task, task_named};
 use story_text::push_label;
 
-// The verdict on a story with these events, and its document: of all tasks, or of what concerns the one that is asked for.
+// The verdict on a story with these events, and its document: of all tasks, or of what concerns the one that is requested.
 #[tactic(auto, using(crate::proofs::Explained::told_of_all))]
 pub(crate) fn told_about(
     alloc: Global,
@@ -45,7 +45,7 @@ pub(crate) fn told_about(
     Ok(answer)
 }
 
-// The same of what concerns the task whose label has this text. Where there is none, nothing is told.
+// The same for what concerns the task whose label has this text. If there is none, the document is empty.
 #[tactic(auto, using(crate::proofs::Explained::told_of_task, crate::proofs::Explained::told_of_none))]
 fn told_of(
     alloc: Global,
@@ -73,7 +73,7 @@ fn told_of(
     Ok((story_verdict(meaning.verdict), bytes))
 }
 
-// How the label of the task is written that is the nearest to this text.
+// The text of the label of the task that is nearest to this text.
 fn nearest_text(alloc: Global, walked: &[&Event], text: &[u8]) -> Result<Vec<u8>, AllocError>
     ensures { IfOk result (λ nearest. nearest.items ≡ written (nearest_in text.now (map seen walked.now))) }
 {
@@ -82,7 +82,7 @@ fn nearest_text(alloc: Global, walked: &[&Event], text: &[u8]) -> Result<Vec<u8>
     Ok(label)
 }
 
-// How a label is written: nothing where there is none.
+// The text of a label, or nothing if there is none.
 fn text_of(alloc: Global, label: Option<&Label>) -> Result<Vec<u8>, AllocError>
     ensures { IfOk result (λ text. text.items ≡ written (label_seen label.entry)) }
 {

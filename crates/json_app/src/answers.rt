@@ -11,8 +11,8 @@ use nursery_app::{column_of, line_of};
 use serde_json::{Value, json};
 use std::alloc::{AllocError, Global};
 
-/// The refusal of a job text as one JSON document, with its line and column. Want of memory is the only error: it is not a refusal, and a fault of that
-/// kind is this error too.
+/// Returns the refusal of a job text as one JSON document, with its line and column. It is an error if memory was refused, or if
+/// the fault itself is `NoMemory`, which is not a refusal.
 pub fn refusal(alloc: Global, job_text: &[u8], fault: JobFault) -> Result<Vec<u8>, AllocError>
     ensures bytes { IfOk result (λ bytes. bytes.items ≡ document (refusal_json job_text.now fault)) }
     ensures kind { OnOk result (fault.kind ≢ kinds.NoMemory) }
@@ -38,7 +38,7 @@ fn refusal_value(alloc: Global, job_text: &[u8], fault: JobFault) -> Result<Valu
     })
 }
 
-// A kind's number behind a `J`.
+// `J` and the number of a kind.
 fn kind_code(alloc: Global, number: u64) -> Result<String, AllocError>
     ensures { IfOk result (λ text. string_bytes text ≡ codes "J" ++ decimal number) }
 {
@@ -48,7 +48,7 @@ fn kind_code(alloc: Global, number: u64) -> Result<String, AllocError>
     Ok(text)
 }
 
-/// A limit in ticks by which a job does not end, as one JSON document. Want of memory is the only error.
+/// Returns the limit in ticks by which a job does not end, as one JSON document. The only error is that memory was refused.
 pub fn past_limit(alloc: Global, limit: u64) -> Result<Vec<u8>, AllocError>
     ensures { IfOk result (λ bytes. bytes.items ≡ document (limit_json limit)) }
 {

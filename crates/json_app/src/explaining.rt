@@ -16,13 +16,14 @@ use std::alloc::{AllocError, Global};
 use std::thread::Threads;
 use story_app::{StoryVerdict, told_until};
 
-/// Runs a job text over an input, and writes the story of the job's one-thread meaning as one JSON document: an object for each event, in the
-/// order of the story. A job that ends later than the limit has its story up to the limit, with what each task is doing that has not ended.
-/// Where a task is asked for, by the text of its label, only what concerns it is told, as by `explain`; where no task has that label,
-/// nothing is written. A job text that is refused has its refusal written. The verdict and its status are those of `explain`.
+/// Runs a job text over an input, and writes the story of the job's one-thread meaning as one JSON document: an object for each
+/// event, in the order of the story. For a job that ends later than the limit it is the story up to the limit, with what each
+/// task that has not ended is doing. If a task is requested, by the text of its label, only what concerns it is written, as by
+/// `explain`; if no task has that label, nothing is written. If the job text is refused, the refusal is written. The verdict and
+/// its status are those of `explain`. The input has at most `MOST_INPUT` bytes.
 ///
-/// The number of workers, the picker and the gate change no byte. All bytes are built before the first is sent, so after `NoMemory`
-/// nothing was sent.
+/// The number of workers, the picker and the gate do not change any byte. All bytes are built before the first is sent, so after
+/// `NoMemory` nothing was sent. After `Send` the writer took the first `sent` bytes.
 pub fn explain_json<R: Threads + Sync, P: Pick, G: Gate + Sync, W: Out>(
     rt: &R,
     alloc: Global,
@@ -37,11 +38,11 @@ pub fn explain_json<R: Threads + Sync, P: Pick, G: Gate + Sync, W: Out>(
     requires input { length input.now ≤ MOST_INPUT }
     requires countable { W.failed out.old < 18446744073709551615 }
 
-    // The bytes written are the story of the meaning as JSON, or the refusal which it names.
+    // The bytes written are the story of the meaning as JSON, or the refusal that it names.
     ensures sent { IfOk result (IsStorySent job_text.now input.now settings.limit (option_copied task.entry) (W.contents out.old) (W.contents out.new)) }
     ensures well { OnOk result (W.failed out.new ≡ W.failed out.old) }
 
-    // A writer that failed took the front of those bytes; after want of memory nothing was sent.
+    // A writer that failed took the front of those bytes; after memory was refused, nothing was sent.
     ensures fault { IfErr result (IsStoryFault job_text.now input.now settings.limit (option_copied task.entry) (W.contents out.old) (W.contents out.new)) }
     ensures counted { IfErr result (CountsFailure (W.failed out.old) (W.failed out.new)) }
 {

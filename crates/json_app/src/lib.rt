@@ -1,9 +1,9 @@
 //! A job text and an input in, one JSON document out: `serve_json` and `explain_json`.
 //!
-//! The layer promises that the bytes which `serve_json` writes are the report of the job's one-thread meaning as JSON, and those of `explain_json`
-//! its story, or the refusal which that meaning names, for every job text, input, number of workers and order of picks. It stands on `job_runner`
-//! for the records of the meaning, `job_teller` and `story_app` for its events, `json_report` and `json_story` for their JSON, and `nursery_app` for
-//! verdicts and places.
+//! The layer promises that the bytes that `serve_json` writes are the report of the job's one-thread meaning as JSON, and those
+//! of `explain_json` its story, or the refusal that the meaning names, for every job text, input, number of workers and order of
+//! picks. It uses `job_runner` for the records of the meaning, `job_teller` and `story_app` for its events, `json_report` and
+//! `json_story` for their JSON, and `nursery_app` for verdicts and places.
 #![tactic(auto)]
 
 mod about;

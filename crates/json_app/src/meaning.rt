@@ -18,9 +18,9 @@ use story_app::table_of;
 pub(crate) struct Meaning {
     // How the job ends.
     pub verdict: Verdict,
-    // The limit, where the job ends later.
+    // The limit, if the job ends later.
     pub until: Option<u64>,
-    // From which tick each scope and nursery is cancelled.
+    // The tick from which each scope and nursery is cancelled.
     pub table: Froms,
 }
 
@@ -65,7 +65,7 @@ fn verdict_on(run: &Run<'_>, limit: u64) -> Verdict
     }
 }
 
-// The limit, where a job ends later.
+// The limit, if a job ends later.
 fn until_by(verdict: Verdict, limit: u64) -> Option<u64>
     ensures { result ≡ until_by verdict limit }
 {

@@ -12,11 +12,12 @@ use nursery_app::{ServeFault, Verdict};
 use std::alloc::{AllocError, Global};
 use std::thread::Threads;
 
-/// Runs a job text over an input, and writes the report of the job's one-thread meaning as one JSON document, or the refusal which that
-/// meaning names, or the limit by which it does not end. The verdict and its status are those of `serve`.
+/// Runs a job text over an input, and writes the report of the job's one-thread meaning as one JSON document, or the refusal that
+/// the meaning names, or the limit by which it does not end. The verdict and its status are those of `serve`. The input has at
+/// most `MOST_INPUT` bytes.
 ///
-/// The number of workers, the picker and the gate change no byte. All bytes are built before the first is sent, so after `NoMemory`
-/// nothing was sent.
+/// The number of workers, the picker and the gate do not change any byte. All bytes are built before the first is sent, so after
+/// `NoMemory` nothing was sent. After `Send` the writer took the first `sent` bytes.
 pub fn serve_json<R: Threads + Sync, P: Pick, G: Gate + Sync, W: Out>(
     rt: &R,
     alloc: Global,
@@ -30,11 +31,11 @@ pub fn serve_json<R: Threads + Sync, P: Pick, G: Gate + Sync, W: Out>(
     requires input { length input.now ≤ MOST_INPUT }
     requires countable { W.failed out.old < 18446744073709551615 }
 
-    // The bytes written are the report of the meaning as JSON, or the refusal which it names.
+    // The bytes written are the report of the meaning as JSON, or the refusal that it names.
     ensures sent { IfOk result (IsSent job_text.now input.now settings.limit (W.contents out.old) (W.contents out.new)) }
     ensures well { OnOk result (W.failed out.new ≡ W.failed out.old) }
 
-    // A writer that failed took the front of those bytes; after want of memory nothing was sent.
+    // A writer that failed took the front of those bytes; after memory was refused, nothing was sent.
     ensures fault { IfErr result (IsJsonFault job_text.now input.now settings.limit (W.contents out.old) (W.contents out.new)) }
     ensures counted { IfErr result (CountsFailure (W.failed out.old) (W.failed out.new)) }
 {
