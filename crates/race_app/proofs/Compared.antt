@@ -1,4 +1,4 @@
--- Runs of the code beside one another are those of the definitions.
+-- Comparisons of runs in the code are those of the definitions.
 use Rattle.std.proofs.Common.{◌≡◌, ℕ, List, ap, ◌∙◌}
 use Rattle.std.specs.Prelude.{nat_le}
 use Rattle.job_tree.specs.Tree.{Tree}
@@ -7,7 +7,7 @@ use Rattle.job_runner.specs.Runs.{root_end}
 use Rattle.race_text.specs.Lines.{Found}
 use Rattle.race_app.specs.Ran.{Ran, ran, ran_of, compared}
 
--- what the rows of a job's run show is what those of its meaning do
+-- what the rows of a job's run show is what those of its meaning show
 pub in_job : (job : Tree) (input : List ℕ) (limit : ℕ) (rows : List Row) (before : Ran) (found : Found) → rows ≡ meaning_rows job input →
     found ≡ compared before (ran (nat_le (root_end rows) limit) rows) → found ≡ compared before (ran_of limit job input)
 in_job job input limit rows before found same is =

@@ -1,4 +1,4 @@
--- The lines of a text, put together from what is found of it.
+-- The lines of a text, put together from what is found.
 use Rattle.std.proofs.Common.{◌≡◌, ℕ, List, [], ◌∷◌, ◌++◌, map, inl, inr, refl, sym, ap, subst, ◌∙◌}
 use Rattle.std.specs.Prelude.{nat_le}
 use Rattle.std.proofs.lemmas.List.{append-nil}
@@ -33,7 +33,7 @@ moves_seen author input before shifts lines is are =
     subst (λ (ss : List Shift). AreAnswers (IsMovedBy author input before) ss (map line_held lines)) is
     (seen_as (IsMovedBy author input before) line_held shifts lines are)
 
--- the lines of a text in finer ticks and of all hairs, by its run
+-- the lines of a text in finer ticks and of all hairs, given its run
 pub of_run : (author : Author) (input : List ℕ) (first : Ran) (shown rows : List Row) (end : ℕ) (found : told.Found)
     (moves lines : List told.Line) →
     shown ≡ rows → end ≡ root_end rows → found ≡ compared first (ran (nat_le (root_end rows) author.limit) rows) →
@@ -50,7 +50,7 @@ of_run author input first shown rows end found moves lines s e f are l =
       all = l ∙ ap (λ (x : told.Found). told.finer x ∷ moves) f;
     }
 
--- all lines of a text whose text in finer ticks spells a job, by that job's run
+-- all lines of a text whose text in finer ticks spells a job, given the run of that job
 pub with_copies : (author : Author) (input : List ℕ) (first : Ran) (job : Tree) (rows : List Row) (lines all : List told.Line) →
     rows ≡ meaning_rows job input →
     AreLinesBeside author input first (ran (nat_le (root_end rows) author.limit) rows) lines →
@@ -88,7 +88,7 @@ refused_beside : (first : Ran) → told.refused ≡ compared first refused
 refused_beside refused = refl
 refused_beside (ran a rows) = refl
 
--- no copies meet in no events
+-- without events, no copies meet
 no_copies : (text : List ℕ) (limit : ℕ) (f : Finer) (starts : List CopiedStart) → copies_lines text limit f [] starts ≡ []
 no_copies text limit f [] = refl
 no_copies text limit f (c ∷ cs) = no_copies text limit f cs

@@ -1,4 +1,4 @@
--- The lines and the table of a text, by the tokens, places and lines as they were given on.
+-- The lines and the table of a text, given the tokens, places and lines as they were passed on.
 use Rattle.std.proofs.Common.{◌≡◌, ℕ, ◌*◌, ◌<◌, ◌≤◌, Bool, true, false, Option, None, Some, List, [], map, sym, ap, subst, ◌∙◌, arith}
 use Rattle.std.specs.Prelude.{nat_le, length, if◌then◌else◌}
 use Rattle.std.proofs.lemmas.Bool.Decides.{nat_tests}
@@ -25,7 +25,7 @@ use Rattle.race_app.specs.Verdicts.{IsTableOf}
 le_test : (m n : ℕ) → m ≤ n → nat_le m n ≡ true
 le_test m n h = grind (arith, nat_tests)
 
--- by the tick of the end and the limit as they were read
+-- given the tick of the end and the limit, as they were read
 pub in_time : (end last l limit : ℕ) → end ≡ last → l ≡ limit → end ≤ l → last ≤ limit
 in_time end last l limit e at soon = omega (arith, e, at, soon)
 
@@ -36,7 +36,7 @@ ran_in_time job input limit rows same soon =
     ap (λ (rs : List Row). ran true rs) same
     ∙ ap (λ (b : Bool). ran b (meaning_rows job input)) (sym (le_test (meaning_end job input) limit soon))
 
--- the lines, where places and starts of copies are those of the text's tokens
+-- the lines, if places and starts of copies are those of the text's tokens
 pub are_lines : (text input : List ℕ) (limit l : ℕ) (job : Tree) (tokens : List Token) (f : Finer)
     (sites : List Site) (starts : List CopiedStart) (first : Ran) (lines : List told.Line) (hairs : ℕ) →
     meaning_end job input ≤ limit → HasTokens text tokens None → sites ≡ sites_in tokens → starts ≡ copied_in tokens →
@@ -70,7 +70,7 @@ has_no_finer text input limit job tokens sites soon has s none =
       none = ap finer_for (sym s) ∙ sym none;
     }
 
--- by the lines as they were given on
+-- given the lines, as they were passed on
 pub is_table_of : (deny : Bool) (hairs : ℕ) (denied bytes : List ℕ) (lines ks ms : List Line) → ks ≡ lines → ms ≡ lines →
     bytes ≡ table_text hairs (map line_held ks) → denied ≡ (if deny then denied_text (map line_held ms) else []) →
     IsTableOf deny hairs (map line_held lines) denied bytes
@@ -95,7 +95,7 @@ some_factor false true c f is = let ticks : f.factor ≡ 100 = ap factor_or is i
 some_factor false false true f is = let ticks : f.factor ≡ 10 = ap factor_or is in omega arith
 some_factor false false false f is = let ticks : f.factor ≡ 1 = ap factor_or is in omega arith
 
--- one of the author's ticks is at least one of the finer ones
+-- an original tick is at least one finer tick
 pub some_ticks : (sites : List Site) (f : Finer) → Some f ≡ finer_for sites → 0 < f.factor
 some_ticks sites f is =
     let most = most_ticks sites in

@@ -1,4 +1,4 @@
--- What comes of moving the places of a text that spells a job by a hair.
+-- The result of moving the places of a text that spells a job by a hair.
 use Rattle.std.specs.Prelude.{◌≡◌, ℕ, ◌*◌, ◌<◌, ◌≤◌, Some, None, List, length, map}
 use Rattle.job_tree.specs.Tree.{Tree}
 use Rattle.job_tokens.specs.declared.token.Token.{Token}
@@ -15,7 +15,7 @@ use Rattle.race_app.specs.Lines.{AreLines}
 use Rattle.race_app.specs.declared.told.RaceAnswer.{RaceAnswer}
 use Rattle.race_app.specs.declared.told.RaceAnswer.TheVariants.{Lines, Limit, NoFinerTicks}
 
--- the job ends by the limit, and these lines tell of each hair of each place of its text, of which there are so many
+-- the job ends by the limit, and these are the lines of all hairs of all places of its text, `hairs` of them
 pub record AreRaceLines (text input : List ℕ) (limit : ℕ) (job : Tree) (hairs : ℕ) (lines : List Line) : Type 0 where
   pub in_time : meaning_end job input ≤ limit
   pub tokens : List Token
@@ -33,7 +33,7 @@ pub record HasNoFiner (text input : List ℕ) (limit : ℕ) (job : Tree) : Type 
   pub tokens_are : HasTokens text tokens None
   pub none : finer_for (sites_in tokens) ≡ None
 
--- ---- as the code holds them
+-- ---- the values of the code
 
 abbrev pub IsRaceAnswer : List ℕ → Tree → List ℕ → ℕ → RaceAnswer → Type 0
 IsRaceAnswer text job input limit (Lines told) = AreRaceLines text input limit job told.hairs (map line_held told.lines.items)

@@ -1,4 +1,4 @@
--- The lines that `races` tells of a job text.
+-- The lines of `races` for a job text.
 use Rattle.std.specs.Prelude.{◌≡◌, ℕ, ◌/◌, nat_le, if◌then◌else◌, Option, Some, None, List, [], ◌∷◌, ◌++◌}
 use Rattle.job_story.specs.Events.{Event}
 use Rattle.job_edits.specs.Changes.{changed}
@@ -15,7 +15,8 @@ use Rattle.race_app.specs.Ran.{Ran, IsRan, IsBeside, compared}
 
 -- ---- one place moved by a hair
 
--- A line tells of the text in finer ticks with one place moved by a hair, beside the text in finer ticks alone. The limit is in finer ticks.
+-- A line compares the text in finer ticks, with one place moved by a hair, with the text in finer ticks alone. The limit is in
+-- finer ticks.
 abbrev pub IsMoved : List ℕ → List ℕ → ℕ → Finer → List Site → Ran → Shift → Line → Type 0
 IsMoved text input limit f sites before shift line =
     (found : Found) × IsBeside (changed text (shifted_changes f shift sites)) input limit before found
@@ -23,7 +24,7 @@ IsMoved text input limit f sites before shift line =
 
 -- ---- copies that meet
 
--- A meeting by the limit; its tick is told in the author's ticks.
+-- A meeting by the limit; its tick is printed in original ticks.
 abbrev pub met_line : List ℕ → ℕ → Finer → CopiedStart → Option Meeting → List Line
 met_line text limit f start None = []
 met_line text limit f start (Some m) =
@@ -39,8 +40,8 @@ copies_lines text limit f events (c ∷ cs) =
 
 -- ---- all
 
--- The lines of a text with these places and starts of copies, whose run is the first one: its text in finer ticks, beside the text as it is; then
--- each hair of each place, once and in the order of places; then the copies that meet. The limit is in finer ticks.
+-- The lines of a text with these places and starts of copies, whose run is the first one: its text in finer ticks, compared
+-- with the original text; then each hair of each place, once and in the order of places; then the copies that meet.
 pub record AreLines (text input : List ℕ) (limit : ℕ) (f : Finer) (sites : List Site) (starts : List CopiedStart) (first : Ran) (lines : List Line) : Type 0 where
   pub before : Ran
   pub events : List Event

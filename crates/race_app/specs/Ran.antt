@@ -1,4 +1,4 @@
--- What becomes of the tasks of a text that is read as a job, over an input and by a limit.
+-- The outcome of the tasks of a text that is read as a job, over an input and by a limit.
 use Rattle.std.specs.Prelude.{◌≡◌, ◌⊎◌, ℕ, Bool, nat_le, List, []}
 use Rattle.job_tree.specs.Tree.{Tree}
 use Rattle.job_grammar.specs.declared.fault.JobFault.{JobFault}
@@ -19,20 +19,20 @@ pub data Ran : Type 0 where
 abbrev pub ran_of : ℕ → Tree → List ℕ → Ran
 ran_of limit job input = ran (nat_le (meaning_end job input) limit) (meaning_rows job input)
 
--- what becomes of a text, by the meaning of the job that it spells, and the events of the job's story in the order of the walk: none where the
--- text is refused
+-- the outcome of a text, by the meaning of the job that it spells, and the events of the job's story in the order of the walk;
+-- no events if the text is refused
 abbrev pub IsRan : List ℕ → List ℕ → ℕ → Ran → List Event → Type 0
 IsRan text input limit r events =
     ((job : Tree) × Spells text job × (r ≡ ran_of limit job input) × (events ≡ walked job input))
     ⊎ ((fault : JobFault) × IsRefused text fault.kind fault.at × (r ≡ refused) × (events ≡ []))
 
--- what a run shows that another one does not, apart from ticks
+-- what a run shows that another one does not show, apart from ticks
 abbrev pub compared : Ran → Ran → Found
 compared refused r = told.refused
 compared (ran a before) refused = told.refused
 compared (ran a before) (ran b after) = told.differs (of_runs a before b after)
 
--- what the job that a text spells shows that a run does not; or the text is refused
+-- what the job that a text spells shows that a run does not show; or that the text is refused
 abbrev pub IsBeside : List ℕ → List ℕ → ℕ → Ran → Found → Type 0
 IsBeside text input limit before found =
     ((job : Tree) × Spells text job × (found ≡ compared before (ran_of limit job input)))

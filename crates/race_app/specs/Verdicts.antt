@@ -1,4 +1,5 @@
--- What `races` answers: which places of a job its outcome hangs on by a hair, or the refusal of its text, or why nothing is told.
+-- The results of `races`: on which places of a job its outcome depends by a hair, or the refusal of its text, or why there are
+-- no lines.
 use Rattle.std.specs.Prelude.{◌≡◌, ℕ, ◌<◌, Bool, if◌then◌else◌, Option, List, [], length, take}
 use Rattle.std.specs.Io.KnownBytes.{Appends}
 use Rattle.job_tree.specs.Tree.{Tree}
@@ -13,17 +14,17 @@ use Rattle.race_app.specs.Answers.{AreRaceLines, HasNoFiner}
 use Rattle.race_app.specs.declared.verdict.RacesVerdict.{RacesVerdict}
 use Rattle.race_app.specs.declared.verdict.RacesVerdict.TheVariants.{Told, JobRefused, Limit, NoFinerTicks}
 
--- these bytes tell of lines for so many hairs; and these lines of them are denied
+-- these bytes are the table of the lines for this number of hairs; and these lines of it are denied
 pub record IsTableOf (deny : Bool) (hairs : ℕ) (lines : List Line) (denied bytes : List ℕ) : Type 0 where
   pub table : bytes ≡ table_text hairs lines
   pub denied_are : denied ≡ (if deny then denied_text lines else [])
 
--- these bytes tell of each hair of each place of the text; and these lines of them are denied
+-- these bytes are the table of all hairs of all places of the text; and these lines of it are denied
 abbrev pub IsTable : List ℕ → List ℕ → ℕ → Bool → Tree → List ℕ → List ℕ → Type 0
 IsTable text input limit deny job denied bytes =
     (hairs : ℕ) × (lines : List Line) × AreRaceLines text input limit job hairs lines × IsTableOf deny hairs lines denied bytes
 
--- a verdict on a text that spells a job, and its bytes
+-- a verdict for a text that spells a job, and its bytes
 abbrev pub IsJobVerdict : List ℕ → Tree → List ℕ → ℕ → Bool → RacesVerdict → List ℕ → Type 0
 IsJobVerdict text job input limit deny (Told denied) bytes = IsTable text input limit deny job denied.items bytes
 IsJobVerdict text job input limit deny (JobRefused fault) bytes = ⊥
@@ -36,7 +37,7 @@ IsVerdict text input limit deny (JobRefused fault) bytes = IsRefused text fault.
 IsVerdict text input limit deny verdict bytes =
     (job : Tree) × Spells text job × IsJobVerdict text job input limit deny verdict bytes
 
--- The verdict's bytes were sent, all of them.
+-- All bytes of the verdict were sent.
 abbrev pub IsSent : List ℕ → List ℕ → ℕ → Bool → Option (List ℕ) → Option (List ℕ) → RacesVerdict → Type 0
 IsSent text input limit deny before after verdict =
     (bytes : List ℕ) × IsVerdict text input limit deny verdict bytes × Appends before after bytes

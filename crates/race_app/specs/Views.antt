@@ -1,4 +1,4 @@
--- Runs as the code holds them, and what is promised of what the code builds on its way.
+-- The runs of the code, and what holds of what the code builds on its way.
 use Rattle.std.specs.Prelude.{◌≡◌, ◌≤◌, ℕ, nat_le, Option, Some, None, List, ◌∷◌, ◌++◌, length, map}
 use Rattle.std.specs.Borrow.{Bor}
 use Rattle.job_tree.specs.Tree.{Tree}
@@ -22,20 +22,20 @@ use Rattle.race_app.specs.declared.moves.Moves.{Moves}
 abbrev pub ran_seen : held.Ran → Ran
 ran_seen r = ran r.in_time (map row_in r.records.now)
 
--- a run that is lent, or none where the text is refused
+-- a run that is borrowed, or that the text is refused
 abbrev pub ran_held : Option (Bor held.Ran) → Ran
 ran_held None = refused
 ran_held (Some r) = ran_seen r.now
 
--- a run by a limit
+-- a run up to a limit
 abbrev pub ran_by : ℕ → Run → Ran
 ran_by limit run = ran (nat_le (root_end (rows_of run)) limit) (rows_of run)
 
--- the input is no longer than an input may be
+-- the input is not longer than the maximum
 abbrev pub HasRoom : Moves → Type 0
 HasRoom moves = length moves.input.now ≤ MOST_INPUT
 
--- the line of a place that is moved by a hair is a true one
+-- the line of a place that is moved by a hair is right
 abbrev pub IsMovedBy : Author → List ℕ → Ran → Shift → told.Line → Type 0
 IsMovedBy author input before shift line =
     IsMoved author.text.now input author.limit author.finer author.sites.now before shift line
@@ -48,7 +48,7 @@ abbrev pub AreLinesOf : Author → List ℕ → Ran → List told.Line → Type 
 AreLinesOf author input first lines =
     AreLines author.text.now input author.limit author.finer author.sites.now author.starts.now first lines
 
--- the lines of a text in finer ticks and of all hairs, by its own run and the one in finer ticks
+-- the lines of a text in finer ticks and of all hairs, given its own run and the one in finer ticks
 pub record AreLinesBeside (author : Author) (input : List ℕ) (first before : Ran) (lines : List told.Line) : Type 0 where
   pub moves : List told.Line
   pub moves_are : AreAnswers (IsMovedBy author input before) (shifts_of author.sites.now) moves

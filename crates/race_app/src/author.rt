@@ -1,15 +1,15 @@
 use job_edits::{CopiedStart, Finer, Site};
 
-/// What all lines are about.
+/// What all lines have in common.
 #[derive(Clone, Copy)]
 pub(crate) struct Author<'a> {
-    /// The author's job text.
+    /// The original job text.
     pub text: &'a [u8],
     /// The last tick at which a job may end, in finer ticks.
     pub limit: u64,
     /// How much finer the ticks of the changed texts are.
     pub finer: Finer,
-    /// The places of the text where time passes, or may.
+    /// The places of the text where time passes or may pass.
     pub sites: &'a [Site],
     /// Each start of several copies of a task.
     pub starts: &'a [CopiedStart],

@@ -11,8 +11,8 @@ use race_text::Found;
 use std::alloc::{AllocError, Global};
 use std::thread::Threads;
 
-// What the job that a text spells shows, by a limit, that another run does not: where that one's text was refused, or this one is, that is
-// said. It runs in the calling thread.
+// Returns what the job that a text spells shows by a limit that another run does not show. If this text or the text of the
+// other run is refused, the result is that it is refused. The job runs in the calling thread.
 pub(crate) fn found_in_text<R: Threads + Sync>(
     rt: &R,
     alloc: Global,
@@ -36,7 +36,7 @@ pub(crate) fn found_in_text<R: Threads + Sync>(
     }
 }
 
-// What a job shows, by a limit, that another run does not.
+// Returns what a job shows by a limit that another run does not show.
 #[tactic(auto, using(crate::proofs::Compared::in_job))]
 fn found_in_job<R: Threads + Sync>(
     rt: &R,
@@ -56,7 +56,7 @@ fn found_in_job<R: Threads + Sync>(
     found_in_run(alloc, before, &run, limit)
 }
 
-// What a run shows, by a limit, that another one does not.
+// Returns what a run shows by a limit that another one does not show.
 pub(crate) fn found_in_run(
     alloc: Global,
     before: &Ran<'_>,

@@ -13,7 +13,7 @@ use race_copies::{Meeting, meeting_of};
 use race_text::Line;
 use std::alloc::{AllocError, Global};
 
-// Appends a line for each of these starts whose copies meet, by the events of a story in the order of the walk.
+// Appends a line for each of these starts whose copies meet, given the events of a story in the order of the walk.
 pub(crate) fn push_copies(
     alloc: Global,
     lines: &mut Vec<Line>,

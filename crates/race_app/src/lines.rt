@@ -26,7 +26,7 @@ use std::alloc::{AllocError, Global};
 use std::thread::Threads;
 use story_app::told_until;
 
-// All lines of a text whose own run, which ended by the limit, is given.
+// Returns all lines of a text, given its own run, which ended by the limit.
 #[tactic(auto, using(crate::proofs::Gathered::for_job, crate::proofs::Gathered::for_refused))]
 pub(crate) fn lines_for<R: Threads + Sync, G: Gate + Sync>(
     rt: &R,
@@ -60,7 +60,7 @@ pub(crate) fn lines_for<R: Threads + Sync, G: Gate + Sync>(
     }
 }
 
-// All lines of a text whose text in finer ticks is refused.
+// Returns all lines of a text whose text in finer ticks is refused.
 fn lines_of_refused<R: Threads + Sync, G: Gate + Sync>(
     rt: &R,
     alloc: Global,
@@ -77,7 +77,7 @@ fn lines_of_refused<R: Threads + Sync, G: Gate + Sync>(
     after_first(alloc, Found::Refused, moves)
 }
 
-// All lines of a text whose text in finer ticks spells this job.
+// Returns all lines of a text whose text in finer ticks spells this job.
 fn lines_of_job<R: Threads + Sync, G: Gate + Sync>(
     rt: &R,
     alloc: Global,
@@ -99,7 +99,7 @@ fn lines_of_job<R: Threads + Sync, G: Gate + Sync>(
     Ok(lines)
 }
 
-// The line of the text in finer ticks, whose run this is, and those of all hairs.
+// Returns the line of the text in finer ticks, given its run, and those of all hairs.
 fn lines_of_run<R: Threads + Sync, G: Gate + Sync>(
     rt: &R,
     alloc: Global,
@@ -124,7 +124,7 @@ fn lines_of_run<R: Threads + Sync, G: Gate + Sync>(
     after_first(alloc, found, moves)
 }
 
-// The lines of all hairs, by at most so many threads.
+// Returns the lines of all hairs. At most `workers` threads run them.
 fn moves_for<R: Threads + Sync, G: Gate + Sync>(
     rt: &R,
     alloc: Global,
@@ -148,7 +148,7 @@ fn moves_for<R: Threads + Sync, G: Gate + Sync>(
     answers_for(rt, alloc, &moves, shifts.as_slice(), workers, gate)
 }
 
-// The line of the text in finer ticks, and these lines after it.
+// Returns the line of the text in finer ticks, followed by these lines.
 fn after_first(alloc: Global, found: Found, moves: Vec<Line>) -> Result<Vec<Line>, AllocError>
     ensures { IfOk result (λ lines. map line_held lines.items ≡ told.finer (found_held found) ∷ map line_held moves.items) }
 {
@@ -159,7 +159,7 @@ fn after_first(alloc: Global, found: Found, moves: Vec<Line>) -> Result<Vec<Line
     Ok(lines)
 }
 
-// Appends a line for each start of the text whose copies meet in the story of this job, which its text in finer ticks spells.
+// Appends a line for each start of the text whose copies meet in the story of this job, which the text in finer ticks spells.
 fn push_copies_of<R: Threads + Sync>(
     rt: &R,
     alloc: Global,

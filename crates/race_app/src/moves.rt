@@ -16,14 +16,14 @@ use slot_work::Work;
 use std::alloc::{AllocError, Global};
 use std::thread::Threads;
 
-/// The places of a text that are moved by a hair, beside the run of the text in finer ticks: none where that is refused.
+/// The places of a text that are moved by a hair, and the run of the text in finer ticks to compare with.
 #[derive(Clone, Copy)]
 pub(crate) struct Moves<'a> {
     /// The text.
     pub author: Author<'a>,
     /// The input.
     pub input: &'a [u8],
-    /// The run of the text in finer ticks.
+    /// The run of the text in finer ticks, or `None` if that text is refused.
     pub before: Option<&'a Ran<'a>>,
 }
 
@@ -48,7 +48,7 @@ impl Work for Moves<'_> {
     }
 }
 
-// The line of a place that is moved by a hair.
+// Returns the line of a place that is moved by a hair.
 fn line_with<R: Threads + Sync>(
     rt: &R,
     alloc: Global,
@@ -72,7 +72,7 @@ fn line_with<R: Threads + Sync>(
     })
 }
 
-// What is shown where a place is moved by a hair.
+// Returns what is shown if a place is moved by a hair.
 fn found_with<R: Threads + Sync>(
     rt: &R,
     alloc: Global,

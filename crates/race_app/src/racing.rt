@@ -16,16 +16,18 @@ use race_text::{Line, race_denied, race_table};
 use std::alloc::{AllocError, Global};
 use std::thread::Threads;
 
-/// Writes what becomes of a job over an input where any one place of its text takes a hair more or less time. First the text is put into
-/// finer ticks and compared with the text as it is; then each `sleep`, `after` and `at` is moved by a hair in both directions, and each
-/// `checkpoint`, `pace` and `start` to later, and compared with the text in finer ticks. Outcomes, lines and exits are compared, ticks are
-/// not; lines where nothing differs are left out. Last come the copies of one `start .. over` that meet, and the counts. Where the job does
-/// not end by the settings' limit, the limit's line is written; a job text that is refused has its refusal written; where some number of
-/// ticks is too large to be made finer, nothing is written.
+/// Writes how the outcome of a job over an input changes if a single place of its text takes a hair more or less time. First
+/// the text is put into finer ticks and compared with the original text. Then each `sleep`, `after` and `at` is moved by a hair
+/// in both directions (a 0 only later), and each `checkpoint`, `pace` and `start` is moved later; each is compared with the
+/// text in finer ticks. Outcomes, lines and exits are compared, but not ticks; lines without a difference are left out. Then
+/// come the copies of one `start .. over` that meet, and the counts. If the job does not end by the limit of `settings`, the
+/// line of the limit is written. For a job text that is refused, its refusal is written. If a number of ticks is too large to
+/// be made finer, nothing is written. The input must have at most 16,777,216 bytes.
 ///
-/// With `deny` the verdict has the lines that are races. The settings' number of workers is the number of threads among which the hairs are
-/// split; the gate is called around each, with its place among them, by the thread that works on it. Neither changes a byte. All bytes are
-/// built before the first is sent, so after `NoMemory` nothing was sent.
+/// With `deny`, the verdict has the lines that are races. The number of workers in `settings` is the number of threads that run
+/// the hairs. The gate is called before and after each hair, with the place of the hair among them, by the thread that runs it.
+/// Neither changes a byte. All bytes are built before the first is sent, so after `NoMemory` nothing was sent. If the writer
+/// fails, it took the first of those bytes.
 pub fn races<R: Threads + Sync, G: Gate + Sync, W: Out>(
     rt: &R,
     alloc: Global,
@@ -39,11 +41,11 @@ pub fn races<R: Threads + Sync, G: Gate + Sync, W: Out>(
     requires input { length input.now ≤ MOST_INPUT }
     requires countable { W.failed out.old < 18446744073709551615 }
 
-    // The bytes written tell of each hair, or are the refusal of the text or the limit's line, or are none.
+    // The bytes written are the table of all hairs, or the refusal of the text, or the line of the limit, or there are none.
     ensures sent { IfOk result (IsSent job_text.now input.now settings.limit deny (W.contents out.old) (W.contents out.new)) }
     ensures well { OnOk result (W.failed out.new ≡ W.failed out.old) }
 
-    // A writer that failed took the front of those bytes; after want of memory nothing was sent.
+    // A writer that failed took the first of those bytes; if memory was refused, nothing was sent.
     ensures fault { IfErr result (IsRacesFault job_text.now input.now settings.limit deny (W.contents out.old) (W.contents out.new)) }
     ensures counted { IfErr result (CountsFailure (W.failed out.old) (W.failed out.new)) }
 {
@@ -52,7 +54,7 @@ pub fn races<R: Threads + Sync, G: Gate + Sync, W: Out>(
     Ok(verdict)
 }
 
-// The verdict and all its bytes.
+// Returns the verdict and all its bytes.
 fn answer<R: Threads + Sync, G: Gate + Sync>(
     rt: &R,
     alloc: Global,
@@ -74,7 +76,7 @@ fn answer<R: Threads + Sync, G: Gate + Sync>(
     }
 }
 
-// The verdict on a text that spells a job, and all its bytes.
+// Returns the verdict for a text that spells a job, and all its bytes.
 fn answer_for_job<R: Threads + Sync, G: Gate + Sync>(
     rt: &R,
     alloc: Global,
@@ -99,7 +101,7 @@ fn answer_for_job<R: Threads + Sync, G: Gate + Sync>(
     }
 }
 
-// The lines that are denied, and the bytes of the table.
+// Returns the lines that are denied, and the bytes of the table.
 fn table_and_denied(
     alloc: Global,
     deny: bool,
@@ -112,8 +114,8 @@ fn table_and_denied(
     Ok((denied, bytes))
 }
 
-/// The lines that are races, as they stand in the text that tells of all, where races are denied: none where they are not. Want of memory is the only
-/// error.
+/// Returns the lines that are races, as they are in the table, if `deny` is true; otherwise returns no bytes. The only error is
+/// that memory was refused.
 pub fn denied_if(alloc: Global, deny: bool, lines: &[Line]) -> Result<Vec<u8>, AllocError>
     ensures { IfOk result (λ denied. denied.items ≡ (if deny then denied_text (map line_held lines.now) else [])) }
 {

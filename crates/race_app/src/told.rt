@@ -18,28 +18,32 @@ use std::thread::Threads;
 /// What each hair of each place of a job changes.
 #[derive(Drop)]
 pub struct RaceLines {
-    /// How many hairs there are.
+    /// The number of hairs.
     pub hairs: usize,
-    /// The text in finer ticks, each hair in the order of places, and the copies that meet: also the lines that are not shown.
+    /// The line of the text in finer ticks, those of each hair in the order of places, and those of the copies that meet. The
+    /// lines that the table does not show are here too.
     pub lines: Vec<Line>,
 }
 
-/// What comes of moving the places of a job by a hair.
+/// The result of moving the places of a job by a hair.
 #[derive(Drop)]
 pub enum RaceAnswer {
     /// What each hair changes.
     Lines(RaceLines),
-    /// The job does not end by the limit, so there is no outcome that could hang on a hair.
+    /// The job does not end by the limit, so there is no outcome that could depend on a hair.
     Limit,
-    /// Some `sleep`, `after` or `at` of the job text is of more than 100,000,000 ticks, and cannot be told in finer ticks.
+    /// Some `sleep`, `after` or `at` of the job text has more than 100,000,000 ticks, which cannot be made finer.
     NoFinerTicks,
 }
 
-/// What becomes of the job that a text spells, over an input, where any one place of its text takes a hair more or less time: the text in finer ticks
-/// beside the text as it is, then each hair of each place beside the text in finer ticks, and the copies of one `start .. over` that meet.
+/// Returns how the outcome of a job over an input changes if a single place of its text takes a hair more or less time: the
+/// text in finer ticks compared with the original text, then each hair of each place compared with the text in finer ticks, and
+/// the copies of one `start .. over` that meet. The caller must ensure that the text spells the job, and that the input has at
+/// most 16,777,216 bytes.
 ///
-/// The settings' number of workers is the number of threads among which the hairs are split; the gate is called around each, with its place
-/// among them, by the thread that works on it. Neither changes a line. Want of memory is the only error.
+/// The number of workers in `settings` is the number of threads that run the hairs. The gate is called before and after each
+/// hair, with the place of the hair among them, by the thread that runs it. Neither changes a line. The only error is that
+/// memory was refused.
 #[tactic(auto, using(crate::proofs::Tabled::some_ticks, crate::proofs::Tabled::has_no_finer))]
 pub fn race_lines<R: Threads + Sync, G: Gate + Sync>(
     rt: &R,
@@ -77,7 +81,7 @@ pub fn race_lines<R: Threads + Sync, G: Gate + Sync>(
     Ok(RaceAnswer::Lines(RaceLines { hairs, lines }))
 }
 
-// How many hairs these places have.
+// Returns the number of hairs of these places.
 fn hairs_of(alloc: Global, sites: &[Site]) -> Result<usize, AllocError>
     ensures { IfOk result (λ hairs. hairs ≡ length (shifts_of sites.now)) }
 {

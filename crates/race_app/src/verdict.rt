@@ -8,20 +8,21 @@ use job_grammar::JobFault;
 pub enum RacesVerdict {
     /// What each hair of each place changes.
     Told {
-        /// The lines that are races, as they stand among all, where races are denied: empty where none is, and where they are not denied.
+        /// The lines that are races, as they are in the table, if races are denied. Empty if there are none, and if races are
+        /// not denied.
         denied: Vec<u8>,
     },
     /// The refusal of the job text.
     JobRefused(JobFault),
-    /// The line of a limit: the job does not end by it, so there is no outcome that could hang on a hair.
+    /// The line of the limit: the job does not end by it, so there is no outcome that could depend on a hair.
     Limit,
-    /// Nothing: some `sleep`, `after` or `at` of the job text is of more than 100,000,000 ticks, and cannot be told in finer ticks.
+    /// Nothing: some `sleep`, `after` or `at` of the job text has more than 100,000,000 ticks, which cannot be made finer.
     NoFinerTicks,
 }
 
 impl RacesVerdict {
-    /// The exit status of the program that wrote this: 0 where no race is denied, 1 where one is, 2 where the job text was refused or has no
-    /// finer ticks, 3 where the job does not end by the limit.
+    /// Returns the exit status of the program that wrote this: 0 if no race is denied, 1 if one is, 2 if the job text was
+    /// refused or cannot have finer ticks, and 3 if the job does not end by the limit.
     pub fn status(&self) -> u8
         ensures { result ≡ races_status_of self.now }
     {
