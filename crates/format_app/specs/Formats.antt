@@ -1,4 +1,4 @@
--- What `format` writes of a job text, and whether a text is formatted.
+-- What `format` writes for a job text, and whether a text is formatted.
 use Rattle.std.specs.Prelude.{◌≡◌, ℕ, ◌+◌, ◌<◌, ◌==◌, if◌then◌else◌, Option, Some, None, List, [], ◌∷◌, length, take}
 use Rattle.std.specs.Io.KnownBytes.{Appends}
 use Rattle.job_tree.specs.Tree.{Tree}
@@ -13,7 +13,7 @@ use Rattle.format_app.specs.declared.verdict.FormatVerdict.TheVariants as verdic
 use Rattle.format_app.specs.declared.verdict.FormatCheck.{FormatCheck}
 use Rattle.format_app.specs.declared.verdict.FormatCheck.TheVariants as checks
 
--- the text spells a job whose formatted text would have so many bytes, which are too many
+-- the text spells a job whose formatted text would have this number of bytes, more than a job text may have
 abbrev pub HasLongFormat : List ℕ → ℕ → Type 0
 HasLongFormat text bytes = (job : Tree) × Spells text job × IsTooLong job bytes
 
@@ -23,11 +23,11 @@ IsAnswer text verdicts.Formatted bytes = IsFormatted text bytes
 IsAnswer text (verdicts.JobRefused fault) bytes = IsRefused text fault.kind fault.at × (bytes ≡ refusal_line fault)
 IsAnswer text (verdicts.TooLong long) bytes = HasLongFormat text long × (bytes ≡ [])
 
--- They were sent, all of them.
+-- All bytes of the verdict were sent.
 abbrev pub IsSent : List ℕ → Option (List ℕ) → Option (List ℕ) → FormatVerdict → Type 0
 IsSent text before after verdict = (bytes : List ℕ) × IsAnswer text verdict bytes × Appends before after bytes
 
--- The writer failed after the first `sent` of them; or memory was refused, and nothing was sent.
+-- The writer failed after the first `sent` of the bytes; or memory was refused, and nothing was sent.
 abbrev pub IsFormatFault : List ℕ → Option (List ℕ) → Option (List ℕ) → ServeFault → Type 0
 IsFormatFault text before after (Send sent) =
     (verdict : FormatVerdict) × (bytes : List ℕ) × IsAnswer text verdict bytes × (sent < length bytes) × Appends before after (take sent bytes)
@@ -35,7 +35,7 @@ IsFormatFault text before after NoMemory = after ≡ before
 
 -- ---- whether a text is formatted
 
--- the first place at which two texts differ, from a place on that is theirs
+-- the first place at which two texts differ, from `place` on
 abbrev pub difference_from : ℕ → List ℕ → List ℕ → Option ℕ
 difference_from place [] [] = None
 difference_from place [] (b ∷ other) = Some place
@@ -52,11 +52,11 @@ by_place (Some place) = checks.Differs place
 abbrev pub compared : List ℕ → List ℕ → FormatCheck
 compared text bytes = by_place (difference text bytes)
 
--- of a text that spells a job: the comparison with the job's formatted text
+-- for a text that spells a job: the comparison with the formatted text of the job
 abbrev pub IsComparison : List ℕ → FormatCheck → Type 0
 IsComparison text check = (job : Tree) × Spells text job × (check ≡ compared text (formatted job))
 
--- what is found of a text
+-- the result of the check of a text
 abbrev pub IsCheck : List ℕ → FormatCheck → Type 0
 IsCheck text (checks.JobRefused fault) = IsRefused text fault.kind fault.at
 IsCheck text (checks.TooLong long) = HasLongFormat text long

@@ -6,7 +6,8 @@ use crate::verdict::FormatCheck;
 use job_layout::{FormatFault, format_text};
 use std::alloc::{AllocError, Global};
 
-/// Says whether a job text is its own formatted text, and otherwise from which place on it differs. Want of memory is the only error.
+/// Returns whether a job text is its own formatted text, and otherwise the first place at which it differs. The only error is
+/// that memory was refused.
 pub fn check_format(alloc: Global, job_text: &[u8]) -> Result<FormatCheck, AllocError>
     ensures { IfOk result (IsCheck job_text.now) }
 {
@@ -18,7 +19,7 @@ pub fn check_format(alloc: Global, job_text: &[u8]) -> Result<FormatCheck, Alloc
     }
 }
 
-// The check of a text by its formatted text.
+// Returns the result for a text, given its formatted text.
 fn compared(text: &[u8], formatted: &[u8]) -> FormatCheck
     ensures { result ≡ compared text.now formatted.now }
 {

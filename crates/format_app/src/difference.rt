@@ -1,7 +1,7 @@
 ghost use Rattle.std.specs.Prelude.{◌≡◌};
 ghost use Rattle.format_app.specs.Formats.{difference};
 
-// The first place at which two texts differ, in bytes from their start: none where they are the same.
+// Returns the first place at which two texts differ, in bytes from their start, or `None` if they are equal.
 pub(crate) fn difference(one: &[u8], other: &[u8]) -> Option<usize>
     ensures { result ≡ difference one.now other.now }
 {

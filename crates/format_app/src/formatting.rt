@@ -8,8 +8,9 @@ use job_report::{Out, send};
 use nursery_app::{ServeFault, refusal};
 use std::alloc::{AllocError, Global};
 
-/// Writes the formatted text of the job that a text spells, or the line of the text's refusal. Where the formatted text is longer than a job
-/// text may be, nothing is written. All bytes are built before the first is sent, so after `NoMemory` nothing was sent.
+/// Writes the formatted text of the job that a text spells, or the line of the text's refusal. If the formatted text is longer
+/// than a job text may be, nothing is written. All bytes are built before the first is sent, so after `NoMemory` nothing was
+/// sent. If the writer fails, it took the first of those bytes.
 pub fn format<W: Out>(
     alloc: Global,
     job_text: &[u8],
@@ -26,7 +27,7 @@ pub fn format<W: Out>(
     Ok(verdict)
 }
 
-// The verdict and all its bytes.
+// Returns the verdict and all its bytes.
 fn answer(alloc: Global, job_text: &[u8]) -> Result<(FormatVerdict, Vec<u8>), AllocError>
     ensures { IfOk result (λ r. IsAnswer job_text.now r.0 r.1.items) }
 {

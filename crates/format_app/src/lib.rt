@@ -1,7 +1,8 @@
-//! A job text in, its formatted text out: `format`, and `check_format`, which says where a text differs from it.
+//! Takes a job text, and writes its formatted text: `format`; or finds where the text differs from its formatted text:
+//! `check_format`.
 //!
-//! The layer promises that the bytes which `format` writes are the formatted text of the job that the text spells, or the line of its refusal, and
-//! that `check_format` finds the first place at which the text differs. It stands on `job_layout` for the formatted text and on
+//! The bytes that `format` writes are the formatted text of the job that the text spells, or the line of its refusal; and
+//! `check_format` finds the first place at which the text differs. The crate uses `job_layout` for the formatted text and
 //! `nursery_app` for the line of a refusal.
 #![tactic(auto)]
 

@@ -3,19 +3,19 @@ ghost use Rattle.format_app.specs.Statuses.{status_of, check_status_of};
 
 use job_grammar::JobFault;
 
-/// What became of a text that was to be formatted.
+/// The result of formatting a text.
 #[derive(Clone, Copy, Debug, PartialEq, Eq)]
 pub enum FormatVerdict {
-    /// Its formatted text was written.
+    /// The formatted text was written.
     Formatted,
-    /// The text is refused: the line of its refusal was written.
+    /// The text is refused. The line of its refusal was written.
     JobRefused(JobFault),
-    /// The formatted text would have so many bytes, more than a job text may have. Nothing was written.
+    /// The formatted text would have this number of bytes, more than a job text may have. Nothing was written.
     TooLong(usize),
 }
 
 impl FormatVerdict {
-    /// The program's exit status: 0 for a formatted text, and otherwise 2.
+    /// Returns the exit status of the program: 0 for a formatted text, and otherwise 2.
     pub fn status(self) -> u8
         ensures { result ≡ status_of self }
     {
@@ -31,17 +31,17 @@ impl FormatVerdict {
 pub enum FormatCheck {
     /// It is its own formatted text.
     Same,
-    /// It differs from its formatted text from this place on, in bytes from the start of the text. The place is the text's length where the
-    /// formatted text only goes on behind it.
+    /// The first place at which it differs from its formatted text, in bytes from the start of the text. If the formatted text
+    /// only continues after the end of the text, the place is the length of the text.
     Differs(usize),
     /// The text is refused.
     JobRefused(JobFault),
-    /// The formatted text would have so many bytes, more than a job text may have.
+    /// The formatted text would have this number of bytes, more than a job text may have.
     TooLong(usize),
 }
 
 impl FormatCheck {
-    /// The program's exit status: 0 for a text that is formatted, 1 for one that is not, and otherwise 2.
+    /// Returns the exit status of the program: 0 for a text that is formatted, 1 for one that is not, and otherwise 2.
     pub fn status(self) -> u8
         ensures { result ≡ check_status_of self }
     {
