@@ -15,7 +15,7 @@ next_value so_far more all value step more_by left some by is before =
     ∙ append_assoc so_far (value ∷ []) (values_from (value + step) step (left - 1))
     ∙ ap (λ (xs : List ℕ). so_far ++ xs) (sym (first_left value step left (left - 1) one_more)) ∙ before
 
--- a value is below two to the 32 for each that there was room for
+-- a value is below 2 to the 32, for each value for which there was room
 pub next_fits : (value step more_by left count : ℕ) → 0 < left → more_by ≡ step → step < 4294967296 →
     value + 4294967296 * left ≤ 4294967296 * (count + 1) → value + more_by + 4294967296 * (left - 1) ≤ 4294967296 * (count + 1)
 next_fits value step more_by left count some by small before = omega arith

@@ -10,7 +10,7 @@ use Rattle.nursery_cli.specs.declared.command.FormatMode.TheVariants as modes
 use Rattle.nursery_cli.specs.Values.{values_from}
 use Rattle.nursery_cli.specs.declared.parser.TheConstants.{LEAST_WIDTH, MOST_WIDTH}
 
--- a name that a step may raise: no keyword, and neither of the names that stand for cancellations and deadlines
+-- a name that a step may raise: not a keyword, and neither `Cancelled` nor `TooSlow`
 abbrev pub may_be_raised : List ℕ → Bool
 may_be_raised name = not (is_some (keyword_of name) || (bytes_eq name (codes "Cancelled") || bytes_eq name (codes "TooSlow")))
 
@@ -30,8 +30,8 @@ IsWritten job modes.Print = Unit {0}
 IsWritten job modes.Write = IsTrue (not (bytes_eq job (codes "-")))
 IsWritten job modes.Check = Unit {0}
 
--- A chart is not too wide, a faulty step can raise the exception, a sweep has values, what is formatted in place is a file, and something is
--- tested.
+-- A chart has a width in its range or none, a faulty step can raise its exception, a sweep has values, a file that is formatted
+-- in place is not standard input, and there is something to test.
 abbrev pub IsFit : Command → Type 0
 IsFit Feed = Unit {0}
 IsFit (Run job input settings order json) = Unit {0}
@@ -50,7 +50,7 @@ IsFit (Completions shell) = Unit {0}
 IsFit Man = Unit {0}
 IsFit (Help text) = Unit {0}
 
--- some words asked for it: it is no feed, and fit
+-- some words asked for it: it is not a feed, and it is fit
 abbrev pub IsAsked : Command → Type 0
 IsAsked Feed = ⊥
 IsAsked command = IsFit command

@@ -8,12 +8,12 @@ use job_tree::Name;
 use std::alloc::AllocError;
 use thiserror::Error;
 
-/// The order in which the ready tasks of a batch have their turns.
+/// The order in which the ready tasks of a batch get their turns.
 #[derive(Clone, Copy, Debug, PartialEq, Eq)]
 pub enum Order {
-    /// The first of those left, always.
+    /// Always the first of those that are left.
     Forward,
-    /// The last of those left, always.
+    /// Always the last of those that are left.
     Reverse,
     /// One after the other, by the number of picks so far.
     Turn,
@@ -24,13 +24,13 @@ pub enum Order {
 pub enum FormatMode {
     /// It is written to standard output.
     Print,
-    /// It takes the job file's place.
+    /// It replaces the contents of the job file.
     Write,
     /// The job file is compared with it.
     Check,
 }
 
-/// A shell whose words can be completed.
+/// A shell for which there are completions.
 #[derive(Clone, Copy, Debug, PartialEq, Eq)]
 pub enum Shell {
     /// Bash.
@@ -46,7 +46,8 @@ pub enum Shell {
 pub enum Command {
     /// No words: a feed on standard input.
     Feed,
-    /// A job over an input, each named by its file, or `-` for standard input.
+    /// Runs a job over an input. Each is named by its file, or `-` for standard input; at most one of them is standard
+    /// input.
     Run {
         /// The job file.
         job: String,
@@ -54,141 +55,142 @@ pub enum Command {
         input: String,
         /// The number of workers, and the last tick at which the job may end.
         settings: Settings,
-        /// The order of turns.
+        /// The order in which ready tasks get their turns.
         order: Order,
-        /// Whether the answer is to be one JSON document.
+        /// Whether the output is one JSON document.
         json: bool,
     },
-    /// The story of a job over an input: why each task ended as it did.
+    /// Prints the story of a job over an input: why each task ended as it did.
     Explain {
         /// The job file, or `-` for standard input.
         job: String,
-        /// The input file, or `-` for standard input; none is an empty input.
+        /// The input file, or `-` for standard input. `None` is an empty input.
         input: Option<String>,
-        /// The label of the one task that the story is to be about; none is all of them.
+        /// The label of the only task that the story is about. `None` is all tasks.
         task: Option<String>,
         /// The number of workers, and the last tick of the story.
         settings: Settings,
-        /// The order of turns.
+        /// The order in which ready tasks get their turns.
         order: Order,
-        /// Whether the answer is to be one JSON document.
+        /// Whether the output is one JSON document.
         json: bool,
     },
-    /// A picture of the run of a job over an input.
+    /// Draws a picture of the run of a job over an input.
     Chart {
         /// The job file, or `-` for standard input.
         job: String,
-        /// The input file, or `-` for standard input; none is an empty input.
+        /// The input file, or `-` for standard input. `None` is an empty input.
         input: Option<String>,
-        /// How wide the chart is at most, in columns of text, from `LEAST_WIDTH` to `MOST_WIDTH`; none is what is usual.
+        /// The maximum width of the chart, in columns of text, from `LEAST_WIDTH` to `MOST_WIDTH`. `None` is the
+        /// default.
         width: Option<usize>,
-        /// Whether an SVG document is asked for, and not a text.
+        /// Whether the output is an SVG document instead of a text.
         svg: bool,
         /// The number of workers, and the last tick of the chart.
         settings: Settings,
     },
-    /// What becomes of a job over an input with each fault of its waiting steps.
+    /// Prints the outcome of a job over an input with each fault of its waiting steps.
     Faults {
         /// The job file, or `-` for standard input.
         job: String,
-        /// The input file, or `-` for standard input; none is an empty input.
+        /// The input file, or `-` for standard input. `None` is an empty input.
         input: Option<String>,
-        /// The name of the exception that a faulty step raises: no word that a step may not raise.
+        /// The name of the exception that a faulty step raises. It is a name that a step may raise.
         name: Name,
-        /// The lines that are denied.
+        /// The outcomes that are denied.
         deny: Deny,
         /// The number of threads, and the last tick at which a job may end.
         settings: Settings,
-        /// Whether the answer is to be one JSON document.
+        /// Whether the output is one JSON document.
         json: bool,
     },
-    /// Which places of a job its outcome over an input hangs on by a hair.
+    /// Prints the places of a job on which its outcome over an input depends by a hair.
     Races {
         /// The job file, or `-` for standard input.
         job: String,
-        /// The input file, or `-` for standard input; none is an empty input.
+        /// The input file, or `-` for standard input. `None` is an empty input.
         input: Option<String>,
         /// Whether races are denied.
         deny: bool,
         /// The number of threads, and the last tick at which a job may end.
         settings: Settings,
-        /// Whether the answer is to be one JSON document.
+        /// Whether the output is one JSON document.
         json: bool,
     },
-    /// What becomes of a job over an input for each value of one of its numbers.
+    /// Prints the outcome of a job over an input for each value of one of its numbers.
     Sweep {
         /// The job file, or `-` for standard input.
         job: String,
-        /// The input file, or `-` for standard input; none is an empty input.
+        /// The input file, or `-` for standard input. `None` is an empty input.
         input: Option<String>,
-        /// Which number takes the values.
+        /// The number that takes the values.
         target: Target,
-        /// The values, 1 to 100,000 of them, from the smallest to the greatest.
+        /// The values, 1 to 100,000 of them, in increasing order.
         values: Vec<u64>,
         /// The number of threads, and the last tick at which a job may end.
         settings: Settings,
-        /// Whether the answer is to be one JSON document.
+        /// Whether the output is one JSON document.
         json: bool,
     },
-    /// The formatted text of a job: two spaces for each level, and one step in a line.
+    /// Formats a job: two spaces for each level, and one step on each line.
     Fmt {
-        /// The job file, or `-` for standard input, which is never written.
+        /// The job file, or `-` for standard input, which `FormatMode::Write` excludes.
         job: String,
         /// What is done with the text.
         mode: FormatMode,
     },
-    /// What is probably a mistake in a job.
+    /// Prints what is probably a mistake in a job.
     Lint {
         /// The job file, or `-` for standard input.
         job: String,
-        /// Whether the answer is to be one JSON document.
+        /// Whether the output is one JSON document.
         json: bool,
     },
-    /// The feeds of some files and folders, compared with what is kept beside them.
+    /// Runs the feeds of some files and folders, and compares the outputs with those that are kept beside them.
     Test {
         /// The files and folders, at least one.
         paths: Vec<String>,
-        /// Whether what differs is kept instead.
+        /// Whether outputs that differ replace those that are kept.
         accept: bool,
         /// The number of threads, and the last tick at which a job may end.
         settings: Settings,
     },
-    /// A job as a Python program on Trio.
+    /// Prints a job as a Python program on Trio.
     Trio {
         /// The job file, or `-` for standard input.
         job: String,
     },
-    /// The canonical text of a job.
+    /// Prints the canonical text of a job.
     Check {
         /// The job file, or `-` for standard input.
         job: String,
     },
-    /// The canonical text of the same job in format 2.
+    /// Prints the canonical text of the same job in format 2.
     Upgrade {
         /// The job file, or `-` for standard input.
         job: String,
     },
-    /// The script that completes the program's words in a shell.
+    /// Prints the script that completes the program's words in a shell.
     Completions {
         /// The shell.
         shell: Shell,
     },
-    /// The man page.
+    /// Prints the man page.
     Man,
-    /// A text that was asked for: help, or the version.
+    /// Prints a text that was asked for: help, or the version.
     Help {
-        /// The text, with its last newline.
+        /// The text, which ends with a newline.
         text: String,
     },
 }
 
-/// Why words are no command.
+/// Why words are not a command.
 #[derive(Debug, PartialEq, Eq, Drop, Error)]
 pub enum CommandFault {
-    /// The words ask for nothing that the program does.
+    /// The words do not ask for anything that the program does.
     #[error("{text}")]
     Refused {
-        /// What is wrong, for the user, with its last newline.
+        /// What is wrong, as a text for the user that ends with a newline.
         text: String,
     },
     /// Memory was refused.

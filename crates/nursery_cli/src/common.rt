@@ -4,14 +4,15 @@ use clap::ArgMatches;
 use job_runner::Settings;
 use std::alloc::{AllocError, Global};
 
-// What is wrong where both files are standard input.
+// The error if both files are standard input.
 const BOTH_STANDARD: &str =
     "error: JOB and INPUT cannot both be `-`: there is one standard input\n";
 
-// What is wrong with a setting that the parser let through.
+// The error for a setting that the parser accepted and that is out of its range.
 pub(crate) const OUT_OF_RANGE: &str = "error: a setting is out of its range\n";
 
-// The number of workers and the limit. Refused are a job and an input that are both standard input, and settings out of their ranges.
+// Returns the number of workers and the limit. A job and an input that are both standard input are refused, and so are settings
+// out of their ranges.
 pub(crate) fn settings_of(
     alloc: Global,
     job: &str,
@@ -29,7 +30,7 @@ pub(crate) fn settings_of(
     }
 }
 
-// A word as a string of its own, where there is one.
+// Returns an owned copy of a word, if there is one.
 pub(crate) fn owned(alloc: Global, word: Option<&str>) -> Result<Option<String>, AllocError> {
     match word {
         Some(word) => Ok(Some(String::from_str(alloc, word)?)),
@@ -37,7 +38,7 @@ pub(crate) fn owned(alloc: Global, word: Option<&str>) -> Result<Option<String>,
     }
 }
 
-// The refusal with that text.
+// Returns the refusal with this text.
 pub(crate) fn refusal(alloc: Global, text: &str) -> CommandFault {
     match String::from_str(alloc, text) {
         Ok(text) => CommandFault::Refused { text },

@@ -1,4 +1,5 @@
-// The examples that help shows. `tests/command` compares those of `explain`, `faults`, `races` and `sweep` with what the program writes.
+// The examples that help prints. `tests/command` compares those of `explain`, `faults`, `races` and `sweep` with what the
+// program writes.
 
 pub(crate) const EXAMPLE: &str =
     "With no words at all, nursery reads standard input: a job text, a line that is exactly `%input`,

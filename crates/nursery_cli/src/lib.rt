@@ -1,8 +1,8 @@
-//! The command line of the program `nursery`: what the words after its name ask for, and the help that they may ask for.
+//! The command line of the program `nursery`: what the words after its name ask for, and the text of its help.
 //!
-//! The layer promises that no words, and only these, ask for a feed on standard input; that a faulty step can raise the exception which
-//! `faults` was asked for; and that a sweep has values, from a first one on by a step. Settings are in their ranges by their type. It
-//! stands on `clap` for the reading of words and for the text of help. What words are refused, and with which message, is tested.
+//! Only an empty list of words asks for a feed on standard input, and it always does. The exception of `faults` is one that a
+//! step may raise; a sweep has values, from a first one on by a step. Settings are in their ranges by their type. The crate
+//! uses `clap` to read the words and to print the help. Which words are refused, and with which message, is tested.
 #![tactic(auto)]
 
 mod command;

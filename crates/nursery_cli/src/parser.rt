@@ -7,28 +7,29 @@ use clap::{Arg, ArgAction, ArgGroup, Command, value_parser};
 use job_runner::{GREATEST_LIMIT, MOST_WORKERS};
 use std::alloc::{AllocError, Global};
 
-/// The limit where none is asked for, in ticks.
+/// The limit if none is given, in ticks.
 pub const DEFAULT_LIMIT: u64 = 1_000_000;
 
-// The same, as the help shows it.
+// The same, as the help prints it.
 const SHOWN_LIMIT: &str = "1000000";
 
-/// The least width of a chart, in columns of text.
+/// The minimum width of a chart, in columns of text.
 pub const LEAST_WIDTH: usize = 20;
 
-/// The greatest width of a chart, in columns of text.
+/// The maximum width of a chart, in columns of text.
 pub const MOST_WIDTH: usize = 1_000;
 
-/// The name of the exception that a faulty step raises where none is asked for.
+/// The name of the exception that a faulty step raises if none is given.
 pub(crate) const DEFAULT_FAULT: &str = "Fault";
 
 const ABOUT: &str =
     "Runs a job of nurseries and cancel scopes over an input, and reports what each task did";
 
-// The program's version, as `--version` tells it.
+// The program's version, as `--version` prints it.
 const VERSION: &str = "0.1.0";
 
-/// What reads the words after the program's name: each command with what it does, its options and its help. Want of memory is the only error.
+/// Returns the parser of the words after the program's name: each command with its description, its options and its help. The
+/// only error is that memory was refused.
 pub fn command_line<'a>(alloc: Global) -> Result<Command<'a>, AllocError> {
     Command::new(alloc, "nursery")
         .no_binary_name(true)
@@ -53,7 +54,7 @@ pub fn command_line<'a>(alloc: Global) -> Result<Command<'a>, AllocError> {
         .subcommand(man_parser(alloc))
 }
 
-// What reads the words after `run`.
+// Returns the parser of the words after `run`.
 fn run_parser<'a>(alloc: Global) -> Result<Command<'a>, AllocError> {
     let input = Arg::new(alloc, "input")
         .value_name("INPUT")
@@ -70,7 +71,7 @@ fn run_parser<'a>(alloc: Global) -> Result<Command<'a>, AllocError> {
         .arg(json_option(alloc))
 }
 
-// What reads the words after `explain`.
+// Returns the parser of the words after `explain`.
 fn explain_parser<'a>(alloc: Global) -> Result<Command<'a>, AllocError> {
     let task = Arg::new(alloc, "task")
         .long("task")
@@ -90,7 +91,7 @@ fn explain_parser<'a>(alloc: Global) -> Result<Command<'a>, AllocError> {
         .arg(json_option(alloc))
 }
 
-// What reads the words after `chart`.
+// Returns the parser of the words after `chart`.
 fn chart_parser<'a>(alloc: Global) -> Result<Command<'a>, AllocError> {
     let width = Arg::new(alloc, "width")
         .long("width")
@@ -114,7 +115,7 @@ fn chart_parser<'a>(alloc: Global) -> Result<Command<'a>, AllocError> {
         .arg(limit_option(alloc))
 }
 
-// What reads the words after `faults`.
+// Returns the parser of the words after `faults`.
 fn faults_parser<'a>(alloc: Global) -> Result<Command<'a>, AllocError> {
     let name = Arg::new(alloc, "name")
         .long("name")
@@ -141,7 +142,7 @@ fn faults_parser<'a>(alloc: Global) -> Result<Command<'a>, AllocError> {
         .arg(json_option(alloc))
 }
 
-// What reads the words after `races`.
+// Returns the parser of the words after `races`.
 fn races_parser<'a>(alloc: Global) -> Result<Command<'a>, AllocError> {
     let deny = Arg::new(alloc, "deny")
         .long("deny")
@@ -160,7 +161,7 @@ fn races_parser<'a>(alloc: Global) -> Result<Command<'a>, AllocError> {
         .arg(json_option(alloc))
 }
 
-// What reads the words after `sweep`.
+// Returns the parser of the words after `sweep`.
 fn sweep_parser<'a>(alloc: Global) -> Result<Command<'a>, AllocError> {
     let of = Arg::new(alloc, "of")
         .long("of")
@@ -194,7 +195,7 @@ fn sweep_parser<'a>(alloc: Global) -> Result<Command<'a>, AllocError> {
         .arg(json_option(alloc))
 }
 
-// What reads the words after `fmt`.
+// Returns the parser of the words after `fmt`.
 fn fmt_parser<'a>(alloc: Global) -> Result<Command<'a>, AllocError> {
     let write = Arg::new(alloc, "write")
         .long("write")
@@ -214,7 +215,7 @@ fn fmt_parser<'a>(alloc: Global) -> Result<Command<'a>, AllocError> {
         .group(mode)
 }
 
-// What reads the words after `lint`.
+// Returns the parser of the words after `lint`.
 fn lint_parser<'a>(alloc: Global) -> Result<Command<'a>, AllocError> {
     Command::new(alloc, "lint")
         .about("Tells what is probably a mistake in a job, with its place")
@@ -223,7 +224,7 @@ fn lint_parser<'a>(alloc: Global) -> Result<Command<'a>, AllocError> {
         .arg(json_option(alloc))
 }
 
-// What reads the words after `test`.
+// Returns the parser of the words after `test`.
 fn test_parser<'a>(alloc: Global) -> Result<Command<'a>, AllocError> {
     let paths = Arg::new(alloc, "paths")
         .value_name("PATH")
@@ -243,7 +244,7 @@ fn test_parser<'a>(alloc: Global) -> Result<Command<'a>, AllocError> {
         .arg(limit_option(alloc))
 }
 
-// What reads the words after `trio`.
+// Returns the parser of the words after `trio`.
 fn trio_parser<'a>(alloc: Global) -> Result<Command<'a>, AllocError> {
     Command::new(alloc, "trio")
         .about("Writes a job as a Python program on Trio")
@@ -251,7 +252,7 @@ fn trio_parser<'a>(alloc: Global) -> Result<Command<'a>, AllocError> {
         .arg(job_argument(alloc))
 }
 
-// What reads the words after `check`.
+// Returns the parser of the words after `check`.
 fn check_parser<'a>(alloc: Global) -> Result<Command<'a>, AllocError> {
     Command::new(alloc, "check")
         .about("Writes the canonical text of a job, or says where it is refused and why")
@@ -259,7 +260,7 @@ fn check_parser<'a>(alloc: Global) -> Result<Command<'a>, AllocError> {
         .arg(job_argument(alloc))
 }
 
-// What reads the words after `upgrade`.
+// Returns the parser of the words after `upgrade`.
 fn upgrade_parser<'a>(alloc: Global) -> Result<Command<'a>, AllocError> {
     Command::new(alloc, "upgrade")
         .about(
@@ -269,7 +270,7 @@ fn upgrade_parser<'a>(alloc: Global) -> Result<Command<'a>, AllocError> {
         .arg(job_argument(alloc))
 }
 
-// What reads the words after `completions`.
+// Returns the parser of the words after `completions`.
 fn completions_parser<'a>(alloc: Global) -> Result<Command<'a>, AllocError> {
     let shell = Arg::new(alloc, "shell")
         .value_name("SHELL")
@@ -282,7 +283,7 @@ fn completions_parser<'a>(alloc: Global) -> Result<Command<'a>, AllocError> {
         .arg(shell)
 }
 
-// What reads the words after `man`.
+// Returns the parser of the words after `man`.
 fn man_parser<'a>(alloc: Global) -> Command<'a> {
     Command::new(alloc, "man")
         .about("Writes the man page")

@@ -14,10 +14,11 @@ use job_syntax::Keyword;
 use job_tree::Name;
 use std::alloc::{AllocError, Global};
 
-// What is wrong where standard input is to be written.
+// The error if standard input is to be written.
 const NOT_WRITTEN: &str = "error: `--write` needs a file: JOB is standard input\n";
 
-/// Reads the words after the program's name.
+/// Reads the words after the program's name. No words are a feed on standard input. The error has a text for the user if the
+/// words do not ask for anything that the program does, or is that memory was refused.
 pub fn read_command(alloc: Global, words: &[String]) -> Result<Command, CommandFault>
     ensures feed { words.now ≡ [] → result ≡ Ok Feed }
     ensures only { result ≡ Ok Feed → words.now ≡ [] }
@@ -34,12 +35,12 @@ pub fn read_command(alloc: Global, words: &[String]) -> Result<Command, CommandF
     asked(alloc, words)
 }
 
-// Whether a word is a file's name rather than a command or an option.
+// Returns whether a word is the name of a file, and not a command or an option.
 fn is_path(word: &str) -> bool {
     !word.starts_with('-') && (word.contains('.') || word.contains('/'))
 }
 
-// The refusal of a file's name where a command was to stand: what runs the file.
+// Returns the refusal of a file name in place of a command. It says which command runs the file.
 fn path_refusal(alloc: Global, path: &str) -> CommandFault {
     let text = if path.ends_with(".feed") {
         format!(in alloc;
@@ -56,8 +57,8 @@ fn path_refusal(alloc: Global, path: &str) -> CommandFault {
     }
 }
 
-/// The text that `--help` shows after the name of a command, or with no name that of the program. Empty where no command has the name. Want of
-/// memory is the only error.
+/// Returns the text that `--help` prints after the name of a command or, if the name is empty, that of the program. The text is
+/// empty if no command has the name. The only error is that memory was refused.
 pub fn help_text(alloc: Global, name: &str) -> Result<String, AllocError> {
     let words = help_words(alloc, name)?;
     match read_command(alloc, words.as_slice()) {
@@ -67,7 +68,7 @@ pub fn help_text(alloc: Global, name: &str) -> Result<String, AllocError> {
     }
 }
 
-// The words that ask for that help.
+// Returns the words that ask for this help.
 fn help_words(alloc: Global, name: &str) -> Result<Vec<String>, AllocError> {
     let mut words = Vec::new(alloc);
     if !name.is_empty() {
@@ -85,7 +86,7 @@ fn push_word(alloc: Global, words: &mut Vec<String>, word: &str) -> Result<(), A
     }
 }
 
-// The command of some words.
+// Returns the command of some words.
 fn asked(alloc: Global, words: &[String]) -> Result<Command, CommandFault>
     ensures { IfOk result IsAsked }
 {
@@ -95,7 +96,7 @@ fn asked(alloc: Global, words: &[String]) -> Result<Command, CommandFault>
     }
 }
 
-// The text that was asked for, or that says what is wrong.
+// Returns the text that was asked for, or the refusal that says what is wrong.
 fn unmatched(alloc: Global, error: &clap::Error) -> Result<Command, CommandFault>
     ensures { IfOk result IsAsked }
 {
@@ -110,7 +111,7 @@ fn unmatched(alloc: Global, error: &clap::Error) -> Result<Command, CommandFault
     }
 }
 
-// The command of words that fit the parser.
+// Returns the command of words that the parser accepted.
 fn chosen(alloc: Global, matches: &ArgMatches<'_>) -> Result<Command, CommandFault>
     ensures { IfOk result IsAsked }
 {
@@ -127,7 +128,7 @@ fn chosen(alloc: Global, matches: &ArgMatches<'_>) -> Result<Command, CommandFau
     }
 }
 
-// The command of this name on a job file.
+// Returns the command with this name for a job file.
 fn job_command(alloc: Global, name: &str, inner: &ArgMatches<'_>) -> Result<Command, CommandFault>
     ensures { IfOk result IsAsked }
 {
@@ -158,7 +159,7 @@ fn job_command(alloc: Global, name: &str, inner: &ArgMatches<'_>) -> Result<Comm
     }
 }
 
-// The command `run` with its settings.
+// Returns the command `run` with its settings.
 fn run_command(alloc: Global, job: &str, matches: &ArgMatches<'_>) -> Result<Command, CommandFault>
     ensures { IfOk result IsAsked }
 {
@@ -175,7 +176,7 @@ fn run_command(alloc: Global, job: &str, matches: &ArgMatches<'_>) -> Result<Com
     })
 }
 
-// The command `explain` with its settings.
+// Returns the command `explain` with its settings.
 fn explain_command(
     alloc: Global,
     job: &str,
@@ -195,7 +196,7 @@ fn explain_command(
     })
 }
 
-// The command `chart` with its settings.
+// Returns the command `chart` with its settings.
 fn chart_command(
     alloc: Global,
     job: &str,
@@ -218,7 +219,7 @@ fn chart_command(
     })
 }
 
-// Whether a chart may have this width, where one is asked for.
+// Returns whether a chart may have this width. `None` is allowed.
 fn is_width(width: Option<usize>) -> bool
     ensures { IsTrue result → IsWidth width }
 {
@@ -228,7 +229,7 @@ fn is_width(width: Option<usize>) -> bool
     }
 }
 
-// The command `faults` with its settings.
+// Returns the command `faults` with its settings.
 fn faults_command(
     alloc: Global,
     job: &str,
@@ -250,7 +251,7 @@ fn faults_command(
     })
 }
 
-// The command `races` with its settings.
+// Returns the command `races` with its settings.
 fn races_command(
     alloc: Global,
     job: &str,
@@ -269,7 +270,7 @@ fn races_command(
     })
 }
 
-// The command `sweep` with its settings.
+// Returns the command `sweep` with its settings.
 fn sweep_command(
     alloc: Global,
     job: &str,
@@ -291,7 +292,7 @@ fn sweep_command(
     })
 }
 
-// The command `test` with its settings.
+// Returns the command `test` with its settings.
 fn test_command(alloc: Global, matches: &ArgMatches<'_>) -> Result<Command, CommandFault>
     ensures { IfOk result IsAsked }
 {
@@ -310,7 +311,7 @@ fn test_command(alloc: Global, matches: &ArgMatches<'_>) -> Result<Command, Comm
     })
 }
 
-// The command `fmt` with what is done with the text.
+// Returns the command `fmt` with its mode.
 fn fmt_command(alloc: Global, job: &str, matches: &ArgMatches<'_>) -> Result<Command, CommandFault>
     ensures { IfOk result IsAsked }
 {
@@ -324,7 +325,7 @@ fn fmt_command(alloc: Global, job: &str, matches: &ArgMatches<'_>) -> Result<Com
     })
 }
 
-// The shell of a name that the parser let through.
+// Returns the shell with a name that the parser accepted.
 fn shell_named(name: Option<&str>) -> Shell {
     match name {
         Some("zsh") => Shell::Zsh,
@@ -333,7 +334,7 @@ fn shell_named(name: Option<&str>) -> Shell {
     }
 }
 
-// What is done with a formatted text.
+// Returns what is done with a formatted text.
 fn format_mode(matches: &ArgMatches<'_>) -> FormatMode {
     if matches.get_flag("write") {
         return FormatMode::Write;
@@ -344,14 +345,14 @@ fn format_mode(matches: &ArgMatches<'_>) -> FormatMode {
     FormatMode::Print
 }
 
-// Whether a file is standard input.
+// Returns whether a file is standard input.
 fn is_standard(name: &str) -> bool
     ensures { result ≡ bytes_eq name.now (codes "-") }
 {
     name == "-"
 }
 
-// The name of that exception, where a step may raise it.
+// Returns the name of the exception, if a step may raise it.
 fn raised_name(alloc: Global, word: &str) -> Result<Name, CommandFault>
     ensures { IfOk result (λ name. IsTrue (may_be_raised name)) }
 {
@@ -361,7 +362,7 @@ fn raised_name(alloc: Global, word: &str) -> Result<Name, CommandFault>
     }
 }
 
-// Whether a step may raise an exception of this name.
+// Returns whether a step may raise an exception with this name.
 fn may_be_raised(name: Name) -> bool
     ensures { result ≡ may_be_raised name }
 {
@@ -370,7 +371,7 @@ fn may_be_raised(name: Name) -> bool
         && name.bytes() != b"TooSlow".as_slice()
 }
 
-// The refusal of a name that no step may raise.
+// Returns the refusal of a name that no step may raise.
 fn refused_name(alloc: Global, word: &str) -> CommandFault {
     let text = format!(in alloc;
         "error: no step can raise `{word}`: --name takes a letter, then letters, digits and `_`, at most 32 in all, and no keyword, `Cancelled` or `TooSlow`\n"
@@ -381,7 +382,7 @@ fn refused_name(alloc: Global, word: &str) -> CommandFault {
     }
 }
 
-// The kinds that are denied, by their names with commas between them.
+// Returns the kinds that are denied, given their names with commas between them.
 fn denied_kinds(alloc: Global, names: &str) -> Result<Deny, CommandFault> {
     let mut deny = Deny {
         stuck: false,
@@ -407,7 +408,7 @@ fn denied_kinds(alloc: Global, names: &str) -> Result<Deny, CommandFault> {
     Ok(deny)
 }
 
-// The order of that name; forward where none is given.
+// Returns the order with this name, or forward if there is no name.
 fn order_named(name: Option<&str>) -> Order {
     match name {
         Some("reverse") => Order::Reverse,

@@ -8,10 +8,10 @@ use job_edits::Target;
 use job_tree::Name;
 use std::alloc::{AllocError, Global};
 
-// The most values of a sweep.
+// The maximum number of values of a sweep.
 const MOST_VALUES: u32 = 100_000;
 
-/// The number that a sweep varies, by the name of a scope or nursery or by a place.
+/// Returns the number that a sweep varies, given the name of a scope or nursery, or a place.
 pub(crate) fn target_of(
     alloc: Global,
     of: Option<&str>,
@@ -27,7 +27,7 @@ pub(crate) fn target_of(
     }
 }
 
-// The deadline of the scope or nursery of a name.
+// Returns the deadline of the scope or nursery with this name as a target.
 fn named_target(alloc: Global, word: &str) -> Result<Target, CommandFault> {
     if let Some(name) = Name::new(word.as_bytes()) {
         return Ok(Target::DeadlineOf(name));
@@ -38,7 +38,7 @@ fn named_target(alloc: Global, word: &str) -> Result<Target, CommandFault> {
     Err(CommandFault::Refused { text })
 }
 
-// The number at a place, as `4:18`.
+// Returns the number at a place, such as `4:18`, as a target.
 fn placed_target(alloc: Global, place: &str) -> Result<Target, CommandFault> {
     if let Some((line, column)) = place.split_once(':') {
         if let (Ok(line), Ok(column)) = (line.parse::<usize>(), column.parse::<usize>()) {
@@ -57,7 +57,8 @@ struct Span {
     step: u32,
 }
 
-/// The values that a text gives, as `1..60` or `1..60:5`.
+/// Returns the values of a text such as `1..60` or `1..60:5`: at least one and at most 100,000. The error refuses
+/// any other text, or is that memory was refused.
 pub(crate) fn values_of(alloc: Global, text: &str) -> Result<Vec<u64>, CommandFault>
     ensures { IfOk result (λ values. AreValues values.items) }
 {
@@ -74,7 +75,7 @@ pub(crate) fn values_of(alloc: Global, text: &str) -> Result<Vec<u64>, CommandFa
     Ok(values_in(alloc, span)?)
 }
 
-// The values of a span.
+// Returns the values of a span.
 fn values_in(alloc: Global, span: Span) -> Result<Vec<u64>, AllocError>
     requires some_step { 1 ≤ span.step }
     requires ordered { span.first ≤ span.last }
@@ -85,7 +86,7 @@ fn values_in(alloc: Global, span: Span) -> Result<Vec<u64>, AllocError>
     values_from(alloc, first, step, (last - first) / step + 1)
 }
 
-// The numbers of a span, as `1..60` or `1..60:5`: a step of 1 where none is given.
+// Returns the numbers of a span such as `1..60` or `1..60:5`. The step is 1 if none is given.
 fn span_of(text: &str) -> Option<Span> {
     let (first, rest) = text.split_once("..")?;
     let (last, step) = match rest.split_once(':') {
@@ -99,7 +100,7 @@ fn span_of(text: &str) -> Option<Span> {
     })
 }
 
-// The refusal of words that are no span.
+// Returns the refusal of words that are not a span.
 fn refused_span(alloc: Global, text: &str) -> CommandFault {
     let message = format!(in alloc;
         "error: `{text}` gives no values: --values takes A..B or A..B:STEP, as 1..60 or 10..100:5, with A at most B and STEP at least 1\n"
@@ -110,7 +111,7 @@ fn refused_span(alloc: Global, text: &str) -> CommandFault {
     }
 }
 
-// So many values from a first one on, each a step above the one before it.
+// Returns `count` values from a first one on, each a step above the one before it.
 fn values_from(alloc: Global, first: u32, step: u32, count: u32) -> Result<Vec<u64>, AllocError>
     ensures { IfOk result (λ values. values.items ≡ values_from first step count) }
 {
