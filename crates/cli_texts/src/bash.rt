@@ -31,7 +31,7 @@ const BACK: &str = "    esac
 complete -o filenames -F _nursery nursery
 ";
 
-// The script for bash.
+// Returns the script for bash.
 pub(crate) fn script(alloc: Global, command: &Command<'_>) -> Result<String, AllocError> {
     let mut out = String::from_str(alloc, FRONT)?;
     push_commands(&mut out, command)?;
@@ -43,7 +43,7 @@ pub(crate) fn script(alloc: Global, command: &Command<'_>) -> Result<String, All
     Ok(out)
 }
 
-// The case of a command: the words that an option takes, and the command's options.
+// Appends the case of a command: the words that an option takes, and the options of the command.
 fn push_command(out: &mut String, command: &Command<'_>) -> Result<(), AllocError> {
     out.push_str("        ")?;
     out.push_str(command.get_name())?;
@@ -60,7 +60,7 @@ fn push_command(out: &mut String, command: &Command<'_>) -> Result<(), AllocErro
     out.push_str("\"\n            ;;\n")
 }
 
-// A case for each option that takes a word.
+// Appends a case for each option that takes a word.
 fn push_values(out: &mut String, command: &Command<'_>) -> Result<(), AllocError> {
     for arg in command.get_arguments() {
         if let Some(long) = arg.get_long()
@@ -72,7 +72,7 @@ fn push_values(out: &mut String, command: &Command<'_>) -> Result<(), AllocError
     Ok(())
 }
 
-// The case of an option: the words that it takes are offered, or none.
+// Appends the case of an option: the words that it takes, if they are a fixed list.
 fn push_value(out: &mut String, long: &str, arg: &Arg<'_>) -> Result<(), AllocError> {
     out.push_str("                --")?;
     out.push_str(long)?;
@@ -81,7 +81,7 @@ fn push_value(out: &mut String, long: &str, arg: &Arg<'_>) -> Result<(), AllocEr
     out.push_str("\" -- \"$2\")); return ;;\n")
 }
 
-// The command's options, with a space in front of each.
+// Appends the options of a command, with a space before each.
 fn push_options(out: &mut String, command: &Command<'_>) -> Result<(), AllocError> {
     for arg in command.get_arguments() {
         if let Some(long) = arg.get_long() {

@@ -9,7 +9,7 @@ const FRONT: &str =
 complete -c nursery -n __fish_use_subcommand -f -a help -d 'Print the help of a command'
 ";
 
-// The script for fish.
+// Returns the script for fish.
 pub(crate) fn script(alloc: Global, command: &Command<'_>) -> Result<String, AllocError> {
     let mut out = String::from_str(alloc, FRONT)?;
     for inner in command.get_subcommands() {
@@ -21,7 +21,7 @@ pub(crate) fn script(alloc: Global, command: &Command<'_>) -> Result<String, All
     Ok(out)
 }
 
-// A command with what it does.
+// Appends a command with its description.
 fn push_name(out: &mut String, command: &Command<'_>) -> Result<(), AllocError> {
     out.push_str("complete -c nursery -n __fish_use_subcommand -f -a ")?;
     out.push_str(command.get_name())?;
@@ -30,7 +30,7 @@ fn push_name(out: &mut String, command: &Command<'_>) -> Result<(), AllocError> 
     out.push_str("'\n")
 }
 
-// The words and the options of a command.
+// Appends the words and the options of a command.
 fn push_command(out: &mut String, command: &Command<'_>) -> Result<(), AllocError> {
     if takes_words(command) {
         push_front(out, command.get_name())?;
@@ -46,7 +46,7 @@ fn push_command(out: &mut String, command: &Command<'_>) -> Result<(), AllocErro
     Ok(())
 }
 
-// An option with what it does, and the words that it takes.
+// Appends an option with its description, and the words that it takes.
 fn push_option(out: &mut String, name: &str, arg: &Arg<'_>, long: &str) -> Result<(), AllocError> {
     push_front(out, name)?;
     out.push_str("-l ")?;
@@ -61,7 +61,7 @@ fn push_option(out: &mut String, name: &str, arg: &Arg<'_>, long: &str) -> Resul
     out.push_str("'\n")
 }
 
-// What stands in front of what is offered after a command.
+// Appends what comes before the words that are offered after a command.
 fn push_front(out: &mut String, name: &str) -> Result<(), AllocError> {
     out.push_str("complete -c nursery -n '__fish_seen_subcommand_from ")?;
     out.push_str(name)?;

@@ -1,7 +1,7 @@
 //! The completions of `nursery` for bash, zsh and fish, and its man page.
 //!
-//! They are made from the table that the command line is read with (`nursery_cli::command_line`), so they cannot name a command or an option that the
-//! program does not have. What they hold is tested, and no clause says it.
+//! They are made from the table with which the command line is read (`nursery_cli::command_line`), so they cannot name a
+//! command or an option that the program does not have. What they contain is tested; no contract says anything about it.
 #![tactic(auto)]
 
 mod bash;
@@ -14,7 +14,7 @@ pub use manual::man_page;
 use nursery_cli::{Shell, command_line};
 use std::alloc::{AllocError, Global};
 
-/// The script that completes the words of `nursery` in a shell. Want of memory is the only error.
+/// Returns the script that completes the words of `nursery` in a shell. The only error is that memory was refused.
 pub fn completions(alloc: Global, shell: Shell) -> Result<String, AllocError> {
     let command = command_line(alloc)?;
     match shell {

@@ -16,7 +16,8 @@ const BACK: &str = ".SH SEE ALSO
 The folder docs/ of the repository: the job language, its formats and its meaning.
 ";
 
-/// The man page, as text for troff: a section for each command, with its help. Want of memory is the only error.
+/// Returns the man page as text for troff: a section for each command, with its help. The only error is that memory
+/// was refused.
 pub fn man_page(alloc: Global) -> Result<String, AllocError> {
     let command = command_line(alloc)?;
     let mut out = String::from_str(alloc, FRONT)?;
@@ -28,7 +29,7 @@ pub fn man_page(alloc: Global) -> Result<String, AllocError> {
     Ok(out)
 }
 
-// The help of a command, or of the program where the name is empty.
+// Appends the help of a command, or of the program if the name is empty.
 fn push_section(alloc: Global, out: &mut String, name: &str) -> Result<(), AllocError> {
     out.push_str(".SH ")?;
     if name.is_empty() {
@@ -45,7 +46,7 @@ fn push_section(alloc: Global, out: &mut String, name: &str) -> Result<(), Alloc
     out.push_str(".fi\n")
 }
 
-// A line that stands as it is: nothing in it is read as a request or an escape.
+// Appends a line of plain text, so that troff reads nothing in it as a request or an escape.
 fn push_line(out: &mut String, line: &str) -> Result<(), AllocError> {
     out.push_str("\\&")?;
     for c in line.chars() {

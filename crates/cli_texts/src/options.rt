@@ -2,7 +2,7 @@ use clap::builder::ValueParser;
 use clap::{Arg, Command};
 use std::alloc::AllocError;
 
-// Appends the names of the commands, with a space in front of each.
+// Appends the names of the commands, with a space before each.
 pub(crate) fn push_commands(out: &mut String, command: &Command<'_>) -> Result<(), AllocError> {
     for inner in command.get_subcommands() {
         out.push_str(" ")?;
@@ -11,17 +11,17 @@ pub(crate) fn push_commands(out: &mut String, command: &Command<'_>) -> Result<(
     Ok(())
 }
 
-// What the help says of a command.
+// Returns the description of a command, as the help prints it.
 pub(crate) fn about_of<'a>(command: &Command<'a>) -> &'a str {
     command.get_about().unwrap_or("")
 }
 
-// What the help says of an option.
+// Returns the description of an option, as the help prints it.
 pub(crate) fn help_of<'a>(arg: &Arg<'a>) -> &'a str {
     arg.get_help().unwrap_or("")
 }
 
-// Appends the words of which an argument is one, with a space between two; nothing where it may be any word.
+// Appends the words that an argument may be, with a space between two, or nothing if it may be any word.
 pub(crate) fn push_choices(out: &mut String, arg: &Arg<'_>) -> Result<(), AllocError> {
     match arg.get_value_parser() {
         ValueParser::Names(names) => push_words(out, names),
@@ -29,12 +29,12 @@ pub(crate) fn push_choices(out: &mut String, arg: &Arg<'_>) -> Result<(), AllocE
     }
 }
 
-// Whether an argument is one of some words.
+// Returns whether an argument must be one of a fixed list of words.
 fn has_choices(arg: &Arg<'_>) -> bool {
     matches!(arg.get_value_parser(), ValueParser::Names(_))
 }
 
-// Whether what follows a command is one of some words, and no file.
+// Returns whether what follows a command is one of a fixed list of words, and not a file.
 pub(crate) fn takes_words(command: &Command<'_>) -> bool {
     for arg in command.get_arguments() {
         if arg.is_positional() && has_choices(arg) {
@@ -44,7 +44,7 @@ pub(crate) fn takes_words(command: &Command<'_>) -> bool {
     false
 }
 
-// Appends these words.
+// Appends the words that may follow the command, if they are a fixed list.
 pub(crate) fn push_command_words(
     out: &mut String,
     command: &Command<'_>,
@@ -57,7 +57,7 @@ pub(crate) fn push_command_words(
     Ok(())
 }
 
-// Whether an option of the command takes a word.
+// Returns whether an option of the command takes a word.
 pub(crate) fn has_values(command: &Command<'_>) -> bool {
     for arg in command.get_arguments() {
         if arg.get_long().is_some() && arg.get_action().takes_values() {
@@ -80,7 +80,7 @@ fn push_words(out: &mut String, words: &[&str]) -> Result<(), AllocError> {
     Ok(())
 }
 
-// Appends a text, with a backslash in front of each of some characters.
+// Appends a text, with a backslash before each of the given characters.
 pub(crate) fn push_escaped(out: &mut String, text: &str, special: &str) -> Result<(), AllocError> {
     for c in text.chars() {
         if special.contains(c) {

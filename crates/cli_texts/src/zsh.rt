@@ -30,7 +30,7 @@ else
 fi
 ";
 
-// The script for zsh.
+// Returns the script for zsh.
 pub(crate) fn script(alloc: Global, command: &Command<'_>) -> Result<String, AllocError> {
     let mut out = String::from_str(alloc, FRONT)?;
     for inner in command.get_subcommands() {
@@ -44,7 +44,7 @@ pub(crate) fn script(alloc: Global, command: &Command<'_>) -> Result<String, All
     Ok(out)
 }
 
-// A command with what it does.
+// Appends a command with its description.
 fn push_name(out: &mut String, command: &Command<'_>) -> Result<(), AllocError> {
     out.push_str("        '")?;
     out.push_str(command.get_name())?;
@@ -53,7 +53,7 @@ fn push_name(out: &mut String, command: &Command<'_>) -> Result<(), AllocError> 
     out.push_str("'\n")
 }
 
-// The case of a command: its options, and files.
+// Appends the case of a command: its options, and files.
 fn push_command(out: &mut String, command: &Command<'_>) -> Result<(), AllocError> {
     out.push_str("        ")?;
     out.push_str(command.get_name())?;
@@ -71,7 +71,7 @@ fn push_command(out: &mut String, command: &Command<'_>) -> Result<(), AllocErro
     out.push_str(")'\n            ;;\n")
 }
 
-// An option with what it does, and the words that it takes.
+// Appends an option with its description, and the words that it takes.
 fn push_option(out: &mut String, arg: &Arg<'_>, long: &str) -> Result<(), AllocError> {
     let takes_values = arg.get_action().takes_values();
     out.push_str("                '--")?;
@@ -90,7 +90,7 @@ fn push_option(out: &mut String, arg: &Arg<'_>, long: &str) -> Result<(), AllocE
     out.push_str("' \\\n")
 }
 
-// A text between single quotes, in which brackets and colons mean something.
+// Appends a text that comes between single quotes. Brackets and colons in it are escaped, since they have a meaning there.
 fn push_quoted(out: &mut String, text: &str) -> Result<(), AllocError> {
     let mut is_first = true;
     for part in text.split('\'') {
