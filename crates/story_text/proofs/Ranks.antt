@@ -126,7 +126,7 @@ module _ {X : Type 0} (key : X → ℕ) where
 
   -- ---- both together
 
-  -- some element is as late as another
+  -- one element is as late as another
   AreAtLeast-found : (n : ℕ) (x : X) (ys : List X) (w : X) (ws : List X) → AreAtLeast n ys → filter (same x) ys ≡ w ∷ ws → n ≤ key x
   AreAtLeast-found n x [] w ws h e = cc
   AreAtLeast-found n x (y ∷ ys) w ws h e =

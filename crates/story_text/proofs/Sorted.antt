@@ -1,4 +1,4 @@
--- Events in order are those that a stable sort by tick gives.
+-- Events in order are the result of a stable sort by tick.
 use Rattle.std.proofs.Common.{◌≡◌, ℕ, List, [], ◌∷◌, nat_cmp, refl, sym, ap, ◌∙◌, inl, inr}
 use Rattle.std.proofs.lemmas.Bool.{cond-true, cond-false, cases_Bool}
 use Rattle.std.specs.Borrow.{Bor}

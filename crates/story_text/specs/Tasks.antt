@@ -1,4 +1,4 @@
--- The events of which the tasks are known.
+-- The events from which the tasks are known.
 use Rattle.std.specs.Prelude.{List, map}
 use Rattle.job_story.specs.Events as told
 use Rattle.story_causes.specs.Seen.{seen}

@@ -10,6 +10,6 @@ use Rattle.story_text.specs.declared.known.Known.{Known}
 abbrev pub events_in : Known → List told.Event
 events_in known = map seen known.events.now
 
--- from which tick each label is cancelled
+-- the tick from which each label is cancelled
 abbrev pub froms_in : Known → Table
 froms_in known = table_in known.froms.now

@@ -13,7 +13,8 @@ use job_story::{Event, Froms};
 use story_causes::{Cause, Causes, Entering};
 
 impl<'k, 'e> Known<'k, 'e> {
-    /// What is known by an index of these events and this table.
+    /// Puts together the events of a story in order, the table of cancellations, and the index of both. The caller must ensure
+    /// that the index was created from these events and this table.
     pub fn new(events: &'k [&'e Event], froms: &'k Froms, causes: &'k Causes<'e>) -> Known<'k, 'e>
         requires { Knows causes.now (table_in froms.now) (map seen events.now) }
         ensures events { events_in result ≡ map seen events.now }
@@ -26,21 +27,21 @@ impl<'k, 'e> Known<'k, 'e> {
         }
     }
 
-    // How a scope or nursery was first entered: none where it never was.
+    // Returns how a scope or nursery was first entered, or `None` if it never was.
     pub(crate) fn entering(&self, label: &Label) -> Option<Entering>
         ensures { option_map entering_in_code result ≡ entering_of label.now (events_in self.now) }
     {
         self.causes.entering(label)
     }
 
-    // Why it is cancelled: none where it never is.
+    // Returns why a scope or nursery is cancelled, or `None` if it never is.
     pub(crate) fn cause(&self, label: &Label) -> Option<Cause<'e>>
         ensures { option_map cause_in_code result ≡ cause_of (froms_in self.now) (events_in self.now) label.now }
     {
         self.causes.cause(label)
     }
 
-    // From which tick it is cancelled: none is never.
+    // Returns the tick from which a scope or nursery is cancelled, or `None` if it never is.
     pub(crate) fn from(&self, label: &Label) -> Option<u64>
         ensures { result ≡ froms_in self.now label.now }
     {

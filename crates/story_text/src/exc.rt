@@ -6,7 +6,8 @@ use crate::label::{push_label, push_place};
 use exc_groups::{Exc, Whose};
 use std::alloc::AllocError;
 
-/// Appends who made a group of exceptions: the label of a nursery, or `*` for a handler. Want of memory is the only error.
+/// Appends the origin of a group of exceptions: the label of a nursery, or `*` for a handler. Returns `AllocError` if memory is
+/// refused.
 pub fn push_whose(out: &mut Vec<u8>, whose: &Whose) -> Result<(), AllocError>
     ensures { OnOk result (out.new.items ≡ out.old.items ++ whose_text (whose_of whose.now)) }
 {
@@ -16,7 +17,7 @@ pub fn push_whose(out: &mut Vec<u8>, whose: &Whose) -> Result<(), AllocError>
     }
 }
 
-/// Appends how an exception is written: a group with its parts in brackets. Want of memory is the only error.
+/// Appends the text of an exception, in which a group has its parts in brackets. Returns `AllocError` if memory is refused.
 #[cycle(exc)]
 pub fn push_exc(out: &mut Vec<u8>, exc: &Exc) -> Result<(), AllocError>
     ensures { OnOk result (out.new.items ≡ out.old.items ++ exc_text (exc_of exc.now)) }
@@ -52,7 +53,7 @@ fn push_parts(out: &mut Vec<u8>, parts: &[Exc]) -> Result<(), AllocError>
     push_more(out, others)
 }
 
-// Appends each part after a comma and a space.
+// Appends each part, with a comma and a space before it.
 #[cycle(exc)]
 fn push_more(out: &mut Vec<u8>, parts: &[Exc]) -> Result<(), AllocError>
     ensures { OnOk result (out.new.items ≡ out.old.items ++ more_text (excs_of parts.now)) }

@@ -6,8 +6,8 @@ ghost use Rattle.story_causes.specs.Seen.{seen};
 use job_story::{Event, Froms};
 use story_causes::Causes;
 
-/// The events of a story in order, from which tick its scopes and nurseries are cancelled, and the index of both: what the sentences of
-/// the story are written by.
+/// What is needed to write the sentences of a story: its events in order, the table with the ticks from which its scopes and
+/// nurseries are cancelled, and the index of both.
 #[derive(Drop)]
 pub struct Known<'k, 'e> {
     pub(crate) events: &'k [&'e Event],

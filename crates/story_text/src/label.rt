@@ -5,7 +5,7 @@ use exc_groups::Label;
 use itoa::Buffer;
 use std::alloc::AllocError;
 
-/// Appends a number in decimal digits. Want of memory is the only error.
+/// Appends a number in decimal digits. Returns `AllocError` if memory is refused.
 pub fn push_number(out: &mut Vec<u8>, n: u64) -> Result<(), AllocError>
     ensures { OnOk result (out.new.items ≡ out.old.items ++ decimal n) }
 {
@@ -13,7 +13,8 @@ pub fn push_number(out: &mut Vec<u8>, n: u64) -> Result<(), AllocError>
     out.extend_from_slice(buffer.format(n).as_bytes())
 }
 
-/// Appends how a label is written: its name, then a dot and the index for each index. Want of memory is the only error.
+/// Appends the text of a label: its name, and then a dot and the number for each index. Returns `AllocError` if memory is
+/// refused.
 pub fn push_label(out: &mut Vec<u8>, label: &Label) -> Result<(), AllocError>
     ensures { OnOk result (out.new.items ≡ out.old.items ++ label_text label.now) }
 {
@@ -22,7 +23,7 @@ pub fn push_label(out: &mut Vec<u8>, label: &Label) -> Result<(), AllocError>
     push_indices(out, label.indices())
 }
 
-// Appends a dot and the index for each index.
+// Appends a dot and the number for each index.
 fn push_indices(out: &mut Vec<u8>, indices: &[u64]) -> Result<(), AllocError>
     ensures { OnOk result (out.new.items ≡ out.old.items ++ indices_text indices.now) }
 {
@@ -35,7 +36,7 @@ fn push_indices(out: &mut Vec<u8>, indices: &[u64]) -> Result<(), AllocError>
     Ok(())
 }
 
-// Appends the label and the tick, as `(p.1@7)`.
+// Appends a label and a tick, as `(p.1@7)`.
 pub(crate) fn push_place(out: &mut Vec<u8>, label: &Label, tick: u64) -> Result<(), AllocError>
     ensures { OnOk result (out.new.items ≡ out.old.items ++ at_text label.now tick) }
 {
@@ -46,7 +47,7 @@ pub(crate) fn push_place(out: &mut Vec<u8>, label: &Label, tick: u64) -> Result<
     out.extend_from_slice(b")")
 }
 
-// Appends the label, and spaces up to a width.
+// Appends a label, and spaces up to a width.
 pub(crate) fn push_padded(out: &mut Vec<u8>, width: usize, label: &Label) -> Result<(), AllocError>
     ensures { OnOk result (out.new.items ≡ out.old.items ++ padded width (label_text label.now)) }
 {
@@ -56,7 +57,7 @@ pub(crate) fn push_padded(out: &mut Vec<u8>, width: usize, label: &Label) -> Res
     push_spaces(out, width.saturating_sub(len))
 }
 
-// Appends so many spaces.
+// Appends this many spaces.
 fn push_spaces(out: &mut Vec<u8>, count: usize) -> Result<(), AllocError>
     ensures { OnOk result (out.new.items ≡ out.old.items ++ replicate count 32) }
 {

@@ -17,9 +17,9 @@ use exc_groups::Label;
 use job_story::{Event, Happening, What};
 use std::alloc::{AllocError, Global};
 
-/// The text of some events of a story up to a limit, in order (`sorted`) and in the order of the walk (`walked`), with all events up to the
-/// limit in view. A line for the limit comes after the story, and then one for each of their tasks that has not ended, with what it is
-/// doing. Want of memory is the only error.
+/// Returns the text of selected events of a story up to a limit. The events are given in order (`sorted`) and in the order of the
+/// walk (`walked`), and `known` has all events up to the limit. After the story come a line for the limit, and a line for each
+/// task of the selected events that has not ended, with what it is doing. Returns `AllocError` if memory is refused.
 pub fn kept_text_to<'e>(
     alloc: Global,
     sorted: &[&'e Event],
@@ -39,8 +39,8 @@ pub fn kept_text_to<'e>(
     Ok(out)
 }
 
-/// What the tasks of a story are doing that have not ended by these events, in order (`sorted`) and in the order of the walk (`walked`): a
-/// line for each, as at the end of `kept_text_to`. Want of memory is the only error.
+/// Returns a line for each task that has not ended in these events, with what it is doing, as at the end of `kept_text_to`. The
+/// events are given in order (`sorted`) and in the order of the walk (`walked`). Returns `AllocError` if memory is refused.
 pub fn still_running(
     alloc: Global,
     sorted: &[&Event],
@@ -99,14 +99,14 @@ fn push_if_running(
     Ok(())
 }
 
-// Whether an event is the start of a task that has not ended.
+// Returns whether an event is the start of a task that has not ended.
 fn is_running(event: &Event, tasks: &Tasks<'_, '_>) -> bool
     ensures { result ≡ (is_start (what_of event.now.what) && not (has_ended event.now.task (walked_in tasks.now))) }
 {
     starts(&event.what) && !tasks.has_ended(&event.task)
 }
 
-// Whether an event is the start of a task.
+// Returns whether an event is the start of a task.
 fn starts(what: &What) -> bool
     ensures { result ≡ is_start (what_of what.now) }
 {

@@ -11,8 +11,8 @@ use crate::ticks::is_tick;
 use job_story::Event;
 use std::alloc::{AllocError, Global};
 
-/// The text of some events of a story in order, with all of its events in view: a line for each tick in which something happens, and one
-/// for each event. Want of memory is the only error.
+/// Returns the text of selected events of a story, in order: a line for each tick in which one happens, and a line for each
+/// event. Causes are looked up among all events of the story, which `known` has. Returns `AllocError` if memory is refused.
 pub fn kept_text(
     alloc: Global,
     kept: &[&Event],
@@ -26,7 +26,7 @@ pub fn kept_text(
     Ok(out)
 }
 
-// The length of the longest label.
+// Returns the length of the longest label, in bytes.
 pub(crate) fn label_width(alloc: Global, events: &[&Event]) -> Result<usize, AllocError>
     ensures { IfOk result (λ width. width ≡ widest (map seen events.now)) }
 {
@@ -40,7 +40,7 @@ pub(crate) fn label_width(alloc: Global, events: &[&Event]) -> Result<usize, All
     Ok(width)
 }
 
-// Appends the lines for all events, each after the line for its tick where the one before it is of another tick.
+// Appends the lines for all events, each after the line for its tick if the event before it is of another tick.
 pub(crate) fn push_lines(
     out: &mut Vec<u8>,
     known: &Known<'_, '_>,
@@ -59,7 +59,7 @@ pub(crate) fn push_lines(
     Ok(())
 }
 
-// Appends the line for a tick, unless the event before was in the same.
+// Appends the line for a tick, unless the event before was in the same tick.
 fn push_tick(out: &mut Vec<u8>, before: Option<u64>, tick: u64) -> Result<(), AllocError>
     ensures { OnOk result (out.new.items ≡ out.old.items ++ tick_text before tick) }
 {

@@ -5,7 +5,8 @@ ghost use Rattle.story_causes.specs.Seen.{seen};
 use job_story::Event;
 use std::alloc::{AllocError, Global};
 
-/// The events of a walk in order: by tick, and within a tick in the order of the walk. Want of memory is the only error.
+/// Returns the events of a walk sorted by tick. Events of the same tick keep the order of the walk. Returns `AllocError` if
+/// memory is refused.
 pub fn in_order<'e>(alloc: Global, walked: &[&'e Event]) -> Result<Vec<&'e Event>, AllocError>
     ensures { IfOk result (λ sorted. map seen sorted.items ≡ ordered (map seen walked.now)) }
 {
@@ -14,7 +15,7 @@ pub fn in_order<'e>(alloc: Global, walked: &[&'e Event]) -> Result<Vec<&'e Event
     Ok(events)
 }
 
-// Sorts events by tick. Those of one tick keep their order.
+// Sorts events by tick. Events of the same tick keep their order.
 fn sort_by_tick(alloc: Global, events: &mut [&Event]) -> Result<(), AllocError>
     ensures { OnOk result (map seen events.new ≡ ordered (map seen events.old)) }
 {

@@ -154,7 +154,7 @@ fn push_shield(out: &mut Vec<u8>, shield: bool) -> Result<(), AllocError>
     }
 }
 
-// Appends until when a task sleeps.
+// Appends the tick until which a task sleeps, or that it sleeps forever.
 pub(crate) fn push_until(out: &mut Vec<u8>, until: Option<u64>) -> Result<(), AllocError>
     ensures { OnOk result (out.new.items ≡ out.old.items ++ until_text until) }
 {
@@ -176,7 +176,7 @@ fn push_cleanup(out: &mut Vec<u8>, in_cleanup: bool) -> Result<(), AllocError>
     }
 }
 
-// Appends since when a task that is cancelled slept.
+// Appends the tick since which a task slept that is cancelled, or that it was cancelled at a checkpoint.
 fn push_since(out: &mut Vec<u8>, since: Option<u64>) -> Result<(), AllocError>
     ensures { OnOk result (out.new.items ≡ out.old.items ++ since_text since) }
 {
@@ -187,7 +187,7 @@ fn push_since(out: &mut Vec<u8>, since: Option<u64>) -> Result<(), AllocError>
     push_number(out, tick)
 }
 
-// Appends by which scope or nursery a task is cancelled, and why that is cancelled.
+// Appends the scope or nursery by which a task is cancelled, and why that is cancelled.
 fn push_by(out: &mut Vec<u8>, known: &Known<'_, '_>, by: &Option<Label>) -> Result<(), AllocError>
     ensures { OnOk result (out.new.items ≡ out.old.items ++ cancelled_text (froms_in known.now) (events_in known.now) by.now) }
 {
@@ -216,7 +216,7 @@ fn push_cause(out: &mut Vec<u8>, cause: &Cause<'_>) -> Result<(), AllocError>
     }
 }
 
-// Appends the task and the tick of a cause between words, and a bracket.
+// Appends the task and the tick of a cause between these words, and a closing bracket.
 fn push_act(
     out: &mut Vec<u8>,
     before: &[u8],
@@ -233,7 +233,7 @@ fn push_act(
     out.extend_from_slice(b")")
 }
 
-// Appends a label, after the word for what it is where that is known.
+// Appends a label, after the word for its kind if that is known.
 fn push_entered(
     out: &mut Vec<u8>,
     entering: Option<Entering>,
@@ -248,7 +248,7 @@ fn push_entered(
     push_label(out, label)
 }
 
-// Appends how many lines a kernel answered.
+// Appends how many lines a kernel found.
 fn push_finds(out: &mut Vec<u8>, count: usize) -> Result<(), AllocError>
     ensures { OnOk result (out.new.items ≡ out.old.items ++ (codes "finds " ++ count_text count)) }
 {
@@ -261,7 +261,7 @@ fn push_finds(out: &mut Vec<u8>, count: usize) -> Result<(), AllocError>
     }
 }
 
-// Appends what a task cancels, and from when on, unless that is cancelled already.
+// Appends what a task cancels, and from which tick on, or that it is already cancelled.
 fn push_cancels(
     out: &mut Vec<u8>,
     known: &Known<'_, '_>,
@@ -282,7 +282,7 @@ fn push_cancels(
     push_number(out, from)
 }
 
-// Appends what a handler handles, and what is left of the exception.
+// Appends what a handler handles, and the rest of the exception.
 fn push_handles(out: &mut Vec<u8>, matched: &Exc, rest: &Option<Box<Exc>>) -> Result<(), AllocError>
     ensures { OnOk result (out.new.items ≡ out.old.items
         ++ (codes "handles " ++ exc_text (exc_of matched.now) ++ with_exc (codes ", ") (boxed rest.now) (codes " propagates"))) }
@@ -308,7 +308,7 @@ fn push_after(out: &mut Vec<u8>, exc: &Option<Box<Exc>>) -> Result<(), AllocErro
     push_exc(out, exc)
 }
 
-// Appends the exception that is lost, and the one in its place.
+// Appends the exception that is lost, and the one that replaces it.
 fn push_replaces(out: &mut Vec<u8>, lost: &Exc, fresh: &Exc) -> Result<(), AllocError>
     ensures { OnOk result (out.new.items
         ≡ out.old.items ++ (codes "replaces " ++ exc_text (exc_of lost.now) ++ codes " with " ++ exc_text (exc_of fresh.now))) }
@@ -337,7 +337,7 @@ fn push_waits(
     push_sign(out, known, nursery, exc, tick)
 }
 
-// Appends that the nursery is cancelled from the next tick on, if it is, where a task or its body ends with an exception.
+// Appends that the nursery is cancelled from the next tick on, if it is and its child or body ends with an exception.
 fn push_sign(
     out: &mut Vec<u8>,
     known: &Known<'_, '_>,
@@ -360,7 +360,7 @@ fn push_sign(
     push_number(out, from)
 }
 
-// The same of the nursery in which a task was started, if it was.
+// Appends the same for the nursery in which a task was started, if there is one.
 fn push_home_sign(
     out: &mut Vec<u8>,
     known: &Known<'_, '_>,
@@ -388,7 +388,7 @@ fn push_leaves(out: &mut Vec<u8>, kind: Kind, label: &Label) -> Result<(), Alloc
     out.extend_from_slice(b": ")
 }
 
-// Appends with what a scope or nursery is left: that its inside completed, or its exception, and whether it caught a cancellation.
+// Appends how a scope or nursery is left: that its inside completed, or its exception and whether it caught a cancellation.
 fn push_leaving(
     out: &mut Vec<u8>,
     inside: &Option<Box<Exc>>,
@@ -409,7 +409,7 @@ fn push_leaving(
     out.extend_from_slice(b" propagates")
 }
 
-// Appends what goes on where a cancellation was caught: what is left, or a `TooSlow` where nothing is.
+// Appends what propagates after a cancellation was caught: the rest of the exception, or a `TooSlow` if nothing is left.
 fn push_caught(
     out: &mut Vec<u8>,
     inside: &Exc,
@@ -440,7 +440,7 @@ fn push_end(out: &mut Vec<u8>, exc: &Option<Box<Exc>>) -> Result<(), AllocError>
     push_outcome(out, exc)
 }
 
-// Appends how a task ended that ended with an exception.
+// Appends how a task ended, if it ended with an exception.
 fn push_outcome(out: &mut Vec<u8>, exc: &Exc) -> Result<(), AllocError>
     ensures { OnOk result (out.new.items ≡ out.old.items ++ end_text (Some (exc_of exc.now))) }
 {
@@ -453,7 +453,7 @@ fn push_outcome(out: &mut Vec<u8>, exc: &Exc) -> Result<(), AllocError>
     }
 }
 
-// Appends the nursery in which a task starts, if it does in one.
+// Appends the nursery in which a task starts, if there is one.
 fn push_home(out: &mut Vec<u8>, home: &Option<Label>) -> Result<(), AllocError>
     ensures { OnOk result (out.new.items ≡ out.old.items ++ home_text home.now) }
 {

@@ -11,8 +11,8 @@ use indexmap::{IndexMap, IndexSet};
 use job_story::{Event, What};
 use std::alloc::{AllocError, Global};
 
-// What is known of the tasks of a story: who has ended, by the events in the order of the walk, and what each did last, by the events
-// in order. A look-up takes constant time.
+// What is known of the tasks of a story: which tasks have ended, from the events in the order of the walk, and what each did
+// last, from the events in order. A look-up takes constant time.
 #[derive(Drop)]
 pub(crate) struct Tasks<'s, 'e> {
     pub sorted: &'s [&'e Event],
@@ -24,7 +24,7 @@ pub(crate) struct Tasks<'s, 'e> {
 }
 
 impl<'s, 'e> Tasks<'s, 'e> {
-    // The tasks of these events. Each event takes constant time.
+    // Collects the tasks of these events. Each event takes constant time.
     pub(crate) fn of(
         alloc: Global,
         sorted: &'s [&'e Event],
@@ -43,14 +43,14 @@ impl<'s, 'e> Tasks<'s, 'e> {
         })
     }
 
-    // Whether a task has ended.
+    // Returns whether a task has ended.
     pub(crate) fn has_ended(&self, label: &Label) -> bool
         ensures { result ≡ has_ended label.now (map seen self.now.walked.now) }
     {
         self.ended.contains(&label)
     }
 
-    // The last event of a task.
+    // Returns the last event of a task.
     pub(crate) fn last(&self, label: &Label) -> Option<&'e Event>
         ensures { last_text result ≡ last_of label.now (map seen self.now.sorted.now) [] }
     {
@@ -58,7 +58,7 @@ impl<'s, 'e> Tasks<'s, 'e> {
     }
 }
 
-// The tasks that end in these events.
+// Returns the tasks that end in these events.
 fn ended_tasks<'e>(alloc: Global, events: &[&'e Event]) -> Result<IndexSet<&'e Label>, AllocError>
     ensures { IfOk result (λ ended. (l : tree.Label) → is_among ended l ≡ has_ended l (map seen events.now)) }
 {
@@ -69,7 +69,7 @@ fn ended_tasks<'e>(alloc: Global, events: &[&'e Event]) -> Result<IndexSet<&'e L
     Ok(ended)
 }
 
-// Notes the task of an event that is its end.
+// Records the task of an event, if the event is its end.
 fn note_end<'e>(ended: &mut IndexSet<&'e Label>, event: &'e Event) -> Result<(), AllocError>
     ensures { OnOk result ((l : tree.Label) → is_among ended.new l
         ≡ (is_among ended.old l || (is_end (what_of event.entry.now.what) && same_label l event.entry.now.task))) }
@@ -81,7 +81,7 @@ fn note_end<'e>(ended: &mut IndexSet<&'e Label>, event: &'e Event) -> Result<(),
     Ok(())
 }
 
-// Whether an event is the end of a task.
+// Returns whether an event is the end of a task.
 fn ends(what: &What) -> bool
     ensures { result ≡ is_end (what_of what.now) }
 {
@@ -92,7 +92,7 @@ fn ends(what: &What) -> bool
     }
 }
 
-// The last event of each task.
+// Returns the last event of each task.
 fn last_events<'e>(
     alloc: Global,
     events: &[&'e Event],
@@ -106,7 +106,7 @@ fn last_events<'e>(
     Ok(lasts)
 }
 
-// Notes an event as the last of its task.
+// Records an event as the last of its task.
 fn note_last<'e>(
     lasts: &mut IndexMap<&'e Label, &'e Event>,
     event: &'e Event,

@@ -5,7 +5,7 @@ ghost use Rattle.story_text.specs.Told.{froms_in};
 use crate::known::Known;
 use exc_groups::Label;
 
-// Whether a tick that may never come is this one.
+// Returns whether `from` is this tick. `None` is never.
 pub(crate) fn is_tick(from: Option<u64>, tick: u64) -> bool
     ensures { result ≡ is_from from tick }
 {
@@ -15,7 +15,7 @@ pub(crate) fn is_tick(from: Option<u64>, tick: u64) -> bool
     }
 }
 
-// The tick after this one, where a scope or nursery is cancelled from then on.
+// Returns the tick after this one, if the scope or nursery is cancelled from exactly that tick on.
 pub(crate) fn next_from(known: &Known<'_, '_>, label: &Label, tick: u64) -> Option<u64>
     ensures value { IfSome result (λ from. from ≡ tick + 1) }
     ensures some { is_some result ≡ is_from (froms_in known.now label.now) (tick + 1) }
