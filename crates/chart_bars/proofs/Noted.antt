@@ -1,4 +1,4 @@
--- What the index has once an event is noted.
+-- What the index contains after an event is recorded.
 use Rattle.std.proofs.Common.{◌≡◌, refl, sym, ap, ◌∙◌, cond}
 use Rattle.std.specs.Prelude.{Bool, true, false, Option, Some, None, List, [], ◌∷◌, ◌++◌, map, is_some, IsSome, if◌then◌else◌}
 use Rattle.std.specs.Option.{option_map, option_or}
@@ -46,7 +46,7 @@ events_more old new k now e updates more l =
     ∙ noted_by (same_label k l) (λ m. get_by (λ n. same_label m n.now) old) k l now e refl more
     ∙ ap (λ b. events_at old l ++ (if b then seen e ∷ [] else [])) (same_label_equiv.symm k l)
 
--- an event that is written behind those that its task has
+-- an event that is appended to those of its task
 pub event_written : {S : Type 0} (old new : IndexMap (Bor Label) (Vec (Bor Event)) S) (k : Label) (had now : Vec (Bor Event)) (e : Bor Event) →
     (IsSome (get_by (λ m. same_label k m.now) old) →
     UpdatesBy (λ x y. same_label x.now y.now) (λ m. same_label k m.now) old new (Some now)) →
@@ -55,7 +55,7 @@ pub event_written : {S : Type 0} (old new : IndexMap (Bor Label) (Vec (Bor Event
 event_written old new k had now e updates there more l =
     events_more old new k now e (updates (ap is_some (sym there))).0 (more ∙ ap (λ o. items_of o ++ e ∷ []) there) l
 
--- an event that is put at a task that has none: the look-up that found none left the map as it was
+-- an event that is inserted for a task that has none: the look-up that found none left the map unchanged
 pub event_put : {S : Type 0} (old kept new : IndexMap (Bor Label) (Vec (Bor Event)) S) (k : Label) (none now : Vec (Bor Event)) (e : Bor Event) →
     kept ≡ old → UpdatesBy (λ x y. same_label x.now y.now) (λ m. same_label k m.now) kept new (Some now) →
     None ≡ get_by (λ m. same_label k m.now) old → none.items ≡ [] → now.items ≡ none.items ++ e ∷ [] →
@@ -65,7 +65,7 @@ event_put old kept new k none now e stays updates there empty more l =
     (more ∙ ap (λ es. es ++ e ∷ []) empty ∙ ap (λ o. items_of o ++ e ∷ []) (there ∙ ap (get_by (λ m. same_label k m.now)) (sym stays))) l
     ∙ ap (λ m. events_at m l ++ (if same_label l k then seen e ∷ [] else [])) stays
 
--- what comes after what is there
+-- what is appended to the events so far
 seen_or : (o : Option (Bor Event)) (b : Bool) (e : Bor Event) →
     option_map seen (option_or o (if b then Some e else None)) ≡ option_or (option_map seen o) (if b then Some (seen e) else None)
 seen_or None true e = refl

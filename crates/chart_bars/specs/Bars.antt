@@ -7,9 +7,10 @@ use Rattle.job_story.specs.Story.{enters, leaves}
 use Rattle.job_story.specs.Events.{What, happens, Event}
 use Rattle.job_story.specs.Limit.{is_start, is_end}
 
--- The bar of a task begins with its start and ends with its end, and the events of the task are its own. The bar of a scope or nursery
--- begins where it is entered and ends where it is left, and has no events of its own. A bar whose end is not told has none. The
--- bar of a scope or nursery has the tick from which that is cancelled, if that comes while it is entered.
+-- The bar of a task begins with its start and ends with its end, and the events of the task are its own. The bar of a scope or
+-- nursery begins where it is entered and ends where it is left, and has no events of its own. A bar has no end if the events do
+-- not contain it. The bar of a scope or nursery has the tick from which it is cancelled, if that comes between entering and
+-- leaving.
 pub record Bar : Type 0 where
   pub first : Event
   pub last : Option Event
@@ -34,7 +35,7 @@ task_bar all e = record { first = e; last = end_in (of_task e.task all); own = o
 
 -- ---- scopes and nurseries
 
--- whether a scope or nursery of this label is left
+-- whether the scope or nursery with this label is left
 abbrev pub is_left : Label → What → Bool
 is_left l (happens (leaves kind label inside caught outside)) = same_label l label
 is_left l _ = false
@@ -44,13 +45,13 @@ abbrev pub left_in : Label → List Event → Option Event
 left_in l [] = None
 left_in l (e ∷ es) = if is_left l e.what then Some e else left_in l es
 
--- whether a tick is no later than an event, or than the last tick that is told, if there is one
+-- whether a tick is not after an event, or not after the limit where there is no event
 abbrev pub is_by : Tick → Option Event → ℕ → Bool
 is_by until (Some e) t = nat_le t e.tick
 is_by (Some limit) None t = nat_le t limit
 is_by None None t = true
 
--- a tick, if it comes no earlier than one event and no later than the other
+-- a tick, if it is not before the first event and not after the last one or the limit
 abbrev pub tick_between : Tick → Event → Option Event → Tick → Tick
 tick_between until e last None = None
 tick_between until e last (Some t) = if nat_le e.tick t && is_by until last t then Some t else None
@@ -70,7 +71,7 @@ block_bars table until all (e ∷ es) = with_block table until all e e.what (blo
 
 -- ---- all of them
 
--- the bars of a task that starts with this event: its own, and below it those of what it entered
+-- the bars of a task that starts with this event: its own, and below it those of the scopes and nurseries that it entered
 abbrev pub bars_at : Table → Tick → List Event → Event → List Bar
 bars_at table until all e =
     if is_start e.what then task_bar all e ∷ block_bars table until all (of_task e.task all) else []
@@ -79,6 +80,7 @@ abbrev pub bars_from : Table → Tick → List Event → List Event → List Bar
 bars_from table until all [] = []
 bars_from table until all (e ∷ es) = bars_at table until all e ++ bars_from table until all es
 
--- the bars of a story, whole or up to a limit, by its events in the order of the walk: tasks in the order in which the walk starts them
+-- the bars of a story, whole or up to a limit, from its events in the order of the walk: tasks in the order in which the walk
+-- starts them
 abbrev pub bars_of : Table → Tick → List Event → List Bar
 bars_of table until es = bars_from table until es es

@@ -1,4 +1,4 @@
--- Bars as the code holds them.
+-- The bars of the code, as the definitions see them.
 use Rattle.std.specs.Prelude.{Bool, false, Option, Some, None, List, [], map}
 use Rattle.std.specs.Borrow.{Bor}
 use Rattle.std.specs.Option.{option_map}
@@ -12,7 +12,7 @@ use Rattle.story_causes.specs.Seen.{seen}
 use Rattle.chart_bars.specs.Bars as bars
 use Rattle.chart_bars.specs.declared.bar.Bar.{Bar}
 
--- an event that is borrowed, if there is one
+-- a borrowed event, if there is one
 abbrev pub event_seen : Option (Bor Event) → Option told.Event
 event_seen e = option_map seen e
 
@@ -20,7 +20,7 @@ abbrev pub bar_of : Bar → bars.Bar
 bar_of bar =
     record { first = seen bar.first; last = event_seen bar.last; own = map seen bar.own.now; cancelled = bar.cancelled }
 
--- the events that a map has at a task: none where it has no entry
+-- the events of a task in a map, or no events where it has no entry
 abbrev pub items_of : Option (Vec (Bor Event)) → List (Bor Event)
 items_of None = []
 items_of (Some events) = events.items
@@ -28,11 +28,11 @@ items_of (Some events) = events.items
 abbrev pub events_at : {S : Type 0} → IndexMap (Bor Label) (Vec (Bor Event)) S → Label → List told.Event
 events_at map_ l = map seen (items_of (get_by (λ k. same_label l k.now) map_))
 
--- the event that a map has at a label
+-- the event of a label in a map
 abbrev pub event_at : {S : Type 0} → IndexMap (Bor Label) (Bor Event) S → Label → Option told.Event
 event_at map_ l = event_seen (get_by (λ k. same_label l k.now) map_)
 
--- whether a label that is borrowed is this one
+-- whether a borrowed label is this one
 abbrev pub is_label : Label → Option (Bor Label) → Bool
 is_label l None = false
 is_label l (Some label) = same_label l label.now

@@ -4,6 +4,6 @@ use Rattle.job_story.specs.Events as told
 use Rattle.story_causes.specs.Seen.{seen}
 use Rattle.chart_bars.specs.declared.index.StoryIndex.{StoryIndex}
 
--- in the order of the walk
+-- the events, in the order of the walk
 abbrev pub walked_in : StoryIndex → List told.Event
 walked_in index = map seen index.walked.now

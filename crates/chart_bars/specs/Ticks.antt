@@ -11,6 +11,6 @@ abbrev pub ticks_of_events : List Event → List ℕ → List ℕ
 ticks_of_events [] ts = ts
 ticks_of_events (e ∷ es) ts = e.tick ∷ ticks_of_events es ts
 
--- those of the events, and the limit at which a story is cut off
+-- the ticks of the events, and the limit at which a story is cut off
 abbrev pub all_ticks : List Event → Tick → List ℕ
 all_ticks es until = ticks_of_events es (if_tick until [])

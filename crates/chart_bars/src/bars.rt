@@ -14,9 +14,9 @@ use job_story::{Event, Froms};
 use std::alloc::{AllocError, Global};
 
 impl<'s, 'e> StoryIndex<'s, 'e> {
-    /// The bars of a story, tasks in the order in which the walk starts them, and below each its scopes and nurseries in the order in which it
-    /// entered them. The table tells from when these are cancelled, and `until` is the last tick that is told, where the story is cut off at a
-    /// limit. Want of memory is the only error.
+    /// Returns the bars of a story, with the tasks in the order in which the walk starts them, and below each its scopes and
+    /// nurseries in the order in which it entered them. `froms` has the ticks from which these are cancelled. `until` is the last
+    /// tick of a story that is cut off at a limit, and `None` for a whole story. Returns `AllocError` if memory is refused.
     pub fn bars<'i>(
         &'i self,
         alloc: Global,
@@ -57,7 +57,7 @@ fn push_bars<'i, 'e>(
     push_blocks(bars, index, froms, until, own)
 }
 
-// The first event that is the end of a task.
+// Returns the first event that is the end of a task.
 fn end_in<'e>(events: &[&'e Event]) -> Option<&'e Event>
     ensures { event_seen result ≡ end_in (map seen events.now) }
 {

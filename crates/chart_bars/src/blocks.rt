@@ -54,7 +54,7 @@ fn push_block<'i, 'e>(
     Ok(())
 }
 
-// A tick, if it comes no earlier than one event and no later than the other.
+// Returns the tick, if it is not before the first event and not after the last one or the limit.
 fn tick_between(
     until: Option<u64>,
     first: &Event,
@@ -73,7 +73,7 @@ fn tick_between(
     }
 }
 
-// Whether a tick is no later than an event, or than the last tick that is told.
+// Returns whether a tick is not after the last event, or not after the limit if there is no last event.
 fn is_by(until: Option<u64>, last: Option<&Event>, tick: u64) -> bool
     ensures { result ≡ is_by until (event_seen last.entry) tick }
 {

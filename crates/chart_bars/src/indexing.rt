@@ -16,7 +16,8 @@ use job_story::Event;
 use std::alloc::{AllocError, Global};
 
 impl<'s, 'e> StoryIndex<'s, 'e> {
-    /// The index of these events. Each event takes constant time. Want of memory is the only error.
+    /// Creates the index of these events, which are in the order of the walk. Each event takes constant time. Returns
+    /// `AllocError` if memory is refused.
     pub fn of(alloc: Global, walked: &'s [&'e Event]) -> Result<StoryIndex<'s, 'e>, AllocError>
         ensures { IfOk result (λ index. walked_in index ≡ map seen walked.entry.now) }
     {
@@ -29,7 +30,7 @@ impl<'s, 'e> StoryIndex<'s, 'e> {
         })
     }
 
-    // The events of a task.
+    // Returns the events of a task.
     pub(crate) fn own<'i>(&'i self, task: &'i Label) -> &'i [&'e Event]
         ensures { map seen result.now ≡ of_task task.now (walked_in self.now) }
     {
@@ -39,7 +40,7 @@ impl<'s, 'e> StoryIndex<'s, 'e> {
         events.as_slice()
     }
 
-    // The event with which a scope or nursery was first left.
+    // Returns the event with which a scope or nursery was first left.
     pub(crate) fn left(&self, label: &Label) -> Option<&'e Event>
         ensures { event_seen result ≡ left_in label.now (walked_in self.now) }
     {
@@ -47,14 +48,14 @@ impl<'s, 'e> StoryIndex<'s, 'e> {
     }
 }
 
-// No events, which borrow from nothing.
+// Returns the empty list of events, which borrows from nothing.
 pub(crate) fn no_events<'i, 'e>() -> &'i [&'e Event]
     ensures { result.now ≡ [] }
 {
     &[]
 }
 
-// The events of each task, in the order of the walk.
+// Returns the events of each task, in the order of the walk.
 fn events_by_task<'e>(
     alloc: Global,
     walked: &[&'e Event],
@@ -68,7 +69,7 @@ fn events_by_task<'e>(
     Ok(tasks)
 }
 
-// Notes one more event of its task.
+// Records one more event of its task.
 fn note_event<'e>(
     alloc: Global,
     tasks: &mut IndexMap<&'e Label, Vec<&'e Event>>,
@@ -87,7 +88,7 @@ fn note_event<'e>(
     Ok(())
 }
 
-// The event with which each scope and nursery was first left.
+// Returns the event with which each scope and nursery was first left.
 fn leavings<'e>(
     alloc: Global,
     walked: &[&'e Event],
@@ -101,7 +102,7 @@ fn leavings<'e>(
     Ok(left)
 }
 
-// Notes an event, if it is that with which a scope or nursery is first left.
+// Records an event, if it is the first with which a scope or nursery is left.
 fn note_leaving<'e>(
     left: &mut IndexMap<&'e Label, &'e Event>,
     event: &'e Event,

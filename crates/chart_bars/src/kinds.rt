@@ -9,7 +9,7 @@ ghost use Rattle.chart_bars.specs.Held.{is_label};
 use exc_groups::Label;
 use job_story::{Happening, What};
 
-// Whether an event is the start of a task.
+// Returns whether an event is the start of a task.
 pub(crate) fn is_start(what: &What) -> bool
     ensures { result ≡ is_start (what_of what.now) }
 {
@@ -19,7 +19,7 @@ pub(crate) fn is_start(what: &What) -> bool
     }
 }
 
-// Whether an event is the end of a task.
+// Returns whether an event is the end of a task.
 pub(crate) fn is_end(what: &What) -> bool
     ensures { result ≡ is_end (what_of what.now) }
 {
@@ -29,7 +29,7 @@ pub(crate) fn is_end(what: &What) -> bool
     }
 }
 
-// The label of the scope or nursery that is left with an event, if one is.
+// Returns the label of the scope or nursery that is left with an event, if one is.
 pub(crate) fn left_label(what: &What) -> Option<&Label>
     ensures { (l : tree.Label) → is_label l result ≡ is_left l (what_of what.now) }
 {

@@ -5,8 +5,8 @@ ghost use Rattle.chart_bars.specs.Ticks.{if_tick, ticks_of_events, all_ticks};
 use job_story::Event;
 use std::alloc::{AllocError, Global};
 
-/// The ticks at which something happens, each as often as something does: those of events, and the limit at which a story is cut off
-/// (`until`). Want of memory is the only error.
+/// Returns the ticks at which something happens: the tick of each event, so that a tick occurs once for each of its events, and
+/// then the limit at which a story is cut off (`until`), if there is one. Returns `AllocError` if memory is refused.
 pub fn all_ticks(
     alloc: Global,
     events: &[&Event],
