@@ -31,7 +31,7 @@ pub or_order : (a b x : Bool) → ((a || b) || x) ≡ (a || (b || x))
 or_order true b x = refl
 or_order false b x = refl
 
--- a test that shows another may be joined with it
+-- a test that implies another may be joined with it
 pub and_shown : (c t : Bool) → (c ≡ true → t ≡ true) → (c && t) ≡ c
 and_shown true t f = f refl
 and_shown false t f = refl
@@ -62,7 +62,7 @@ without true true false false = refl
 without true false n r = refl
 without false y n r = refl
 
--- what is in already needs not to be added
+-- what is already in the set does not have to be added
 pub or_new : (h x : Bool) → (h || (x && not h)) ≡ (h || x)
 or_new true x = refl
 or_new false true = refl

@@ -17,7 +17,7 @@ abbrev noted : (Label → Bool) → Table → List Event → Label → List Even
 noted has table all l [] = false
 noted has table all l (e ∷ es) = (has e.task && is_some_label l (causer_of table all e.what)) || noted has table all l es
 
--- ---- who caused a cancellation of some task, event by event
+-- ---- which task caused a cancellation of some task, event by event
 
 no_task_noted : (table : Table) (all : List Event) (l : Label) (es : List Event) → noted (λ m. is_among m []) table all l es ≡ false
 no_task_noted table all l [] = refl
@@ -75,7 +75,7 @@ noted_is_task has table all l (e ∷ es) h =
     some_of (has e.task) (is_some_label l (causer_of table all e.what)) (noted has table all l es) (is_task l all)
     (causer_is_task table all l e.what) (noted_is_task has table all l es) h
 
--- the members of a round: those of the set, and each task that is noted
+-- the members of a round: those of the set, and each task that is recorded
 among_noted : (table : Table) (all : List Event) (l : Label) (kept : List Label) →
     is_among l (with_causers table all kept all) ≡ (is_among l kept || noted (λ m. is_among m kept) table all l all)
 among_noted table all l kept =
@@ -128,7 +128,7 @@ closed_after (suc i) zero table all kept within closed l = absurd (omega arith)
 closed_after (suc i) (suc n) table all kept within closed l =
     closed_after i n table all (with_causers table all kept all) (omega arith) closed l
 
--- one more round comes last
+-- one more round after the others
 pub last_round : (n : ℕ) (table : Table) (all : List Event) (kept : List Label) →
     causers_in (suc n) table all kept ≡ with_causers table all (causers_in n table all kept) all
 last_round zero table all kept = refl

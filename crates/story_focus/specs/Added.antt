@@ -9,7 +9,7 @@ use Rattle.job_story.specs.Focus.{causer_of, is_some_label}
 abbrev pub is_added_by : (Label → Bool) → Table → List Event → Label → Event → Bool
 is_added_by has table all l e = has e.task && (is_some_label l (causer_of table all e.what) && not (has l))
 
--- whether one of some events is
+-- whether one of the events is such a cancellation
 abbrev pub is_added : (Label → Bool) → Table → List Event → Label → List Event → Bool
 is_added has table all l [] = false
 is_added has table all l (e ∷ es) = is_added_by has table all l e || is_added has table all l es

@@ -1,4 +1,4 @@
--- The tasks of a set, and a label that is borrowed, as the definitions have them.
+-- The tasks of a set, and a borrowed label, as the definitions see them.
 use Rattle.std.specs.Prelude.{Bool, Option}
 use Rattle.std.specs.Option.{option_map}
 use Rattle.std.specs.Borrow.{Bor}
@@ -7,10 +7,10 @@ use Rattle.exc_groups.specs.Exceptions.{Label}
 use Rattle.job_meaning.specs.Log.{same_label}
 use Rattle.story_focus.specs.declared.tasks.Tasks.{Tasks}
 
--- whether the set holds a task
+-- whether the set contains a task
 abbrev pub holds : Tasks → Label → Bool
 holds tasks l = contains_by (λ k. same_label l k.now) tasks.all
 
--- a label, if there is one
+-- a borrowed label, if there is one
 abbrev pub label_seen : Option (Bor Label) → Option Label
 label_seen found = option_map (λ (l : Bor Label). l.now) found

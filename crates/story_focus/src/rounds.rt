@@ -17,9 +17,9 @@ use job_story::{Event, Happening, What};
 use std::alloc::{AllocError, Global};
 use story_causes::{Cause, Causes};
 
-/// The tasks that concern a task of a story: the task itself, each task that caused one of its cancellations, each that caused one of
-/// theirs, and so on. The index has to be one over these events, as `Causes::of` makes it. The events are read once for each step of the
-/// longest chain of causes, and once more. The error is want of memory.
+/// Returns the tasks that concern a task of a story: the task itself, each task that caused one of its cancellations, each that
+/// caused one of theirs, and so on. The index must be one over these events, as `Causes::of` creates it. The events are read once
+/// for each step of the longest chain of causes, and once more. Returns `AllocError` if memory is refused.
 pub fn concerned<'e>(
     alloc: Global,
     events: &[&'e Event],
@@ -35,7 +35,7 @@ pub fn concerned<'e>(
     Ok(tasks)
 }
 
-// Adds causers round by round, until a round adds none: at most as often as there are events.
+// Adds causing tasks in rounds, until a round adds none. There are at most as many rounds as events.
 fn add_rounds<'e>(
     alloc: Global,
     events: &[&'e Event],
@@ -54,7 +54,7 @@ fn add_rounds<'e>(
     Ok(())
 }
 
-// One round: adds each task that caused a cancellation of a task of the set, and answers whether that added any.
+// Performs one round: adds each task that caused a cancellation of a task of the set, and returns whether it added any.
 fn add_causers<'e>(
     alloc: Global,
     events: &[&'e Event],
@@ -74,7 +74,7 @@ fn add_causers<'e>(
     Ok(true)
 }
 
-// The tasks that caused a cancellation of a task of the set, and are not in the set.
+// Returns the tasks that caused a cancellation of a task of the set, and are not in the set.
 fn causers<'e>(
     alloc: Global,
     events: &[&'e Event],
@@ -91,7 +91,7 @@ fn causers<'e>(
     Ok(added)
 }
 
-// Adds the task that an event adds to a round, if there is one.
+// Adds the task that an event contributes to a round, if there is one.
 fn note_causer<'e>(
     added: &mut Tasks<'e>,
     causes: &Causes<'e>,
@@ -114,7 +114,7 @@ fn note_causer<'e>(
     Ok(())
 }
 
-// The task that caused a cancellation, where the event is one that a task caused.
+// Returns the task that caused the event, if the event is a cancellation that a task caused.
 fn causer_of<'e>(causes: &Causes<'e>, what: &What) -> Option<&'e Label>
     ensures { (table : Table) (all : List told.Event) → Knows causes.now table all →
         label_seen result ≡ causer_of table all (what_of what.now) }
@@ -125,7 +125,7 @@ fn causer_of<'e>(causes: &Causes<'e>, what: &What) -> Option<&'e Label>
     task_of(causes.cause(by))
 }
 
-// The task that is a cause, where it is one.
+// Returns the task of a cause, or `None` if the cause is a deadline.
 fn task_of<'e>(cause: Option<Cause<'e>>) -> Option<&'e Label>
     ensures { label_seen result ≡ task_of (option_map cause_in_code cause.entry) }
 {

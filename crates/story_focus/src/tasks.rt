@@ -7,7 +7,7 @@ use exc_groups::Label;
 use indexmap::IndexSet;
 use std::alloc::{AllocError, Global};
 
-/// A set of tasks, by their labels. It borrows the labels, and answers in constant time whether it holds a task.
+/// A set of tasks, by their labels, which it borrows. It answers in constant time whether it contains a task.
 #[derive(Drop)]
 pub struct Tasks<'e> {
     // The labels.
@@ -15,7 +15,7 @@ pub struct Tasks<'e> {
 }
 
 impl<'e> Tasks<'e> {
-    // The set of no task. Takes no memory.
+    // Creates the empty set. Does not allocate.
     pub(crate) fn none(alloc: Global) -> Tasks<'e>
         ensures { (l : tree.Label) → holds result l ≡ false }
     {
@@ -24,21 +24,21 @@ impl<'e> Tasks<'e> {
         }
     }
 
-    /// Whether the set holds the task of this label.
+    /// Returns whether the set contains the task with this label.
     pub fn holds(&self, task: &Label) -> bool
         ensures { result ≡ holds self.now task.now }
     {
         self.all.contains(&task)
     }
 
-    // Whether the set holds no task.
+    // Returns whether the set is empty.
     pub(crate) fn is_empty(&self) -> bool
         ensures { result ≡ true → (l : tree.Label) → holds self.now l ≡ false }
     {
         self.all.is_empty()
     }
 
-    // Adds one task. The error is want of memory.
+    // Adds one task. Returns `AllocError` if memory is refused.
     pub(crate) fn add(&mut self, task: &'e Label) -> Result<(), AllocError>
         ensures { OnOk result ((l : tree.Label) → holds self.new l ≡ (holds self.old l || same_label l task.entry.now)) }
     {
@@ -46,7 +46,7 @@ impl<'e> Tasks<'e> {
         Ok(())
     }
 
-    // Adds each task of another set. The error is want of memory.
+    // Adds each task of another set. Returns `AllocError` if memory is refused.
     pub(crate) fn add_all(&mut self, others: Tasks<'e>) -> Result<(), AllocError>
         ensures { OnOk result ((l : tree.Label) → holds self.new l ≡ (holds self.old l || holds others.entry l)) }
     {
