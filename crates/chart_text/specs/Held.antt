@@ -1,4 +1,4 @@
--- Rows as the code holds them.
+-- The rows of the code, as the definitions see them.
 use Rattle.chart_text.specs.Marks as marks
 use Rattle.chart_text.specs.declared.row.Row.{Row}
 use Rattle.chart_text.specs.declared.row.Strokes.{Strokes}

@@ -1,4 +1,4 @@
--- What stands at each column of a row: a mark for what happens there, and a line to the next.
+-- The characters at each column of a row: a mark for what happens there, and a line to the next column.
 use Rattle.std.specs.Prelude.{ℕ, ◌-◌, ◌==◌, Bool, true, false, ◌&&◌, ◌||◌, Option, Some, None, List, [], ◌∷◌, ◌++◌, nat_le, nat_lt, is_some, replicate, if◌then◌else◌}
 use Rattle.job_story.specs.Story.{is_cancelled, misses, raises}
 use Rattle.job_story.specs.Events.{What, starts, happens, Event}
@@ -7,7 +7,7 @@ use Rattle.chart_columns.specs.Columns.{Column, column_at, last_tick, gap_to}
 
 -- ---- strokes
 
--- what a bar is drawn with: its start, the line to its end, and its end
+-- the characters with which a bar is drawn: its start, the line to its end, and its end
 pub record Strokes : Type 0 where
   pub start : ℕ
   pub line : ℕ
@@ -20,12 +20,12 @@ strokes_of _ = record { start = 40; line = 61; end = 41 }
 
 -- ---- a bar on the columns
 
--- whether a task is cancelled
+-- whether the event is that a task is cancelled
 abbrev pub is_cross : What → Bool
 is_cross (happens (is_cancelled by since in_cleanup)) = true
 is_cross _ = false
 
--- whether it raises an exception: by `raise`, or by a `need` that finds no line
+-- whether the event is that a task raises an exception, by `raise` or by a `need` that finds no line
 abbrev pub is_dot : What → Bool
 is_dot (happens (misses name)) = true
 is_dot (happens (raises name)) = true
@@ -37,17 +37,18 @@ columns_where wanted cols [] = []
 columns_where wanted cols (e ∷ es) =
     if wanted e.what then column_at cols e.tick ∷ columns_where wanted cols es else columns_where wanted cols es
 
--- the tick from which a scope or nursery is cancelled: its cross is shown where that is a column
+-- with the tick from which a scope or nursery is cancelled; its cross is drawn if that is a column
 abbrev pub with_cancelled : Option ℕ → List ℕ → List ℕ
 with_cancelled None ts = ts
 with_cancelled (Some t) ts = t ∷ ts
 
--- the column at which a bar ends: the last one where its end is not told
+-- the column at which a bar ends, or the last column where it has no end
 abbrev pub end_column : List Column → Option Event → ℕ
 end_column cols None = last_tick cols
 end_column cols (Some e) = column_at cols e.tick
 
--- A bar on the columns, each told by its tick: where it starts and ends, whether its end is told, and its crosses and dots.
+-- A bar on the columns, which are given by their ticks: where it starts and ends, whether it has an end, and its crosses and
+-- dots.
 pub record Row : Type 0 where
   pub strokes : Strokes
   pub start : ℕ
@@ -73,7 +74,8 @@ abbrev pub has : ℕ → List ℕ → Bool
 has t [] = false
 has t (u ∷ us) = (t == u) || has t us
 
--- What stands in a row at a column: `x` for a cancellation, `!` for an exception that is raised, the start, the end, and the line between.
+-- The mark of a row at a column: `x` for a cancellation, `!` for an exception that is raised, the start, the end, or the line
+-- between.
 abbrev pub mark_at : Row → ℕ → ℕ
 mark_at row t =
     if has t row.crosses then 120
@@ -82,7 +84,8 @@ mark_at row t =
     else (if row.closed && t == row.end then row.strokes.end
     else row.strokes.line)))
 
--- Blanks up to the column where a row starts; then at each column a mark, with the line to the next; and nothing after the column where it ends.
+-- Spaces up to the column where a row starts, then a mark at each column, with the line to the next, and nothing after the column
+-- where it ends.
 abbrev pub cells : Row → List Column → List ℕ
 cells row [] = []
 cells row (c ∷ cs) =

@@ -11,9 +11,9 @@ use Rattle.chart_columns.specs.Columns.{Column, columns_of, shown, gap_to}
 use Rattle.chart_text.specs.Marks.{row_of, cells}
 use Rattle.chart_text.specs.declared.widths.TheConstants.{MOST_OUTCOME}
 
--- ---- what stands before and after the marks of a row
+-- ---- the text before and after the marks of a row
 
--- the label of a task; and below it, the label of a scope or nursery with the word for what it is
+-- the label of a task, or, indented, the word `scope` or `nursery` and its label
 abbrev pub name_by : Label → What → List ℕ
 name_by task (starts home lent) = label_text task
 name_by task (happens (enters kind label deadline shield)) = codes "  " ++ kind_text kind ++ label_text label
@@ -22,13 +22,13 @@ name_by task _ = []
 abbrev pub name_of : Bar → List ℕ
 name_of bar = name_by bar.first.task bar.first.what
 
--- how a task ended; whether a scope or nursery caught a cancellation
+-- how a task ended, or whether a scope or nursery caught a cancellation
 abbrev pub ended_text : What → List ℕ
 ended_text (ends home exc) = end_text exc
 ended_text (happens (leaves kind label inside caught outside)) = if caught then codes "caught" else codes "passed"
 ended_text _ = []
 
--- where no end is told
+-- the outcome of a bar that has no end
 abbrev pub open_text : What → List ℕ
 open_text (starts home lent) = codes "running"
 open_text _ = codes "open"
@@ -50,11 +50,11 @@ abbrev pub longest_outcome : List Bar → ℕ
 longest_outcome [] = 0
 longest_outcome (b ∷ bs) = max (length (outcome_of b)) (longest_outcome bs)
 
--- the room that is left for the columns, where names are so long; a long outcome is cut, and does not take their room
+-- the room that is left for the columns beside names of this length; a long outcome is cut, and takes no more than `MOST_OUTCOME`
 abbrev pub room_for : ℕ → ℕ → List Bar → ℕ
 room_for width names bars = width - (names + 2) - (min MOST_OUTCOME (longest_outcome bars) + 1)
 
--- a line that is no longer than a width, of 2 at least
+-- a line with its newline, cut where it is longer than a width, which is at least 2
 abbrev pub cut : ℕ → List ℕ → List ℕ
 cut width line = (if nat_le (length line) width then line else take (width - 2) line ++ codes "..") ++ codes "\n"
 
@@ -72,7 +72,7 @@ abbrev pub rows_text : ℕ → List Column → ℕ → List Bar → List ℕ
 rows_text width cols names [] = []
 rows_text width cols names (b ∷ bs) = cut width (row_text cols names b) ++ rows_text width cols names bs
 
--- that a story is cut off at a limit
+-- the line that says that a story is cut off at a limit, if it is
 abbrev pub limit_text : ℕ → Tick → List ℕ
 limit_text width None = []
 limit_text width (Some limit) = cut width (codes "limit " ++ decimal limit)
@@ -85,7 +85,7 @@ left_out shown all =
 abbrev pub left_text : ℕ → ℕ → ℕ → List ℕ
 left_text width shown all = if shown == all then [] else cut width (left_out shown all)
 
--- the text with these columns, of so many
+-- the text with these columns, of `all` columns
 abbrev pub text_with : ℕ → Tick → ℕ → List Column → ℕ → List Bar → List ℕ
 text_with width until all cols names bars =
     cut width (replicate (names + 2) 32 ++ header cols)
@@ -95,7 +95,7 @@ text_with width until all cols names bars =
 abbrev pub columns_for : ℕ → List Column → List Bar → List Column
 columns_for width all bars = shown (room_for width (longest_name bars) bars) all
 
--- the text of a chart with these events and bars, no wider than a width, of a story that is whole or cut off at a limit
+-- the text of a chart with these events and bars, not wider than a width, of a story that is whole or cut off at a limit
 abbrev pub chart_text : ℕ → Tick → List Event → List Bar → List ℕ
 chart_text width until es bars =
     let all = columns_of (all_ticks es until) in

@@ -7,7 +7,7 @@ use crate::row::Row;
 use chart_columns::{Column, gap_to};
 use std::alloc::AllocError;
 
-// Appends the marks of a row at these columns, and the lines between.
+// Appends the marks of a row at these columns, and the lines between them.
 pub(crate) fn push_cells(out: &mut Vec<u8>, row: &Row, columns: &[Column]) -> Result<(), AllocError>
     ensures { OnOk result (out.new.items ≡ out.old.items ++ cells (row_held row.now) (map column_of columns.now)) }
 {
@@ -33,7 +33,7 @@ pub(crate) fn push_cells(out: &mut Vec<u8>, row: &Row, columns: &[Column]) -> Re
 }
 
 impl Row {
-    // What stands at a column.
+    // Returns the mark at a column.
     fn mark_at(&self, tick: u64) -> u8
         ensures { result ≡ mark_at (row_held self.now) tick }
     {
@@ -51,7 +51,7 @@ impl Row {
     }
 }
 
-// Whether a tick is among these.
+// Returns whether a tick is among these.
 fn has(tick: u64, ticks: &[u64]) -> bool
     ensures { result ≡ has tick ticks.now }
 {
@@ -63,7 +63,7 @@ fn has(tick: u64, ticks: &[u64]) -> bool
     false
 }
 
-// Appends a byte so many times.
+// Appends a byte `count` times.
 pub(crate) fn push_times(out: &mut Vec<u8>, count: usize, byte: u8) -> Result<(), AllocError>
     ensures { OnOk result (out.new.items ≡ out.old.items ++ replicate count byte) }
 {

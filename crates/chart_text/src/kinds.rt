@@ -4,14 +4,15 @@ ghost use Rattle.chart_text.specs.Marks.{is_cross, is_dot};
 
 use job_story::{Happening, What};
 
-/// Whether a task is cancelled with an event: a cross stands on its bar.
+/// Returns whether the event is that a task is cancelled, which is drawn as a cross on its bar.
 pub fn is_cross(what: &What) -> bool
     ensures { result ≡ is_cross (what_of what.now) }
 {
     matches!(what, What::Happens(Happening::IsCancelled { .. }))
 }
 
-/// Whether a task raises an exception with an event, by `raise` or by a `need` that finds no line: a dot stands on its bar.
+/// Returns whether the event is that a task raises an exception, by `raise` or by a `need` that finds no line, which is drawn as
+/// a dot on its bar (in text, as `!`).
 pub fn is_dot(what: &What) -> bool
     ensures { result ≡ is_dot (what_of what.now) }
 {

@@ -4,7 +4,7 @@ ghost use Rattle.chart_text.specs.Text.{left_out};
 use std::alloc::AllocError;
 use story_text::push_number;
 
-/// Appends how many columns of all are not shown. Want of memory is the only error.
+/// Appends how many of `all` columns are not shown, if `shown` columns are. Returns `AllocError` if memory is refused.
 pub fn push_left_out(out: &mut Vec<u8>, shown: usize, all: usize) -> Result<(), AllocError>
     ensures { OnOk result (out.new.items ≡ out.old.items ++ left_out shown all) }
 {

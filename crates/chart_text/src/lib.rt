@@ -1,7 +1,8 @@
-//! The text of a chart: who ran when, who was cancelled, and what was raised.
+//! The text of a chart: when each task ran, which tasks were cancelled, and which exceptions were raised.
 //!
-//! The layer promises that `chart_text` writes the text of `specs/Text.antt`: a line for each bar, on which the mark at each column is that of
-//! `specs/Marks.antt`, and no line is longer than the width, where that is 2 or more. It stands on `chart_bars` for the rows and `chart_columns` for the columns.
+//! The layer promises that `chart_text` returns the text of `specs/Text.antt`: a line for each bar, with the mark at each column
+//! that `specs/Marks.antt` defines, and no line longer than the width, if that is at least 2. It uses `chart_bars` for the rows,
+//! `chart_columns` for the columns, and `story_text` for labels and exceptions.
 #![tactic(auto)]
 
 mod cells;

@@ -13,7 +13,7 @@ use chart_columns::{Column, gap_to};
 use std::alloc::{AllocError, Global};
 use story_text::push_number;
 
-// Appends a line, cut to a width.
+// Appends a line and a newline. A line that is longer than the width is cut, and ends in `..`.
 pub(crate) fn push_cut(out: &mut Vec<u8>, width: usize, line: &[u8]) -> Result<(), AllocError>
     ensures { OnOk result (out.new.items ≡ out.old.items ++ cut width line.now) }
 {
@@ -41,7 +41,7 @@ pub(crate) fn push_header(
     push_cut(out, width, line.as_slice())
 }
 
-// Appends blanks, as many as a name and the two bytes after it take.
+// Appends spaces, as many as a name and the two bytes after it take.
 #[tactic(auto, using(crate::proofs::Margin::margin))]
 fn push_margin(line: &mut Vec<u8>, names: usize) -> Result<(), AllocError>
     ensures { OnOk result (line.new.items ≡ line.old.items ++ replicate (names + 2) 32) }
@@ -63,7 +63,7 @@ fn push_ticks(line: &mut Vec<u8>, columns: &[Column]) -> Result<(), AllocError>
     Ok(())
 }
 
-// Appends a number, and blanks up to a width.
+// Appends a number, and spaces up to a width.
 fn push_padded_number(line: &mut Vec<u8>, width: usize, n: u64) -> Result<(), AllocError>
     ensures { OnOk result (line.new.items ≡ line.old.items ++ padded width (decimal n)) }
 {
@@ -91,7 +91,7 @@ pub(crate) fn push_rows(
     Ok(())
 }
 
-// The line of a bar, of any length.
+// Returns the line of a bar, of any length.
 fn row_text(
     alloc: Global,
     columns: &[Column],
@@ -129,7 +129,7 @@ pub(crate) fn push_limit(
     push_cut(out, width, line.as_slice())
 }
 
-// Appends how many columns of all are not shown, if any is not.
+// Appends the line that says how many columns are not shown, if there are any.
 pub(crate) fn push_left(
     alloc: Global,
     out: &mut Vec<u8>,

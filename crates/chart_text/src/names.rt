@@ -11,8 +11,8 @@ use job_story::{Happening, Kind, What};
 use std::alloc::AllocError;
 use story_text::{push_exc, push_label};
 
-/// Appends the name of a row: the label of a task, or, a little to the right, the label of a scope or nursery with the word for what it is. Want
-/// of memory is the only error.
+/// Appends the name of a row: the label of a task, or, indented, the word `scope` or `nursery` and its label. Returns
+/// `AllocError` if memory is refused.
 pub fn push_name(out: &mut Vec<u8>, bar: &Bar<'_, '_>) -> Result<(), AllocError>
     ensures { OnOk result (out.new.items ≡ out.old.items ++ name_of (bar_of bar.now)) }
 {
@@ -34,8 +34,8 @@ fn push_block_name(out: &mut Vec<u8>, kind: Kind, label: &Label) -> Result<(), A
     push_label(out, label)
 }
 
-/// Appends what became of a bar: how a task ended, whether a scope or nursery caught a cancellation, or that its end is not told. Want of memory is
-/// the only error.
+/// Appends the outcome of a bar: how a task ended, whether a scope or nursery caught a cancellation, or that the bar has no end.
+/// Returns `AllocError` if memory is refused.
 pub fn push_outcome(out: &mut Vec<u8>, bar: &Bar<'_, '_>) -> Result<(), AllocError>
     ensures { OnOk result (out.new.items ≡ out.old.items ++ outcome_of (bar_of bar.now)) }
 {
@@ -45,7 +45,7 @@ pub fn push_outcome(out: &mut Vec<u8>, bar: &Bar<'_, '_>) -> Result<(), AllocErr
     }
 }
 
-// Appends what became of a bar that ends with this event.
+// Appends the outcome of a bar that ends with this event.
 fn push_ended(out: &mut Vec<u8>, what: &What) -> Result<(), AllocError>
     ensures { OnOk result (out.new.items ≡ out.old.items ++ ended_text (what_of what.now)) }
 {
@@ -67,7 +67,7 @@ fn push_caught(out: &mut Vec<u8>, caught: bool) -> Result<(), AllocError>
     }
 }
 
-// Appends that no end of a bar is told that begins with this event.
+// Appends the outcome of a bar that begins with this event and has no end.
 fn push_open(out: &mut Vec<u8>, what: &What) -> Result<(), AllocError>
     ensures { OnOk result (out.new.items ≡ out.old.items ++ open_text (what_of what.now)) }
 {
@@ -87,7 +87,7 @@ fn push_end(out: &mut Vec<u8>, exc: &Option<Box<Exc>>) -> Result<(), AllocError>
     push_raised(out, exc)
 }
 
-// Appends how a task ended that ended with an exception.
+// Appends how a task ended, if it ended with an exception.
 fn push_raised(out: &mut Vec<u8>, exc: &Exc) -> Result<(), AllocError>
     ensures { OnOk result (out.new.items ≡ out.old.items ++ end_text (Some (exc_of exc.now))) }
 {

@@ -12,7 +12,7 @@ use chart_columns::{Column, column_at, last_tick};
 use job_story::{Event, What};
 use std::alloc::{AllocError, Global};
 
-// What a bar is drawn with: bytes for its start, the line to its end, and its end.
+// The bytes with which a bar is drawn: its start, the line to its end, and its end.
 #[derive(Clone, Copy)]
 pub(crate) struct Strokes {
     pub start: u8,
@@ -32,21 +32,21 @@ const BLOCK: Strokes = Strokes {
     end: b')',
 };
 
-// A bar on the columns, each of which is told by its tick.
+// A bar on the columns. Columns are given by their ticks.
 #[derive(Drop)]
 pub(crate) struct Row {
     pub strokes: Strokes,
     pub start: u64,
     pub end: u64,
-    // Whether its end is told.
+    // Whether the bar has an end.
     pub closed: bool,
-    // Where it is cancelled.
+    // The columns at which it is cancelled.
     pub crosses: Vec<u64>,
-    // Where it raises an exception.
+    // The columns at which it raises an exception.
     pub dots: Vec<u64>,
 }
 
-// A bar on these columns.
+// Returns the row of a bar on these columns.
 pub(crate) fn row_of(
     alloc: Global,
     columns: &[Column],
@@ -69,7 +69,7 @@ pub(crate) fn row_of(
     })
 }
 
-// What the bar is drawn with that begins with this event.
+// Returns the bytes with which a bar is drawn that begins with this event.
 fn strokes_of(what: &What) -> Strokes
     ensures { strokes_held result ≡ strokes_of (what_of what.now) }
 {
@@ -79,7 +79,7 @@ fn strokes_of(what: &What) -> Strokes
     }
 }
 
-// The column at which a bar ends: the last one where its end is not told.
+// Returns the column at which a bar ends, or the last column if it has no end.
 fn end_column(columns: &[Column], last: Option<&Event>) -> u64
     ensures { result ≡ end_column (map column_of columns.now) (event_seen last.entry) }
 {
@@ -89,7 +89,7 @@ fn end_column(columns: &[Column], last: Option<&Event>) -> u64
     }
 }
 
-// Appends the tick from which a scope or nursery is cancelled, if it is: a cross stands there where that is a column.
+// Appends the tick from which a scope or nursery is cancelled, if there is one. A cross is drawn there if that is a column.
 fn push_cancelled(ticks: &mut Vec<u64>, cancelled: Option<u64>) -> Result<(), AllocError>
     ensures { OnOk result ((others : List ℕ) → ticks.new.items ++ others ≡ ticks.old.items ++ with_cancelled cancelled others) }
 {
@@ -125,7 +125,7 @@ fn push_dots(ticks: &mut Vec<u64>, columns: &[Column], events: &[&Event]) -> Res
     Ok(())
 }
 
-// Appends a tick, if it is wanted.
+// Appends a tick, if `wanted` is true.
 fn push_if(ticks: &mut Vec<u64>, wanted: bool, tick: u64) -> Result<(), AllocError>
     ensures { OnOk result ((others : List ℕ) → ticks.new.items ++ others ≡ ticks.old.items ++ (if wanted then tick ∷ others else others)) }
 {

@@ -11,9 +11,12 @@ use chart_columns::{Column, columns_of};
 use job_story::Event;
 use std::alloc::{AllocError, Global};
 
-/// The text of a chart with these events, in the order of the walk, and their bars: a line with the ticks of the columns, and one for each bar.
-/// No line is longer than `width` bytes, of which there are 2 at least, its newline not counted: where the ticks do not all fit, those at which the fewest things happen are
-/// dropped, and the last line says how many. Where the story is cut off at a limit (`until`), a line says so. Want of memory is the only error.
+/// Returns the text of a chart with these events, in the order of the walk, and their bars: a line with the ticks of the columns,
+/// and a line for each bar. If the story is cut off at a limit (`until`), a line says so. If not all ticks fit, those at which
+/// the fewest things happen are dropped, and the last line says how many.
+///
+/// No line is longer than `width` bytes, not counting its newline, if `width` is at least 2. Returns `AllocError` if memory is
+/// refused.
 pub fn chart_text(
     alloc: Global,
     width: usize,
@@ -38,7 +41,7 @@ pub fn chart_text(
     )
 }
 
-// The text with these columns, of so many.
+// Returns the text with these columns, of `all` columns.
 fn text_with(
     alloc: Global,
     width: usize,

@@ -8,11 +8,11 @@ use chart_bars::Bar;
 use chart_columns::{Column, shown};
 use std::alloc::{AllocError, Global};
 
-/// How long an outcome may be, in bytes, before it is cut where there is no room for all ticks.
+/// The maximum room that is kept for outcomes, in bytes. A longer outcome is cut if it does not fit.
 pub const MOST_OUTCOME: usize = 24;
 
-/// The columns for which there is room in a width, beside the names and outcomes of these bars: a long outcome is cut before any column is dropped for
-/// it. Want of memory is the only error.
+/// Returns the columns for which there is room in a width, in bytes, beside the names and outcomes of these bars. A long outcome
+/// is cut before a column is dropped for it. Returns `AllocError` if memory is refused.
 pub fn columns_for(
     alloc: Global,
     width: usize,
@@ -31,7 +31,8 @@ pub fn columns_for(
     shown(alloc, room, all)
 }
 
-/// The length of the longest name of a row, in bytes, and 0 where there is none. Want of memory is the only error.
+/// Returns the length of the longest name of these bars, in bytes, or 0 if there are no bars. Returns `AllocError` if memory is
+/// refused.
 pub fn longest_name(alloc: Global, bars: &[Bar<'_, '_>]) -> Result<usize, AllocError>
     ensures { IfOk result (λ longest. longest ≡ longest_name (map bar_of bars.now)) }
 {
@@ -44,7 +45,7 @@ pub fn longest_name(alloc: Global, bars: &[Bar<'_, '_>]) -> Result<usize, AllocE
     Ok(longest)
 }
 
-// The length of the name of a row.
+// Returns the length of the name of a bar.
 fn name_len(alloc: Global, bar: &Bar<'_, '_>) -> Result<usize, AllocError>
     ensures { IfOk result (λ len. len ≡ length (name_of (bar_of bar.now))) }
 {
@@ -53,7 +54,8 @@ fn name_len(alloc: Global, bar: &Bar<'_, '_>) -> Result<usize, AllocError>
     Ok(name.len())
 }
 
-/// The length of the longest outcome, in bytes, and 0 where there is none. Want of memory is the only error.
+/// Returns the length of the longest outcome of these bars, in bytes, or 0 if there are no bars. Returns `AllocError` if memory
+/// is refused.
 pub fn longest_outcome(alloc: Global, bars: &[Bar<'_, '_>]) -> Result<usize, AllocError>
     ensures { IfOk result (λ longest. longest ≡ longest_outcome (map bar_of bars.now)) }
 {
@@ -66,7 +68,7 @@ pub fn longest_outcome(alloc: Global, bars: &[Bar<'_, '_>]) -> Result<usize, All
     Ok(longest)
 }
 
-// The length of an outcome.
+// Returns the length of the outcome of a bar.
 fn outcome_len(alloc: Global, bar: &Bar<'_, '_>) -> Result<usize, AllocError>
     ensures { IfOk result (λ len. len ≡ length (outcome_of (bar_of bar.now))) }
 {
