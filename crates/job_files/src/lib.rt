@@ -1,4 +1,5 @@
-//! What the program needs of files: how a name is shown, a line that says why a file cannot be read, and how a file is replaced by another.
+//! What the program needs of files: how a name is shown, a line that says why a file cannot be read, and how a file is replaced
+//! by another.
 //!
 //! The layer promises nothing that is proved, since the system's files are outside of every contract. It is tested on real files
 //! (`tests/command`): whatever fails, a file that is replaced holds either its old bytes or the new ones.

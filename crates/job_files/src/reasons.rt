@@ -4,7 +4,7 @@ use std::fs;
 use std::io::ErrorKind;
 use std::rt::Files;
 
-/// A line that names a file and says what was wrong with it, for standard error. Empty where memory is refused.
+/// Returns a line that names a file and says what was wrong with it, for standard error. It is empty if memory is refused.
 pub fn reason_line(alloc: Global, name: &str, kind: ErrorKind) -> String {
     match named(alloc, name, kind) {
         Ok(line) => line,
@@ -12,7 +12,7 @@ pub fn reason_line(alloc: Global, name: &str, kind: ErrorKind) -> String {
     }
 }
 
-/// The same of a file, or of standard input where the name is `-`, of which a read failed: a folder can be opened, and not read.
+/// Returns the same for a file that could be opened and not read, such as a folder; if the name is `-`, for standard input.
 pub fn read_reason<R: Files + AllocGlobal>(rt: &R, name: &str) -> String {
     reason_line(rt.alloc(), name, read_kind(rt, name))
 }

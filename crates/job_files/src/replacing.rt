@@ -4,15 +4,15 @@ use std::fs::{self, OpenFile};
 use std::io::{self, ErrorKind, Write};
 use std::rt::Files;
 
-/// What is put after a file's name for the file that is written beside it.
+/// What is appended to a file's name for the file that is written beside it.
 const BESIDE: &str = ".nursery-new";
 
-/// Why a file was not replaced: it is as it was.
+/// Why a file was not replaced. The file is as it was.
 #[derive(Debug, Drop)]
 pub enum ReplaceFault {
     /// The system refused a call.
     System {
-        /// A line that names the file which the call was about, and says why: empty where memory was refused for it.
+        /// A line that names the file of the call and says why it failed, or empty if memory was refused for it.
         reason: String,
     },
     /// Memory was refused.
@@ -25,8 +25,9 @@ impl From<AllocError> for ReplaceFault {
     }
 }
 
-/// Puts bytes in the place of a file, or into a new file where there is none. They are written to a new file beside it, with the same permissions,
-/// which then takes the file's name; so whatever fails, the file holds either its old bytes or the new ones. A link is followed.
+/// Replaces the bytes of a file, or writes a new file if there is none. The bytes are written to a new file beside it, with the
+/// same permissions, which then takes the file's name; so whatever fails, the file holds either its old bytes or the new ones. A
+/// link is followed.
 pub fn replace<R: Files + AllocGlobal>(
     rt: &R,
     name: &str,
@@ -49,7 +50,7 @@ fn fault_of(alloc: Global, name: &str, kind: ErrorKind) -> ReplaceFault {
     }
 }
 
-// The same of a name that is no link.
+// The same for a name that is no link.
 fn replace_at<R: Files + AllocGlobal>(
     rt: &R,
     target: &str,
@@ -76,7 +77,7 @@ fn name_beside(alloc: Global, target: &str) -> Result<String, AllocError> {
     Ok(beside)
 }
 
-// Writes the new file, with the permissions of the old one where there is one.
+// Writes the new file, with the permissions of the old one if there is one.
 fn write_beside<R: Files>(rt: &R, target: &str, beside: &str, bytes: &[u8]) -> io::Result<()> {
     let mut file = fs::create(rt, beside)?;
     file.write_all(bytes)?;
