@@ -11,7 +11,7 @@ use std::rt::Files;
 use std::thread::Threads;
 use test_app::{Met, Output, meets, output_of};
 
-/// Tests a feed by the expectations that are kept beside it, and says whether there are any.
+/// Tests a feed by the expectations that are kept beside it, and returns whether there are any.
 pub(crate) fn test_expectations<R: Files + Print + Eprint + Threads + Sync + AllocGlobal>(
     rt: &R,
     feed: &Feed<'_>,
@@ -60,14 +60,14 @@ pub(crate) fn test_expectations<R: Files + Print + Eprint + Threads + Sync + All
     Ok(true)
 }
 
-// What patterns are looked for in.
+// The texts in which patterns are looked for.
 #[derive(Drop)]
 struct Told {
     report: Vec<u8>,
     story: Vec<u8>,
 }
 
-// The lines on what is not as expected: none where all is.
+// The lines about what is not as expected; none if all is.
 fn unmet_lines<R: Threads + Sync + AllocGlobal>(
     rt: &R,
     feed: &Feed<'_>,
@@ -84,7 +84,7 @@ fn unmet_lines<R: Threads + Sync + AllocGlobal>(
     Ok(lines)
 }
 
-// Appends the lines on a line of a file of expectations, where it is not met.
+// Appends the lines about one line of a file of expectations, if it is not met.
 fn push_unmet<R: Threads + Sync + AllocGlobal>(
     rt: &R,
     feed: &Feed<'_>,
@@ -125,7 +125,7 @@ fn push_unmet<R: Threads + Sync + AllocGlobal>(
     }
 }
 
-// What is said of an expectation: nothing where it is met.
+// What is printed about an expectation; nothing if it is met.
 fn met_text(
     alloc: Global,
     name: &str,
@@ -163,7 +163,7 @@ fn met_text(
     }
 }
 
-// Appends a line after two blanks, where it has bytes.
+// Appends a line after two blanks, if it has bytes.
 fn push_indented(alloc: Global, text: &mut String, line: &[u8]) -> Result<(), AllocError> {
     if line.is_empty() {
         return Ok(());
@@ -174,7 +174,7 @@ fn push_indented(alloc: Global, text: &mut String, line: &[u8]) -> Result<(), Al
     Ok(())
 }
 
-// The line of a number, counted from 1: empty where there is none.
+// The line with a number, counted from 1, or no bytes if there is none.
 fn nth_line(text: &[u8], number: usize) -> &[u8] {
     match text.split(|b| *b == b'\n').nth(number.saturating_sub(1)) {
         Some(line) => line,

@@ -3,10 +3,10 @@ use std::alloc::{AllocError, Global};
 use std::rt::Files;
 use std::{fs, io};
 
-/// The most folders that are looked into.
+/// The maximum number of folders that are searched.
 const MOST_FOLDERS: usize = 100_000;
 
-/// The feeds that a path of the command line stands for.
+/// The feeds of a path of the command line.
 #[derive(Drop)]
 pub(crate) struct Found {
     /// The names of the feeds, sorted.
@@ -15,7 +15,8 @@ pub(crate) struct Found {
     pub faults: Vec<String>,
 }
 
-/// The feeds of a path: a feed itself, or those of a folder and its folders. Names that begin with a `.` are passed over in a folder.
+/// Returns the feeds of a path: a feed itself, or those of a folder and its folders. In a folder, names that begin with a `.` are
+/// skipped.
 pub(crate) fn find_feeds<R: Files + AllocGlobal + Clone + Drop>(
     rt: &R,
     path: &str,
@@ -93,7 +94,7 @@ fn list_folder<R: Files + AllocGlobal + Clone + Drop>(
     Ok(())
 }
 
-// Adds a path of a folder to a list, where it is a folder or a feed.
+// Adds a path of a folder to a list, if it is a folder or a feed.
 fn add_entry(
     alloc: Global,
     list: &mut Vec<String>,

@@ -5,7 +5,7 @@ use std::fs;
 use std::io::ErrorKind;
 use std::rt::Files;
 
-/// The most bytes of a feed, and of a file that is kept beside one.
+/// The maximum number of bytes of a feed, and of a file that is kept beside one.
 const MOST_KEPT: usize = 268_435_456;
 
 /// Why a file was not read.
@@ -13,7 +13,7 @@ const MOST_KEPT: usize = 268_435_456;
 pub(crate) enum Unread {
     /// There is no such file.
     Missing,
-    /// It cannot be opened or read, or is too long: a line that names it and says why.
+    /// It cannot be opened or read, or is too long. The line names it and says why.
     Fault(String),
     /// Memory was refused.
     NoMemory,
@@ -25,7 +25,7 @@ impl From<AllocError> for Unread {
     }
 }
 
-/// The bytes of a file.
+/// Returns the bytes of a file.
 pub(crate) fn read_kept<R: Files + AllocGlobal>(rt: &R, name: &str) -> Result<Vec<u8>, Unread> {
     let alloc = rt.alloc();
     let mut file = match fs::open(rt, name) {
@@ -46,7 +46,8 @@ fn too_long(alloc: Global, name: &str) -> Result<String, AllocError> {
     format!(in alloc; "{name}: more than {MOST_KEPT} bytes\n")
 }
 
-/// The name of the file of this extension beside a feed, whose name without its own extension is given.
+/// Returns the name of the file with this extension beside a feed, given the feed's name without its own
+/// extension.
 pub(crate) fn name_beside(
     alloc: Global,
     stem: &str,
@@ -55,7 +56,8 @@ pub(crate) fn name_beside(
     format!(in alloc; "{stem}.{extension}")
 }
 
-/// A line of a file as it is shown: at most 200 bytes of it, and `?` for each byte that is no printable ASCII.
+/// Returns a line of a file as it is shown: at most 200 bytes of it, and `?` for each byte that is no
+/// printable ASCII.
 pub(crate) fn shown_line(alloc: Global, line: &[u8]) -> Result<String, AllocError> {
     let mut shown = String::new(alloc);
     let (front, rest) = line.split_at(line.len().min(MOST_SHOWN));
@@ -68,7 +70,7 @@ pub(crate) fn shown_line(alloc: Global, line: &[u8]) -> Result<String, AllocErro
     Ok(shown)
 }
 
-/// The most bytes of a line that are shown.
+/// The maximum number of bytes of a line that are shown.
 const MOST_SHOWN: usize = 200;
 
 fn shown_byte(byte: u8) -> char {

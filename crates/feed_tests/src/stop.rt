@@ -7,7 +7,7 @@ use thiserror::Error;
 /// Why the tests stopped.
 #[derive(Clone, Copy, Debug, PartialEq, Eq, Error)]
 pub enum TestStop {
-    /// Standard output took not all bytes.
+    /// Standard output did not take all bytes.
     #[error("cannot write")]
     Write,
     /// Memory was refused.

@@ -1,6 +1,6 @@
 use std::alloc::{AllocError, Global};
 
-/// How many tests there were of each kind.
+/// The number of tests of each kind.
 #[derive(Clone, Copy)]
 pub(crate) struct Tally {
     passed: usize,
@@ -10,7 +10,7 @@ pub(crate) struct Tally {
 }
 
 impl Tally {
-    /// None of any kind.
+    /// Returns a tally with no tests.
     pub(crate) fn new() -> Tally {
         Tally {
             passed: 0,
@@ -25,7 +25,7 @@ impl Tally {
         self.passed = self.passed.saturating_add(1);
     }
 
-    /// Counts an output that was kept in the place of another, or as the first.
+    /// Counts an output that was kept instead of another, or as the first.
     pub(crate) fn count_accepted(&mut self) {
         self.accepted = self.accepted.saturating_add(1);
     }
@@ -40,7 +40,7 @@ impl Tally {
         self.faults = self.faults.saturating_add(1);
     }
 
-    /// The line that gives the counts: those that passed and failed, and the others where there are any.
+    /// Returns the line with the counts: those that passed and failed, and the others if there are any.
     pub(crate) fn line(&self, alloc: Global) -> Result<String, AllocError> {
         let mut line = format!(in alloc; "{} passed", self.passed)?;
         if self.accepted > 0 {
@@ -54,7 +54,8 @@ impl Tally {
         Ok(line)
     }
 
-    /// The exit status: 1 where something failed, 4 where something could not be tested, and otherwise 0.
+    /// Returns the exit status: 1 if something failed, 4 if something could not be tested, and otherwise
+    /// 0.
     pub(crate) fn status(&self) -> u8 {
         if self.failed > 0 {
             1

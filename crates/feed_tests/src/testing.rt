@@ -15,12 +15,13 @@ use std::rt::Files;
 use std::thread::Threads;
 use test_app::{Output, output_of};
 
-/// Tests the feeds of some files and folders: writes a line for each file that is kept beside one, and the counts, and gives the status. With `accept`
-/// what differs is kept in the place of the old file, and a feed with nothing beside it has its report kept. What cannot be read or written, and a feed
-/// with nothing to compare with, is a line on standard error, and the others are tested all the same.
+/// Tests the feeds of some files and folders: writes a line for each file that is kept beside a feed, and the counts, and returns
+/// the exit status. With `accept`, what differs replaces the old file, and a feed with nothing beside it has its report kept. If
+/// something cannot be read or written, or a feed has nothing to compare with, that is a line on standard error, and the others
+/// are still tested.
 ///
-/// The status is 1 where something differs or is not as expected, 4 where something could not be tested, and otherwise 0. Want of memory
-/// and a failing standard output stop the tests.
+/// The status is 1 if something differs or is not as expected, 4 if something could not be tested, and otherwise 0. The tests
+/// stop with an error if memory was refused or standard output did not take all bytes.
 pub fn test_paths<R>(
     rt: &R,
     paths: &[String],
@@ -58,14 +59,14 @@ where
     Ok(())
 }
 
-// Says on standard error of each of some paths why it is not tested.
+// Prints to standard error for each of some paths why it is not tested.
 fn complain_of<R: Eprint>(rt: &R, tally: &mut Tally, lines: &[String]) {
     'lines: for line in lines {
         complain(rt, tally, line.as_str());
     }
 }
 
-/// Says on standard error why something is not tested.
+/// Prints to standard error why something is not tested.
 pub(crate) fn complain<R: Eprint>(rt: &R, tally: &mut Tally, line: &str) {
     tally.count_fault();
     let _ = rt.eprint(line);
@@ -95,7 +96,7 @@ pub(crate) struct Feed<'a> {
     pub accept: bool,
 }
 
-// Tests a feed by what is kept beside it.
+// Tests a feed by the files that are kept beside it.
 fn test_feed<R: Files + Print + Eprint + Threads + Sync + AllocGlobal>(
     rt: &R,
     name: &str,
@@ -173,7 +174,7 @@ fn test_parts<R: Files + Print + Eprint + Threads + Sync + AllocGlobal>(
     Ok(())
 }
 
-// Compares an output of a feed with the file that is kept of it, and says whether there is one.
+// Compares an output of a feed with the file that is kept of it, and returns whether there is one.
 fn test_output<R: Files + Print + Eprint + Threads + Sync + AllocGlobal>(
     rt: &R,
     feed: &Feed<'_>,
@@ -204,7 +205,7 @@ fn test_output<R: Files + Print + Eprint + Threads + Sync + AllocGlobal>(
     Ok(true)
 }
 
-// Says whether an output is as it was kept, or where it differs, or keeps it.
+// Prints that an output is as it was kept, or where it differs, or keeps it.
 fn compare<R: Files + Print + Eprint + AllocGlobal>(
     rt: &R,
     accept: bool,
@@ -228,7 +229,7 @@ fn compare<R: Files + Print + Eprint + AllocGlobal>(
     }
 }
 
-// The lines that say where an output differs from the one that was kept.
+// The lines that show where an output differs from the one that was kept.
 fn difference_lines(
     alloc: Global,
     name: &str,
@@ -248,7 +249,7 @@ fn side(alloc: Global, line: Option<&[u8]>) -> Result<String, AllocError> {
     }
 }
 
-// Keeps an output, or says on standard error why it cannot be kept.
+// Keeps an output, or prints to standard error why it cannot be kept.
 fn keep<R: Files + Print + Eprint + AllocGlobal>(
     rt: &R,
     tally: &mut Tally,
@@ -270,7 +271,7 @@ fn keep<R: Files + Print + Eprint + AllocGlobal>(
     }
 }
 
-/// Writes the lines on a file of expectations.
+/// Writes the lines about a file of expectations.
 pub(crate) fn show_lines<R: Print>(rt: &R, lines: &str) -> Result<(), TestStop> {
     show(rt, lines.as_bytes())
 }
