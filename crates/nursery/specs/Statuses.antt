@@ -45,7 +45,7 @@ use Rattle.feed_tests.specs.declared.stop.TestStop.TheVariants as tests
 use Rattle.nursery.specs.declared.stop.Stop.{Stop}
 use Rattle.nursery.specs.declared.stop.Stop.TheVariants.{Words, NoText, JobFile, InputFile, TooLong, JobFileKept, Write, NoMemory}
 
--- where there is no verdict
+-- if there is no verdict
 abbrev pub status_of : Stop → ℕ
 status_of (Words text) = 2
 status_of NoText = 2
@@ -56,12 +56,12 @@ status_of (JobFileKept reason) = 4
 status_of Write = 4
 status_of NoMemory = 5
 
--- why there is no verdict where not all bytes were sent
+-- why there is no verdict if not all bytes were sent
 abbrev pub stop_of : ServeFault → Stop
 stop_of (faults.Send sent) = Write
 stop_of faults.NoMemory = NoMemory
 
--- the same where tests stopped
+-- the same if tests stopped
 abbrev pub test_stop_of : TestStop → Stop
 test_stop_of tests.Write = Write
 test_stop_of tests.NoMemory = NoMemory
@@ -71,7 +71,7 @@ abbrev pub TellsVerdict : List ℕ → List ℕ → ℕ → ℕ → Type 0
 TellsVerdict text input limit status =
     (verdict : Verdict) × (bytes : List ℕ) × IsVerdict text input limit verdict bytes × (status ≡ verdicts.status_of verdict)
 
--- the status is that of the verdict on the story of the job's meaning, or of the task that was asked for
+-- the status is that of the verdict on the story of the job's meaning, or of the task that was requested
 abbrev pub TellsStory : List ℕ → List ℕ → ℕ → Option (List ℕ) → ℕ → Type 0
 TellsStory text input limit asked status =
     (verdict : StoryVerdict) × (bytes : List ℕ) × stories.IsVerdict text input limit asked verdict bytes × (status ≡ story_status_of verdict)
@@ -98,7 +98,7 @@ TellsSweep text input limit target values status =
     (verdict : SweepVerdict) × (bytes : List ℕ) × sweeps.IsVerdict text input limit target values verdict bytes
     × (status ≡ sweep_status_of verdict)
 
--- the status is 0 where the text spells a job, and that of a refusal where it is refused
+-- the status is 0 if the text spells a job, and that of a refusal if it is refused
 abbrev pub TellsAnswer : (Tree → Tree) → List ℕ → ℕ → Type 0
 TellsAnswer shown text status =
     (verdict : CheckVerdict) × (bytes : List ℕ) × IsAnswer shown text verdict bytes × (status ≡ verdicts.check_status_of verdict)
@@ -112,17 +112,17 @@ TellsFormat text status =
 abbrev pub TellsFormatCheck : List ℕ → ℕ → Type 0
 TellsFormatCheck text status = (check : FormatCheck) × formats.IsCheck text check × (status ≡ format_check_status_of check)
 
--- the status is that of the verdict on the job's meaning, told as a JSON document
+-- the status is that of the verdict on the job's meaning, written as a JSON document
 abbrev pub TellsJson : List ℕ → List ℕ → ℕ → ℕ → Type 0
 TellsJson text input limit status =
     (verdict : Verdict) × (bytes : List ℕ) × documents.IsVerdict text input limit verdict bytes × (status ≡ verdicts.status_of verdict)
 
--- the status is that of the verdict on the story of the job's meaning, told as a JSON document
+-- the status is that of the verdict on the story of the job's meaning, written as a JSON document
 abbrev pub TellsJsonStory : List ℕ → List ℕ → ℕ → Option (List ℕ) → ℕ → Type 0
 TellsJsonStory text input limit asked status =
     (verdict : StoryVerdict) × (bytes : List ℕ) × told.IsStory text input limit asked verdict bytes × (status ≡ story_status_of verdict)
 
--- 0 where there is no warning, and otherwise 1
+-- 0 if there is no warning, and otherwise 1
 abbrev pub lint_status : List Warning → ℕ
 lint_status [] = 0
 lint_status (w ∷ ws) = 1

@@ -22,12 +22,12 @@ use std::rt::Files;
 use std::thread::Threads;
 use story_app::{StoryVerdict, explain, running_at_limit};
 
-/// What a run with no words at a terminal waits for.
+/// What is printed at a terminal if the program runs without arguments and waits for its input.
 const AWAITED: &str =
     "reading a feed: a job text, a line `%input`, the input, and Ctrl-D after it (see --help)\n";
 
-/// Serves standard input with the defaults, and gives the status. Where that is a terminal, standard error says first
-/// what is waited for.
+/// Serves standard input with the defaults, and returns the status. If that is a terminal, standard error says first what is
+/// waited for.
 pub(crate) fn run_feed<R: Files + Input + Print + Eprint + Threads + Sync + AllocGlobal>(
     rt: &R,
 ) -> Result<u8, Stop>
@@ -48,15 +48,15 @@ where
     run_text(rt, "standard input", text, input, settings, &mut Forward)
 }
 
-/// What a job is run with: the text of its file, and its input.
+/// The text of a job file, and its input.
 #[derive(Drop)]
 pub(crate) struct Given {
     pub text: Vec<u8>,
     pub input: Vec<u8>,
 }
 
-// Reads a job file and an input file, or no input where none is named. Both are read before anything is told: first a too long input,
-// then a job file that cannot be read, then such an input.
+// Reads a job file and an input file, or no input if none is named. Both are read before anything is reported: first a too long
+// input, then a job file that cannot be read, then such an input.
 pub(crate) fn read_both<R: Files + Input + AllocGlobal>(
     rt: &R,
     job: &str,
@@ -78,7 +78,7 @@ pub(crate) fn read_both<R: Files + Input + AllocGlobal>(
     })
 }
 
-/// Runs a job file over an input file, and gives the status.
+/// Runs a job file over an input file, and returns the status.
 pub(crate) fn run_job<R: Files + Input + Print + Eprint + Threads + Sync + AllocGlobal>(
     rt: &R,
     job: &str,
@@ -99,7 +99,7 @@ pub(crate) fn run_job<R: Files + Input + Print + Eprint + Threads + Sync + Alloc
     }
 }
 
-/// Tells the story of a job file over an input file, or over no input, and gives the status.
+/// Writes the story of a job file over an input file, or over no input, and returns the status.
 pub(crate) fn explain_job<R: Files + Input + Print + Eprint + Threads + Sync + AllocGlobal>(
     rt: &R,
     job: &str,
@@ -121,7 +121,7 @@ pub(crate) fn explain_job<R: Files + Input + Print + Eprint + Threads + Sync + A
     }
 }
 
-// Tells the story of a job text over an input, and gives the status.
+// Writes the story of a job text over an input, and returns the status.
 fn explain_text<R: Print + Eprint + Threads + Sync + AllocGlobal, P: Pick>(
     rt: &R,
     job: &str,
@@ -156,7 +156,7 @@ fn explain_text<R: Print + Eprint + Threads + Sync + AllocGlobal, P: Pick>(
     Ok(status)
 }
 
-// The bytes of a label, where there is one.
+// The bytes of a label, if there is one.
 pub(crate) fn bytes_of(label: Option<&str>) -> Option<&[u8]>
     ensures { option_copied result ≡ option_copied label.entry }
 {
@@ -166,8 +166,8 @@ pub(crate) fn bytes_of(label: Option<&str>) -> Option<&[u8]>
     }
 }
 
-// Tells on standard error that no task has the label that was asked for, and which one is the nearest. Where memory or a write fails
-// here nothing more is told.
+// Prints to standard error that no task has the label that was requested, and which one is the nearest. If memory or a write
+// fails here nothing more is printed.
 pub(crate) fn tell_no_task<R: Eprint + AllocGlobal>(rt: &R, task: Option<&str>, nearest: Vec<u8>) {
     let (Some(task), Ok(nearest)) = (task, String::from_utf8(nearest)) else {
         return;
@@ -180,7 +180,7 @@ pub(crate) fn tell_no_task<R: Eprint + AllocGlobal>(rt: &R, task: Option<&str>, 
     }
 }
 
-// Runs a job text over an input, and gives the status.
+// Runs a job text over an input, and returns the status.
 fn run_text<R: Print + Eprint + Threads + Sync + AllocGlobal, P: Pick>(
     rt: &R,
     job: &str,
@@ -211,7 +211,7 @@ fn run_text<R: Print + Eprint + Threads + Sync + AllocGlobal, P: Pick>(
     Ok(verdict.status())
 }
 
-/// Writes the canonical text of a job file, and gives the status.
+/// Writes the canonical text of a job file, and returns the status.
 pub(crate) fn check_job<R: Files + Input + Print + Eprint + AllocGlobal>(
     rt: &R,
     job: &str,
@@ -220,7 +220,7 @@ pub(crate) fn check_job<R: Files + Input + Print + Eprint + AllocGlobal>(
     check_text(rt, job, text.as_slice())
 }
 
-// Writes the canonical text of a job text, and gives the status.
+// Writes the canonical text of a job text, and returns the status.
 fn check_text<R: Print + Eprint + AllocGlobal>(rt: &R, job: &str, text: &[u8]) -> Result<u8, Stop>
     ensures { IfOk result (TellsAnswer as_it_is text.now) }
 {
@@ -232,7 +232,7 @@ fn check_text<R: Print + Eprint + AllocGlobal>(rt: &R, job: &str, text: &[u8]) -
     Ok(verdict.status())
 }
 
-/// Writes the canonical text of the same job in format 2, and gives the status.
+/// Writes the canonical text of the same job in format 2, and returns the status.
 pub(crate) fn upgrade_job<R: Files + Input + Print + Eprint + AllocGlobal>(
     rt: &R,
     job: &str,
@@ -241,7 +241,7 @@ pub(crate) fn upgrade_job<R: Files + Input + Print + Eprint + AllocGlobal>(
     upgrade_text(rt, job, text.as_slice())
 }
 
-// Writes the canonical text in format 2 of a job text, and gives the status.
+// Writes the canonical text in format 2 of a job text, and returns the status.
 fn upgrade_text<R: Print + Eprint + AllocGlobal>(rt: &R, job: &str, text: &[u8]) -> Result<u8, Stop>
     ensures { IfOk result (TellsAnswer in_format_2 text.now) }
 {
@@ -254,8 +254,8 @@ fn upgrade_text<R: Print + Eprint + AllocGlobal>(rt: &R, job: &str, text: &[u8])
     Ok(verdict.status())
 }
 
-// Tells on standard error which tasks have not ended at the limit, and what each is doing. The limit's line is on standard output
-// already, so where memory or a write fails here nothing more is told.
+// Prints to standard error which tasks have not ended at the limit, and what each is doing. The limit's line is on standard
+// output already, so if memory or a write fails here nothing more is printed.
 pub(crate) fn tell_running<R: Eprint + Threads + Sync + AllocGlobal, P: Pick>(
     rt: &R,
     text: &[u8],
@@ -274,8 +274,8 @@ pub(crate) fn tell_running<R: Eprint + Threads + Sync + AllocGlobal, P: Pick>(
     }
 }
 
-// Tells a refusal on standard error. Its line is on standard output already, so where memory or a write fails here
-// nothing more is told.
+// Prints a refusal to standard error. Its line is on standard output already, so if memory or a write fails here nothing more is
+// printed.
 pub(crate) fn tell_refusal<R: Eprint + AllocGlobal>(
     rt: &R,
     job: &str,
@@ -290,7 +290,7 @@ pub(crate) fn tell_refusal<R: Eprint + AllocGlobal>(
     }
 }
 
-/// Writes a text that was asked for, and gives the status.
+/// Writes a text that was requested, and returns the status.
 pub(crate) fn show_help<R: Print>(rt: &R, text: &str) -> Result<u8, Stop> {
     let mut out = WriteOut::new(io::writer(rt));
     match send(text.as_bytes(), &mut out) {

@@ -11,13 +11,13 @@ use std::rt::{Env, Files};
 use std::thread::Threads;
 use std::{env, io};
 
-/// The width of a text chart where none is asked for and the terminal does not tell its own.
+/// The width of a text chart if none is requested and the terminal does not report its own.
 const USUAL_WIDTH: usize = 80;
 
-/// The width of an SVG document where none is asked for, in columns of text.
+/// The width of an SVG document if none is requested, in columns of text.
 const USUAL_SVG_WIDTH: usize = 400;
 
-/// Draws the run of a job file over an input file, or over no input, and gives the status.
+/// Draws the run of a job file over an input file, or over no input, and returns the status.
 pub(crate) fn chart_job<R: Files + Env + Input + Print + Eprint + Threads + Sync + AllocGlobal>(
     rt: &R,
     job: &str,
@@ -32,7 +32,7 @@ pub(crate) fn chart_job<R: Files + Env + Input + Print + Eprint + Threads + Sync
     chart_text(rt, job, text, input, form, settings)
 }
 
-// The form of a chart, as wide as was asked for, or else as is usual.
+// The form of a chart, with the requested width, or else the usual one.
 fn form_of<R: Env + AllocGlobal>(rt: &R, width: Option<usize>, svg: bool) -> Form {
     if svg {
         return Form::Svg {
@@ -47,7 +47,7 @@ fn form_of<R: Env + AllocGlobal>(rt: &R, width: Option<usize>, svg: bool) -> For
     }
 }
 
-// The terminal's width in columns, as the environment tells it in `COLUMNS`.
+// The terminal's width in columns, from `COLUMNS` in the environment.
 fn terminal_width<R: Env + AllocGlobal>(rt: &R) -> usize {
     let Ok(columns) = env::var(rt, "COLUMNS") else {
         return USUAL_WIDTH;
@@ -58,7 +58,7 @@ fn terminal_width<R: Env + AllocGlobal>(rt: &R) -> usize {
     }
 }
 
-// Draws the run of a job text over an input, and gives the status.
+// Draws the run of a job text over an input, and returns the status.
 fn chart_text<R: Print + Eprint + Threads + Sync + AllocGlobal>(
     rt: &R,
     job: &str,

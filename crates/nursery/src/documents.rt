@@ -12,7 +12,7 @@ use std::io;
 use std::thread::Threads;
 use story_app::StoryVerdict;
 
-/// Runs a job text over an input, writes the report as a JSON document, and gives the status.
+/// Runs a job text over an input, writes the report as a JSON document, and returns the status.
 pub(crate) fn run_as_json<R: Print + Eprint + Threads + Sync + AllocGlobal>(
     rt: &R,
     job: &str,
@@ -61,7 +61,7 @@ fn run_text<R: Print + Eprint + Threads + Sync + AllocGlobal, P: Pick>(
     Ok(verdict.status())
 }
 
-/// Tells the story of a job text over an input as a JSON document, and gives the status.
+/// Writes the story of a job text over an input as a JSON document, and returns the status.
 pub(crate) fn explain_as_json<R: Print + Eprint + Threads + Sync + AllocGlobal>(
     rt: &R,
     job: &str,

@@ -14,8 +14,8 @@ use std::rt::Files;
 use std::thread::Threads;
 use std::time::Clock;
 
-/// Tells what becomes of a job file over an input file, or over no input, with each fault of it, and gives the status. The name is that of
-/// the exception which a faulty step raises. Progress is shown where standard error is a terminal.
+/// Writes the outcome of a job file over an input file, or over no input, with each fault of it, and returns the status. The name
+/// is that of the exception that a faulty step raises. Progress is shown if standard error is a terminal.
 pub(crate) fn faults_job<R: Files + Input + Print + Eprint + Clock + Threads + Sync + AllocGlobal>(
     rt: &R,
     job: &str,
@@ -35,7 +35,7 @@ pub(crate) fn faults_job<R: Files + Input + Print + Eprint + Clock + Threads + S
     faults_text(rt, job, text, input, settings, name, deny, &progress)
 }
 
-// Tells what becomes of a job text over an input with each fault of it, and gives the status.
+// Writes the outcome of a job text over an input with each fault of it, and returns the status.
 fn faults_text<R: Print + Eprint + Clock + Threads + Sync + AllocGlobal>(
     rt: &R,
     job: &str,
@@ -68,7 +68,7 @@ fn faults_text<R: Print + Eprint + Clock + Threads + Sync + AllocGlobal>(
     Ok(status)
 }
 
-// Says on standard error why the job text is refused, or which lines are denied.
+// Prints to standard error why the job text is refused, or which lines are denied.
 pub(crate) fn conclude_faults<R: Eprint + AllocGlobal>(
     rt: &R,
     job: &str,
@@ -81,8 +81,8 @@ pub(crate) fn conclude_faults<R: Eprint + AllocGlobal>(
     }
 }
 
-// Tells on standard error the lines that are denied, if there are any. They are on standard output already, so where a write fails here
-// nothing more is told.
+// Prints to standard error the lines that are denied, if there are any. They are on standard output already, so if a write fails
+// here nothing more is printed.
 pub(crate) fn tell_denied<R: Eprint>(rt: &R, denied: Vec<u8>) {
     if let Ok(lines) = String::from_utf8(denied) {
         let _ = rt.eprint(lines.as_str());

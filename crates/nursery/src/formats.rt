@@ -13,10 +13,10 @@ use std::alloc::{AllocError, Global};
 use std::io;
 use std::rt::Files;
 
-/// What is said of a job file that is not formatted.
+/// What is printed about a job file that is not formatted.
 const NOT_FORMATTED: &str = "not formatted from here on";
 
-/// Formats a job file, and gives the status.
+/// Formats a job file, and returns the status.
 pub(crate) fn format_job_file<R: Files + Input + Print + Eprint + AllocGlobal>(
     rt: &R,
     job: &str,
@@ -30,7 +30,7 @@ pub(crate) fn format_job_file<R: Files + Input + Print + Eprint + AllocGlobal>(
     }
 }
 
-// Writes the formatted text of a job text, and gives the status.
+// Writes the formatted text of a job text, and returns the status.
 fn print_formatted<R: Print + Eprint + AllocGlobal>(
     rt: &R,
     job: &str,
@@ -48,7 +48,7 @@ fn print_formatted<R: Print + Eprint + AllocGlobal>(
     Ok(verdict.status())
 }
 
-// Compares a job text with its formatted text, says where it differs, and gives the status.
+// Compares a job text with its formatted text, prints where it differs, and returns the status.
 fn compare<R: Eprint + AllocGlobal>(rt: &R, job: &str, text: &[u8]) -> Result<u8, Stop>
     ensures { IfOk result (TellsFormatCheck text.now) }
 {
@@ -65,8 +65,8 @@ fn compare<R: Eprint + AllocGlobal>(rt: &R, job: &str, text: &[u8]) -> Result<u8
     Ok(check.status())
 }
 
-// Puts the formatted text in the place of a job file that differs from it, and gives the status. A text that is refused, or whose formatted text
-// is too long, stays as it is.
+// Replaces a job file that differs from its formatted text by that text, and returns the status. A text that is refused, or whose
+// formatted text is too long, stays as it is.
 fn write_formatted<R: Files + Eprint + AllocGlobal>(
     rt: &R,
     job: &str,
@@ -91,7 +91,7 @@ fn write_formatted<R: Files + Eprint + AllocGlobal>(
     }
 }
 
-// Puts bytes in the place of a job file.
+// Replaces the bytes of a job file.
 fn replace_job_file<R: Files + AllocGlobal>(rt: &R, job: &str, bytes: &[u8]) -> Result<(), Stop> {
     match replace(rt, job, bytes) {
         Ok(()) => Ok(()),
@@ -100,8 +100,8 @@ fn replace_job_file<R: Files + AllocGlobal>(rt: &R, job: &str, bytes: &[u8]) -> 
     }
 }
 
-// Says on standard error that a job text differs from its formatted text, from a place on. Where memory or a write fails here nothing more is
-// said.
+// Prints to standard error that a job text differs from its formatted text, from a place on. If memory or a write fails here
+// nothing more is printed.
 fn tell_difference<R: Eprint + AllocGlobal>(rt: &R, job: &str, text: &[u8], place: usize) {
     let Ok(name) = shown_name(rt.alloc(), job) else {
         return;
@@ -111,7 +111,7 @@ fn tell_difference<R: Eprint + AllocGlobal>(rt: &R, job: &str, text: &[u8], plac
     }
 }
 
-// Says on standard error how long a formatted text would be. Where memory or a write fails here nothing more is said.
+// Prints to standard error how long a formatted text would be. If memory or a write fails here nothing more is printed.
 fn tell_too_long<R: Eprint + AllocGlobal>(rt: &R, bytes: usize) {
     let message = format!(in rt.alloc();
         "error: the formatted text would have {bytes} bytes: a job text has at most 65536\n"

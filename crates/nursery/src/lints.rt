@@ -14,7 +14,7 @@ use std::alloc::{AllocError, Global};
 use std::io;
 use std::rt::Files;
 
-/// Writes what is probably a mistake in a job file, or the line of its refusal, and gives the status.
+/// Writes the probable mistakes in a job file, or the line of its refusal, and returns the status.
 pub(crate) fn lint_job<R: Files + Input + Print + Eprint + AllocGlobal>(
     rt: &R,
     job: &str,
@@ -27,7 +27,7 @@ pub(crate) fn lint_job<R: Files + Input + Print + Eprint + AllocGlobal>(
     lint_text(rt, job, text.as_slice())
 }
 
-// The same of a job text.
+// The same for a job text.
 fn lint_text<R: Print + Eprint + AllocGlobal>(rt: &R, job: &str, text: &[u8]) -> Result<u8, Stop>
     ensures { IfOk result (TellsLints text.now) }
 {
@@ -46,7 +46,7 @@ fn lint_text<R: Print + Eprint + AllocGlobal>(rt: &R, job: &str, text: &[u8]) ->
     }
 }
 
-// Writes the line of a refusal, and tells it on standard error.
+// Writes the line of a refusal, and prints it to standard error.
 fn show_refusal<R: Print + Eprint + AllocGlobal>(
     rt: &R,
     job: &str,

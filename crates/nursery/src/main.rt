@@ -1,8 +1,9 @@
-//! The program `nursery`: `run` runs a job file over an input file, `explain` tells the story of such a run, `chart` draws it, `faults` tells what
-//! becomes of the job where any one of its waiting steps fails or hangs, `races` where its outcome hangs on a hair, `sweep` what becomes of
-//! it for each value of one of its numbers, `fmt` formats a job text, `check` writes a job's canonical text, `upgrade` that of the same job in format 2, and with no
-//! words it serves standard input: a job text, a line that is exactly `%input`, and the input. Its answer goes to standard output, and
-//! what went wrong to standard error. The work is in `nursery_app`, `story_app`, `chart_app`, `fault_app`, `race_app` and `sweep_app`.
+//! The program `nursery`: `run` runs a job file over an input file, `explain` writes the story of such a run, `chart` draws it,
+//! `faults` writes the outcome of the job if any one of its waiting steps fails or hangs, `races` the places where a hair changes
+//! its outcome, `sweep` the outcome for each value of one of its numbers, `fmt` formats a job text, `check` writes a job's
+//! canonical text, `upgrade` that of the same job in format 2. Without arguments it serves standard input: a job text, a line
+//! that is exactly `%input`, and the input. Its output goes to standard output, and what went wrong to standard error. The work
+//! is in `nursery_app`, `story_app`, `chart_app`, `fault_app`, `race_app` and `sweep_app`.
 #![tactic(auto)]
 
 mod answers;
@@ -53,7 +54,8 @@ fn words<R: Env + AllocGlobal>(rt: &R) -> Result<Vec<String>, Stop> {
     }
 }
 
-// Does what the words ask for, and gives the status. Commands that may take long show their progress where standard error is a terminal.
+// Executes the command line, and returns the status. Commands that may take long show their progress if standard error is a
+// terminal.
 fn obey<
     R: Files + Env + Input + Print + Eprint + Clock + Threads + Sync + AllocGlobal + Clone + Drop,
 >(rt: &R, at_terminal: bool) -> Result<u8, Stop>

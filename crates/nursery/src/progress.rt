@@ -8,15 +8,15 @@ const BEFORE_SHOWN: u64 = 1_000;
 /// The milliseconds between two lines of progress.
 const BETWEEN: u64 = 100;
 
-/// What goes back to the start of a terminal's line and clears it.
+/// Returns to the start of a terminal's line and clears it.
 const CLEAR: &str = "\r\x1b[K";
 
-/// Shows on standard error how many runs are done: from the first second on, and only where that is a terminal. Each line is written over
-/// the one before it, and so is what is written next on the same terminal. Threads share it.
+/// Shows on standard error how many runs are done: from the first second on, and only if that is a terminal. Each line is written
+/// over the one before it, and so is what is written next on the same terminal. It is shared by threads.
 #[derive(Drop)]
 pub(crate) struct Progress<'r, R> {
     rt: &'r R,
-    // When the work began: none where nothing is to be shown.
+    // When the work began, or `None` if nothing is to be shown.
     start: Option<Instant>,
     // How many runs are done.
     done: AtomicU64,
@@ -25,7 +25,7 @@ pub(crate) struct Progress<'r, R> {
 }
 
 impl<'r, R: Clock + Eprint> Progress<'r, R> {
-    /// The progress of work that begins now, which is shown at a terminal alone.
+    /// Returns the progress of work that begins now, which is shown only at a terminal.
     pub(crate) fn new(rt: &'r R, at_terminal: bool) -> Progress<'r, R> {
         let start = if at_terminal {
             Instant::now(rt).ok()
@@ -40,14 +40,14 @@ impl<'r, R: Clock + Eprint> Progress<'r, R> {
         }
     }
 
-    /// Clears the line of progress, where one is shown.
+    /// Clears the line of progress, if one is shown.
     pub(crate) fn clear(&self) {
         if self.next.load(Ordering::SeqCst) != BEFORE_SHOWN {
             let _ = self.rt.eprint(CLEAR);
         }
     }
 
-    // Shows how many runs are done, where it is time for that and no other thread does.
+    // Shows how many runs are done, if it is time for that and no other thread does.
     fn show(&self, done: u64) {
         let Some(start) = self.start else {
             return;

@@ -14,12 +14,12 @@ use std::rt::Files;
 use std::thread::Threads;
 use std::time::Clock;
 
-/// What is told where a number of ticks is too large to be made finer.
+/// What is printed if a number of ticks is too large to be made finer.
 const NO_FINER_TICKS: &str =
     "error: a `sleep`, `after` or `at` of more than 100000000 ticks has no finer ticks: use a coarser unit of time\n";
 
-/// Tells where the outcome of a job file over an input file, or over no input, hangs on a hair, and gives the status. Progress is shown
-/// where standard error is a terminal.
+/// Writes the places of a job file, run over an input file or over no input, where a hair changes the outcome, and returns the
+/// status. Progress is shown if standard error is a terminal.
 pub(crate) fn races_job<R: Files + Input + Print + Eprint + Clock + Threads + Sync + AllocGlobal>(
     rt: &R,
     job: &str,
@@ -38,7 +38,7 @@ pub(crate) fn races_job<R: Files + Input + Print + Eprint + Clock + Threads + Sy
     races_text(rt, job, text, input, deny, settings, &progress)
 }
 
-// Tells where the outcome of a job text over an input hangs on a hair, and gives the status.
+// Writes the places of a job text, run over an input, where a hair changes the outcome, and returns the status.
 fn races_text<R: Print + Eprint + Clock + Threads + Sync + AllocGlobal>(
     rt: &R,
     job: &str,
@@ -69,7 +69,8 @@ fn races_text<R: Print + Eprint + Clock + Threads + Sync + AllocGlobal>(
     Ok(status)
 }
 
-// Says on standard error why the job text is refused, which lines are denied, which tasks have not ended, or that there are no finer ticks.
+// Prints to standard error why the job text is refused, which lines are denied, which tasks have not ended, or that there are no
+// finer ticks.
 pub(crate) fn conclude_races<R: Eprint + Threads + Sync + AllocGlobal>(
     rt: &R,
     job: &str,

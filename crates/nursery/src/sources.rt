@@ -9,13 +9,14 @@ use std::fs;
 use std::io::Read;
 use std::rt::Files;
 
-/// The most bytes of a feed: a job text, the line between, and an input.
+/// The maximum number of bytes of a feed: a job text, the line between, and an input.
 const MOST_FEED: usize = 16_842_759;
 
-/// The most bytes that are read of a job file: one more than a job text may have, so that a longer one is refused.
+/// The maximum number of bytes that are read of a job file: one more than a job text may have, so that a longer
+/// one is refused.
 const MOST_JOB: usize = 65_537;
 
-/// The input of that name, or of standard input where the name is `-`.
+/// Returns the input of that name, or standard input if the name is `-`.
 pub(crate) fn read_input<R: Files + Input + AllocGlobal>(
     rt: &R,
     name: &str,
@@ -39,7 +40,7 @@ pub(crate) fn read_input<R: Files + Input + AllocGlobal>(
     }
 }
 
-/// The feed on standard input.
+/// Returns the feed on standard input.
 pub(crate) fn read_feed<R: Files + Input + AllocGlobal>(rt: &R) -> Result<Vec<u8>, Stop>
     ensures { IfOk result (λ bytes. vec_len bytes ≤ 16842759) }
 {
@@ -49,7 +50,7 @@ pub(crate) fn read_feed<R: Files + Input + AllocGlobal>(rt: &R) -> Result<Vec<u8
     }
 }
 
-// Why the input of that name has no bytes.
+// Why the input of that name could not be read.
 fn input_stop<R: Files + AllocGlobal>(rt: &R, name: &str, fault: ReadFault) -> Stop {
     match fault {
         ReadFault::TooLong => Stop::TooLong,
@@ -60,7 +61,8 @@ fn input_stop<R: Files + AllocGlobal>(rt: &R, name: &str, fault: ReadFault) -> S
     }
 }
 
-/// The job text of that name, or of standard input where the name is `-`, cut after the first byte too many.
+/// Returns the job text of that name, or of standard input if the name is `-`, cut off after the first byte too
+/// many.
 pub(crate) fn read_job_text<R: Files + Input + AllocGlobal>(
     rt: &R,
     name: &str,

@@ -13,31 +13,31 @@ pub enum Stop {
     Words {
         text: String,
     },
-    /// An argument is no text.
+    /// An argument is not UTF-8 text.
     #[error("error: an argument is not UTF-8 text\n")]
     NoText,
     /// The job file cannot be opened or read.
     #[error("cannot read the job file\n{reason}")]
     JobFile {
-        /// A line that names the file and says why: empty where memory was refused for it.
+        /// A line that names the file and says why, or empty if memory was refused for it.
         reason: String,
     },
     /// The input file, or standard input, cannot be opened or read.
     #[error("cannot read the input file\n{reason}")]
     InputFile {
-        /// A line that names the file and says why: empty where memory was refused for it.
+        /// A line that names the file and says why, or empty if memory was refused for it.
         reason: String,
     },
     /// The input has more bytes than it may have.
     #[error("input too long\n")]
     TooLong,
-    /// The job file cannot be replaced: it is as it was.
+    /// The job file cannot be replaced. It is as it was.
     #[error("cannot write the job file\n{reason}")]
     JobFileKept {
-        /// A line that names the file and says why: empty where memory was refused for it.
+        /// A line that names the file and says why, or empty if memory was refused for it.
         reason: String,
     },
-    /// Standard output took not all bytes.
+    /// Standard output did not take all bytes.
     #[error("cannot write\n")]
     Write,
     /// Memory was refused.
@@ -46,7 +46,7 @@ pub enum Stop {
 }
 
 impl Stop {
-    /// The program's exit status.
+    /// Returns the program's exit status.
     pub(crate) fn status(&self) -> u8
         ensures { result ≡ status_of self.now }
     {

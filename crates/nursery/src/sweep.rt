@@ -18,8 +18,8 @@ use std::thread::Threads;
 use std::time::Clock;
 use sweep_app::{Missing, SweepVerdict, sweep};
 
-/// Tells what becomes of a job file over an input file, or over no input, for each of these values of one of its numbers, and gives the
-/// status. Progress is shown where standard error is a terminal.
+/// Writes the outcome of a job file over an input file, or over no input, for each of these values of one of its numbers, and
+/// returns the status. Progress is shown if standard error is a terminal.
 pub(crate) fn sweep_job<R: Files + Input + Print + Eprint + Clock + Threads + Sync + AllocGlobal>(
     rt: &R,
     job: &str,
@@ -39,7 +39,7 @@ pub(crate) fn sweep_job<R: Files + Input + Print + Eprint + Clock + Threads + Sy
     sweep_text(rt, job, text, input, settings, target, values, &progress)
 }
 
-// Tells what becomes of a job text over an input for each value, and gives the status.
+// Writes the outcome of a job text over an input for each value, and returns the status.
 fn sweep_text<R: Print + Eprint + Clock + Threads + Sync + AllocGlobal>(
     rt: &R,
     job: &str,
@@ -72,7 +72,7 @@ fn sweep_text<R: Print + Eprint + Clock + Threads + Sync + AllocGlobal>(
     Ok(status)
 }
 
-// Says on standard error why the job text is refused, or why it does not have the number that is meant.
+// Prints to standard error why the job text is refused, or why it does not have the number that is meant.
 pub(crate) fn conclude_sweep<R: Eprint + AllocGlobal>(
     rt: &R,
     job: &str,
@@ -87,7 +87,8 @@ pub(crate) fn conclude_sweep<R: Eprint + AllocGlobal>(
     }
 }
 
-// Tells on standard error why the text does not have the number that is meant. Where memory or a write fails here nothing more is told.
+// Prints to standard error why the text does not have the number that is meant. If memory or a write fails here nothing more is
+// printed.
 fn tell_missing<R: Eprint + AllocGlobal>(
     rt: &R,
     job: &str,
@@ -116,7 +117,7 @@ fn missing_message(
     }
 }
 
-// That no number begins at a place, and what stands there.
+// That no number begins at a place, and what is there.
 fn no_number_message(
     alloc: Global,
     job: &str,
@@ -163,7 +164,7 @@ fn no_block_message(
     }
 }
 
-// The name of the scope or nursery whose deadline is meant: nothing where none is.
+// The name of the scope or nursery whose deadline is meant, or nothing if none is.
 fn name_in(target: &Target) -> &str {
     match target {
         Target::DeadlineOf(name) => shown_word(name.bytes()),

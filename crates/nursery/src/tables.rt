@@ -17,7 +17,7 @@ use std::io;
 use std::thread::Threads;
 use std::time::Clock;
 
-/// Writes what becomes of a job text over an input with each fault of it as a JSON document, and gives the status.
+/// Writes the outcome of a job text over an input with each fault of it as a JSON document, and returns the status.
 pub(crate) fn faults_as_json<R: Print + Eprint + Clock + Threads + Sync + AllocGlobal>(
     rt: &R,
     job: &str,
@@ -50,7 +50,8 @@ pub(crate) fn faults_as_json<R: Print + Eprint + Clock + Threads + Sync + AllocG
     Ok(status)
 }
 
-/// Writes where the outcome of a job text over an input hangs on a hair as a JSON document, and gives the status.
+/// Writes the places of a job text, run over an input, where a hair changes the outcome, as a JSON document, and
+/// returns the status.
 pub(crate) fn races_as_json<R: Print + Eprint + Clock + Threads + Sync + AllocGlobal>(
     rt: &R,
     job: &str,
@@ -81,7 +82,8 @@ pub(crate) fn races_as_json<R: Print + Eprint + Clock + Threads + Sync + AllocGl
     Ok(status)
 }
 
-/// Writes what becomes of a job text over an input for each value of a number as a JSON document, and gives the status.
+/// Writes the outcome of a job text over an input for each value of a number as a JSON document, and returns the
+/// status.
 pub(crate) fn sweep_as_json<R: Print + Eprint + Clock + Threads + Sync + AllocGlobal>(
     rt: &R,
     job: &str,
@@ -114,7 +116,7 @@ pub(crate) fn sweep_as_json<R: Print + Eprint + Clock + Threads + Sync + AllocGl
     Ok(status)
 }
 
-/// Writes what is probably a mistake in a job text as a JSON document, and gives the status.
+/// Writes the probable mistakes in a job text as a JSON document, and returns the status.
 pub(crate) fn lints_as_json<R: Print + Eprint + AllocGlobal>(
     rt: &R,
     job: &str,
