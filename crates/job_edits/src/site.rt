@@ -18,21 +18,21 @@ pub enum Moment {
     Sleep(Number),
     /// The deadline of the scope or nursery with this name, this number of ticks after it was entered.
     After(Name, Number),
-    /// The deadline of the scope of this name, at this tick.
+    /// The deadline of the scope or nursery with this name, at this tick.
     At(Name, Number),
-    /// `checkpoint`.
+    /// A `checkpoint`.
     Checkpoint {
         /// The place of the semicolon after it.
         to: usize,
     },
-    /// `pace`.
+    /// A `pace`.
     Pace {
-        /// For so many lines it sleeps a tick.
+        /// The number of lines for which it sleeps one tick.
         lines: u64,
         /// The place of the semicolon after it.
         to: usize,
     },
-    /// `start`.
+    /// A `start`.
     Start {
         /// The name of the task.
         name: Name,
@@ -41,12 +41,12 @@ pub enum Moment {
     },
 }
 
-/// A place of a job text where time passes, or may.
+/// A place of a job text at which time passes or may pass.
 #[derive(Clone, Copy)]
 pub struct Site {
     /// The place of the keyword that begins the step, scope, nursery or start, counted from the start of the text.
     pub from: usize,
-    /// What stands there.
+    /// What is there.
     pub moment: Moment,
 }
 

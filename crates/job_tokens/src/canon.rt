@@ -6,8 +6,9 @@ ghost use Rattle.job_tokens.specs.Canon.{hex_digit, unit, mark_byte, number as c
 use crate::token::{Mark, Shape};
 use std::alloc::{AllocError, Global};
 
-/// Appends the canonical text of the tokens to `out`: the only text of minimum length in which these tokens can be
-/// read. The only error is that memory was refused; `out` may then hold a part of the text.
+/// Appends the canonical text of the tokens to `out`: one space between two words or numbers and no other blanks, digits
+/// without leading zeros, and one spelling for each byte of a string. The only error is that memory was refused; `out`
+/// may then hold a part of the text.
 pub fn push_canon(alloc: Global, out: &mut Vec<u8>, shapes: &[Shape]) -> Result<(), AllocError>
     ensures { OnOk result (out.new.items ≡ out.old.items ++ canon_of shapes.now) }
 {
