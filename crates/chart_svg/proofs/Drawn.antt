@@ -1,4 +1,4 @@
--- What a drawing is made of, from what its pieces are.
+-- The content of a drawing, from what its pieces are.
 use Rattle.std.proofs.Common.{◌≡◌, ℕ, ◌+◌, ◌*◌, List, [], ◌++◌, length, take, ap, sym, ◌∙◌}
 use Rattle.std.specs.Prelude.{Result, OnOk}
 use Rattle.std.proofs.lemmas.List.{append-nil}
@@ -30,7 +30,7 @@ notes_drawn result until bottom shown all n old a b new first second third =
     on_ok_weaker result
     (λ h. sym (append-nil new) ∙ h nothing ∙ second last ∙ first (note (bottom + ROW * 2) (columns_note shown all) last)) third
 
--- what stands in the document: its head, the lines, the rows that are shown with their arrows, and the notes
+-- the content of the document: its head, the lines, the rows that are shown with their arrows, and the notes
 pub inside_drawn : {T E : Type 0} (result : Result T E) (sheet : Sheet) (until : Tick) (all : ℕ) (bars shown : List Bar) (old a b c new : List ℕ) →
     shown ≡ take MOST_ROWS bars →
     ((rest : Content) → a ++ written rest ≡ old ++ written (element tags.Title [] (text (title_bytes bars) nothing) (style (definitions rest)))) →
@@ -47,7 +47,7 @@ inside_drawn result sheet until all bars shown old a b c new same first second t
     h ∙ third last ∙ ap (λ z. b ++ written (rows sheet 0 z (arrows sheet z 0 z last))) same ∙ second drawn
     ∙ first (tick_lines sheet (bottom_of bars) sheet.columns drawn)) fourth
 
--- the document: its start tag, what stands inside, and its end tag
+-- the document: its start tag, its content, and its end tag
 pub document_drawn : (sheet : Sheet) (until : Tick) (all : ℕ) (bars : List Bar) (width height : ℕ) (empty a b new : List ℕ) → empty ≡ [] →
     width ≡ width_of sheet bars → height ≡ height_of bars → a ≡ empty ++ start_tag tags.Svg (svg_attributes width height) →
     b ≡ a ++ written (inside_of sheet until all bars) → new ≡ b ++ end_tag tags.Svg → new ≡ written (document sheet until all bars)
@@ -59,7 +59,7 @@ document_drawn sheet until all bars width height empty a b new none w h p q r =
     ∙ ap (λ x. whole x height) w
     ∙ ap (λ y. whole (width_of sheet bars) y) h
 
--- the drawing of a story, by what is known of its sheet
+-- the drawing of a story, from what is known of its sheet
 pub drawing_is : (width : ℕ) (table : Table) (until : Tick) (walked : List Event) (bars : List Bar)
     (names count : ℕ) (ticks : List ℕ) (all columns : List Column) (known : Table) (events sorted : List Event) (svg : List ℕ) →
     ticks ≡ all_ticks walked until → all ≡ columns_of ticks → columns ≡ columns_for width all bars → names ≡ longest_name bars →

@@ -18,7 +18,7 @@ closed : (old start inside end a b new w : List ℕ) → a ≡ old ++ start → 
 closed old start inside end a b new w p q r =
     ap (λ x. x ++ w) (r ∙ ap (λ x. x ++ end) (q ∙ ap (λ x. x ++ inside) p)) ∙ regrouped old start inside end w
 
--- an element: its start tag, what stands inside, and its end tag
+-- an element: its start tag, its content, and its end tag
 pub element_is : (tag : Tag) (attributes : List Attribute) (inside : Content) (old a b new : List ℕ) →
     a ≡ old ++ start_tag tag attributes → b ≡ a ++ written inside → new ≡ b ++ end_tag tag →
     (rest : Content) → new ++ written rest ≡ old ++ written (element tag attributes inside rest)
@@ -38,7 +38,7 @@ begun tag old a b p q =
     q ∙ ap (λ x. x ++ codes ">") p ∙ append_assoc old (codes "<" ++ tag_name tag) (codes ">")
     ∙ ap (λ x. old ++ (x ++ codes ">")) (sym (append-nil (codes "<" ++ tag_name tag)))
 
--- the same where what stands inside is appended before any rest
+-- the same where the content is appended before any rest
 pub element_around : {T E : Type 0} (result : Result T E) (tag : Tag) (attributes : List Attribute) (inside : Content) (old a b new : List ℕ) →
     a ≡ old ++ start_tag tag attributes → b ++ [] ≡ a ++ written inside → OnOk result (new ≡ b ++ end_tag tag) →
     OnOk result ((rest : Content) → new ++ written rest ≡ old ++ written (element tag attributes inside rest))
@@ -118,7 +118,7 @@ start_of_seven result old tag p q r s t u v o a b c d e f g new begun ap_ bp cp 
 pub text_before : (a bytes new : List ℕ) → new ≡ a ++ escaped bytes → (rest : Content) → new ++ written rest ≡ a ++ written (text bytes rest)
 text_before a bytes new p rest = ap (λ x. x ++ written rest) p ∙ append_assoc a (escaped bytes) (written rest)
 
--- the start tag of what stands at a place, by what the same numbers are elsewhere
+-- the start tag of an element at a place, from equal numbers
 pub at_place : (shape : ℕ → ℕ → List Attribute) (tag : Tag) (old new : List ℕ) (x i y j : ℕ) → new ≡ old ++ start_tag tag (shape x y) →
     x ≡ i → y ≡ j → new ≡ old ++ start_tag tag (shape i j)
 at_place shape tag old new x i y j h p q =

@@ -1,4 +1,4 @@
--- Arrows from who cancelled something to what was cancelled.
+-- Arrows from the task that cancelled something to what it cancelled.
 use Rattle.std.specs.Prelude.{ℕ, ◌+◌, ◌==◌, ◌&&◌, Option, Some, None, List, [], ◌∷◌, codes, decimal, if◌then◌else◌}
 use Rattle.exc_groups.specs.Exceptions.{Label}
 use Rattle.job_meaning.specs.Log.{same_label}
@@ -13,12 +13,12 @@ use Rattle.svg_text.specs.declared.names.Tag.TheVariants as tags
 use Rattle.svg_text.specs.declared.names.Attr.TheVariants as attrs
 use Rattle.chart_svg.specs.Sheets.{Sheet, x_at, x_of, middle_of, told}
 
--- who cancelled something, and when
+-- the task that cancelled something, and the tick in which it did
 pub record Source : Type 0 where
   pub task : Label
   pub tick : ℕ
 
--- a deadline is no task
+-- the task of a cause, or `None` where the cause is a deadline
 abbrev pub source_of : Option Cause → Option Source
 source_of None = None
 source_of (Some by_deadline) = None
@@ -41,13 +41,13 @@ segment class x1 y1 x2 y2 =
     ∷ attribute attrs.Y2 (decimal y2)
     ∷ []
 
--- an arrow from the row of a task to row i, from who cancelled it to the tick from which it is cancelled
+-- an arrow from the row of a task to row i, from the tick in which the task cancelled it to the tick from which it is cancelled
 abbrev pub arrow : Sheet → ℕ → ℕ → Source → ℕ → List Event → Content → Content
 arrow sheet i t source j own rest =
     element tags.Line (segment (codes "arrow") (x_of sheet source.tick) (middle_of j) (x_at sheet (column_by sheet.columns t)) (middle_of i))
     (told sheet (at_tick source.tick own)) rest
 
--- from the first of these rows that is the task's, if there is one
+-- an arrow from the first of these rows that is the task's, if there is one
 abbrev pub arrow_from : Sheet → ℕ → ℕ → Source → ℕ → List Bar → Content → Content
 arrow_from sheet i t source j [] rest = rest
 arrow_from sheet i t source j (b ∷ bs) rest =

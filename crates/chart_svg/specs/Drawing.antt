@@ -16,7 +16,7 @@ use Rattle.chart_svg.specs.Arrows.{segment, arrows}
 use Rattle.chart_svg.specs.declared.layout.TheConstants.{LEFT, TOP, ROW, LETTER, MOST_ROWS, MOST_SHOWN}
 use Rattle.chart_svg.specs.declared.style.TheConstants.{STYLE}
 
--- ---- what the style sheet speaks of
+-- ---- the style sheet and the definitions
 
 abbrev pub style : Content → Content
 style rest = element tags.Style [] (text STYLE.now nothing) rest
@@ -38,7 +38,7 @@ arrow_head rest =
     ∷ [])
     (path (codes "head") (codes "M0 0 8 4 0 8z") nothing) rest
 
--- what fills the bar of a task that was cancelled, or that raised an exception
+-- a pattern that fills the bar of a task that was cancelled, or that raised an exception
 abbrev pub fill : List ℕ → List ℕ → Content → Content
 fill id steps rest =
     element tags.Pattern
@@ -49,7 +49,7 @@ fill id steps rest =
     ∷ [])
     (path id steps nothing) rest
 
--- the cross, around the place where it is used
+-- the cross, with the place where it is used at its centre
 abbrev pub cross_path : Content → Content
 cross_path rest =
     element tags.Path
@@ -83,16 +83,16 @@ abbrev pub note : ℕ → List ℕ → Content → Content
 note y [] rest = rest
 note y (b ∷ bs) rest = words (codes "note") LEFT y (b ∷ bs) rest
 
--- that the story is cut off at a limit
+-- the note that the story is cut off at a limit, if it is
 abbrev pub limit_note : Tick → List ℕ
 limit_note None = []
 limit_note (Some limit) = codes "limit " ++ decimal limit
 
--- how many columns of all are not shown
+-- the note that says how many of all columns are not shown, if there are any
 abbrev pub columns_note : ℕ → ℕ → List ℕ
 columns_note shown all = if shown == all then [] else left_out shown all
 
--- how many rows are not shown
+-- the note that says how many rows are not shown, if there are any
 abbrev pub rows_note : ℕ → List ℕ
 rows_note n = if nat_le n MOST_ROWS then [] else decimal (n - MOST_ROWS) ++ codes " rows are left out"
 
@@ -107,7 +107,7 @@ abbrev pub title_bytes : List Bar → List ℕ
 title_bytes [] = []
 title_bytes (b ∷ bs) = name_of b
 
--- where the rows end
+-- the place where the rows end, from the top
 abbrev pub bottom_of : List Bar → ℕ
 bottom_of bars = y_of (length (take MOST_ROWS bars))
 
@@ -125,7 +125,7 @@ svg_attributes width height =
     ∷ attribute attrs.Height (decimal height)
     ∷ []
 
--- what stands in the document, with so many columns in all
+-- the content of the document, where `all` is the number of all columns
 abbrev pub inside_of : Sheet → Tick → ℕ → List Bar → Content
 inside_of sheet until all bars =
     let shown = take MOST_ROWS bars in
@@ -141,12 +141,12 @@ abbrev pub document : Sheet → Tick → ℕ → List Bar → Content
 document sheet until all bars =
     element tags.Svg (svg_attributes (width_of sheet bars) (height_of bars)) (inside_of sheet until all bars) nothing
 
--- the sheet of a chart that is as wide as so many letters
+-- the sheet of a chart with room for as many columns as a text chart of this width
 abbrev pub sheet_of : ℕ → Table → List Event → List Column → List Bar → Sheet
 sheet_of width table sorted all bars =
     record { names = longest_name bars; columns = columns_for width all bars; table = table; events = sorted }
 
--- the drawing of a story, by its events in the order of the walk and the bars of these
+-- the drawing of a story, from its events in the order of the walk and their bars
 abbrev pub drawing : ℕ → Table → Tick → List Event → List Bar → Content
 drawing width table until walked bars =
     let all = columns_of (all_ticks walked until) in

@@ -1,4 +1,4 @@
--- Sheets as the code holds them.
+-- The sheets, sizes and sources of the code, as the definitions see them.
 use Rattle.std.specs.Prelude.{map}
 use Rattle.story_text.specs.Told.{events_in, froms_in}
 use Rattle.chart_columns.specs.Held.{column_of}

@@ -26,7 +26,7 @@ abbrev pub end_word_by : What → List ℕ
 end_word_by (ends home exc) = exc_word exc
 end_word_by _ = codes "done"
 
--- how a task ended, if that is told
+-- how a task ended, if its end is in the events
 abbrev pub end_word : Option Event → List ℕ
 end_word None = codes "running"
 end_word (Some e) = end_word_by e.what
@@ -35,7 +35,7 @@ abbrev pub shield_word : Bool → List ℕ
 shield_word false = []
 shield_word true = codes " shield"
 
--- what a bar is: a task and how it ended, or a scope or nursery and whether it is shielded
+-- the class of a bar: a task and how it ended, or a scope or nursery and whether it is shielded
 abbrev pub class_by : What → Option Event → List ℕ
 class_by (happens (enters (a_scope fail) label deadline shield)) last = codes "scope" ++ shield_word shield
 class_by (happens (enters a_nursery label deadline shield)) last = codes "nursery" ++ shield_word shield
@@ -44,7 +44,7 @@ class_by _ last = codes "task " ++ end_word last
 abbrev pub class_of : Bar → List ℕ
 class_of bar = class_by bar.first.what bar.last
 
--- ---- sizes: the bar of a task is higher than that of a scope or nursery, whose name stands further to the right
+-- ---- sizes: the bar of a task is higher than that of a scope or nursery, whose name is further to the right
 
 pub record Size : Type 0 where
   pub indent : ℕ
@@ -64,7 +64,7 @@ abbrev pub event_list : Option Event → List Event
 event_list None = []
 event_list (Some e) = e ∷ []
 
--- the events that are told of a bar: those of a task, or how a scope or nursery is entered and left
+-- the events that the title of a bar shows: those of a task, or how a scope or nursery is entered and left
 abbrev pub told_by : What → Bar → List Event
 told_by (starts home lent) bar = bar.own
 told_by _ bar = bar.first ∷ event_list bar.last
@@ -72,7 +72,7 @@ told_by _ bar = bar.first ∷ event_list bar.last
 abbrev pub told_of : Bar → List Event
 told_of bar = told_by bar.first.what bar
 
--- that there are more than are told
+-- that there are more events than the title shows, if there are
 abbrev pub more_told : ℕ → List ℕ
 more_told n = if nat_le n MOST_TOLD then [] else codes "and " ++ decimal (n - MOST_TOLD) ++ codes " more events\n"
 
@@ -89,7 +89,7 @@ start_x sheet bar = x_of sheet bar.first.tick
 abbrev pub end_x : Sheet → Bar → ℕ
 end_x sheet bar = x_at sheet (end_column sheet.columns bar.last)
 
--- from one place to another, and never nothing
+-- the width from one place to another, which is at least 2 pixels
 abbrev pub width_to : ℕ → ℕ → ℕ
 width_to x end = max 2 (end - x)
 
@@ -110,7 +110,7 @@ words class x y bytes rest =
     element tags.Text (attribute attrs.Class class ∷ attribute attrs.X (decimal x) ∷ attribute attrs.Y (decimal y) ∷ [])
     (text bytes nothing) rest
 
--- what is cancelled of a scope or nursery: from the first column by which it is
+-- the part of a scope's or nursery's bar in which it is cancelled, which begins at the first column at which it is
 abbrev pub cancelled_part : Sheet → ℕ → Bar → Option ℕ → Content → Content
 cancelled_part sheet i bar None rest = rest
 cancelled_part sheet i bar (Some t) rest =

@@ -23,14 +23,14 @@ use std::alloc::{AllocError, Global};
 use story_causes::{Cause, Causes};
 use svg_text::{Tag, end};
 
-// Who cancelled something, and when.
+// The task that cancelled a scope or nursery, and the tick in which it did.
 #[derive(Clone, Copy)]
 pub(crate) struct Source<'e> {
     pub task: &'e Label,
     pub tick: u64,
 }
 
-// Appends an arrow to each of these bars that a task cancelled, from the first of them that is this task's.
+// Appends an arrow to each of these bars that a task cancelled, from the first bar that is that task's.
 pub(crate) fn push_arrows(
     alloc: Global,
     out: &mut Vec<u8>,
@@ -76,7 +76,7 @@ fn push_arrow_to(
     push_arrow_from(alloc, out, sheet, bars, row, tick, source)
 }
 
-// Who cancelled something, by why it is cancelled: no task where its deadline did.
+// Returns the task that cancelled something, from the cause of the cancellation, or `None` if it was the deadline.
 fn source_of<'e>(cause: Option<Cause<'e>>) -> Option<Source<'e>>
     ensures { option_map source_held result ≡ source_of (option_map cause_in_code cause.entry) }
 {
@@ -114,7 +114,7 @@ fn push_arrow_from(
     Ok(())
 }
 
-// Whether a bar is that of a task.
+// Returns whether a bar is that of this task.
 fn is_of_task(bar: &Bar<'_, '_>, task: &Label) -> bool
     ensures { result ≡ (is_start (what_of bar.now.first.now.what) && same_label task.now bar.now.first.now.task) }
 {
@@ -145,7 +145,7 @@ fn push_arrow(
     end(out, Tag::Line)
 }
 
-// The events in a tick.
+// Returns the events in a tick.
 fn at_tick<'e>(alloc: Global, tick: u64, events: &[&'e Event]) -> Result<Vec<&'e Event>, AllocError>
     ensures { IfOk result (λ found. map seen found.items ≡ at_tick tick (map seen events.now)) }
 {

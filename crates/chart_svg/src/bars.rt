@@ -36,7 +36,7 @@ const BLOCK: Size = Size {
     height: 8,
 };
 
-// How high a bar is, and where it stands on its row.
+// Returns the height of a bar, and its place on its row.
 pub(crate) fn size_of(bar: &Bar<'_, '_>) -> Size
     ensures value { size_held result ≡ size_of (bar_of bar.now) }
     ensures down { result.down ≤ 24 }
@@ -48,7 +48,7 @@ pub(crate) fn size_of(bar: &Bar<'_, '_>) -> Size
     }
 }
 
-// What a bar is called in the style sheet.
+// Returns the class of a bar in the style sheet.
 pub(crate) fn class_of(bar: &Bar<'_, '_>) -> &'static [u8]
     ensures { result.now ≡ class_of (bar_of bar.now) }
 {
@@ -58,7 +58,7 @@ pub(crate) fn class_of(bar: &Bar<'_, '_>) -> &'static [u8]
     }
 }
 
-// What the bar of a scope or nursery is called.
+// Returns the class of the bar of a scope or nursery.
 fn block_class(kind: Kind, shield: bool) -> &'static [u8]
     ensures { (label : tree.Label) (deadline : Tick) (last : Option told.Event) → result.now
         ≡ class_by (told.happens (enters (kind_of kind) label deadline shield)) last }
@@ -71,7 +71,7 @@ fn block_class(kind: Kind, shield: bool) -> &'static [u8]
     }
 }
 
-// What the bar of a task is called, by how it ended, if that is told.
+// Returns the class of the bar of a task, by how the task ended, if it did.
 fn task_class(last: Option<&Event>) -> &'static [u8]
     ensures { result.now ≡ codes "task " ++ end_word (event_seen last.entry) }
 {
@@ -84,7 +84,7 @@ fn task_class(last: Option<&Event>) -> &'static [u8]
     }
 }
 
-// What the bar of a task is called that ended.
+// Returns the class of the bar of a task that ended.
 fn ended_class(exc: &Option<Box<Exc>>) -> &'static [u8]
     ensures { result.now ≡ codes "task " ++ exc_word (boxed exc.now) }
 {
@@ -94,7 +94,7 @@ fn ended_class(exc: &Option<Box<Exc>>) -> &'static [u8]
     raised_class(exc)
 }
 
-// What the bar of a task is called that ended with an exception.
+// Returns the class of the bar of a task that ended with an exception.
 fn raised_class(exc: &Exc) -> &'static [u8]
     ensures { result.now ≡ codes "task " ++ exc_word (Some (exc_of exc.now)) }
 {
@@ -104,7 +104,7 @@ fn raised_class(exc: &Exc) -> &'static [u8]
     }
 }
 
-// Appends what the story tells of a bar, as a title: of a task its first events, of a scope or nursery how it is entered and left.
+// Appends what the story says of a bar, as a title: the first events of a task, or how a scope or nursery is entered and left.
 pub(crate) fn push_bar_title(
     alloc: Global,
     out: &mut Vec<u8>,
@@ -121,7 +121,7 @@ pub(crate) fn push_bar_title(
     end(out, Tag::Title)
 }
 
-// What the story tells of these events: of the first of them, and how many more there are.
+// Returns what the story says of the first of these events, and how many more there are.
 fn told_text(
     alloc: Global,
     sheet: &Sheet<'_, '_, '_>,
@@ -135,7 +135,7 @@ fn told_text(
     Ok(told)
 }
 
-// Those of a bar's events that are told.
+// Returns the first of these events, as many as a title shows.
 fn first_of<'s, 'e>(events: &'s [&'e Event]) -> &'s [&'e Event]
     ensures { map seen result.now ≡ take MOST_TOLD (map seen events.now) }
 {
@@ -143,7 +143,7 @@ fn first_of<'s, 'e>(events: &'s [&'e Event]) -> &'s [&'e Event]
     first
 }
 
-// The events that are told of a bar.
+// Returns the events that the title of a bar shows.
 fn told_of<'e>(alloc: Global, bar: &Bar<'_, 'e>) -> Result<Vec<&'e Event>, AllocError>
     ensures { IfOk result (λ events. map seen events.items ≡ told_of (bar_of bar.now)) }
 {
@@ -158,7 +158,7 @@ fn told_of<'e>(alloc: Global, bar: &Bar<'_, 'e>) -> Result<Vec<&'e Event>, Alloc
     Ok(events)
 }
 
-// Appends that there are more events than are told, if there are.
+// Appends that there are more events than the title shows, if there are.
 fn push_more(out: &mut Vec<u8>, count: usize) -> Result<(), AllocError>
     ensures { OnOk result (out.new.items ≡ out.old.items ++ more_told count) }
 {
@@ -168,7 +168,7 @@ fn push_more(out: &mut Vec<u8>, count: usize) -> Result<(), AllocError>
     push_left(out, (count - MOST_TOLD) as u64)
 }
 
-// Appends that there are so many more events.
+// Appends how many more events there are.
 fn push_left(out: &mut Vec<u8>, left: u64) -> Result<(), AllocError>
     ensures { OnOk result (out.new.items ≡ out.old.items ++ (codes "and " ++ decimal left ++ codes " more events\n")) }
 {

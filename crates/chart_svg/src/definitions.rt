@@ -18,7 +18,7 @@ pub(crate) fn push_style(out: &mut Vec<u8>) -> Result<(), AllocError>
     end(out, Tag::Style)
 }
 
-// Appends what is used elsewhere: the head of an arrow, what fills bars, and the cross.
+// Appends the definitions that are used elsewhere: the head of an arrow, the patterns that fill bars, and the cross.
 pub(crate) fn push_definitions(out: &mut Vec<u8>) -> Result<(), AllocError>
     ensures { OnOk result ((rest : Content) → out.new.items ++ written rest ≡ out.old.items ++ written (definitions rest)) }
 {
@@ -28,7 +28,7 @@ pub(crate) fn push_definitions(out: &mut Vec<u8>) -> Result<(), AllocError>
     end(out, Tag::Defs)
 }
 
-// Appends one after the other what is used elsewhere.
+// Appends the definitions one after the other.
 fn push_each(out: &mut Vec<u8>) -> Result<(), AllocError>
     ensures { OnOk result ((rest : Content) → out.new.items ++ written rest ≡ out.old.items ++ written (arrow_head
         (fill (codes "slanted") (codes "M0 6 6 0") (fill (codes "crossed") (codes "M0 6 6 0M0 0 6 6") (cross_path rest))))) }
@@ -66,7 +66,7 @@ fn begin_arrow_head(out: &mut Vec<u8>) -> Result<(), AllocError>
     inside(out)
 }
 
-// Appends what fills a bar.
+// Appends a pattern that fills a bar.
 fn push_fill(out: &mut Vec<u8>, id: &[u8], steps: &[u8]) -> Result<(), AllocError>
     ensures { OnOk result ((rest : Content) → out.new.items ++ written rest ≡ out.old.items ++ written (fill id.now steps.now rest)) }
 {
@@ -75,7 +75,7 @@ fn push_fill(out: &mut Vec<u8>, id: &[u8], steps: &[u8]) -> Result<(), AllocErro
     end(out, Tag::Pattern)
 }
 
-// Begins what fills a bar.
+// Begins a pattern that fills a bar.
 fn begin_fill(out: &mut Vec<u8>, id: &[u8]) -> Result<(), AllocError>
     ensures { OnOk result (out.new.items ≡ out.old.items ++ start_tag tags.Pattern
         (attribute attrs.Id id.now ∷ attribute attrs.PatternUnits (codes "userSpaceOnUse") ∷ attribute attrs.Width (codes "6")
@@ -100,7 +100,7 @@ fn push_path(out: &mut Vec<u8>, class: &[u8], steps: &[u8]) -> Result<(), AllocE
     end(out, Tag::Path)
 }
 
-// Appends the cross, around the place where it is used.
+// Appends the cross, with the place where it is used at its centre.
 fn push_cross_path(out: &mut Vec<u8>) -> Result<(), AllocError>
     ensures { OnOk result ((rest : Content) → out.new.items ++ written rest ≡ out.old.items ++ written (cross_path rest)) }
 {

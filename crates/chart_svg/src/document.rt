@@ -29,10 +29,14 @@ use story_causes::Causes;
 use story_text::{Known, push_number};
 use svg_text::{Attr, Tag, attribute, begin, end, inside, number, text};
 
-/// A chart as an SVG document, of a story with these events in the order of the walk (`walked`), the same in order (`sorted`), and their bars: it
-/// is well formed, whatever they are. `causes` is the index of the events in order and of the table that tells from when scopes and
-/// nurseries are cancelled. There is room for as many columns as in a text chart of that width; `until` is the limit at which the story is cut off, if
-/// it is. At most 2,000 rows are drawn, and a note says how many are left out. Want of memory is the only error.
+/// Returns a chart as an SVG document, which is always well formed. The story is given by its events in the order of the walk
+/// (`walked`), the same events in order (`sorted`), the table with the ticks from which scopes and nurseries are cancelled
+/// (`froms`), the index of the sorted events and this table (`causes`), and the bars of the events. The caller must ensure that
+/// `sorted` is `in_order` of `walked`, and that `causes` is that index.
+///
+/// There is room for as many columns as in a text chart of `width` characters. `until` is the limit at which the story is cut
+/// off, or `None` for a whole story. At most 2,000 rows are drawn, and a note says how many are left out. Returns `AllocError` if
+/// memory is refused.
 pub fn chart_svg<'e>(
     alloc: Global,
     width: usize,
@@ -61,7 +65,7 @@ pub fn chart_svg<'e>(
     document(alloc, &sheet, causes, until, all.len(), bars)
 }
 
-// The document, where there are so many columns in all.
+// Returns the document. `all` is the number of all columns, of which the sheet has those that are shown.
 fn document(
     alloc: Global,
     sheet: &Sheet<'_, '_, '_>,
@@ -99,7 +103,7 @@ fn begin_svg(alloc: Global, out: &mut Vec<u8>, width: u64, height: u64) -> Resul
     inside(out)
 }
 
-// Appends what stands in the document.
+// Appends the content of the document.
 fn push_inside(
     alloc: Global,
     out: &mut Vec<u8>,
@@ -118,7 +122,7 @@ fn push_inside(
     push_missing(alloc, out, sheet, until, all, bars)
 }
 
-// Appends the title, the style sheet and what is used elsewhere.
+// Appends the title, the style sheet and the definitions.
 fn push_head(alloc: Global, out: &mut Vec<u8>, bars: &[Bar<'_, '_>]) -> Result<(), AllocError>
     ensures { OnOk result ((rest : Content) → out.new.items ++ written rest ≡ out.old.items
         ++ written (element tags.Title [] (text (title_bytes (map bar_of bars.now)) nothing) (style (definitions rest)))) }
@@ -128,7 +132,7 @@ fn push_head(alloc: Global, out: &mut Vec<u8>, bars: &[Bar<'_, '_>]) -> Result<(
     push_definitions(out)
 }
 
-// Appends the ticks, with a line down from each to where the rows end.
+// Appends the ticks, with a line down from each to the end of the rows.
 fn push_lines(
     alloc: Global,
     out: &mut Vec<u8>,
@@ -158,7 +162,7 @@ fn push_shown(
     push_arrows(alloc, out, sheet, causes, shown)
 }
 
-// Appends what is not shown.
+// Appends the notes about what is not shown.
 fn push_missing(
     alloc: Global,
     out: &mut Vec<u8>,
@@ -194,7 +198,7 @@ fn push_title(alloc: Global, out: &mut Vec<u8>, bars: &[Bar<'_, '_>]) -> Result<
     end(out, Tag::Title)
 }
 
-// How wide the document is, in pixels.
+// Returns the width of the document, in pixels.
 fn width_of(
     alloc: Global,
     sheet: &Sheet<'_, '_, '_>,
@@ -206,14 +210,14 @@ fn width_of(
     Ok(sheet.x_at(last_tick(sheet.columns)) + LETTER * (outcomes + 4))
 }
 
-// How high the document is, in pixels.
+// Returns the height of the document, in pixels.
 fn height_of(bars: &[Bar<'_, '_>]) -> u64
     ensures { result ≡ height_of (map bar_of bars.now) }
 {
     bottom_of(bars) + ROW * 4
 }
 
-// Where the rows end, in pixels from the top.
+// Returns the place where the rows end, in pixels from the top.
 fn bottom_of(bars: &[Bar<'_, '_>]) -> u64
     ensures value { result ≡ bottom_of (map bar_of bars.now) }
     ensures bound { result ≤ 48044 }
@@ -221,7 +225,7 @@ fn bottom_of(bars: &[Bar<'_, '_>]) -> u64
     y_of(shown_of(bars).len())
 }
 
-// The bars that are shown.
+// Returns the bars that are shown.
 fn shown_of<'b, 'i, 'e>(bars: &'b [Bar<'i, 'e>]) -> &'b [Bar<'i, 'e>]
     ensures { map bar_of result.now ≡ take MOST_ROWS (map bar_of bars.now) }
 {

@@ -1,8 +1,9 @@
-//! A chart as an SVG document: who ran when, who cancelled whom, and what was raised.
+//! A chart as an SVG document: when each task ran, which task cancelled which scope or nursery, and which exceptions were raised.
 //!
-//! The layer promises that `chart_svg` writes the document of `specs/Drawing.antt`, and that this is well formed for every story: a row for each
-//! bar, of which the title is what the story tells of it, a cross where a task is cancelled, a dot where it raises an exception, and an arrow from
-//! each task that cancelled something. It stands on `chart_text` for names, outcomes and columns, and on `svg_text` for how a document is written.
+//! The layer promises that `chart_svg` returns the document of `specs/Drawing.antt`, and that this is well formed for every
+//! story. It has a row for each bar, whose title is what the story says of it, a cross where a task is cancelled, a dot where it
+//! raises an exception, and an arrow from each task that cancelled something. It uses `chart_text` for names, outcomes and
+//! columns, `svg_text` for the document, and `story_causes` for the arrows.
 #![tactic(auto)]
 
 mod arrows;

@@ -31,7 +31,7 @@ pub(crate) fn push_marks(
     Ok(())
 }
 
-// Appends the mark of an event, if it has one: a cross where a task is cancelled, a dot where it raises an exception.
+// Appends the mark of an event, if it has one: a cross if a task is cancelled, a dot if it raises an exception.
 fn push_mark(
     alloc: Global,
     out: &mut Vec<u8>,

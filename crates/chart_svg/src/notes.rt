@@ -9,10 +9,10 @@ use chart_text::push_left_out;
 use std::alloc::{AllocError, Global};
 use story_text::push_number;
 
-// What a drawing does not show.
+// Numbers about what a drawing does not show.
 #[derive(Clone, Copy)]
 pub(crate) struct Missing {
-    // The limit at which the story is cut off.
+    // The limit at which the story is cut off, if it is.
     pub until: Option<u64>,
     // How many columns there are, and how many of them are shown.
     pub columns: usize,
@@ -21,7 +21,7 @@ pub(crate) struct Missing {
     pub rows: usize,
 }
 
-// Appends what a drawing does not show, below its bottom.
+// Appends the notes about what a drawing does not show, below the rows.
 pub(crate) fn push_notes(
     alloc: Global,
     out: &mut Vec<u8>,
@@ -37,7 +37,7 @@ pub(crate) fn push_notes(
     push_rows_note(alloc, out, bottom, missing.rows)
 }
 
-// Appends that the story is cut off at a limit, if it is.
+// Appends the note that the story is cut off at a limit, if it is.
 fn push_limit_note(
     alloc: Global,
     out: &mut Vec<u8>,
@@ -52,7 +52,7 @@ fn push_limit_note(
     push_note(out, bottom + ROW, bytes.as_slice())
 }
 
-// Appends how many columns are not shown, if some are not.
+// Appends the note that says how many columns are not shown, if there are any.
 fn push_columns_note(
     alloc: Global,
     out: &mut Vec<u8>,
@@ -68,7 +68,7 @@ fn push_columns_note(
     push_note(out, bottom + ROW * 2, bytes.as_slice())
 }
 
-// Appends how many rows are not shown, if some are not.
+// Appends the note that says how many rows are not shown, if there are any.
 fn push_rows_note(
     alloc: Global,
     out: &mut Vec<u8>,
@@ -93,7 +93,7 @@ fn push_note(out: &mut Vec<u8>, y: u64, bytes: &[u8]) -> Result<(), AllocError>
     push_words(out, b"note", LEFT, y, bytes)
 }
 
-// That the story is cut off at a limit.
+// Returns the note that the story is cut off at a limit.
 fn limit_note(alloc: Global, until: Option<u64>) -> Result<Vec<u8>, AllocError>
     ensures { IfOk result (λ text. text.items ≡ limit_note until) }
 {
@@ -105,7 +105,7 @@ fn limit_note(alloc: Global, until: Option<u64>) -> Result<Vec<u8>, AllocError>
     Ok(text)
 }
 
-// How many columns are not shown.
+// Returns the note that says how many columns are not shown.
 fn columns_note(alloc: Global, shown: usize, all: usize) -> Result<Vec<u8>, AllocError>
     ensures { IfOk result (λ text. text.items ≡ columns_note shown all) }
 {
@@ -116,7 +116,7 @@ fn columns_note(alloc: Global, shown: usize, all: usize) -> Result<Vec<u8>, Allo
     Ok(text)
 }
 
-// How many rows are not shown.
+// Returns the note that says how many rows are not shown.
 fn rows_note(alloc: Global, rows: usize) -> Result<Vec<u8>, AllocError>
     ensures { IfOk result (λ text. text.items ≡ rows_note rows) }
 {
@@ -126,7 +126,7 @@ fn rows_note(alloc: Global, rows: usize) -> Result<Vec<u8>, AllocError>
     rows_left_out(alloc, (rows - MOST_ROWS) as u64)
 }
 
-// That so many rows are not shown.
+// Returns the note that this many rows are not shown.
 fn rows_left_out(alloc: Global, left: u64) -> Result<Vec<u8>, AllocError>
     ensures { IfOk result (λ text. text.items ≡ decimal left ++ codes " rows are left out") }
 {

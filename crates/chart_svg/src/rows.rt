@@ -92,7 +92,7 @@ fn push_row_bar(
     end(out, Tag::Rect)
 }
 
-// Where a bar ends, from the left: at the last column where its end is not told.
+// Returns the place where a bar ends, in pixels from the left. A bar without an end ends at the last column.
 fn end_x(sheet: &Sheet<'_, '_, '_>, bar: &Bar<'_, '_>) -> u64
     ensures value { result ≡ end_x (sheet_held sheet.now) (bar_of bar.now) }
     ensures bound { result ≤ 100000000 }
@@ -103,7 +103,7 @@ fn end_x(sheet: &Sheet<'_, '_, '_>, bar: &Bar<'_, '_>) -> u64
     }
 }
 
-// Appends what is cancelled of a scope or nursery, if it is.
+// Appends the part of a scope's or nursery's bar in which it is cancelled, if it is.
 fn push_cancelled(
     out: &mut Vec<u8>,
     sheet: &Sheet<'_, '_, '_>,

@@ -10,7 +10,7 @@ use crate::sheet::y_of;
 use std::alloc::AllocError;
 use svg_text::{Attr, Tag, attribute, begin, end, inside, number, text};
 
-// How high a bar is and where it stands on its row, in pixels, and how far its name is to the right, in letters.
+// The height of a bar and its place on its row, in pixels, and the indent of its name, in letters.
 #[derive(Clone, Copy)]
 pub(crate) struct Size {
     pub indent: u64,
@@ -18,7 +18,7 @@ pub(crate) struct Size {
     pub height: u64,
 }
 
-// Begins a rectangle on a row, from one place to another. What stands inside comes next, and its end.
+// Begins a rectangle on a row, from one place to another. Its content and its end tag come next.
 pub(crate) fn begin_rectangle(
     out: &mut Vec<u8>,
     row: usize,
@@ -57,7 +57,7 @@ fn begin_box(
     inside(out)
 }
 
-// How wide a rectangle is from one place to another: never nothing.
+// Returns the width of a rectangle from one place to another, which is at least 2 pixels.
 fn width_to(x: u64, end: u64) -> u64
     ensures { result ≡ width_to x end }
 {
@@ -92,7 +92,7 @@ fn begin_words(out: &mut Vec<u8>, class: &[u8], x: u64, y: u64) -> Result<(), Al
     inside(out)
 }
 
-// Begins a line from one place to another. What stands inside comes next, and its end.
+// Begins a line from one place to another. Its content and its end tag come next.
 pub(crate) fn begin_line(
     out: &mut Vec<u8>,
     class: &[u8],
@@ -112,7 +112,7 @@ pub(crate) fn begin_line(
     inside(out)
 }
 
-// Begins a cross at a place. What stands inside comes next, and its end.
+// Begins a cross at a place. Its content and its end tag come next.
 pub(crate) fn begin_cross(out: &mut Vec<u8>, x: u64, y: u64) -> Result<(), AllocError>
     ensures { OnOk result (out.new.items ≡ out.old.items ++ start_tag tags.Use (cross x y)) }
 {
@@ -123,7 +123,7 @@ pub(crate) fn begin_cross(out: &mut Vec<u8>, x: u64, y: u64) -> Result<(), Alloc
     inside(out)
 }
 
-// Begins a dot at a place. What stands inside comes next, and its end.
+// Begins a dot at a place. Its content and its end tag come next.
 pub(crate) fn begin_dot(out: &mut Vec<u8>, x: u64, y: u64) -> Result<(), AllocError>
     ensures { OnOk result (out.new.items ≡ out.old.items ++ start_tag tags.Circle (dot x y)) }
 {

@@ -13,7 +13,7 @@ use std::alloc::{AllocError, Global};
 use story_text::{Known, kept_text};
 use svg_text::{Tag, begin, end, inside, text};
 
-// What all of a drawing hangs on.
+// What all parts of a drawing depend on.
 #[derive(Clone, Copy)]
 pub(crate) struct Sheet<'s, 'k, 'e> {
     // The length of the longest name of a row.
@@ -23,7 +23,7 @@ pub(crate) struct Sheet<'s, 'k, 'e> {
 }
 
 impl<'s, 'k, 'e> Sheet<'s, 'k, 'e> {
-    // Where a column stands, from the left.
+    // Returns the place of a column, in pixels from the left.
     pub(crate) fn x_at(&self, tick: u64) -> u64
         ensures value { result ≡ x_at (sheet_held self.now) tick }
         ensures bound { result ≤ 100000000 }
@@ -32,14 +32,14 @@ impl<'s, 'k, 'e> Sheet<'s, 'k, 'e> {
         LEFT + LETTER * (names + 2) + PLACE * place(self.columns, tick)
     }
 
-    // Where something at a tick is shown, from the left.
+    // Returns the place where something at a tick is shown, in pixels from the left.
     pub(crate) fn x_of(&self, tick: u64) -> u64
         ensures { result ≡ x_of (sheet_held self.now) tick }
     {
         self.x_at(column_at(self.columns, tick))
     }
 
-    // Where what holds from a tick on begins to be shown, from the left.
+    // Returns the place where something that holds from a tick on begins to be shown, in pixels from the left.
     pub(crate) fn x_by(&self, tick: u64) -> u64
         ensures { result ≡ x_at (sheet_held self.now) (column_by (sheet_held self.now).columns tick) }
     {
@@ -47,7 +47,7 @@ impl<'s, 'k, 'e> Sheet<'s, 'k, 'e> {
     }
 }
 
-// How far a column is from the first of these, in places of text.
+// Returns the distance of a column from the first of these, in places of text.
 fn place(columns: &[Column], tick: u64) -> u64
     ensures value { result ≡ place (map column_of columns.now) tick }
     ensures bound { result ≤ 1000000 }
@@ -62,7 +62,7 @@ fn place(columns: &[Column], tick: u64) -> u64
     gap.saturating_add(place(others, tick)).min(FARTHEST)
 }
 
-// Where a row stands, from the top.
+// Returns the place of a row, in pixels from the top.
 pub(crate) fn y_of(row: usize) -> u64
     ensures value { result ≡ y_of row }
     ensures bound { result ≤ 48044 }
@@ -70,14 +70,14 @@ pub(crate) fn y_of(row: usize) -> u64
     TOP + ROW * (row.min(MOST_ROWS) as u64)
 }
 
-// The middle of a row, from the top.
+// Returns the middle of a row, in pixels from the top.
 pub(crate) fn middle_of(row: usize) -> u64
     ensures { result ≡ middle_of row }
 {
     y_of(row) + 12
 }
 
-// Appends what the story tells of these events, as a title.
+// Appends what the story says of these events, as a title.
 pub(crate) fn push_told(
     alloc: Global,
     out: &mut Vec<u8>,

@@ -1,4 +1,5 @@
-/// The style sheet of a drawing: light or dark, as the reader's screen is. Bars are told apart by how they are filled too, and not by colour alone.
+/// The style sheet of a drawing: light or dark, as the reader's screen is set. Bars differ in how they are filled, and not only
+/// in colour.
 pub const STYLE: &[u8] = b"
 svg{font:12px ui-monospace,Menlo,Consolas,monospace;background:#fff;color:#1f2328}
 text{fill:currentColor}
