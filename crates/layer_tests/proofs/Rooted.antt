@@ -61,7 +61,7 @@ module _ (job : Job) (root : Task) (home : root.home ≡ None) (own : root.own.i
   no_scope : scope_of root ≡ None
   no_scope = ap (λ (os : List Own). last_or (home_scope root) (map (λ (o : Own). o.id) os)) own ∙ no_home
 
-  -- a root that has to begin fits a world in which no scope is open
+  -- a root that has not begun fits a world in which no scope is open
   pub root_fits : (world : World) → AreModest job.steps → StartsInNurseries job →
       length (bytes_of (buffer_of root.part) (range_of root.part)) ≤ MOST_INPUT →
       ((key : ℕ) → stack_of world.scopes key ≡ None) → Fits root.frames.items root world (waits_of root.halt)
@@ -81,7 +81,7 @@ module _ (job : Job) (root : Task) (home : root.home ≡ None) (own : root.own.i
         others = λ key st found apart i o at inside. absurd (let f : None ≡ Some st = sym (none key) ∙ found in cc);
       }
 
-  -- and it stands where the definitions have it
+  -- and its state is that of the definitions
   root_stands : (world : World) → StartsInNurseries job → GivesNamesOnce job →
       Stands root.frames.items root world no_froms no_numbers (Some rest.to_begin) []
   root_stands world starting names =
@@ -93,7 +93,7 @@ module _ (job : Job) (root : Task) (home : root.home ≡ None) (own : root.own.i
         own = tt;
       }
 
-  -- so it goes on once it is due, where its first turn said that it sleeps
+  -- so it continues when it is due, if its first turn said that it sleeps
   pub root_sleeps : (world now : World) (after : Task) (stop : Stop) → StartsInNurseries job → GivesNamesOnce job →
       TurnsAs root after world now Begin stop → (due : ℕ) → stop ≡ Sleep due → (part : Part) → WakesFrom after.halt part now.book Due
   root_sleeps world now after stop starting names turn due is part =

@@ -1,4 +1,4 @@
-//! `batch_commit`: the turns of a batch come as the picker picks, with the answers to their requests, and ids are given out again.
+//! `batch_commit`: the turns of a batch come as the picker picks, with the answers to their requests, and ids are reused.
 
 ghost use Rattle.std.specs.Prelude.{◌≡◌, ◌<◌, [], IfOk, OnOk, length};
 ghost use Rattle.batch_commit.specs.Entries.{AllPlaced, NonePlaced};
@@ -12,7 +12,7 @@ use std::alloc::{AllocError, Global};
 use std::test::Fail;
 use task_machine::Wake;
 
-/// A request that is known by its number.
+/// A request that is identified by its number.
 fn numbered(number: u64) -> Request<'static> {
     Request {
         kernel: Kernel::Head(number),
@@ -33,7 +33,7 @@ fn numbers(alloc: Global, requests: &[Request<'_>]) -> Result<Vec<u8>, AllocErro
     Ok(text)
 }
 
-/// The answer that is known by the number of the request.
+/// The answer that is identified by the number of the request.
 fn answer_to(kernel: Kernel<'_>) -> Answer<'static> {
     match kernel {
         Kernel::Head(number) => Answer::Count(number),
@@ -41,7 +41,7 @@ fn answer_to(kernel: Kernel<'_>) -> Answer<'static> {
     }
 }
 
-/// Answers that are known by the numbers of their requests.
+/// Answers that are identified by the numbers of their requests.
 fn answers_to(alloc: Global, requests: &[Request<'_>]) -> Result<Vec<Answer<'static>>, AllocError>
     ensures { IfOk result (λ answers. length answers.items ≡ length requests.now) }
 {
@@ -63,7 +63,7 @@ fn answer_all(alloc: Global, batch: &mut ReadyBatch<'static>) -> Result<(), Allo
     Ok(())
 }
 
-/// Appends an answer, which is known by its number.
+/// Appends an answer, by its number.
 fn push_answer(text: &mut Vec<u8>, answer: &Answer<'_>) -> Result<(), AllocError> {
     match answer {
         Answer::Count(number) => push_number(text, *number),
@@ -71,7 +71,7 @@ fn push_answer(text: &mut Vec<u8>, answer: &Answer<'_>) -> Result<(), AllocError
     }
 }
 
-/// Appends how a task goes on.
+/// Appends why a task continues.
 fn push_wake(text: &mut Vec<u8>, wake: &Wake<'_>) -> Result<(), AllocError> {
     match wake {
         Wake::Begin => push_bytes(text, b"begin"),
@@ -82,7 +82,7 @@ fn push_wake(text: &mut Vec<u8>, wake: &Wake<'_>) -> Result<(), AllocError> {
     }
 }
 
-/// Appends a task's key and how it goes on, as `2:20 `.
+/// Appends a task's key and why it continues, as `2:20 `.
 fn push_turn(text: &mut Vec<u8>, turn: &(TaskId, Wake<'_>)) -> Result<(), AllocError> {
     push_number(text, turn.0.key() as u64)?;
     push_bytes(text, b":")?;
@@ -98,7 +98,7 @@ enum Order {
     InTurn,
 }
 
-/// A picker that picks as the one of its order does. It is one type, so that what is generic in pickers is proved here at it alone.
+/// A picker that picks as the one of its order does. It is one type, so what is generic in pickers is proved here only for it.
 #[derive(Drop)]
 struct Chosen {
     order: Order,
@@ -157,7 +157,7 @@ fn called(
     Ok(batch)
 }
 
-/// The turns of four tasks, of which the second and the fourth ask.
+/// The turns of four tasks, of which the second and the fourth make requests.
 fn four_turns(alloc: Global, picker: &mut Chosen) -> Result<Vec<u8>, AllocError> {
     let calls = [
         (1, Call::Begin),
@@ -170,7 +170,7 @@ fn four_turns(alloc: Global, picker: &mut Chosen) -> Result<Vec<u8>, AllocError>
     turns(alloc, &mut batch, picker)
 }
 
-/// Whether four tasks have these turns in an order, and the picker in turn was called so often.
+/// Whether four tasks have these turns in an order, and the picker in turn was called this often.
 fn have_turns(alloc: Global, order: Order, wanted: &[u8], calls: u64) -> Result<bool, AllocError> {
     let mut picker = picker_of(order);
     let found = four_turns(alloc, &mut picker)?;
@@ -215,7 +215,7 @@ fn three_tasks_begin_as_the_picker_picks(rt: HostRuntime) -> Result<(), Fail> {
     Ok(())
 }
 
-/// How many requests there are before a batch is the current one, and then their numbers.
+/// The number of requests before a batch is the current one, and then their numbers.
 fn numbers_asked(alloc: Global) -> Result<(usize, Vec<u8>), AllocError> {
     let mut batch = ReadyBatch::new(alloc);
     batch.add(TaskId::of(1), Call::Due)?;
@@ -235,7 +235,7 @@ fn requests_come_in_the_order_of_their_tasks(rt: HostRuntime) -> Result<(), Fail
     same(then.as_slice(), b"20 40 ")
 }
 
-/// The turns of a batch to whose next one a task is added meanwhile.
+/// The turns of a batch, while a task is added to the next one.
 fn turns_before(alloc: Global, batch: &mut ReadyBatch<'static>) -> Result<Vec<u8>, AllocError>
     requires { NonePlaced batch.old.current }
     ensures { OnOk result (batch.new.current ≡ []) }
@@ -245,7 +245,7 @@ fn turns_before(alloc: Global, batch: &mut ReadyBatch<'static>) -> Result<Vec<u8
     turns(alloc, batch, &mut picker_of(Order::Forward))
 }
 
-/// Whether the batch is over, and not once the next one is the current one; and the turns of that one.
+/// Whether the batch is over, and not after the next one is the current one; and the turns of that one.
 fn turns_after(
     alloc: Global,
     batch: &mut ReadyBatch<'static>,
@@ -260,7 +260,7 @@ fn turns_after(
     Ok((before, then, text))
 }
 
-/// Fails where what is added does not wait for the next batch.
+/// Fails if what is added does not wait for the next batch.
 fn waits(alloc: Global) -> Result<(), Fail> {
     let mut batch = called(alloc, &[(1, Call::Due)])?;
     let first = turns_before(alloc, &mut batch)?;
@@ -277,7 +277,7 @@ fn what_is_added_waits_for_the_next_batch(rt: HostRuntime) -> Result<(), Fail> {
     waits(rt.alloc())
 }
 
-/// A batch of so many tasks that begin.
+/// A batch of the given number of tasks that begin.
 fn begun(alloc: Global, count: usize) -> Result<ReadyBatch<'static>, AllocError>
     ensures { IfOk result (λ batch. NonePlaced batch.current) }
 {
@@ -289,7 +289,7 @@ fn begun(alloc: Global, count: usize) -> Result<ReadyBatch<'static>, AllocError>
     Ok(batch)
 }
 
-/// A sum of the keys of tasks, which tells the order of their turns.
+/// A sum of the keys of tasks, which depends on the order of their turns.
 fn order_of(batch: &mut ReadyBatch<'static>, picker: &mut Chosen) -> u64
     requires { AllPlaced batch.old.current }
 {
@@ -300,7 +300,7 @@ fn order_of(batch: &mut ReadyBatch<'static>, picker: &mut Chosen) -> u64
     sum
 }
 
-/// The sum of so many tasks, where the picker picks in turn.
+/// The sum for the given number of tasks, where the picker picks in turn.
 fn order_in_turn(alloc: Global, count: usize) -> Result<u64, AllocError> {
     let mut batch = begun(alloc, count)?;
     answer_all(alloc, &mut batch)?;
@@ -325,7 +325,7 @@ fn write(live: &mut Live<u64>, id: TaskId, value: u64) -> bool {
     }
 }
 
-/// Whether this value lives under an id.
+/// Whether this value is under an id.
 fn has(live: &Live<u64>, id: TaskId, value: u64) -> bool {
     match live.get(id) {
         Some(found) => *found == value,
@@ -340,7 +340,7 @@ fn takes_once(live: &mut Live<u64>, id: TaskId, value: u64) -> bool {
     taken == Some(value) && again == None && live.get(id).is_none()
 }
 
-/// Whether what lives under ids is what was put there last, and an id is given out again.
+/// Whether each id has the value that was put there last, and an id is reused.
 fn gives_ids_again(alloc: Global) -> Result<bool, AllocError> {
     let mut live = Live::new(alloc);
     let first = live.put(10)?;

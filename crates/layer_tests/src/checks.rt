@@ -1,4 +1,5 @@
-//! `job_checks`: names given twice, a `cancel` of nothing around it, reserved names, and the sizes of jobs.
+//! `job_checks`: names given twice, a `cancel` that no block of its name encloses, reserved names, and the
+//! sizes of jobs.
 
 use crate::fixtures::{word, wrong};
 use job_checks::{given_twice, reserved_name, size_of, stray_cancel};
@@ -59,14 +60,14 @@ fn nursery(alloc: Global, child: &[u8], over: Option<u64>, step: Step) -> Result
     })
 }
 
-/// Where a `cancel` of that name is stray, which stands at 9 after the job's name.
+/// The place where a `cancel` of that name is stray, which is at 9 after the job's name.
 fn place_of_stray(body: &Body, name: &[u8]) -> Result<Option<usize>, Fail> {
     let tokens = [token(3, word(b"main")?), token(9, word(name)?)];
     let roles = [Role::Given, Role::Target];
     Ok(stray_cancel(body.as_slice(), &tokens, &roles))
 }
 
-/// Where a name is given twice among `a b a b`, of which the first two are given.
+/// The place where a name is given twice among `a b a b`, of which the first two are given.
 fn place_of_twice(alloc: Global, third: Role, fourth: Role) -> Result<Option<usize>, Fail> {
     let (a, b) = (word(b"a")?, word(b"b")?);
     let tokens = [token(0, a), token(2, b), token(4, a), token(6, b)];
@@ -168,7 +169,7 @@ fn reserved_names() -> Result<(), Fail> {
     Ok(())
 }
 
-/// A block of three nurseries in one another, each of which starts 64 children.
+/// A block of three nested nurseries, each of which starts 64 children.
 fn three_nurseries(alloc: Global) -> Result<Body, Fail> {
     let third = nursery(alloc, b"c", Some(64), Step::Sleep(1))?;
     let second = nursery(alloc, b"b", Some(64), third)?;

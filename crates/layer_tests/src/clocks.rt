@@ -1,6 +1,7 @@
 //! `autojump_clock`: timers and cancellations move the clock, and ids of tasks keep their keys.
 //!
-//! What the calls ask of ticks is tested when they run, so that a proof carries the tasks' timers alone.
+//! What the calls require of ticks is tested when they run, so that a proof carries only the tasks'
+//! timers.
 
 ghost use Rattle.std.specs.Prelude.{◌≡◌, ℕ, None, Some, OnOk, IfOk};
 ghost use Rattle.autojump_clock.specs.Clock.{due_of, HasTimer, Updates};
@@ -9,7 +10,7 @@ use autojump_clock::{Jump, MockClock, TaskId};
 use std::alloc::Global;
 use std::test::Fail;
 
-/// Sets a timer. Where memory is refused nothing changes, and it is set again.
+/// Sets a timer. If memory is refused nothing changes, and it is set again.
 fn sleep_again(clock: &mut MockClock, task: TaskId, due: u64) -> Result<(), Fail>
     requires awake { due_of clock.old task ≡ None }
     ensures timers { OnOk result (Updates clock.old clock.new task (Some due)) }
@@ -24,7 +25,7 @@ fn sleep_again(clock: &mut MockClock, task: TaskId, due: u64) -> Result<(), Fail
     Ok(())
 }
 
-/// Jumps, where no task is due.
+/// Jumps, if no task is due.
 fn jump(clock: &mut MockClock, next_cancel: Option<u64>) -> Result<Jump, Fail>
     requires some { HasTimer clock.old }
     ensures timers { OnOk result ((task : ℕ) → due_of clock.new task ≡ due_of clock.old task) }
@@ -93,7 +94,7 @@ fn wake_third(clock: &mut MockClock) -> Result<(), Fail>
     Ok(())
 }
 
-/// Stands where the next timer is past the limit.
+/// Does not move if the next timer is past the limit.
 fn meet_limit(clock: &mut MockClock) -> Result<(), Fail>
     requires first { due_of clock.old 1 ≡ Some 101 }
 {
@@ -106,7 +107,7 @@ fn meet_limit(clock: &mut MockClock) -> Result<(), Fail>
     Ok(())
 }
 
-/// Timers and cancellations, one after the other.
+/// Timers and cancellations, one after another.
 fn move_clock(alloc: Global) -> Result<(), Fail> {
     let mut clock = three_timers(alloc)?;
     wake_two(&mut clock)?;

@@ -1,4 +1,4 @@
-//! What several tests need: names, labels, jobs and exceptions, and texts of what a call gave.
+//! What several tests need: names, labels, jobs and exceptions, and texts of the results of calls.
 
 use buffer_parts::Part;
 use exc_groups::{Exc, Label, Whose};
@@ -30,7 +30,7 @@ pub(crate) fn job(alloc: Global, text: &[u8]) -> Result<Job, Fail> {
     }
 }
 
-/// The root of a job on two lines, of which no more is known here.
+/// The root of a job on two lines, about which nothing else is known here.
 pub(crate) fn root<'a>(alloc: Global, job: &'a Job) -> Result<Task<'a>, Fail> {
     let part = Part::whole(b"one\ntwo\n");
     if part.text().len() > MOST_INPUT {
@@ -48,12 +48,12 @@ pub(crate) fn raised(alloc: Global, exc: &[u8], task: &[u8]) -> Result<Exc, Fail
     })
 }
 
-/// The failure of a row of a table, which tells its number from 0 on.
+/// The failure of a row of a table, with its number from 0 on.
 pub(crate) fn wrong(row: usize) -> Fail {
     Fail::from(("row", row))
 }
 
-/// Fails where a text is not as expected, and tells it.
+/// Fails if a text is not as expected, and prints it.
 pub(crate) fn same(found: &[u8], expected: &[u8]) -> Result<(), Fail> {
     if found == expected {
         return Ok(());
@@ -64,7 +64,8 @@ pub(crate) fn same(found: &[u8], expected: &[u8]) -> Result<(), Fail> {
     }
 }
 
-/// Appends bytes, and tells nothing of the text then, so that a proof carries no facts of it.
+/// Appends bytes. Its contract says nothing of the text then, so that a proof carries no facts
+/// about it.
 pub(crate) fn push_bytes(text: &mut Vec<u8>, bytes: &[u8]) -> Result<(), AllocError> {
     text.extend_from_slice(bytes)
 }
@@ -109,7 +110,7 @@ fn push_raised(text: &mut Vec<u8>, name: &Name, task: &Label, tick: u64) -> Resu
     push_place(text, task, tick)
 }
 
-/// Appends who made a group.
+/// Appends the origin of a group.
 fn push_whose(text: &mut Vec<u8>, whose: &Whose) -> Result<(), AllocError> {
     match whose {
         Whose::Nursery(label) => push_label(text, label),
@@ -117,7 +118,7 @@ fn push_whose(text: &mut Vec<u8>, whose: &Whose) -> Result<(), AllocError> {
     }
 }
 
-/// Appends an exception, of a group only who made it.
+/// Appends an exception; of a group only its origin.
 fn push_head(text: &mut Vec<u8>, exc: &Exc) -> Result<(), AllocError> {
     match exc {
         Exc::Cancelled => push_bytes(text, b"!"),
@@ -127,7 +128,7 @@ fn push_head(text: &mut Vec<u8>, exc: &Exc) -> Result<(), AllocError> {
     }
 }
 
-/// Appends an exception, and after a group its parts, as `n[A@a@0;!;]`.
+/// Appends an exception, and for a group its parts, as `n[A@a@0;!;]`.
 pub(crate) fn push_exc(text: &mut Vec<u8>, exc: &Exc) -> Result<(), AllocError> {
     push_head(text, exc)?;
     let Exc::Group { parts, .. } = exc else {

@@ -1,5 +1,5 @@
-//! `job_grammar`: which texts are jobs, by which fault and at which place others are refused, and the canonical texts of
-//! jobs.
+//! `job_grammar`: which texts are jobs, with which fault and at which place others are refused, and the canonical texts
+//! of jobs.
 
 use crate::fixtures::{job, push_bytes, push_digit, wrong};
 use job_grammar::{Job, JobFault, JobKind, read_job, to_format_2, write_job};
@@ -12,7 +12,7 @@ type Row = (&'static [u8], u64, usize);
 /// A text, and its canonical text.
 type Pair = (&'static [u8], &'static [u8]);
 
-/// The number of a refusal and its place. Want of memory is an error.
+/// The number of a refusal and its place. It is an error if memory was refused.
 fn told(fault: JobFault) -> Result<(u64, usize), JobFault> {
     match fault.kind {
         JobKind::NoMemory => Err(fault),
@@ -20,7 +20,7 @@ fn told(fault: JobFault) -> Result<(u64, usize), JobFault> {
     }
 }
 
-/// The number and the place of a text's refusal, and two zeros for a job. Want of memory is an error.
+/// The number and the place of a text's refusal, and two zeros for a job. It is an error if memory was refused.
 fn answer(alloc: Global, text: &[u8]) -> Result<(u64, usize), JobFault> {
     match read_job(alloc, text) {
         Ok(_) => Ok((0, 0)),
@@ -28,13 +28,13 @@ fn answer(alloc: Global, text: &[u8]) -> Result<(u64, usize), JobFault> {
     }
 }
 
-/// Whether a text has that answer.
+/// Whether a text has that result.
 fn is_answered(alloc: Global, text: &[u8], number: u64, at: usize) -> Result<bool, Fail> {
     let (kind, place) = answer(alloc, text)?;
     Ok(kind == number && place == at)
 }
 
-/// Fails at the first row whose text has another answer.
+/// Fails at the first row whose text has another result.
 fn are_answered(alloc: Global, rows: &[Row]) -> Result<(), Fail> {
     for i in 0..rows.len() {
         let (text, number, at) = rows[i];
@@ -142,7 +142,7 @@ fn accepted(rt: HostRuntime) -> Result<(), Fail> {
     are_answered(rt.alloc(), JOBS)
 }
 
-/// Appends so many times these bytes.
+/// Appends these bytes the given number of times.
 fn push_times(text: &mut Vec<u8>, count: usize, bytes: &[u8]) -> Result<(), AllocError> {
     for _ in 0..count {
         push_bytes(text, bytes)?;
@@ -150,7 +150,7 @@ fn push_times(text: &mut Vec<u8>, count: usize, bytes: &[u8]) -> Result<(), Allo
     Ok(())
 }
 
-/// A job of so many blocks in one another, each with these bytes before and after it.
+/// A job of the given number of nested blocks, each with these bytes before and after it.
 fn nested(alloc: Global, depth: usize, front: &[u8], behind: &[u8]) -> Result<Vec<u8>, AllocError> {
     let mut text = Vec::new(alloc);
     push_bytes(&mut text, b"trio-job 1\njob main {")?;
@@ -160,10 +160,10 @@ fn nested(alloc: Global, depth: usize, front: &[u8], behind: &[u8]) -> Result<Ve
     Ok(text)
 }
 
-/// How many blocks stand in one another inside the job's own, and the answer then.
+/// The number of nested blocks inside the job's own, and the result.
 const DEPTHS: &[(usize, u64, usize)] = &[(31, 0, 0), (32, 7, 212), (3_000, 7, 212)];
 
-/// Fails at the first of those depths with another answer.
+/// Fails at the first of those depths with another result.
 fn depths_are_answered(alloc: Global) -> Result<(), Fail> {
     for i in 0..DEPTHS.len() {
         let (depth, number, at) = DEPTHS[i];
@@ -175,7 +175,7 @@ fn depths_are_answered(alloc: Global) -> Result<(), Fail> {
     Ok(())
 }
 
-/// Appends the front of a scope whose name has that number.
+/// Appends the front of a scope with that number as its name.
 fn push_scope(text: &mut Vec<u8>, number: u64) -> Result<(), AllocError> {
     push_bytes(text, b" scope s")?;
     push_digit(text, number / 10)?;
@@ -183,7 +183,7 @@ fn push_scope(text: &mut Vec<u8>, number: u64) -> Result<(), AllocError> {
     push_bytes(text, b" {")
 }
 
-/// A job of 32 scopes in one another.
+/// A job of 32 nested scopes.
 fn nested_scopes(alloc: Global) -> Result<Vec<u8>, AllocError> {
     let mut text = Vec::new(alloc);
     push_bytes(&mut text, b"trio-job 1\njob main {")?;
@@ -202,17 +202,17 @@ fn depth(rt: HostRuntime) -> Result<(), Fail> {
     Ok(())
 }
 
-/// How many spaces a text has, and its answer.
+/// The number of spaces of a text, and its result.
 const LENGTHS: &[(usize, u64, usize)] = &[(65_537, 1, 65_536), (65_536, 3, 0)];
 
-/// Whether a text of so many spaces has that answer.
+/// Whether a text of the given number of spaces has that result.
 fn spaces_are_answered(alloc: Global, count: usize, number: u64, at: usize) -> Result<bool, Fail> {
     let mut text = Vec::new(alloc);
     push_times(&mut text, count, b" ")?;
     is_answered(alloc, text.as_slice(), number, at)
 }
 
-/// Fails at the first of those lengths with another answer.
+/// Fails at the first of those lengths with another result.
 fn lengths_are_answered(alloc: Global) -> Result<(), Fail> {
     for i in 0..LENGTHS.len() {
         let (count, number, at) = LENGTHS[i];
@@ -228,7 +228,7 @@ fn too_long(rt: HostRuntime) -> Result<(), Fail> {
     lengths_are_answered(rt.alloc())
 }
 
-/// The answer for the first so many bytes of the text below.
+/// The result for the first bytes, as many as given, of the text below.
 fn answer_for_prefix(len: usize) -> (u64, usize) {
     match len {
         0..11 => (3, 0),
@@ -242,7 +242,7 @@ fn answer_for_prefix(len: usize) -> (u64, usize) {
     }
 }
 
-/// Fails at the first length of a front of the text that has another answer.
+/// Fails at the first length of a front of the text that has another result.
 fn prefixes_are_answered(alloc: Global) -> Result<(), Fail> {
     let whole = b"trio-job 1\njob main{find\"er\";}".as_slice();
     for len in 0..31 {
@@ -293,7 +293,7 @@ fn numbers(alloc: Global, text: &[u8]) -> Result<(u64, usize, u64), Fail> {
     Ok((job.format(), job.steps().len(), job.size()))
 }
 
-/// The format of a job that was brought to format 2.
+/// The format of a job that was upgraded to format 2.
 fn format_of_upgraded(alloc: Global, text: &[u8]) -> Result<u64, Fail> {
     Ok(to_format_2(job(alloc, text)?).format())
 }
@@ -353,7 +353,7 @@ fn line_of_a_refusal(rt: HostRuntime) -> Result<(), Fail> {
     Ok(())
 }
 
-/// Texts that the two formats answer each in its way.
+/// Texts with different results in the two formats.
 const FORMATS: &[Row] = &[
     (b"trio-job 1\njob main { repeat 1001 { } }", 6, 22),
     (b"trio-job 2\njob main { repeat 1001 { } }", 5, 29),
@@ -394,7 +394,7 @@ fn a_job_of_format_2(rt: HostRuntime) -> Result<(), Fail> {
 /// A job of format 1.
 const PLAIN: &[u8] = b"trio-job 1\njob main { find \"er\"; }";
 
-/// Texts with their canonical texts in format 2. The job of the second row is of format 2, and comes back as it was.
+/// Texts with their canonical texts in format 2. The job of the second row is in format 2, and is unchanged.
 const UPGRADES: &[Pair] = &[
     (PLAIN, b"trio-job 2\njob main{find\"er\";}"),
     (

@@ -20,7 +20,7 @@ fn group_of_two(alloc: Global, name: &[u8], first: Exc, second: Exc) -> Result<E
     }
 }
 
-/// Appends one side of a split: no bytes where it is empty.
+/// Appends one side of a split: no bytes if it is empty.
 fn push_side(text: &mut Vec<u8>, side: &Option<Exc>) -> Result<(), AllocError> {
     if let Some(exc) = side {
         push_exc(text, exc)?;
@@ -28,7 +28,7 @@ fn push_side(text: &mut Vec<u8>, side: &Option<Exc>) -> Result<(), AllocError> {
     Ok(())
 }
 
-/// The two sides of a split, of which no more is known here.
+/// The two sides of a split, about which nothing else is known here.
 fn split_in_two(
     alloc: Global,
     exc: Exc,
@@ -60,7 +60,7 @@ fn groups_split_by_cancelled(rt: HostRuntime) -> Result<(), Fail> {
     same(found.as_slice(), b"n[!;]|n[A@a@0;]")
 }
 
-/// The two sides of what was raised as `A` that is split by a name.
+/// The two sides of an exception `A` that is split by a name.
 fn sides_by_name(alloc: Global, name: &[u8]) -> Result<Vec<u8>, Fail> {
     let wanted = Match::Name(word(name)?);
     let exc = raised(alloc, b"A", b"a")?;
@@ -91,7 +91,7 @@ fn too_slow_has_its_name(rt: HostRuntime) -> Result<(), Fail> {
     same(found.as_slice(), b"@s@2|")
 }
 
-/// A copy of an exception, of which no more is known here.
+/// A copy of an exception, about which nothing else is known here.
 fn copy_of(alloc: Global, exc: &Exc) -> Result<Exc, AllocError> {
     let copy = exc.copy(alloc)?;
     Ok(copy)
@@ -114,7 +114,7 @@ fn copies_are_equal(rt: HostRuntime) -> Result<(), Fail> {
     same(found.as_slice(), b"n[A@a@0;!;]|n[A@a@0;!;]")
 }
 
-/// The label of that name with one index, of which no more is known here.
+/// The label of that name with one index, about which nothing else is known here.
 fn indexed(alloc: Global, name: &[u8], index: u64) -> Result<Label, Fail> {
     Ok(label(alloc, name)?.indexed(index)?)
 }

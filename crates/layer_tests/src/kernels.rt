@@ -1,4 +1,5 @@
-//! `line_kernels`: the lines, the count or the want that each kernel answers on a whole buffer.
+//! `line_kernels`: the lines, the count or the missing line that each kernel answers on a whole
+//! buffer.
 
 use crate::fixtures::{push_bytes, push_number, wrong};
 use buffer_parts::Part;
@@ -63,7 +64,7 @@ const FINDS: &[(&'static [u8], &'static [u8], &'static [u8])] = &[
     (b"a\nb", b"a\nb\n", b""),
 ];
 
-/// Fails at the first row of which `Find` answers other lines.
+/// Fails at the first row for which `Find` answers other lines.
 fn finds_are_shown(alloc: Global) -> Result<(), Fail> {
     for i in 0..FINDS.len() {
         let (needle, buffer, expected) = FINDS[i];
@@ -81,14 +82,14 @@ fn find_and_need_answer_lines_with_a_string(rt: HostRuntime) -> Result<(), Fail>
     Ok(())
 }
 
-/// How many lines are asked for, a buffer, and the lines answered.
+/// The number of lines requested, a buffer, and the lines answered.
 const HEADS: &[(u64, &'static [u8], &'static [u8])] = &[
     (0, BUFFER, b""),
     (2, BUFFER, b"[0+2][3+1]"),
     (5, b"\n", b"[0+0]"),
 ];
 
-/// Fails at the first row of which `Head` answers other lines.
+/// Fails at the first row for which `Head` answers other lines.
 fn heads_are_shown(alloc: Global) -> Result<(), Fail> {
     for i in 0..HEADS.len() {
         let (count, buffer, expected) = HEADS[i];
@@ -113,7 +114,7 @@ const LONGEST: &[(&'static [u8], &'static [u8])] = &[
     (b"a\nb\n\nccc\ndd\neee\nffff", b"[16+4]"),
 ];
 
-/// Fails at the first row of which `Longest` answers another line.
+/// Fails at the first row for which `Longest` answers another line.
 fn longest_are_shown(alloc: Global) -> Result<(), Fail> {
     for i in 0..LONGEST.len() {
         let (buffer, expected) = LONGEST[i];
@@ -129,7 +130,7 @@ fn longest_answers_the_first_of_the_longest_lines(rt: HostRuntime) -> Result<(),
     longest_are_shown(rt.alloc())
 }
 
-/// A buffer, and how many lines it has.
+/// A buffer, and its number of lines.
 const COUNTS: &[(&'static [u8], u64)] = &[(BUFFER, 3), (b"", 0), (b"\n\nlast", 3), (LONG, 5)];
 
 /// Fails at the first row with another count.
@@ -143,7 +144,7 @@ fn counts_are_right(alloc: Global) -> Result<(), Fail> {
     Ok(())
 }
 
-/// The count of the lines of so many newlines.
+/// The count of the lines of the given number of newlines.
 fn counted_newlines(alloc: Global, count: usize) -> Result<u64, Fail> {
     let newlines = Vec::from_elem(alloc, b'\n', count)?;
     counted(alloc, newlines.as_slice())
@@ -152,7 +153,7 @@ fn counted_newlines(alloc: Global, count: usize) -> Result<u64, Fail> {
 #[test]
 fn lines_are_counted(rt: HostRuntime) -> Result<(), Fail> {
     counts_are_right(rt.alloc())?;
-    // There are more newlines than the lanes of a count hold.
+    // There are more newlines than the lanes of a count can hold.
     assert!(rt; counted_newlines(rt.alloc(), 20000)? == 20000);
     Ok(())
 }

@@ -1,7 +1,7 @@
 //! Tests of the layers below the runner, each through its public calls.
 //!
-//! There is nothing but tests here. They stand in a crate of their own, so that the layers are proved once, and the tests once
-//! over their contracts. A module tests one layer, and says at its head what it shows; `fixtures` has what several share.
+//! There is nothing but tests here. They are in a crate of their own, so that the layers are proved once, and the tests once
+//! over their contracts. A module tests one layer, and its first line says what it tests; `fixtures` has what several share.
 #![tactic(auto)]
 
 #[cfg(test)]

@@ -49,7 +49,7 @@ fn bytes_of_words_are_told() -> Result<(), Fail> {
     Ok(())
 }
 
-/// Whether names and strings keep their bytes, and names are equal where their bytes are.
+/// Whether names and strings keep their bytes, and names are equal if their bytes are.
 fn keep_bytes() -> Result<bool, Fail> {
     let first = word(b"a_1")?;
     let text = Text::new(b"\x00\\\xff").ok_or("a string")?;
@@ -63,7 +63,7 @@ fn names_and_texts_keep_their_bytes(rt: HostRuntime) -> Result<(), Fail> {
     Ok(())
 }
 
-/// How many bytes a string has, and whether it is a text.
+/// The number of bytes of a string, and whether it is a text.
 const LENGTHS: &[(usize, bool)] = &[(0, false), (1, true), (64, true), (65, false)];
 
 #[test]

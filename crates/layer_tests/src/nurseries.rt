@@ -54,7 +54,7 @@ fn end_out_of_order(
     Ok(())
 }
 
-/// What a nursery raises whose second child ends before its first.
+/// What a nursery raises if its second child ends before its first.
 fn raised_in(
     alloc: Global,
     scope: ScopeId,
@@ -68,7 +68,7 @@ fn raised_in(
     Ok(book.close(id)?)
 }
 
-/// The same of two exceptions.
+/// The same for two exceptions.
 fn raised_by_two(alloc: Global) -> Result<Option<Exc>, Fail> {
     let scope = scope(alloc)?;
     let first = raised(alloc, b"A", b"a")?;
@@ -76,7 +76,7 @@ fn raised_by_two(alloc: Global) -> Result<Option<Exc>, Fail> {
     raised_in(alloc, scope, label(alloc, b"n")?, first, second)
 }
 
-/// The text of an exception, and no bytes for none.
+/// The text of an exception, and no bytes for `None`.
 fn text_of(alloc: Global, exc: Option<Exc>) -> Result<Vec<u8>, AllocError> {
     let mut text = Vec::new(alloc);
     if let Some(exc) = &exc {
@@ -91,7 +91,7 @@ fn group_of_children_that_end_out_of_order(rt: HostRuntime) -> Result<(), Fail> 
     same(text.as_slice(), b"n[A@a@0;B@b@0;]")
 }
 
-/// Whether a nursery whose body ended well, and which has no child, is settled and raises nothing.
+/// Whether a nursery whose body ended without an exception, and which has no child, is settled and raises nothing.
 fn raises_nothing(alloc: Global, scope: ScopeId, label: Label) -> Result<bool, Fail> {
     let mut book = NurseryBook::new(alloc);
     let id = book.open(scope, TaskId::of(4), label)?;
@@ -102,7 +102,7 @@ fn raises_nothing(alloc: Global, scope: ScopeId, label: Label) -> Result<bool, F
     Ok(book.close(id)?.is_none())
 }
 
-/// The same of a nursery of some scope and label.
+/// The same for a nursery of some scope and label.
 fn some_raises_nothing(alloc: Global) -> Result<bool, Fail> {
     let scope = scope(alloc)?;
     raises_nothing(alloc, scope, label(alloc, b"n")?)

@@ -33,7 +33,7 @@ fn cut(part: Part<'_>, at: (usize, usize)) -> Part<'_> {
 /// The one cut of one, which is the part itself.
 const ALL: (usize, usize) = (1, 0);
 
-/// How many cuts and which one, the same of that cut, and what the cut of the cut shows.
+/// How many cuts and which one, the same for that cut, and the result for the cut of the cut.
 const CUTS: &[((usize, usize), (usize, usize), (usize, usize, usize))] = &[
     ((3, 0), ALL, (0, 3, 10)),
     ((3, 1), ALL, (3, 7, 10)),
@@ -46,13 +46,13 @@ const CUTS: &[((usize, usize), (usize, usize), (usize, usize, usize))] = &[
     ((2, 1), (2, 1), (10, 0, 10)),
 ];
 
-/// How many cuts, and what the first of them and the rest show.
+/// The number of cuts, and the result for the first of them and the rest.
 const FIRSTS: &[(usize, (usize, usize, usize), (usize, usize, usize))] = &[
     (3, (0, 3, 10), (3, 7, 10)),
     (1, (0, 10, 10), (10, 0, 10)),
 ];
 
-/// What the first of so many cuts and the rest show.
+/// The result for the first of the given number of cuts and the rest.
 fn first_and_rest(k: usize) -> ((usize, usize, usize), (usize, usize, usize)) {
     if k == 0 || k > 64 {
         return ((0, 0, 0), (0, 0, 0));
@@ -61,7 +61,7 @@ fn first_and_rest(k: usize) -> ((usize, usize, usize), (usize, usize, usize)) {
     (shown(first), shown(rest))
 }
 
-/// Fails at the first row of cuts that shows something else.
+/// Fails at the first row of cuts with another result.
 fn cuts_are_shown() -> Result<(), Fail> {
     for i in 0..CUTS.len() {
         let (first, second, expected) = CUTS[i];
@@ -91,7 +91,7 @@ const THREE: &[(&'static [u8], Place, Place, Place)] = &[
     (b"", (0, 0), (0, 0), (0, 0)),
 ];
 
-/// The three cuts of a buffer, one after the other.
+/// The three cuts of a buffer, one after another.
 fn three_cuts(buffer: &[u8]) -> (Place, Place, Place) {
     let mut cuts = Part::whole(buffer).cuts(3);
     let first = place(cuts.next_cut());
@@ -110,7 +110,7 @@ fn cuts_come_in_order() -> Result<(), Fail> {
     Ok(())
 }
 
-/// Where two parts meet that are cuts of the buffer.
+/// The place where two parts that are cuts of the buffer meet.
 fn joined(first: usize, next: usize) -> Option<Place> {
     if first >= 3 || next >= 3 {
         return None;

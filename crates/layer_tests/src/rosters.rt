@@ -1,4 +1,5 @@
-//! `task_roster`: tasks come and go under their ids, and the rows of a run that is over are told depth first.
+//! `task_roster`: tasks come and go under their ids, and the rows of a run that is over are listed depth
+//! first.
 
 ghost use Rattle.std.specs.Prelude.{◌≡◌, ◌≢◌, ◌<◌, ◌++◌, [], ◌∷◌, All, IsSome, IfOk, OnOk};
 ghost use Rattle.task_roster.specs.Roster.{many, parent_of, running_at, IsRoster};
@@ -15,7 +16,7 @@ use std::test::Fail;
 use task_machine::ScopeFrom;
 use task_roster::{Ended, Record, Roster, Row, records_of};
 
-/// The row of a task that was started in one tick and ended well in another.
+/// The row of a task that was started in one tick and ended without an exception in another.
 fn ended<'a>(
     alloc: Global,
     name: Name,
@@ -105,7 +106,7 @@ fn rows_come_depth_first(rt: HostRuntime) -> Result<(), Fail> {
     same(found.as_slice(), b"0 1 3 2 ")
 }
 
-/// A roster of a job's root, which lives under that id.
+/// A task table with a job's root, which has that id.
 fn rooted<'a>(alloc: Global, job: &'a Job) -> Result<(Roster<'a>, TaskId), Fail>
     ensures agree { IfOk result (λ r. IsRoster r.0) }
     ensures one { IfOk result (λ r. many r.0 ≡ 1) }
@@ -116,7 +117,7 @@ fn rooted<'a>(alloc: Global, job: &'a Job) -> Result<(Roster<'a>, TaskId), Fail>
     Ok(begun)
 }
 
-/// Starts a child of the root at tick 3, which lives under another id.
+/// Starts a child of the root at tick 3, which has another id.
 fn start_child<'a>(
     alloc: Global,
     roster: &mut Roster<'a>,
@@ -156,7 +157,7 @@ fn starts_a_child(alloc: Global, job: &Job) -> Result<bool, Fail> {
     Ok(roster.row(child) == 1 && roster.parent(1) == id)
 }
 
-/// Whether a run is over once its child has ended and once its root has.
+/// Whether a run is over after its child has ended and after its root has.
 fn over_by_turns(
     roster: &mut Roster<'_>,
     root_id: TaskId,
@@ -174,7 +175,7 @@ fn over_by_turns(
     Ok((before, roster.is_over()))
 }
 
-/// The same of a job, and how many rows it has then.
+/// The same for a job, and its number of rows then.
 fn ends(alloc: Global, job: &Job) -> Result<(bool, bool, usize), Fail> {
     let begun = rooted(alloc, job)?;
     let (mut roster, id) = begun;
@@ -184,7 +185,7 @@ fn ends(alloc: Global, job: &Job) -> Result<(bool, bool, usize), Fail> {
     Ok((before, then, rows.len()))
 }
 
-/// Fails where a task does not come or go as it has to.
+/// Fails if a task does not come or go as it has to.
 fn come_and_go(alloc: Global, job: &Job) -> Result<(), Fail> {
     if !begins_with_root(alloc, job)? {
         return Err("the root has the first row, and is in no scope and no nursery")?;

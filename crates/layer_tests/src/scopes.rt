@@ -1,6 +1,6 @@
-//! `cancel_scopes`: what scopes see and catch, where they stand, and what closes or changes them.
+//! `cancel_scopes`: what scopes see and catch, which scopes enclose them, and what closes or changes them.
 //!
-//! The calls that ask for an open scope are made by helpers that test for one, so that the tests have nothing to prove.
+//! The calls that require an open scope are made by helpers that test for one, so that the tests have nothing to prove.
 
 ghost use Rattle.std.specs.Prelude.{◌<◌, ◌^◌};
 ghost use Rattle.std.specs.Option.{ForSome};
@@ -36,7 +36,7 @@ fn cancel(tree: &mut ScopeTree, id: ScopeId, tick: u64)
     }
 }
 
-/// From which tick a task in the scope sees a cancellation. The outer `None` is for a scope that is closed.
+/// The tick from which a task in the scope sees a cancellation. The outer `None` is for a scope that is closed.
 fn seen_from(tree: &ScopeTree, id: ScopeId) -> Option<Option<u64>> {
     if !tree.is_open(id) {
         return None;
@@ -60,7 +60,7 @@ fn caught_at(tree: &ScopeTree, id: ScopeId, tick: u64) -> Option<bool> {
     Some(tree.may_catch(id, tick))
 }
 
-/// The scope around a scope.
+/// The scope that encloses a scope.
 fn parent(tree: &ScopeTree, id: ScopeId) -> Option<Option<ScopeId>> {
     if !tree.is_open(id) {
         return None;
@@ -102,7 +102,7 @@ fn a_shield_hides_what_is_outside(rt: HostRuntime) -> Result<(), Fail> {
     Ok(())
 }
 
-/// The scopes that are handed out, as first the inner and then the outer one of two is cancelled, and the two.
+/// The changed scopes that are taken, as first the inner and then the outer one of two is cancelled, and the two.
 fn handed_out(alloc: Global) -> Result<([Option<ScopeId>; 4], ScopeId, ScopeId), Fail> {
     let mut tree = ScopeTree::new(alloc);
     let outer = open(&mut tree, None, false, Some(3))?;
@@ -136,7 +136,7 @@ fn the_outermost_of_two_catches(rt: HostRuntime) -> Result<(), Fail> {
     Ok(())
 }
 
-/// Three scopes in one another, the outermost first, and the scope around each.
+/// Three nested scopes, the outermost first, and the scope that encloses each.
 fn three_scopes(alloc: Global) -> Result<([ScopeId; 3], [Option<Option<ScopeId>>; 3]), Fail> {
     let mut tree = ScopeTree::new(alloc);
     let outer = open(&mut tree, None, false, None)?;
@@ -159,7 +159,8 @@ fn scopes_stand_under_their_parents(rt: HostRuntime) -> Result<(), Fail> {
     Ok(())
 }
 
-/// From when a scope was cancelled that is closed then, whether its id is given out again, and what is handed out.
+/// The tick from which a scope was cancelled that is closed then, whether its id is reused, and which changed scopes are
+/// taken.
 fn closed_and_opened(alloc: Global) -> Result<(Option<u64>, bool, Option<ScopeId>), Fail> {
     let mut tree = ScopeTree::new(alloc);
     let first = tree.open(None, false, None)?;
@@ -175,8 +176,8 @@ fn a_closed_scope_is_not_handed_out(rt: HostRuntime) -> Result<(), Fail> {
     Ok(())
 }
 
-/// Whether an id is open before its scope is closed, after that, and as it is given out again; and from when the two scopes
-/// were cancelled.
+/// Whether an id is open before its scope is closed, after that, and when it is reused; and the ticks from which the two
+/// scopes were cancelled.
 fn open_by_turns(alloc: Global) -> Result<([bool; 3], [Option<u64>; 2]), Fail> {
     let mut tree = ScopeTree::new(alloc);
     let first = tree.open(None, false, Some(7))?;

@@ -6,7 +6,7 @@ use sleeper_sights::Sleepers;
 use std::alloc::{AllocError, Global};
 use std::test::Fail;
 
-/// An outer scope and one inside it, of which no more is known here.
+/// An outer scope and one inside it, about which nothing else is known here.
 fn two_scopes(alloc: Global) -> Result<(ScopeId, ScopeId), AllocError> {
     let mut tree = ScopeTree::new(alloc);
     let outer = tree.open(None, false, Some(9))?;
@@ -23,7 +23,8 @@ fn three_sleepers(alloc: Global, outer: ScopeId, inner: ScopeId) -> Result<Sleep
     Ok(sleepers)
 }
 
-/// The first sight, who sees a cancellation by 3, who does by 4 when the second sleeper is gone, and the first sight then.
+/// The first effective deadline (`sight`), which sleeper sees a cancellation by 3, which one by 4 when the second sleeper is
+/// gone, and the first effective deadline then.
 fn seen(sleepers: &mut Sleepers) -> (Option<u64>, Option<TaskId>, Option<TaskId>, Option<u64>) {
     let before = sleepers.first();
     let early = sleepers.take_seen(3);
@@ -32,8 +33,8 @@ fn seen(sleepers: &mut Sleepers) -> (Option<u64>, Option<TaskId>, Option<TaskId>
     (before, early, then, sleepers.first())
 }
 
-/// The first sight, as the outer scope sees a cancellation from 6 on, then the inner one, in which nobody sleeps, from 1 on, and
-/// the outer one none.
+/// The first effective deadline (`sight`), as the outer scope sees a cancellation from 6 on, then the inner one, in which no
+/// task sleeps, from 1 on, and the outer one none.
 fn first_sights(
     sleepers: &mut Sleepers,
     outer: ScopeId,
@@ -47,7 +48,7 @@ fn first_sights(
     Ok([first, second, sleepers.first()])
 }
 
-/// Whether sleepers are found by the sights of their scopes.
+/// Whether sleepers are found by the effective deadlines of their scopes.
 fn are_found(alloc: Global) -> Result<bool, AllocError> {
     let (outer, inner) = two_scopes(alloc)?;
     let mut sleepers = three_sleepers(alloc, outer, inner)?;

@@ -1,4 +1,5 @@
-//! `job_syntax`: a job is followed to its end, and tokens leave the grammar where no job goes on with them.
+//! `job_syntax`: a job is followed to its end, and tokens leave the grammar where no job continues with
+//! them.
 
 use crate::fixtures::wrong;
 use job_syntax::{depth_fault, follow, job_at, number_fault};
@@ -7,7 +8,7 @@ use job_tree::Format;
 use std::alloc::Global;
 use std::test::Fail;
 
-/// Whether a text is a job, as far as its grammar, its numbers and its depth go.
+/// Whether a text is a job, as far as its grammar, its numbers and its depth are concerned.
 fn is_followed(alloc: Global, text: &[u8]) -> Result<bool, Fail> {
     let lexed = lex(alloc, text, text.len())?;
     let tokens = lexed.tokens.as_slice();
@@ -20,7 +21,7 @@ fn is_followed(alloc: Global, text: &[u8]) -> Result<bool, Fail> {
     )
 }
 
-/// Whether the tokens of a text come to a job.
+/// Whether the tokens of a text are a job.
 fn is_job(alloc: Global, text: &[u8]) -> Result<bool, Fail> {
     let lexed = lex(alloc, text, text.len())?;
     let job = job_at(alloc, lexed.tokens.as_slice())?;

@@ -17,7 +17,7 @@ use std::alloc::{AllocError, Global};
 use std::test::Fail;
 use task_machine::{Entry, ScopeFrom, Stop, Task, Wake, World};
 
-/// What a root's first turn left.
+/// The result of a root's first turn.
 #[derive(Drop)]
 struct Turned<'a> {
     task: Task<'a>,
@@ -25,7 +25,7 @@ struct Turned<'a> {
     stop: Stop<'a>,
 }
 
-/// The first turn of a job's root, in a new world at that tick. A root that fell asleep may go on.
+/// The first turn of a job's root, in a new world at that tick. A root that fell asleep may continue.
 fn first_turn<'a>(alloc: Global, job: &'a Job, tick: u64) -> Result<Turned<'a>, Fail>
     requires { tick ≤ 2 ^ 62 }
     ensures tick { IfOk result (λ t. t.world.tick ≡ tick) }
@@ -47,7 +47,7 @@ fn first_turn<'a>(alloc: Global, job: &'a Job, tick: u64) -> Result<Turned<'a>, 
     Ok(Turned { task, world, stop })
 }
 
-/// Appends a scope or a nursery that was left, as `a@0;`, with a mark where it took a `Cancelled` away.
+/// Appends a scope or a nursery that was left, as `a@0;`, with a mark if it caught a `Cancelled`.
 fn push_left(text: &mut Vec<u8>, label: &Label, tick: u64, caught: bool) -> Result<(), AllocError> {
     push_label(text, label)?;
     push_bytes(text, b"@")?;
@@ -80,7 +80,7 @@ fn push_entries(text: &mut Vec<u8>, entries: &[Entry<'_>]) -> Result<(), AllocEr
     Ok(())
 }
 
-/// Appends from when each scope was cancelled, as `a=1;b=-;`.
+/// Appends the tick from which each scope was cancelled, as `a=1;b=-;`.
 fn push_froms(text: &mut Vec<u8>, froms: &[ScopeFrom]) -> Result<(), AllocError> {
     for from in froms {
         push_label(text, &from.label)?;
@@ -94,7 +94,7 @@ fn push_froms(text: &mut Vec<u8>, froms: &[ScopeFrom]) -> Result<(), AllocError>
     Ok(())
 }
 
-/// Appends where a turn stopped: `end` where the task ended well, and the exception where it ended with one.
+/// Appends where a turn stopped: `end` if the task ended without an exception, and the exception if it ended with one.
 fn push_stop(text: &mut Vec<u8>, stop: &Stop<'_>) -> Result<(), AllocError> {
     match stop {
         Stop::Ask(_) => push_bytes(text, b"ask"),
@@ -105,7 +105,7 @@ fn push_stop(text: &mut Vec<u8>, stop: &Stop<'_>) -> Result<(), AllocError> {
     }
 }
 
-/// Appends what a task noted, from when its scopes were cancelled, and where its turn stopped.
+/// Appends what a task noted, from which ticks its scopes were cancelled, and where its turn stopped.
 fn push_turned(text: &mut Vec<u8>, turned: &Turned<'_>) -> Result<(), AllocError> {
     push_entries(text, turned.task.entries())?;
     push_bytes(text, b"|")?;
@@ -261,7 +261,7 @@ fn a_scope_is_seen_and_catches_from_its_tick_on(rt: HostRuntime) -> Result<(), F
     Ok(())
 }
 
-/// Where the next turn of a task stops that slept until that tick.
+/// Where the next turn of a task that slept until that tick stops.
 fn stop_when_due<'a>(
     task: &mut Task<'a>,
     world: &mut World<'a>,
@@ -277,7 +277,8 @@ fn stop_when_due<'a>(
     task.turn(TaskId::of(0), Wake::Due, world)
 }
 
-/// Until when a job's root sleeps that begins at tick 0, and whether it ends well in its next turn, at tick 2.
+/// Until when the root of a job that begins at tick 0 sleeps, and whether it ends without an exception in its next turn, at
+/// tick 2.
 fn sleeps_and_ends(alloc: Global, job: &Job) -> Result<(u64, bool), Fail> {
     let turned = first_turn(alloc, job, 0)?;
     let Turned {
@@ -321,7 +322,7 @@ fn starts_two(alloc: Global, job: &Job) -> Result<(bool, bool), Fail> {
     Ok((true, first && second && is_last))
 }
 
-/// The scope around the innermost one of a task.
+/// The scope that encloses the innermost one of a task.
 fn scope_round(turned: &Turned<'_>) -> Option<ScopeId> {
     let own = turned.task.scope()?;
     let scopes = turned.world.scopes();

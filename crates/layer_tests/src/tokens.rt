@@ -35,7 +35,7 @@ fn tokens_have_their_places(rt: HostRuntime) -> Result<(), Fail> {
     same(text.as_slice(), b"find\"er\";{7")
 }
 
-/// Bytes, how many tokens can be read, and where no other can.
+/// Bytes, how many tokens can be read, and the place where no other can.
 const ENDS: &[(&'static [u8], usize, Option<usize>)] = &[
     (b"find #", 1, Some(5)),
     (b"7a", 0, Some(0)),
@@ -43,7 +43,7 @@ const ENDS: &[(&'static [u8], usize, Option<usize>)] = &[
     (b"", 0, None),
 ];
 
-/// How many tokens can be read, and where no other can.
+/// How many tokens can be read, and the place where no other can.
 fn end(alloc: Global, bytes: &[u8]) -> Result<(usize, Option<usize>), AllocError> {
     let lexed = lex(alloc, bytes, bytes.len())?;
     Ok((lexed.tokens.len(), lexed.fault))

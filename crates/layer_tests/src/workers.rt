@@ -14,7 +14,7 @@ const BUFFER: &[u8] = b"aa\nb\ncccc\n";
 /// A hundred empty lines.
 const LINES: &[u8] = &[b'\n'; 100];
 
-/// How often a gate looks whether both requests were begun.
+/// How often a gate checks whether both requests were begun.
 const LOOKS: u32 = 100_000_000;
 
 /// The counts of the first line, of the two lines after it, and of nothing.
@@ -66,7 +66,7 @@ fn counted(slot: &Slot<'_>) -> Option<u64> {
     }
 }
 
-/// What two benches fill into one row.
+/// What two benches write into one row.
 fn filled_by_two(alloc: Global) -> [Option<u64>; 2] {
     let requests = counts(BUFFER);
     let mut row = [
@@ -105,7 +105,7 @@ fn a_bench_takes_what_is_put(rt: HostRuntime) -> Result<(), Fail> {
     Ok(())
 }
 
-/// A gate that counts its calls, and at which each of two requests waits for the other, though not for ever.
+/// A gate that counts its calls, and at which each of two requests waits for the other, though not forever.
 #[derive(Drop)]
 struct Both {
     begun: [AtomicU64; 2],
@@ -148,7 +148,7 @@ impl Both {
             && self.begun[1].load(Ordering::SeqCst) == 1
     }
 
-    /// Looks until both requests were begun, or so many times.
+    /// Checks until both requests were begun, or for a limited number of times.
     fn both_begun(&self) -> bool {
         for _ in 0..LOOKS {
             if self.begun[0].load(Ordering::SeqCst) == 1
@@ -183,7 +183,7 @@ fn hundred_requests(alloc: Global) -> Result<Vec<Request<'static>>, AllocError> 
     Ok(requests)
 }
 
-/// Whether answers are the counts from 0 on, one after the other.
+/// Whether answers are the counts from 0 on, in order.
 fn count_up(answers: &[Answer<'_>]) -> bool {
     let mut lines: u64 = 0;
     for answer in answers {

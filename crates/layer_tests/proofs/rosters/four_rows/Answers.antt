@@ -7,7 +7,7 @@ use Rattle.task_roster.specs.Rows.{times, times_child, ChildrenAreApart}
 use Rattle.task_roster.proofs.Apart.{one_if}
 use Rattle.layer_tests.proofs.rosters.four_rows.Goals as goal
 
--- a number is one of two at most
+-- a number is one of at most two
 one_of_two : (j k x : ℕ) → (j ≡ k → ⊥) → one_if (j == x) + one_if (k == x) ≤ 1
 one_of_two j k x other = at (eqb_tells j x) (eqb_tells k x)
   where
@@ -47,7 +47,7 @@ four_apart a b c d as_a as_b as_c as_d = record {
     In : Row → Type 0
     In r = All P r.children.items
 
--- rows that were pushed one after the other
+-- rows that were pushed one after another
 four_pushed : (before one two three after : List Row) (a b c d : Row) → before ≡ [] → one ≡ before ++ a ∷ [] → two ≡ one ++ b ∷ [] →
     three ≡ two ++ c ∷ [] → after ≡ three ++ d ∷ [] → after ≡ a ∷ b ∷ c ∷ d ∷ []
 four_pushed _ _ _ _ _ a b c d none of_a of_b of_c of_d =
