@@ -1,8 +1,8 @@
-//! Calls that change a value and want memory: where memory is refused the value stays as it was, and the same call, made again,
-//! gives what it would have given. Of `serve`, `check` and `upgrade` the other modules show it, of `sleep_until` those of
-//! `layer_tests`.
+//! Calls that change a value and allocate: if memory is refused the value is unchanged, and the same call, made again, returns
+//! what it would have returned. The other modules show it for `serve`, `check` and `upgrade`, those of `layer_tests` for
+//! `sleep_until`.
 //!
-//! With ample memory each call is made once. tests/shortage/refused_growths.py refuses each growth in turn.
+//! With enough memory each call is made once. tests/shortage/refused_growths.py refuses each growth in turn.
 
 ghost use Rattle.std.specs.Prelude.{◌≡◌, ◌<◌, ◌^◌, [], true, None, IfOk, OnOk};
 ghost use Rattle.batch_commit.specs.Entries.{AllPlaced, NonePlaced};
@@ -18,7 +18,7 @@ use nursery_book::{NurseryBook, NurseryId, Place};
 use std::alloc::{AllocError, Global};
 use std::test::Fail;
 
-// Opens an outermost scope with a deadline, again where memory is refused.
+// Opens an outermost scope with a deadline, again if memory is refused.
 fn open_outermost(tree: &mut ScopeTree, deadline: u64) -> Result<ScopeId, AllocError>
     requires { deadline < 2 ^ 63 }
 {
@@ -36,7 +36,7 @@ fn open_shielded(tree: &mut ScopeTree, parent: ScopeId) -> Option<ScopeId> {
     tree.open(Some(parent), true, None).ok()
 }
 
-// Opens a shielded scope in one that is open, again where memory is refused.
+// Opens a shielded scope in one that is open, again if memory is refused.
 fn open_shielded_again(tree: &mut ScopeTree, parent: ScopeId) -> Result<ScopeId, AllocError> {
     if let Some(id) = open_shielded(tree, parent) {
         return Ok(id);
@@ -53,7 +53,7 @@ fn cancel(tree: &mut ScopeTree, id: ScopeId, tick: u64)
     }
 }
 
-// From which tick a task in a scope sees a cancellation, if the scope is open.
+// The tick from which a task in a scope sees a cancellation, if the scope is open.
 fn seen_from(tree: &ScopeTree, id: ScopeId) -> Option<Option<u64>> {
     if !tree.is_open(id) {
         return None;
@@ -114,7 +114,7 @@ fn scopes_are_opened_again(rt: HostRuntime) -> Result<(), Fail> {
     Ok(())
 }
 
-// Opens a nursery of that name, again where memory is refused.
+// Opens a nursery of that name, again if memory is refused.
 fn open_nursery(
     alloc: Global,
     book: &mut NurseryBook,
@@ -130,7 +130,7 @@ fn open_nursery(
     book.open(scope, waiter, Label::new(alloc, name))
 }
 
-// Starts a child in a nursery, again where memory is refused.
+// Starts a child in a nursery, again if memory is refused.
 fn start_again(book: &mut NurseryBook, id: NurseryId) -> Result<Place, AllocError>
     requires { HasNursery book.old id (λ n. n.body ≡ None) }
     ensures { OnOk result (Changes book.old book.new id with_start) }
@@ -141,7 +141,7 @@ fn start_again(book: &mut NurseryBook, id: NurseryId) -> Result<Place, AllocErro
     book.start(id)
 }
 
-// Closes a nursery of which all members ended, again where memory is refused.
+// Closes a nursery of which all members ended, again if memory is refused.
 fn close_again(book: &mut NurseryBook, id: NurseryId) -> Result<Option<Exc>, AllocError>
     requires { HasNursery book.old id (λ n. is_settled n ≡ true) }
 {
@@ -160,7 +160,7 @@ fn raised(alloc: Global, name: Name) -> Exc {
     }
 }
 
-// What a nursery raises whose second child ends before its first.
+// What a nursery raises if its second child ends before its first.
 fn raised_by_two(
     alloc: Global,
     name: Name,
@@ -215,7 +215,7 @@ fn a_nursery_is_opened_and_closed_again(rt: HostRuntime) -> Result<(), Fail> {
     Ok(())
 }
 
-// Puts a value, again where memory is refused.
+// Puts a value, again if memory is refused.
 fn put_again(live: &mut Live<u64>, value: u64) -> Result<TaskId, AllocError> {
     if let Ok(id) = live.put(value) {
         return Ok(id);
@@ -233,7 +233,7 @@ fn values_are_put_again(rt: HostRuntime) -> Result<(), Fail> {
     Ok(())
 }
 
-// Adds a task that is to begin, again where memory is refused.
+// Adds a task that is to begin, again if memory is refused.
 fn add_again(batch: &mut ReadyBatch<'static>, key: usize) -> Result<(), AllocError>
     ensures { batch.new.current ≡ batch.old.current }
 {
@@ -243,7 +243,7 @@ fn add_again(batch: &mut ReadyBatch<'static>, key: usize) -> Result<(), AllocErr
     batch.add(TaskId::of(key), Call::Begin)
 }
 
-// Places no answers, where the tasks of a batch ask for none.
+// Places no answers, for tasks of a batch that make no requests.
 fn place_none(alloc: Global, batch: &mut ReadyBatch<'static>) -> Result<(), AllocError>
     requires { NonePlaced batch.old.current }
     ensures { OnOk result (AllPlaced batch.new.current) }
@@ -256,7 +256,7 @@ fn place_none(alloc: Global, batch: &mut ReadyBatch<'static>) -> Result<(), Allo
     Ok(())
 }
 
-// The key of the task that has the next turn of a batch, and 0 where none is left.
+// The key of the task that has the next turn of a batch, and 0 if none is left.
 fn key_of_next(batch: &mut ReadyBatch<'static>) -> usize
     requires { AllPlaced batch.old.current }
     ensures { AllPlaced batch.new.current }
@@ -267,7 +267,7 @@ fn key_of_next(batch: &mut ReadyBatch<'static>) -> usize
     }
 }
 
-// The keys of two tasks, which ask for nothing, as they have their turns, and what is told when none is left.
+// The keys of two tasks, which make no requests, as they have their turns, and the result when none is left.
 fn keys_of_two(alloc: Global) -> Result<[usize; 3], AllocError> {
     let mut batch = ReadyBatch::new(alloc);
     add_again(&mut batch, 1)?;

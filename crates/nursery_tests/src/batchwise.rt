@@ -1,6 +1,7 @@
-//! A run batch by batch: what the calls of `Runner` answer to a caller that has the requests of each batch answered.
+//! A run batch by batch: the results of the calls of `Runner`, for a caller that has the requests of each batch
+//! answered.
 //!
-//! Helpers ask for the phase before the calls that want one, so that the tests have nothing to prove.
+//! Helpers check the phase before the calls that require one, so that the tests have nothing to prove.
 
 ghost use Rattle.std.specs.Prelude.{◌≤◌, IfOk};
 ghost use Rattle.job_runner.specs.Shelves.{IsUnderway};
@@ -25,7 +26,7 @@ fn opened<'a>(alloc: Global, job: &'a Job, input: &'a [u8]) -> Result<Runner<'a>
     Ok(runner)
 }
 
-// The requests of a run. Where memory is refused they are asked for again.
+// The requests of a run. If memory is refused they are requested again.
 fn requests_again<'a>(runner: &Runner<'a>) -> Result<Vec<Request<'a>>, AllocError> {
     if let Ok(requests) = runner.requests() {
         return Ok(requests);
@@ -33,7 +34,7 @@ fn requests_again<'a>(runner: &Runner<'a>) -> Result<Vec<Request<'a>>, AllocErro
     runner.requests()
 }
 
-// Whether a run is ready, and none of its tasks asks.
+// Whether a run is ready, and none of its tasks makes a request.
 fn asks_nothing(runner: &Runner<'_>) -> Result<bool, AllocError>
     requires { IsUnderway runner.now }
 {
@@ -49,7 +50,8 @@ fn is_search(request: &Request<'_>, needle: &[u8], input: &[u8]) -> bool {
     found == needle && request.part.at() == 0 && request.part.text() == input
 }
 
-// Whether a run is ready, and one of its tasks searches the whole of that input for a string, and no other asks.
+// Whether a run is ready, and one of its tasks searches the whole of that input for a string, and no other makes a
+// request.
 fn asks_for(runner: &Runner<'_>, needle: &[u8], input: &[u8]) -> Result<bool, AllocError>
     requires { IsUnderway runner.now }
 {
@@ -63,7 +65,7 @@ fn asks_for(runner: &Runner<'_>, needle: &[u8], input: &[u8]) -> Result<bool, Al
     }
 }
 
-// A run after the turns of its batch, which makes one request or none, as is told. A worker answers it.
+// A run after the turns of its batch, which makes one request or none, as the caller says. A worker answers it.
 fn committed<'a, R: Threads + Sync + AllocGlobal>(
     rt: &R,
     runner: Runner<'a>,
@@ -95,7 +97,7 @@ fn jumped<'a>(runner: Runner<'a>) -> Result<Runner<'a>, Fail>
     Ok(runner)
 }
 
-// The limit that the jump of a run's clock would pass, and 0 where it passes none.
+// The limit that the jump of a run's clock would pass, and 0 if it passes none.
 fn limit_of_jump(runner: Runner<'_>) -> Result<u64, Fail>
     requires { IsUnderway runner }
 {

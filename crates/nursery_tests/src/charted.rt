@@ -32,7 +32,7 @@ fn charted_into<R: Abort + Threads + Sync + AllocGlobal, P: Pick>(
     )
 }
 
-// Calls `chart`. Where memory is refused nothing was sent, and it is called again.
+// Calls `chart`. If memory is refused nothing was sent, and it is called again.
 fn charted<R: Abort + Threads + Sync + AllocGlobal, P: Pick>(
     rt: &R,
     text: &[u8],
@@ -87,7 +87,7 @@ m  |-------- running
 limit 100
 ";
 
-// There is room for two ticks.
+// There is space for two ticks.
 const NARROW: &str = "trio-job 1\njob m { sleep 1; sleep 1; raise A; }";
 
 const NARROWED: &[u8] = b"   0  2
@@ -95,7 +95,7 @@ m  |--! raised A(m..
 1 of 3 ticks are l..
 ";
 
-// A job text, how wide its chart is, the status, and the chart.
+// A job text, the width of its chart, the status, and the chart.
 const CHARTS: &[(&str, usize, u8, &[u8])] = &[
     ("trio-job 1\njob m { }", 80, 0, b"   0\nm  | done\n"),
     (FAILS, 80, 1, WHOLE),

@@ -1,9 +1,9 @@
-//! Refused job texts, and what `refusal_message` tells of them.
+//! Refused job texts, and the explanations by `refusal_message`.
 
 /// A job text, and what its refusal shows, where the file is named `f`.
 pub(crate) type Row = (&'static str, &'static str);
 
-/// Texts that go on wrongly: what the grammar expected.
+/// Texts that continue wrongly: what the grammar expected.
 pub(crate) const EXPECTED: &[Row] = &[
     (
         "trio-job 1\njob main { sleep }\n",
@@ -115,7 +115,7 @@ pub(crate) const WRONG: &[Row] = &[
     ),
 ];
 
-/// Texts for which something may help: the last line of what is shown, and the newline before it.
+/// Texts for which there is a hint: the last line of what is shown, and the newline before it.
 pub(crate) const HELPED: &[Row] = &[
     ("trio-job 1\njob a { slep 1; }", "\ndid you mean `sleep`?\n"),
     (
@@ -140,7 +140,7 @@ pub(crate) const HELPED: &[Row] = &[
         "trio-job 1\njob a { try { } finaly { } }",
         "\ndid you mean `finally`?\n",
     ),
-    // `start` stands only in a nursery, and two bytes are wrong.
+    // `start` is allowed only in a nursery, and two bytes are wrong.
     ("trio-job 1\njob a { strat b { } }", "\n        ^\n"),
     ("trio-job 1\njob a { slop 1; }", "\n        ^\n"),
     (

@@ -29,7 +29,7 @@ fn told_into<R: Abort + Threads + Sync + AllocGlobal>(
     faults(rt, rt.alloc(), text, b"", settings, name, ALL, &NoGate, out)
 }
 
-// Calls `faults`. Where memory is refused nothing was sent, and it is called again.
+// Calls `faults`. If memory is refused nothing was sent, and it is called again.
 fn told<R: Abort + Threads + Sync + AllocGlobal>(
     rt: &R,
     text: &[u8],
@@ -72,7 +72,7 @@ const OF_CLEANS: &[u8] = b"                     as it is   0 raised Other(m@0)
 4 faults: 1 stuck, 0 cut a cleanup, 1 lost, 1 not reached
 ";
 
-// A job text, the status, and what is told of it.
+// A job text, the status, and what is written.
 const TABLES: &[(&str, u8, &[u8])] = &[
     (FAILS, 1, OF_FAILS),
     (CLEANS, 1, OF_CLEANS),

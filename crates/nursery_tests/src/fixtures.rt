@@ -24,10 +24,10 @@ pub(crate) const TWO_LINES: &[u8] = b"error\nok\n";
 /// Three lines, of which each half begins with its longest.
 pub(crate) const HALVES: &[u8] = b"aa\nb\ncccc\n";
 
-/// The tick after which the jobs of these tests may not end.
+/// The last tick at which the jobs of these tests may end.
 pub(crate) const LIMIT: u64 = 100;
 
-/// The pieces of a text, one after the other.
+/// The pieces of a text, one after another.
 pub(crate) fn joined(alloc: Global, pieces: &[&[u8]]) -> Result<Vec<u8>, AllocError> {
     let mut text = Vec::new(alloc);
     for piece in pieces {
@@ -75,7 +75,7 @@ pub(crate) fn serve_into<R: Abort + Threads + Sync + AllocGlobal, P: Pick, G: Ga
     serve(rt, rt.alloc(), text, input, settings, picker, gate, out)
 }
 
-/// Serves a text. Where memory is refused nothing was sent, and the text is served again.
+/// Serves a text. If memory is refused nothing was sent, and the text is served again.
 pub(crate) fn serve_again<R: Abort + Threads + Sync + AllocGlobal, P: Pick>(
     rt: &R,
     text: &[u8],
@@ -109,7 +109,7 @@ pub(crate) fn served<R: Abort + Threads + Sync + AllocGlobal, P: Pick>(
     Ok((status, out))
 }
 
-/// Which job text is asked for.
+/// Which job text is requested.
 #[derive(Clone, Copy)]
 pub(crate) enum Asked {
     /// The canonical text.
@@ -132,7 +132,7 @@ fn written_into(
     }
 }
 
-/// Asks for a job text. Where memory is refused nothing was sent, and it is asked for again.
+/// Requests a job text. If memory is refused nothing was sent, and it is requested again.
 pub(crate) fn written_again(
     rt: &(impl Abort + AllocGlobal),
     asked: Asked,
@@ -158,7 +158,7 @@ pub(crate) fn written(
     Ok((verdict.status(), out))
 }
 
-/// Checks what was written, with the name of what was asked.
+/// Checks what was written, with the name of what was requested.
 pub(crate) fn assert_written(rt: &impl Abort, name: &str, out: &MemOut, expected: &[u8]) {
     assert_eq!(rt; out.taken(), expected, "{name}");
 }

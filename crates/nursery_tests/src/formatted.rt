@@ -1,4 +1,4 @@
-//! The formatted texts of jobs: what `format_text` gives, and where `check_format` finds that a text differs.
+//! The formatted texts of jobs: what `format_text` returns, and where `check_format` finds that a text differs.
 
 use format_app::{FormatCheck, FormatFault, FormatVerdict, check_format, format, format_text};
 use job_grammar::JobKind;
@@ -8,7 +8,8 @@ use std::alloc::Global;
 use std::process::Abort;
 use std::test::Fail;
 
-// A job text and its formatted text. The last but one is a block that ends at column 80 in one line, and the last one that would end at 81.
+// A job text and its formatted text. In the second to last, a block in one line ends at column 80, and in the last it would end
+// at 81.
 const TEXTS: &[(&str, &str)] = &[
     ("trio-job 1\njob a{}", "trio-job 1\njob a {}\n"),
     (
@@ -60,7 +61,7 @@ fn each_step_stands_in_a_line_and_short_blocks_in_one(rt: HostRuntime) -> Result
     Ok(())
 }
 
-// What is found of a job text. Where memory is refused it is asked for again.
+// The result for a job text. If memory is refused it is computed again.
 fn checked(alloc: Global, text: &[u8]) -> Result<FormatCheck, Fail> {
     match check_format(alloc, text) {
         Ok(check) => Ok(check),
@@ -92,7 +93,7 @@ fn a_difference_has_its_place(rt: HostRuntime) -> Result<(), Fail> {
     Ok(())
 }
 
-// A job text of 31 scopes in one another, and in the innermost so many steps.
+// A job text of 31 nested scopes, and the given number of steps in the innermost.
 fn deep(alloc: Global, steps: usize) -> Result<Vec<u8>, Fail> {
     let mut text = Vec::from_slice(alloc, b"trio-job 1\njob a{")?;
     for depth in 0..31u8 {

@@ -46,7 +46,7 @@ fn faults_are_a_document(rt: HostRuntime) -> Result<(), Fail> {
 const SWEEP: &[u8] =
     b"{\"as_it_is\":{\"result\":{\"cancelled\":[],\"cut\":[],\"end\":3,\"exception\":null,\"lost\":false,\"outcome\":\"done\"}},\"counts\":{\"cut\":0,\"refused\":0,\"stuck\":0,\"values\":2},\"lines\":[{\"result\":{\"cancelled\":[],\"cut\":[],\"end\":1,\"exception\":null,\"lost\":false,\"outcome\":\"done\"},\"value\":1},{\"result\":{\"cancelled\":[],\"cut\":[],\"end\":2,\"exception\":null,\"lost\":false,\"outcome\":\"done\"},\"value\":2}]}\n";
 
-// Calls `sweep_json` with a writer that has not failed, and gives the status.
+// Calls `sweep_json` with a writer that has not failed, and returns the status.
 fn swept<R: Abort + Threads + Sync + AllocGlobal>(
     rt: &R,
     target: Target,

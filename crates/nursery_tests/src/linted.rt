@@ -8,7 +8,7 @@ use std::test::Fail;
 // A job text, and a line for each warning: its place, a blank and its sentence.
 type Row = (&'static [u8], &'static [u8]);
 
-// Steps after one that never ends well: the first of them alone.
+// Steps after one that never ends without an exception: the first of them alone.
 const UNREACHABLE: &[Row] = &[
     (
         b"trio-job 1\njob m{forever;sleep 1;sleep 2;}",
@@ -124,7 +124,7 @@ fn push_line(alloc: Global, lines: &mut Vec<u8>, warning: &Warning) -> Result<()
     lines.extend_from_slice(b"\n")
 }
 
-// The warnings of a text. Where memory is refused it is asked for again.
+// The warnings of a text. If memory is refused they are requested again.
 fn linted(alloc: Global, text: &[u8]) -> Result<Vec<Warning>, JobFault> {
     match lints(alloc, text) {
         Err(fault) if fault.kind == JobKind::NoMemory => lints(alloc, text),
@@ -142,7 +142,7 @@ fn lines_of(alloc: Global, text: &[u8]) -> Result<Vec<u8>, Fail> {
     Ok(lines)
 }
 
-// Fails at the first row with other lines, and tells them.
+// Fails at the first row with other lines, and prints them.
 fn are_found(alloc: Global, rows: &[Row]) -> Result<(), Fail> {
     for i in 0..rows.len() {
         let (text, expected) = rows[i];

@@ -1,8 +1,8 @@
-//! Texts of 31 blocks within one another, as deep as the job `main` may have them.
+//! Texts of 31 nested blocks, the maximum depth that the job `main` may have.
 
 use std::alloc::{AllocError, Global};
 
-// How many blocks there are.
+// The number of blocks.
 const DEEPEST: u8 = 31;
 
 // Appends a number of two digits between two texts.
@@ -42,7 +42,7 @@ pub(crate) fn push_each(out: &mut Vec<u8>, text: &[u8]) -> Result<(), AllocError
     Ok(())
 }
 
-/// The steps within 31 blocks that begin so, each with a number after its name.
+/// The steps inside 31 blocks that begin so, each with a number after its name.
 pub(crate) fn nested(alloc: Global, block: &[u8], steps: &[u8]) -> Result<Vec<u8>, AllocError> {
     let mut text = Vec::new(alloc);
     push_up(&mut text, block, b" { ")?;

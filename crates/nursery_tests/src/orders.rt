@@ -1,4 +1,4 @@
-//! Turns and requests of a run: which picks are asked for, how many turns the tasks have, and when a gate is called.
+//! Turns and requests of a run: which picks are requested, how many turns the tasks have, and when a gate is called.
 
 ghost use Rattle.std.specs.Prelude.{◌<◌};
 
@@ -31,7 +31,7 @@ fn ticks_of(record: Option<&Record<'_>>) -> (u64, u64) {
     }
 }
 
-// Whether a task of that name with these indices ended well.
+// Whether a task of that name with these indices ended without an exception.
 fn is_done(record: Option<&Record<'_>>, name: &[u8], indices: &[u64]) -> bool {
     match record {
         Some(record) => {
@@ -44,7 +44,7 @@ fn is_done(record: Option<&Record<'_>>, name: &[u8], indices: &[u64]) -> bool {
 }
 
 // Checks how many turns a job takes in the order of a picker, with 64 workers, and the ticks of its tasks, of which the last
-// ends well.
+// ends without an exception.
 fn assert_turns<R: Abort + Threads + Sync + AllocGlobal, P: Pick>(
     rt: &R,
     text: &[u8],
@@ -137,7 +137,7 @@ fn settings_have_their_ranges(rt: HostRuntime) {
     }
 }
 
-// From which tick a job's scopes and nurseries were cancelled, each by its name.
+// The tick from which each of a job's scopes and nurseries was cancelled, by its name.
 const FROMS: &[(&[u8], &[(&[u8], Option<u64>)])] = &[
     (SIBLING_FAILS, &[(b"n", Some(3))]),
     (
@@ -146,7 +146,7 @@ const FROMS: &[(&[u8], &[(&[u8], Option<u64>)])] = &[
     ),
 ];
 
-// Checks from when scopes were cancelled.
+// Checks from which ticks scopes were cancelled.
 fn assert_froms(rt: &impl Abort, froms: &[ScopeFrom], wanted: &[(&[u8], Option<u64>)]) {
     assert!(rt; froms.len() == wanted.len());
     for (i, &(name, seen)) in wanted.iter().enumerate() {
@@ -172,7 +172,7 @@ fn a_run_tells_from_when_its_scopes_were_cancelled(rt: HostRuntime) -> Result<()
     Ok(())
 }
 
-// How often a gate looks whether both requests were begun.
+// How often a gate checks whether both requests were begun.
 const LOOKS: u32 = 100_000_000;
 
 // A job of two tasks, each with two requests over its half.
@@ -190,7 +190,7 @@ task p.1 0 0 done
   line 5+4 cccc
 ";
 
-// A gate at which the first two requests of a batch wait for one another, though not for ever.
+// A gate at which the first two requests of a batch wait for one another, though not forever.
 #[derive(Drop)]
 struct Both {
     first: AtomicU64,
@@ -227,7 +227,7 @@ impl Both {
         self.both_begun() && self.missed.load(Ordering::SeqCst) == 0
     }
 
-    // Looks until both requests were begun, or so many times.
+    // Checks until both requests were begun, or for a limited number of times.
     fn both_begun(&self) -> bool {
         for _ in 0..LOOKS {
             if self.first.load(Ordering::SeqCst) == 1 && self.second.load(Ordering::SeqCst) == 1 {
@@ -307,7 +307,7 @@ impl Gate for Counting {
     }
 }
 
-// Checks what a run asks of its picker and its gate: how many were left at each turn, in how many turns, and how many
+// Checks the calls of a run to its picker and its gate: how many were left at each turn, in how many turns, and how many
 // requests there were.
 fn assert_goes<R: Abort + Threads + Sync + AllocGlobal>(
     rt: &R,

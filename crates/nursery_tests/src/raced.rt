@@ -1,4 +1,5 @@
-//! What `races` writes of worked jobs: the same by 1, 3 and 64 threads; the lines of it that are denied; and why nothing is told.
+//! What `races` writes of worked jobs: the same by 1, 3 and 64 threads; the lines of it that are denied; and why nothing is
+//! written.
 
 use crate::fixtures::LIMIT;
 use job_report::{MemOut, Out};
@@ -29,7 +30,7 @@ fn told_into<R: Abort + Threads + Sync + AllocGlobal>(
     )
 }
 
-// Calls `races`. Where memory is refused nothing was sent, and it is called again.
+// Calls `races`. If memory is refused nothing was sent, and it is called again.
 fn told<R: Abort + Threads + Sync + AllocGlobal>(
     rt: &R,
     text: &[u8],
@@ -91,7 +92,7 @@ const OF_BOTH: &[u8] = b"4:15  sleep 5  earlier  both: other lines or scopes; b:
 6 hairs: 3 races
 ";
 
-// A job text, the status, and what is told of it.
+// A job text, the status, and what is written.
 const TABLES: &[(&str, u8, &[u8])] = &[
     (MEETS, 1, OF_MEETS),
     (LATE, 1, OF_LATE),

@@ -1,4 +1,5 @@
-//! Job texts that are refused: the line that tells it, what `check` and `upgrade` write, and how `refusal_message` shows the place.
+//! Job texts that are refused: the line of the refusal, what `check` and `upgrade` write, and how `refusal_message` shows the
+//! place.
 
 use crate::explained::{EXPECTED, HELPED, Row, WRONG};
 use crate::fixtures::{Asked, assert_answers, assert_written, written, written_again};
@@ -61,7 +62,7 @@ fn a_refusal_is_told_by_a_line(rt: HostRuntime) -> Result<(), Fail> {
     Ok(())
 }
 
-// A job of format 1 as `check` writes it, and the same job in format 2 as `upgrade` does.
+// A job in format 1 as `check` writes it, and the same job in format 2 as `upgrade` does.
 const CANONICAL: &[u8] = b"trio-job 1\njob main{find\"er\";}\n";
 
 const UPGRADED: &[u8] = b"trio-job 2\njob main{find\"er\";}\n";
@@ -132,7 +133,7 @@ fn a_text_that_nests_thousands_deep_is_refused(rt: HostRuntime) -> Result<(), Fa
     Ok(())
 }
 
-// What `refusal_message` tells of a refused text. Want of memory is an error.
+// What `refusal_message` returns for a refused text. It is an error if memory was refused.
 fn told_of(alloc: Global, text: &[u8]) -> Result<String, Fail> {
     let fault = read_job(alloc, text).err().ok_or("a refusal")?;
     if matches!(fault.kind, JobKind::NoMemory) {
@@ -141,7 +142,7 @@ fn told_of(alloc: Global, text: &[u8]) -> Result<String, Fail> {
     Ok(refusal_message(alloc, "f", text, fault)?)
 }
 
-// Checks how refused texts are told, of which the file is named `f`.
+// Checks how refused texts are explained, where the file is named `f`.
 fn assert_told(rt: &(impl Abort + AllocGlobal), rows: &[Row]) -> Result<(), Fail> {
     for &(text, expected) in rows {
         let told = told_of(rt.alloc(), text.as_bytes())?;

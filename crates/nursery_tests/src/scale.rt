@@ -1,4 +1,4 @@
-//! Large jobs: blocks as deep as they may stand, and thousands of tasks.
+//! Large jobs: blocks as deep as they are allowed, and thousands of tasks.
 
 use crate::fixtures::{FORMAT_1, FORMAT_2, assert_serves, job_text, served};
 use crate::nested::{nested, push_down, push_each, push_up};

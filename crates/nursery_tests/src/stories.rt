@@ -32,7 +32,7 @@ fn explained_into<R: Abort + Threads + Sync + AllocGlobal, P: Pick>(
     )
 }
 
-// Calls `explain`. Where memory is refused nothing was sent, and it is called again.
+// Calls `explain`. If memory is refused nothing was sent, and it is called again.
 fn explained<R: Abort + Threads + Sync + AllocGlobal, P: Pick>(
     rt: &R,
     text: &[u8],
@@ -99,7 +99,7 @@ limit 100
   m  sleeping until 101 since 0
 ";
 
-// A job text, the task that is asked for, the status, and the story.
+// A job text, the task that is requested, the status, and the story.
 const STORIES: &[(&str, Option<&[u8]>, u8, &[u8])] = &[
     (
         "trio-job 1\njob m { }",
@@ -132,7 +132,7 @@ fn explain_tells_the_story(rt: HostRuntime) -> Result<(), Fail> {
     Ok(())
 }
 
-// How the task is written that is the nearest to `raeder`.
+// The text of the label of the task that is nearest to `raeder`.
 const NEAREST: &[u8] = b"reader";
 
 // The first ten bytes of the story.

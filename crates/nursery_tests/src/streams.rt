@@ -1,5 +1,5 @@
-//! Readers and writers: sending stops only where a writer fails, a reader is read whole or not at all, and a feed is cut
-//! at its mark.
+//! Readers and writers: sending stops only if a writer fails, a reader is read whole or not at all, and a feed is split at
+//! its mark.
 
 use crate::fixtures::{FORMAT_1, LIMIT, TWO_LINES, job_text, serve_again};
 use job_report::{MemOut, Out, PutFault, SendFault, WriteOut, send};
@@ -30,8 +30,8 @@ fn assert_sends<W: Out>(
     assert_eq!(rt; out.failures(), failures);
 }
 
-// The room of a writer into memory, how many bytes it takes a put, the put at which it fails, where it stops a sending, how
-// often it failed, and the bytes taken.
+// The space of a writer into memory, how many bytes it takes for each put, the put at which it fails, where it stops a
+// sending, how often it failed, and the bytes taken.
 const INTO_MEMORY: &[(usize, usize, Option<u64>, Option<usize>, u64, &[u8])] = &[
     (10, 4, None, Some(10), 1, b"job main 0"),
     (100, 4, Some(2), Some(8), 1, b"job main"),
@@ -69,7 +69,7 @@ fn nothing_is_sent_where_no_room_is_left(rt: HostRuntime) -> Result<(), Fail> {
     Ok(())
 }
 
-/// Takes at most so many bytes a write, and fails after so many writes.
+/// A writer that takes at most a given number of bytes for each write, and fails after a given number of writes.
 #[derive(Drop)]
 struct Fake {
     piece: usize,
@@ -147,7 +147,7 @@ fn a_feed_is_cut_at_its_mark(rt: HostRuntime) {
     }
 }
 
-// A reader that gives `each` bytes a read, `left` reads long, and then fails or ends.
+// A reader that returns `each` bytes for each read, for `left` reads, and then fails or ends.
 #[derive(Drop)]
 struct Piecewise {
     left: u64,
@@ -168,7 +168,7 @@ impl Read for Piecewise {
     }
 }
 
-// How many bytes a reader gave, of which there may be `most`. Want of memory is an error of its own.
+// How many bytes were read from a reader, which may have at most `most`. It is an error of its own if memory was refused.
 fn length_of<R: Read>(
     alloc: Global,
     reader: &mut R,

@@ -36,7 +36,7 @@ fn told_into<R: Abort + Threads + Sync + AllocGlobal>(
     )
 }
 
-// Calls `sweep`. Where memory is refused nothing was sent, and it is called again.
+// Calls `sweep`. If memory is refused nothing was sent, and it is called again.
 fn told<R: Abort + Threads + Sync + AllocGlobal>(
     rt: &R,
     text: &[u8],
@@ -55,7 +55,7 @@ fn told<R: Abort + Threads + Sync + AllocGlobal>(
     }
 }
 
-// Which number is meant: the deadline of a scope or nursery, or the number at a line and a column.
+// The number that is meant: the deadline of a scope or nursery, or the number at a line and a column.
 #[derive(Clone, Copy)]
 enum Asked {
     Of(&'static str),
@@ -91,7 +91,7 @@ fn answer_of<R: Abort + Threads + Sync + AllocGlobal>(
 
 const LATE: &str = "trio-job 1\njob m { scope s after 2 fail { sleep 3; } }";
 
-// As docs/RULES.md has it, a sleeper that is due in the tick of its deadline is cancelled.
+// According to docs/RULES.md, a sleeper that is due in the tick of its deadline is cancelled.
 const OF_LATE: &[u8] = b"as it is  raised TooSlow(s), ends 2
 1..3      raised TooSlow(s), ends 1..3
 4..5      done, ends 3

@@ -8,7 +8,7 @@ use std::test::Fail;
 use std::thread::Threads;
 use test_app::{Met, Output, meets, output_of};
 
-// Two texts, and the number of the first line that differs: 0 where none does.
+// Two texts, and the number of the first line that differs: 0 if none does.
 const TEXTS: &[(&[u8], &[u8], usize)] = &[
     (b"", b"", 0),
     (b"a\nb\n", b"a\nb\n", 0),
@@ -30,7 +30,7 @@ fn texts_differ_at_their_first_other_line(rt: HostRuntime) -> Result<(), Fail> {
     Ok(())
 }
 
-// A pattern, a text, and the number of its first line that matches: 0 where none does.
+// A pattern, a text, and the number of its first line that matches: 0 if none does.
 const PATTERNS: &[(&[u8], &[u8], usize)] = &[
     (b"task m * done", b"job m 3\ntask m 0 3 done\n", 2),
     (b"*", b"a\n", 1),
@@ -51,7 +51,7 @@ fn a_pattern_matches_a_whole_line(rt: HostRuntime) -> Result<(), Fail> {
     Ok(())
 }
 
-// What a line of a file of expectations is.
+// The kind of a line of a file of expectations.
 fn word_of(line: &[u8]) -> &'static str {
     match read_expectation(line) {
         ExpectLine::Nothing => "nothing",
@@ -85,7 +85,7 @@ fn a_line_is_read_as_an_expectation(rt: HostRuntime) -> Result<(), Fail> {
 
 const JOB: &[u8] = b"trio-job 1\njob m{sleep 3;}";
 
-// What is written for the job without an input, by the limit 100.
+// What is written for the job without an input, with the limit 100.
 const OUTPUTS: &[(Output, &[u8])] = &[
     (Output::Report, b"job m 3\ntask m 0 3 done\n"),
     (

@@ -1,4 +1,5 @@
-//! Jobs that were upgraded: for the text that `upgrade` writes `serve` gives the report of the text that was upgraded.
+//! Jobs that were upgraded: for the text that `upgrade` writes, `serve` writes the report of the text that was
+//! upgraded.
 
 use crate::fixtures::{Asked, FORMAT_1, Row, assert_written, job_text, served, written};
 use crate::nested::{nested, push_down};

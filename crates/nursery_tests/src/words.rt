@@ -1,10 +1,10 @@
-//! The command line: what words ask for, what help shows, and how words are refused.
+//! The command line: what a line requests, what help shows, and how lines are refused.
 
 use nursery_cli::{Command, CommandFault, Order, read_command};
 use std::alloc::{AllocError, Global};
 use std::test::Fail;
 
-// The words of a line, cut at its spaces.
+// The words of a line, split at its spaces.
 fn words_of(alloc: Global, line: &str) -> Result<Vec<String>, AllocError> {
     let mut words = Vec::new(alloc);
     for word in line.split_whitespace() {
@@ -21,13 +21,13 @@ fn push_word(words: &mut Vec<String>, word: String) -> Result<(), AllocError> {
     }
 }
 
-// What the words of a line ask for.
+// What the words of a line request.
 fn command_of(alloc: Global, line: &str) -> Result<Command, CommandFault> {
     let words = words_of(alloc, line)?;
     read_command(alloc, words.as_slice())
 }
 
-// The text that refuses a line; empty where it is a command. Want of memory is an error.
+// The text that refuses a line; empty if it is a command. It is an error if memory was refused.
 fn refusal_of(alloc: Global, line: &str) -> Result<String, AllocError> {
     match command_of(alloc, line) {
         Ok(_command) => Ok(String::new(alloc)),
@@ -36,7 +36,7 @@ fn refusal_of(alloc: Global, line: &str) -> Result<String, AllocError> {
     }
 }
 
-// The help that a line asks for; empty where it asks for something else.
+// The help that a line requests; empty if it requests something else.
 fn help_of(alloc: Global, line: &str) -> Result<String, CommandFault> {
     match command_of(alloc, line)? {
         Command::Help { text } => Ok(text),
@@ -66,7 +66,7 @@ fn word_of(command: &Command) -> &'static str {
     }
 }
 
-// The job that a command names, or the text that it tells.
+// The job that a command names, or the text that it writes.
 fn text_of(command: &Command) -> &str {
     match command {
         Command::Feed => "",
@@ -96,7 +96,7 @@ fn first_of(words: &[String]) -> &str {
     }
 }
 
-// A line, the word of its command, and the job that it names or the text that it tells.
+// A line, the word of its command, and the job that it names or the text that it writes.
 const NAMED: &[(&str, &str, &str)] = &[
     ("", "feed", ""),
     ("check j", "check", "j"),
@@ -216,7 +216,7 @@ fn sweeps_have_their_values(rt: HostRuntime) -> Result<(), Fail> {
     Ok(())
 }
 
-// A line, and a part of what it is told.
+// A line, and a part of the text that is written.
 type Row = (&'static str, &'static str);
 
 const REFUSED: &[Row] = &[

@@ -21,7 +21,7 @@ const EVERY_BYTE: &[u8] = b"\
 \xe0\xe1\xe2\xe3\xe4\xe5\xe6\xe7\xe8\xe9\xea\xeb\xec\xed\xee\xef\
 \xf0\xf1\xf2\xf3\xf4\xf5\xf6\xf7\xf8\xf9\xfa\xfb\xfc\xfd\xfe\xff";
 
-/// Two lines, which are each byte once but for the newline: ten bytes shown by 40, and 245 by 696.
+/// Two lines, which contain each byte once except the newline: ten bytes shown by 40, and 245 by 696.
 const EVERY_BYTE_SHOWN: &[u8] = b"job main 0
 task main 0 0 done
   line 0+10 \\x00\\x01\\x02\\x03\\x04\\x05\\x06\\x07\\x08\\x09
@@ -252,7 +252,7 @@ task main 0 1 done
     ),
 ];
 
-/// Nurseries, their members that fail, and the groups of what these raised.
+/// Nurseries, their members that fail, and the groups of their exceptions.
 pub(crate) const NURSERIES: &[Row] = &[
     (
         "nursery n { start a { sleep 2; raise Boom; } start b { sleep 10; } start c { sleep 2; } }",
@@ -357,7 +357,7 @@ task main 0 0 done
     ),
 ];
 
-/// Tasks over parts of the input, and what tasks ask of their lines.
+/// Tasks over parts of the input, and what tasks request from their lines.
 pub(crate) const PARTS: &[Row] = &[
     (
         "nursery n { start p over 3 { find \"x\"; } }",
@@ -443,7 +443,7 @@ task main 0 0 done
     ),
 ];
 
-/// Jobs that format 2 alone has.
+/// Jobs that only format 2 allows.
 pub(crate) const OF_FORMAT_2: &[Row] = &[
     (
         "repeat 3 { scope s after 2 { sleep 5; } }",
