@@ -1,4 +1,4 @@
--- The table that a run gives.
+-- The table of a run.
 use Rattle.std.proofs.Common.{◌≡◌, ℕ, None, List, ap, ◌∙◌}
 use std.Path.{fun_ext}
 use Rattle.exc_groups.specs.Exceptions.{Label}
@@ -8,13 +8,13 @@ use Rattle.job_meaning.specs.Meaning.{From, meaning_froms, meaning_table}
 use Rattle.job_story.specs.Froms.{never, set_in}
 use Rattle.job_story.specs.Laws.{FromsGiveTheTable}
 
--- what is set in a table of nothing
+-- what is set in the empty table
 pub from_never : (first last : Table) (fs gs : List From) → ((l : Label) → first l ≡ None) → fs ≡ gs →
     ((l : Label) → last l ≡ set_in first fs l) → (l : Label) → last l ≡ set_in never gs l
 from_never first last fs gs none same is l =
     is l ∙ ap (λ (t : Table). set_in t fs l) (fun_ext none) ∙ ap (λ (xs : List From). set_in never xs l) same
 
--- is the table of the meaning, where it is what the meaning gives
+-- is the table of the meaning, where the ticks are those of the meaning
 pub is_of_meaning : (table : Table) (fs : List From) (job : Tree) (input : List ℕ) → FromsGiveTheTable → fs ≡ meaning_froms job input →
     ((l : Label) → table l ≡ set_in never fs l) → table ≡ meaning_table job input
 is_of_meaning table fs job input law same is =

@@ -35,7 +35,7 @@ lt_of_test m n h = grind (arith, nat_tests)
 le_of_test : (m n : ℕ) → nat_lt m n ≡ false → n ≤ m
 le_of_test m n h = grind (arith, nat_tests)
 
--- a root ended well where it has no exception
+-- a root task ended well where it has no exception
 well_none : (o : Option Exc) → is_well (ending_of o) ≡ true → IsNone o
 well_none None e = refl
 well_none (Some cancelled) e = let f : false ≡ true = e in absurd (cc)
@@ -60,7 +60,7 @@ is_ending job input limit rows ending same is =
     subst (IsEnding job input limit) (sym (is ∙ ap (λ (rs : List Row). ending_by rs limit) same))
     (ends_as job input limit (nat_lt limit (meaning_end job input)) (is_well (ending_of (meaning job input).exc)) refl refl)
 
--- the events that are told are those of the meaning's story
+-- the events of the story are those of the meaning's story
 pub told_is : (job : Tree) (input : List ℕ) (limit : ℕ) (ending : Ending) → IsEnding job input limit ending →
     events_until (until_of ending limit) (events_of (root_label job.name) (story_by (meaning_table job input) job input)) ≡ told limit job input
 told_is job input limit Done h = ap (λ (b : Bool). told_if b limit job input) (sym (le_test (meaning_end job input) limit h.0))

@@ -1,4 +1,4 @@
--- What is running at a limit.
+-- Which tasks run at a limit.
 use Rattle.std.specs.Prelude.{◌≡◌, ◌⊎◌, ℕ, ◌≤◌, ◌<◌, List, []}
 use Rattle.job_tree.specs.Tree.{Tree}
 use Rattle.job_grammar.specs.declared.fault.JobFault.{JobFault}
@@ -12,12 +12,12 @@ use Rattle.job_story.specs.Limit.{running_in, running_text, walked_to}
 abbrev pub running_lines : List Event → List ℕ
 running_lines walked = running_text (widest (in_order walked)) (in_order walked) (running_in walked walked)
 
--- the lines of a job that ends later than the limit: what its tasks are doing that have not ended by it
+-- the lines of a job that ends later than the limit, with what its tasks are doing that have not ended by then
 pub record IsJobRunning (job : Tree) (input : List ℕ) (limit : ℕ) (lines : List ℕ) : Type 0 where
   pub late : limit < meaning_end job input → lines ≡ running_lines (walked_to (meaning_table job input) limit job input)
   pub in_time : meaning_end job input ≤ limit → lines ≡ []
 
--- the same of the job that a text spells, and nothing where the text is refused
+-- the same for the job that a text spells, and nothing where the text is refused
 abbrev pub AreRunning : List ℕ → List ℕ → ℕ → List ℕ → Type 0
 AreRunning text input limit lines =
     ((job : Tree) × Spells text job × IsJobRunning job input limit lines)

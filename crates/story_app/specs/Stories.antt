@@ -1,4 +1,4 @@
--- What `explain` answers: the story of a job's meaning over an input, or the refusal which that meaning names.
+-- What `explain` writes: the story of a job's meaning over an input, or the refusal that the meaning names.
 use Rattle.std.specs.Prelude.{◌≡◌, ℕ, ◌≤◌, ◌<◌, Bool, true, false, nat_le, Option, Some, None, List, [], length, take, IsSome, IsNone}
 use Rattle.std.specs.Io.KnownBytes.{Appends}
 use Rattle.job_tree.specs.Tree.{Tree}
@@ -29,16 +29,16 @@ abbrev pub front_story : ℕ → Tree → List ℕ → Option Label → List ℕ
 front_story limit job input None = story_to (meaning_table job input) limit job input
 front_story limit job input (Some task) = story_of_task_to (meaning_table job input) limit job input task
 
--- by the limit or not
+-- the whole story where the job ends by the limit, and the story up to the limit otherwise
 abbrev pub story_if : Bool → ℕ → Tree → List ℕ → Option Label → List ℕ
 story_if true limit job input task = whole_story job input task
 story_if false limit job input task = front_story limit job input task
 
--- the story of a meaning: whole where it ends by the limit, and else up to the limit
+-- the story of a meaning: whole where it ends by the limit, and up to the limit otherwise
 abbrev pub meaning_story : ℕ → Tree → List ℕ → Option Label → List ℕ
 meaning_story limit job input task = story_if (nat_le (meaning_end job input) limit) limit job input task
 
--- the events that are told, in the order of the walk
+-- the events of the story, in the order of the walk
 abbrev pub told_if : Bool → ℕ → Tree → List ℕ → List Event
 told_if true limit job input = events_of (root_label job.name) (story_by (meaning_table job input) job input)
 told_if false limit job input = walked_to (meaning_table job input) limit job input
@@ -48,30 +48,30 @@ told limit job input = told_if (nat_le (meaning_end job input) limit) limit job 
 
 -- ---- the task that was asked for
 
--- how a label is written: nothing where there is none
+-- the text of a label, or nothing where there is none
 abbrev pub written : Option Label → List ℕ
 written None = []
 written (Some label) = label_text label
 
--- where one was asked for by the text of its label, it is the first that is told
+-- where a task was asked for by the text of its label, it is the first task of the story that has it
 abbrev pub IsAbout : Option (List ℕ) → List Event → Option Label → Type 0
 IsAbout None es task = task ≡ None
 IsAbout (Some text) es task = IsSome task × (task ≡ task_named text es)
 
--- and where none is told that has the label, the nearest is named
+-- no task of the story has the label that was asked for, and this is the text of the nearest
 abbrev pub IsAboutNone : Option (List ℕ) → List Event → List ℕ → Type 0
 IsAboutNone None es nearest = ⊥
 IsAboutNone (Some text) es nearest = (task_named text es ≡ None) × (nearest ≡ written (nearest_in text es))
 
 -- ---- verdicts
 
--- these bytes are the story of its meaning, or of the task that was asked for
+-- these bytes are the story of the job's meaning, or of the task that was asked for
 pub record IsJobStory (job : Tree) (input : List ℕ) (limit : ℕ) (asked : Option (List ℕ)) (bytes : List ℕ) : Type 0 where
   pub task : Option Label
   pub about : IsAbout asked (told limit job input) task
   pub story : bytes ≡ meaning_story limit job input task
 
--- The verdict on a job that was read, and its bytes: the story of the meaning; nothing where no task has the label.
+-- The verdict on a job that was read, and its bytes: the story of the meaning, or nothing where no task has the label.
 abbrev pub IsJobVerdict : Tree → List ℕ → ℕ → Option (List ℕ) → StoryVerdict → List ℕ → Type 0
 IsJobVerdict job input limit asked Done bytes =
     IsJobStory job input limit asked bytes × (meaning_end job input ≤ limit) × IsNone (meaning job input).exc
@@ -82,12 +82,12 @@ IsJobVerdict job input limit asked Limit bytes = IsJobStory job input limit aske
 IsJobVerdict job input limit asked (NoTask nearest) bytes =
     IsAboutNone asked (told limit job input) nearest.items × (bytes ≡ [])
 
--- A verdict and its bytes: that on the job which the text spells, or the refusal which the meaning names.
+-- A verdict and its bytes: that on the job that the text spells, or the refusal that the meaning names.
 abbrev pub IsVerdict : List ℕ → List ℕ → ℕ → Option (List ℕ) → StoryVerdict → List ℕ → Type 0
 IsVerdict text input limit asked (JobRefused fault) bytes = IsRefused text fault.kind fault.at × (bytes ≡ refusal_line fault)
 IsVerdict text input limit asked verdict bytes = (job : Tree) × Spells text job × IsJobVerdict job input limit asked verdict bytes
 
--- The verdict's bytes were sent, all of them.
+-- All bytes of the verdict were sent.
 abbrev pub IsSent : List ℕ → List ℕ → ℕ → Option (List ℕ) → Option (List ℕ) → Option (List ℕ) → StoryVerdict → Type 0
 IsSent text input limit asked before after verdict =
     (bytes : List ℕ) × IsVerdict text input limit asked verdict bytes × Appends before after bytes

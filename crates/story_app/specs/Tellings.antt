@@ -20,29 +20,29 @@ use Rattle.story_app.specs.declared.telling.Ending.TheVariants.{Done, Raised, La
 use Rattle.story_app.specs.declared.about.About.{About}
 use Rattle.story_app.specs.declared.about.About.TheVariants.{All, Task, NoTask}
 
--- how the meaning of a job ends, by a limit
+-- how the meaning of a job ends, compared with a limit
 abbrev pub IsEnding : Tree → List ℕ → ℕ → Ending → Type 0
 IsEnding job input limit Done = (meaning_end job input ≤ limit) × IsNone (meaning job input).exc
 IsEnding job input limit Raised = (meaning_end job input ≤ limit) × IsSome (meaning job input).exc
 IsEnding job input limit Late = limit < meaning_end job input
 
--- how a run with these rows ended
+-- how a run with these rows ended, compared with a limit
 abbrev pub ending_by : List Row → ℕ → Ending
 ending_by rows limit = if nat_lt limit (root_end rows) then Late else (if root_is_well rows then Done else Raised)
 
--- the verdict on its story
+-- the verdict on the story of such a run
 abbrev pub verdict_of : Ending → StoryVerdict
 verdict_of Done = verdict.Done
 verdict_of Raised = verdict.Raised
 verdict_of Late = verdict.Limit
 
--- the limit, where the story ends at it
+-- the limit, where the story is cut off at it
 abbrev pub until_of : Ending → ℕ → Option ℕ
 until_of Done limit = None
 until_of Raised limit = None
 until_of Late limit = Some limit
 
--- whether a tick is no later than the last one, where there is one
+-- whether a tick is not later than the last one, where there is one
 abbrev pub is_until : Option ℕ → ℕ → Bool
 is_until None t = true
 is_until (Some last) t = nat_le t last
@@ -52,12 +52,12 @@ abbrev pub events_until : Option ℕ → List Event → List Event
 events_until None es = es
 events_until (Some t) es = by_limit t es
 
--- the text of some events of a story, up to a limit or whole
+-- the text of selected events of a story, up to a limit or whole
 abbrev pub text_until : Option ℕ → Table → List Event → List Event → List Event → List ℕ
 text_until None table all sorted walked = kept_text table all sorted
 text_until (Some limit) table all sorted walked = kept_text_to table limit all sorted walked
 
--- the text of a story, by its events in the order of the walk: of all tasks, or of those that concern one
+-- the text of a story, from its events in the order of the walk: of all tasks, or of those that concern one task
 abbrev pub story_told : Table → Option ℕ → Option Label → List Event → List ℕ
 story_told table until None walked = text_until until table (in_order walked) (in_order walked) walked
 story_told table until (Some task) walked =
@@ -72,7 +72,8 @@ IsAsked asked es (Task label) = (text : List ℕ) × (asked ≡ Some text) × (t
 IsAsked asked es (NoTask nearest) =
     (text : List ℕ) × (asked ≡ Some text) × (task_named text es ≡ None) × (nearest.items ≡ written (nearest_in text es))
 
--- a verdict on a story with these events, and its text: of all tasks, or of those that concern one; nothing where no task has the label
+-- a verdict on a story with these events, and its text: of all tasks, or of those that concern one task, or nothing where no task
+-- has the label
 abbrev pub IsTold : Table → Option ℕ → Ending → Option (List ℕ) → List Event → StoryVerdict → List ℕ → Type 0
 IsTold table until ending asked walked given bytes =
     ((task : Option Label) × IsAbout asked walked task × (given ≡ verdict_of ending) × (bytes ≡ story_told table until task walked))

@@ -11,21 +11,21 @@ use std::alloc::{AllocError, Global};
 use story_focus::{nearest_task, task_named};
 use story_text::push_label;
 
-/// What a story is to be about.
+/// What a story covers.
 #[derive(Drop)]
 pub enum About<'e> {
     /// All tasks.
     All,
-    /// What concerns the task of this label.
+    /// The part that concerns the task with this label.
     Task(&'e Label),
     /// No task of the story has the label that was asked for.
     NoTask {
-        /// How the label of a task is written that is the nearest to it.
+        /// The text of the label of a task that is nearest to it, or nothing if no task starts.
         nearest: Vec<u8>,
     },
 }
 
-/// What a story with these events is to be about, where a task is asked for by the text of its label, or none is.
+/// Returns what a story with these events covers, if a task is asked for by the text of its label, or none is.
 pub(crate) fn asked_for<'e>(
     alloc: Global,
     events: &[&'e Event],
@@ -43,7 +43,7 @@ pub(crate) fn asked_for<'e>(
     Ok(About::NoTask { nearest })
 }
 
-// How a label is written: nothing where there is none.
+// Returns the text of a label, or nothing if there is no label.
 fn text_of(alloc: Global, label: Option<&Label>) -> Result<Vec<u8>, AllocError>
     ensures { IfOk result (λ text. text.items ≡ written (label_seen label.entry)) }
 {

@@ -13,13 +13,17 @@ use nursery_app::{ServeFault, refusal};
 use std::alloc::{AllocError, Global};
 use std::thread::Threads;
 
-/// Runs a job text over an input, and writes the story of the job's one-thread meaning: what happened to each task, in which tick and
-/// why. A job that ends later than the limit has its story up to the limit, with what each task is doing that has not ended. Where a
-/// task is asked for, by the text of its label, only what concerns it is told: its events, and those of each task that caused one of
-/// its cancellations, and so on; where no task has that label, nothing is written. A job text that is refused has its refusal written.
+/// Runs a job text over an input, and writes the story of the job's one-thread meaning: what happened to each task, in which tick
+/// and why. If the job ends later than the limit, writes its story up to the limit, with what each task is doing that has not
+/// ended. With `task`, the text of a label, writes only what concerns that task: its events, those of each task that caused one
+/// of its cancellations, and so on. If no task has that label, writes nothing. If the job text is refused, writes the refusal.
+/// Returns which of these it wrote.
 ///
-/// The number of workers, the picker and the gate change no byte. All bytes are built before the first is sent, so after `NoMemory`
-/// nothing was sent.
+/// The number of workers, the picker and the gate change no byte. The caller must ensure that the input has at most 16,777,216
+/// bytes (`MOST_INPUT`).
+///
+/// Returns a `ServeFault` if the writer failed, which then took the first of these bytes, or if memory was refused. All bytes are
+/// built before the first is sent, so after `NoMemory` nothing was sent.
 pub fn explain<R: Threads + Sync, P: Pick, G: Gate + Sync, W: Out>(
     rt: &R,
     alloc: Global,
@@ -34,11 +38,11 @@ pub fn explain<R: Threads + Sync, P: Pick, G: Gate + Sync, W: Out>(
     requires input { length input.now ≤ MOST_INPUT }
     requires countable { W.failed out.old < 18446744073709551615 }
 
-    // The bytes written are the story of the meaning, or the refusal which it names.
+    // The bytes written are the story of the meaning, or the refusal that the meaning names.
     ensures sent { IfOk result (IsSent job_text.now input.now settings.limit (option_copied task.entry) (W.contents out.old) (W.contents out.new)) }
     ensures well { OnOk result (W.failed out.new ≡ W.failed out.old) }
 
-    // A writer that failed took the front of those bytes; after want of memory nothing was sent.
+    // A writer that failed took the first of those bytes. If memory was refused, nothing was sent.
     ensures fault { IfErr result (IsStoryFault job_text.now input.now settings.limit (option_copied task.entry) (W.contents out.old) (W.contents out.new)) }
     ensures counted { IfErr result (CountsFailure (W.failed out.old) (W.failed out.new)) }
 {
@@ -47,7 +51,7 @@ pub fn explain<R: Threads + Sync, P: Pick, G: Gate + Sync, W: Out>(
     Ok(verdict)
 }
 
-// The verdict and all its bytes.
+// Returns the verdict and all its bytes.
 fn answer<R: Threads + Sync, P: Pick, G: Gate + Sync>(
     rt: &R,
     alloc: Global,

@@ -1,9 +1,10 @@
-//! A job text and an input in, the story of the run out: `explain`.
+//! `explain`, which takes a job text and an input, and writes the story of the run.
 //!
-//! The layer promises that the bytes which `explain` writes are the text of the story of the job's one-thread meaning, or the refusal
-//! which that meaning names, for every job text, input, number of workers and order of picks. A job that ends later than the limit has
-//! its story up to the limit, with what each task is doing that has not ended. It stands on `job_runner` for the table of the meaning,
-//! `job_teller` for the events, `story_causes`, `story_focus` and `story_text` for the text, and `nursery_app` for refusals.
+//! The layer promises that the bytes that `explain` writes are the text of the story of the job's one-thread meaning, or the
+//! refusal that the meaning names, for every job text, input, number of workers and order of picks. A job that ends later than
+//! the limit has its story up to the limit, with what each task is doing that has not ended. It uses `job_runner` for the table
+//! of the meaning, `job_teller` for the events, `story_causes`, `story_focus` and `story_text` for the text, and `nursery_app`
+//! for refusals.
 #![tactic(auto)]
 
 mod about;

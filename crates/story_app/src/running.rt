@@ -10,9 +10,10 @@ use std::alloc::{AllocError, Global};
 use std::thread::Threads;
 use story_text::{in_order, still_running};
 
-/// What the tasks of a job are doing at the limit that have not ended by it: the lines that end the story which `explain` writes of
-/// such a job. Nothing, where the job ends by the limit or the text is refused. Picker, workers and gate change no byte. Want of memory
-/// is the only error.
+/// Returns a line for each task of a job that has not ended by the limit, with what it is doing: the last lines of the story that
+/// `explain` writes of such a job. Returns nothing if the job ends by the limit or its text is refused. The picker, the number of
+/// workers and the gate change no byte. The caller must ensure that the input has at most 16,777,216 bytes (`MOST_INPUT`).
+/// Returns `AllocError` if memory is refused.
 pub fn running_at_limit<R: Threads + Sync, P: Pick, G: Gate + Sync>(
     rt: &R,
     alloc: Global,
@@ -37,7 +38,7 @@ pub fn running_at_limit<R: Threads + Sync, P: Pick, G: Gate + Sync>(
     }
 }
 
-// The same of a job that was read.
+// Returns the same for a job that was read.
 fn running_of<R: Threads + Sync, P: Pick, G: Gate + Sync>(
     rt: &R,
     alloc: Global,

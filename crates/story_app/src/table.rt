@@ -8,7 +8,8 @@ use job_runner::{Run, ScopeFrom};
 use job_story::Froms;
 use std::alloc::{AllocError, Global};
 
-/// From which tick each scope and nursery of a run was cancelled, as a table. Want of memory is the only error.
+/// Returns the table with the tick from which each scope and nursery of a run was cancelled. Returns `AllocError` if memory is
+/// refused.
 #[tactic(auto, using(crate::proofs::Tables::from_never))]
 pub fn table_of(alloc: Global, run: Run<'_>) -> Result<Froms, AllocError>
     ensures { IfOk result (λ froms. (label : tree.Label) → table_in froms label ≡ set_in never (scope_froms_of run.entry) label) }
@@ -19,7 +20,7 @@ pub fn table_of(alloc: Global, run: Run<'_>) -> Result<Froms, AllocError>
     Ok(table)
 }
 
-// Sets each of these in a table.
+// Sets each of these ticks in a table.
 fn fill(table: &mut Froms, froms: Vec<ScopeFrom>) -> Result<(), AllocError>
     ensures { OnOk result ((label : tree.Label) →
         table_in table.new label ≡ set_in (table_in table.old) (map from_of froms.items) label) }

@@ -20,19 +20,19 @@ use job_teller::tell;
 use std::alloc::{AllocError, Global};
 use std::thread::Threads;
 
-/// How a run ended, by a limit.
+/// How a run ended, compared with a limit.
 #[derive(Clone, Copy)]
 pub enum Ending {
-    /// By the limit, and well.
+    /// It ended by the limit, without an exception.
     Done,
-    /// By the limit, with an exception.
+    /// It ended by the limit, with an exception.
     Raised,
-    /// Later than the limit.
+    /// It ended later than the limit.
     Late,
 }
 
 impl Ending {
-    // The verdict on the story of such a run.
+    // Returns the verdict on the story of such a run.
     fn verdict(self) -> StoryVerdict
         ensures { result ≡ verdict_of self }
     {
@@ -43,7 +43,7 @@ impl Ending {
         }
     }
 
-    // The last tick of its story, where that is the limit.
+    // Returns the limit if the story of such a run is cut off at it, and `None` otherwise.
     fn until(self, limit: u64) -> Option<u64>
         ensures { result ≡ until_of self limit }
     {
@@ -57,13 +57,13 @@ impl Ending {
 /// What is known of the meaning of a job.
 #[derive(Drop)]
 pub struct Meaning {
-    /// How it ends, by the limit.
+    /// How the job ends, compared with the limit.
     pub ending: Ending,
-    /// From which tick each scope and nursery is cancelled.
+    /// The ticks from which the scopes and nurseries are cancelled.
     pub table: Froms,
 }
 
-/// The verdict on a job that was read, with its bytes.
+/// Returns the verdict on a job that was read, with its bytes.
 pub(crate) fn job_verdict<R: Threads + Sync, P: Pick, G: Gate + Sync>(
     rt: &R,
     alloc: Global,
@@ -85,7 +85,7 @@ pub(crate) fn job_verdict<R: Threads + Sync, P: Pick, G: Gate + Sync>(
     Ok(answer)
 }
 
-// The verdict on a story with these events, and its text.
+// Returns the verdict on a story with these events, and its text.
 #[tactic(auto, using(crate::proofs::Told::told_of_all, crate::proofs::Told::told_of_task, crate::proofs::Told::told_of_none))]
 fn told_about(
     alloc: Global,
@@ -110,7 +110,7 @@ fn told_about(
     }
 }
 
-/// How the meaning of a job ends, by the limit, and its table.
+/// Returns how the meaning of a job ends, compared with the limit, and its table.
 #[tactic(auto, using(crate::proofs::Told::is_ending, crate::proofs::Tables::is_of_meaning))]
 pub(crate) fn meaning_of<R: Threads + Sync, P: Pick, G: Gate + Sync>(
     rt: &R,
@@ -132,7 +132,7 @@ pub(crate) fn meaning_of<R: Threads + Sync, P: Pick, G: Gate + Sync>(
     Ok(Meaning { ending, table })
 }
 
-// How a run ended, by a limit.
+// Returns how a run ended, compared with a limit.
 fn ending_of(run: &Run<'_>, limit: u64) -> Ending
     ensures { result ≡ ending_by (rows_of run.now) limit }
 {
@@ -146,7 +146,8 @@ fn ending_of(run: &Run<'_>, limit: u64) -> Ending
     }
 }
 
-/// The events up to a tick, or all of them where there is none, in the same order. Want of memory is the only error.
+/// Returns the events up to and including the tick `until`, or all of them if it is `None`, in the same order. Returns
+/// `AllocError` if memory is refused.
 pub fn told_until<'e>(
     alloc: Global,
     events: &'e [Event],
@@ -163,7 +164,7 @@ pub fn told_until<'e>(
     Ok(told)
 }
 
-// Whether a tick is no later than the last one, where there is one.
+// Returns whether a tick is not later than the last one, if there is one.
 fn is_by(tick: u64, until: Option<u64>) -> bool
     ensures { result ≡ is_until until tick }
 {

@@ -6,9 +6,9 @@ use job_grammar::JobFault;
 /// What `explain` wrote.
 #[derive(Debug, Drop)]
 pub enum StoryVerdict {
-    /// The story of a job whose root ended well.
+    /// The story of a job whose root task ended without an exception.
     Done,
-    /// The story of a job whose root ended with an exception.
+    /// The story of a job whose root task ended with an exception.
     Raised,
     /// The refusal of the job text.
     JobRefused(JobFault),
@@ -16,14 +16,14 @@ pub enum StoryVerdict {
     Limit,
     /// Nothing: no task of the story has the label that was asked for.
     NoTask {
-        /// How the label of a task of the story is written that is the nearest to the one asked for.
+        /// The text of the label of a task of the story that is nearest to the one asked for.
         nearest: Vec<u8>,
     },
 }
 
 impl StoryVerdict {
-    /// The exit status of the program that wrote this: 0 where the job ended well, 1 where it raised, 2 where its text was refused or
-    /// no task has the label, 3 where it ends later than the limit.
+    /// Returns the exit status of the program: 0 if the job ended well, 1 if it ended with an exception, 2 if its text was
+    /// refused or no task has the label, and 3 if it ends later than the limit.
     pub fn status(&self) -> u8
         ensures { result ≡ story_status_of self.now }
     {
