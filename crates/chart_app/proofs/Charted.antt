@@ -53,7 +53,7 @@ is_verdict job input limit rows verdict same is =
 
 -- ---- what is drawn
 
--- the events that are told are those of the meaning's story
+-- the events of the chart are those of the meaning's story
 told_by : (job : Tree) (input : List ℕ) (limit : ℕ) (verdict : Verdict) → IsVerdictOn job input limit verdict →
     events_until (until_by verdict limit) (events_of (root_label job.name) (story_by (meaning_table job input) job input)) ≡ told limit job input
 told_by job input limit Done h = told_is job input limit ending.Done h

@@ -1,4 +1,4 @@
--- What `chart` answers: the chart of a job's meaning over an input, or the refusal which that meaning names.
+-- What `chart` writes: the chart of a job's meaning over an input, or the refusal that the meaning names.
 use Rattle.std.specs.Prelude.{◌≡◌, ℕ, ◌≤◌, ◌<◌, Bool, true, false, nat_le, nat_lt, if◌then◌else◌, Option, Some, None, List, length, take, IsSome, IsNone}
 use Rattle.std.specs.Io.KnownBytes.{Appends}
 use Rattle.job_tree.specs.Tree.{Tree}
@@ -32,12 +32,12 @@ abbrev pub until_if : Bool → ℕ → Tick
 until_if true limit = None
 until_if false limit = Some limit
 
--- the chart of a meaning: whole where it ends by the limit, and else up to the limit
+-- the chart of a meaning: whole where it ends by the limit, and up to the limit otherwise
 abbrev pub meaning_chart : Form → ℕ → Tree → List ℕ → List ℕ
 meaning_chart form limit job input =
     drawn_as form (meaning_table job input) (until_if (nat_le (meaning_end job input) limit) limit) (told limit job input)
 
--- a drawing is a well-formed document
+-- an SVG document is well formed
 abbrev pub IsInForm : Form → List ℕ → Type 0
 IsInForm (Text width) bytes = Unit {0}
 IsInForm (Svg width) bytes = IsDocument bytes
@@ -45,20 +45,20 @@ IsInForm (Svg width) bytes = IsDocument bytes
 abbrev pub IsChart : Form → ℕ → Tree → List ℕ → List ℕ → Type 0
 IsChart form limit job input bytes = (bytes ≡ meaning_chart form limit job input) × IsInForm form bytes
 
--- ---- how a job ends, by a limit
+-- ---- how a job ends, compared with a limit
 
--- how its meaning does
+-- how the meaning of a job ends
 abbrev pub IsVerdictOn : Tree → List ℕ → ℕ → Verdict → Type 0
 IsVerdictOn job input limit Done = (meaning_end job input ≤ limit) × IsNone (meaning job input).exc
 IsVerdictOn job input limit Raised = (meaning_end job input ≤ limit) × IsSome (meaning job input).exc
 IsVerdictOn job input limit (JobRefused fault) = ⊥
 IsVerdictOn job input limit Limit = limit < meaning_end job input
 
--- how a run with these rows does
+-- how a run with these rows ended
 abbrev pub verdict_by : List Row → ℕ → Verdict
 verdict_by rows limit = if nat_lt limit (root_end rows) then Limit else (if root_is_well rows then Done else Raised)
 
--- the limit, where it ends later
+-- the limit, where the job ends later
 abbrev pub until_by : Verdict → ℕ → Tick
 until_by Limit limit = Some limit
 until_by _ limit = None
@@ -69,12 +69,12 @@ until_by _ limit = None
 abbrev pub IsJobVerdict : Form → Tree → List ℕ → ℕ → Verdict → List ℕ → Type 0
 IsJobVerdict form job input limit verdict bytes = IsVerdictOn job input limit verdict × IsChart form limit job input bytes
 
--- A verdict and its bytes: that on the job which the text spells, or the refusal which the meaning names.
+-- A verdict and its bytes: that on the job that the text spells, or the refusal that the meaning names.
 abbrev pub IsVerdict : Form → List ℕ → List ℕ → ℕ → Verdict → List ℕ → Type 0
 IsVerdict form text input limit (JobRefused fault) bytes = IsRefused text fault.kind fault.at × (bytes ≡ refusal_line fault)
 IsVerdict form text input limit verdict bytes = (job : Tree) × Spells text job × IsJobVerdict form job input limit verdict bytes
 
--- The verdict's bytes were sent, all of them.
+-- All bytes of the verdict were sent.
 abbrev pub IsSent : Form → List ℕ → List ℕ → ℕ → Option (List ℕ) → Option (List ℕ) → Verdict → Type 0
 IsSent form text input limit before after verdict =
     (bytes : List ℕ) × IsVerdict form text input limit verdict bytes × Appends before after bytes

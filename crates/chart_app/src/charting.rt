@@ -15,12 +15,16 @@ use std::alloc::{AllocError, Global};
 use std::thread::Threads;
 use story_app::told_until;
 
-/// Runs a job text over an input, and writes the chart of the job's one-thread meaning: a row for each task, and below it one for each scope and
-/// nursery that it entered, with a column for each tick at which something happens. A job that ends later than the limit is drawn up to the
-/// limit, and its verdict is `Limit`. A job text that is refused has its refusal written. The verdict and its status are those of `serve`.
+/// Runs a job text over an input, and writes the chart of the job's one-thread meaning: a row for each task, and below it one for
+/// each scope and nursery that it entered, with a column for each tick at which something happens. If the job ends later than the
+/// limit, draws it up to the limit, and returns `Limit`. If the job text is refused, writes the refusal. The verdict and its
+/// status are those of `serve` of `nursery_app`.
 ///
-/// The number of workers, the picker and the gate change no byte. All bytes are built before the first is sent, so after `NoMemory`
-/// nothing was sent.
+/// The number of workers, the picker and the gate change no byte. The caller must ensure that the input has at most 16,777,216
+/// bytes (`MOST_INPUT`).
+///
+/// Returns a `ServeFault` if the writer failed, which then took the first of these bytes, or if memory was refused. All bytes are
+/// built before the first is sent, so after `NoMemory` nothing was sent.
 pub fn chart<R: Threads + Sync, P: Pick, G: Gate + Sync, W: Out>(
     rt: &R,
     alloc: Global,
@@ -35,11 +39,11 @@ pub fn chart<R: Threads + Sync, P: Pick, G: Gate + Sync, W: Out>(
     requires input { length input.now ≤ MOST_INPUT }
     requires countable { W.failed out.old < 18446744073709551615 }
 
-    // The bytes written are the chart of the meaning, or the refusal which it names.
+    // The bytes written are the chart of the meaning, or the refusal that the meaning names.
     ensures sent { IfOk result (IsSent form job_text.now input.now settings.limit (W.contents out.old) (W.contents out.new)) }
     ensures well { OnOk result (W.failed out.new ≡ W.failed out.old) }
 
-    // A writer that failed took the front of those bytes; after want of memory nothing was sent.
+    // A writer that failed took the first of those bytes. If memory was refused, nothing was sent.
     ensures fault { IfErr result (IsChartFault form job_text.now input.now settings.limit (W.contents out.old) (W.contents out.new)) }
     ensures counted { IfErr result (CountsFailure (W.failed out.old) (W.failed out.new)) }
 {
@@ -48,7 +52,7 @@ pub fn chart<R: Threads + Sync, P: Pick, G: Gate + Sync, W: Out>(
     Ok(verdict)
 }
 
-// The verdict and all its bytes.
+// Returns the verdict and all its bytes.
 #[tactic(auto, using(crate::proofs::Charted::of_spelt))]
 fn answer<R: Threads + Sync, P: Pick, G: Gate + Sync>(
     rt: &R,
@@ -72,7 +76,7 @@ fn answer<R: Threads + Sync, P: Pick, G: Gate + Sync>(
     }
 }
 
-// The verdict on a job that was read, with its chart.
+// Returns the verdict on a job that was read, with its chart.
 fn job_chart<R: Threads + Sync, P: Pick, G: Gate + Sync>(
     rt: &R,
     alloc: Global,

@@ -15,7 +15,7 @@ use std::alloc::{AllocError, Global};
 use story_causes::Causes;
 use story_text::in_order;
 
-// The chart of a story with these events in the order of the walk, and this table.
+// Returns the chart of a story with these events in the order of the walk, and this table.
 pub(crate) fn drawn_as(
     alloc: Global,
     form: Form,
@@ -34,7 +34,7 @@ pub(crate) fn drawn_as(
     }
 }
 
-// The same as an SVG document, with these bars.
+// Returns the same chart as an SVG document, with these bars.
 fn svg<'e>(
     alloc: Global,
     width: usize,

@@ -3,12 +3,12 @@
 pub enum Form {
     /// A text with a line for each row.
     Text {
-        /// How long a line is at most, in bytes.
+        /// The maximum length of a line, in bytes, without its newline.
         width: usize,
     },
     /// An SVG document.
     Svg {
-        /// For the columns of a text of which width there is room, in bytes.
+        /// The width, in bytes, of the text whose columns the document has room for.
         width: usize,
     },
 }

@@ -13,18 +13,18 @@ use std::alloc::{AllocError, Global};
 use std::thread::Threads;
 use story_app::table_of;
 
-// What is known of the meaning of a job, by a limit.
+// What is known of the meaning of a job, compared with a limit.
 #[derive(Drop)]
 pub(crate) struct Meaning {
     // How the job ends.
     pub verdict: Verdict,
-    // The limit, where the job ends later.
+    // The limit, if the job ends later.
     pub until: Option<u64>,
-    // From which tick each scope and nursery is cancelled.
+    // The ticks from which the scopes and nurseries are cancelled.
     pub table: Froms,
 }
 
-// Runs a job over an input to its end. Picker, workers and gate change nothing.
+// Runs a job over an input to its end. The picker, the number of workers and the gate change nothing.
 #[tactic(auto, using(crate::proofs::Charted::is_verdict))]
 pub(crate) fn meaning_of<R: Threads + Sync, P: Pick, G: Gate + Sync>(
     rt: &R,
@@ -51,7 +51,7 @@ pub(crate) fn meaning_of<R: Threads + Sync, P: Pick, G: Gate + Sync>(
     })
 }
 
-// How a run ended, by a limit.
+// Returns how a run ended, compared with a limit.
 fn verdict_on(run: &Run<'_>, limit: u64) -> Verdict
     ensures { result ≡ verdict_by (rows_of run.now) limit }
 {
@@ -65,7 +65,7 @@ fn verdict_on(run: &Run<'_>, limit: u64) -> Verdict
     }
 }
 
-// The limit, where a job ends later.
+// Returns the limit, if the job ends later.
 fn until_by(verdict: Verdict, limit: u64) -> Option<u64>
     ensures { result ≡ until_by verdict limit }
 {
