@@ -2,7 +2,7 @@
 use Rattle.std.proofs.Common.{◌≡◌, ◌≢◌, ℕ, zero, suc, ◌+◌, ◌<◌, ◌==◌, true, false, List, [], ◌∷◌, length, get_or, take, drop, refl, arith, add-one}
 use Rattle.expect_text.specs.Lines.{parts_from}
 
--- no separator stands before a place
+-- there is no separator before a place
 abbrev pub NoneBefore : ℕ → List ℕ → ℕ → Type 0
 NoneBefore end text n = (k : ℕ) → k < n → get_or text k 0 ≢ end
 

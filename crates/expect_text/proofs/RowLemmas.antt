@@ -5,7 +5,7 @@ use Rattle.std.proofs.lemmas.Bool.{cases_eq}
 use Rattle.expect_text.specs.Patterns.{any_suffix, first_is, is_empty, matches, matches_byte}
 use Rattle.expect_text.specs.Rows.{IsRow}
 
--- ---- what the rests from one place on and from the next one on have to do with one another
+-- ---- how the rests from one place on and from the next one on are related
 
 suffix_more : (test : List ℕ → Bool) (text : List ℕ) (k : ℕ) → k < length text → any_suffix test (drop k text) ≡ (test (drop k text) || any_suffix test (drop (k + 1) text))
 suffix_more test text k within = rw (drop_more text k 0 within) refl
@@ -25,9 +25,9 @@ empty_more text k within = rw (drop_more text k 0 within) refl
 empty_end : (text : List ℕ) (k : ℕ) → length text ≤ k → is_empty (drop k text) ≡ true
 empty_end text k past = rw (drop_all k text past) refl
 
--- ---- a row that is done in part
+-- ---- a row of which a part is done
 
--- below a place the row has the answers of one test, and from there on those of another
+-- before a place the row has the answers of one test, and from there on those of another
 pub record Halves (low high : List ℕ → Bool) (text : List ℕ) (row : List Bool) (at : ℕ) : Type 0 where
   pub below : (k : ℕ) → k < at → get_or row k false ≡ low (drop k text)
   pub above : (k : ℕ) → at ≤ k → k ≤ length text → get_or row k false ≡ high (drop k text)
@@ -97,7 +97,7 @@ empty_row text = record {
   ];
 }
 
--- the row of a pattern whose first byte was added last, and what is left of the pattern
+-- the row of a pattern whose first byte was added last, and the rest of the pattern
 pub pattern_step : (pattern left before : List ℕ) (last : ℕ) (text : List ℕ) (old new : List Bool) → left ≡ before ++ last ∷ []
     → ((test : List ℕ → Bool) → IsRow test text old → IsRow (matches_byte (last == 42) last test) text new)
     → (done : List ℕ) × (pattern ≡ left ++ done) × IsRow (matches done) text old

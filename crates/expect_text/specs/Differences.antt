@@ -1,9 +1,9 @@
--- Where a text differs from the one that was kept.
+-- The first line at which a text differs from the one that was kept.
 use Rattle.std.specs.Prelude.{ℕ, ◌+◌, Bool, true, false, Option, Some, None, List, [], ◌∷◌}
 use Rattle.std.specs.Str.{bytes_eq}
 use Rattle.expect_text.specs.Lines.{lines_of}
 
--- the number of a line, that line of the kept text and that of the text that is written now; none where a text has no such line
+-- the number of a line, that line of the kept text and that of the text written now, or `None` where a text has no such line
 pub record Difference : Type 0 where
   pub line : ℕ
   pub kept : Option (List ℕ)

@@ -1,4 +1,4 @@
--- Worked texts, patterns and lines, by computing.
+-- Worked texts, patterns and lines, proved by computing.
 use Rattle.std.specs.Prelude.{◌≡◌, true, false, Some, None, [], ◌∷◌, codes, refl}
 use Rattle.expect_text.specs.Lines.{lines_of, ended_lines}
 use Rattle.expect_text.specs.Differences.{first_difference}

@@ -1,18 +1,18 @@
--- What a line of a file of expectations says.
+-- The meaning of a line of a `.expect` file.
 use Rattle.std.specs.Prelude.{ℕ, Bool, true, false, if◌then◌else◌, Option, Some, None, List, [], ◌∷◌, length, take, drop, codes}
 use Rattle.std.specs.Str.{bytes_eq}
 use Rattle.expect_text.specs.Lines.{parts_of}
 use Rattle.expect_text.specs.Patterns.{is_blank, is_empty}
 use Rattle.fault_text.specs.declared.deny.Deny.{Deny}
 
--- some line meets the pattern; no line does; `races` denies nothing; `faults` denies nothing of these kinds
+-- some line matches the pattern; no line does; `races` denies nothing; `faults` denies nothing of these kinds
 pub data Expected : Type 0 where
   present : (pattern : List ℕ) → Expected
   absent : (pattern : List ℕ) → Expected
   no_races : Expected
   no_faults : (kinds : Deny) → Expected
 
--- a line says nothing, or what is expected, or it is not known what it says
+-- a line means nothing, or says what is expected, or is unknown
 pub data Said : Type 0 where
   nothing : Said
   expects : (expected : Expected) → Said
@@ -20,7 +20,7 @@ pub data Said : Type 0 where
 
 -- ---- words
 
--- a text from its first byte on that is no blank
+-- a text from its first byte on that is not a blank
 abbrev pub from_word_by : (blank : Bool) → ℕ → List ℕ → (rest : List ℕ) → List ℕ
 from_word_by true b bs rest = rest
 from_word_by false b bs rest = b ∷ bs
@@ -29,7 +29,7 @@ abbrev pub from_word : List ℕ → List ℕ
 from_word [] = []
 from_word (b ∷ bs) = from_word_by (is_blank b) b bs (from_word bs)
 
--- what follows a word that a text begins with
+-- what follows a word with which a text begins
 abbrev pub after : (word text : List ℕ) → Option (List ℕ)
 after word text = if bytes_eq (take (length word) text) word then Some (drop (length word) text) else None
 
@@ -38,13 +38,13 @@ abbrev pub is_end : Option (List ℕ) → Bool
 is_end None = false
 is_end (Some rest) = is_empty (from_word rest)
 
--- whether a text is a word, but for blanks around it
+-- whether a text is this word, possibly with blanks before and after it
 abbrev pub is_word : (word text : List ℕ) → Bool
 is_word word text = is_end (after word (from_word text))
 
 -- ---- lines
 
--- kinds that are denied, with the one that a text names
+-- the kinds with the one added that a text names
 abbrev pub with_kind : Deny → (text : List ℕ) → Option Deny
 with_kind kinds text =
     if is_word (codes "no stuck") text then Some (record kinds { stuck = true })
@@ -52,7 +52,7 @@ with_kind kinds text =
     else if is_word (codes "no lost") text then Some (record kinds { lost = true })
     else None
 
--- kinds that are denied, with those that some texts name; none where one of them names no kind
+-- the kinds with those added that some texts name, or `None` where one of the texts does not name a kind
 abbrev pub with_kinds : Option Deny → (texts : List (List ℕ)) → Option Deny
 with_kinds None texts = None
 with_kinds (Some kinds) [] = Some kinds
@@ -65,19 +65,19 @@ abbrev pub denying : Option Deny → Said
 denying None = unknown
 denying (Some kinds) = expects (no_faults kinds)
 
--- what a line says in which this follows `races:`, and one in which it follows `faults:`
+-- the meaning of a line in which this follows `races:`, and of one in which it follows `faults:`
 abbrev pub races_line : List ℕ → Said
 races_line rest = if is_word (codes "none") rest then expects no_races else unknown
 
 abbrev pub faults_line : List ℕ → Said
 faults_line rest = denying (with_kinds (Some no_kind) (parts_of 44 rest))
 
--- what a line says in which this follows `! `, if it begins so
+-- the meaning of a line in which this follows `! `, if it begins with that
 abbrev pub pattern_line : (line : List ℕ) → Option (List ℕ) → Said
 pattern_line line (Some rest) = expects (absent rest)
 pattern_line line None = expects (present line)
 
--- what a line says in which this follows `#`, `races:`, `faults:` and `! `, if it begins with one of these
+-- the meaning of a line in which this follows `#`, `races:`, `faults:` and `! `, if it begins with one of these
 abbrev pub line_by : (line : List ℕ) → (comment races faults unwanted : Option (List ℕ)) → Said
 line_by line (Some rest) races faults unwanted = nothing
 line_by line None (Some rest) faults unwanted = races_line rest
@@ -89,6 +89,6 @@ worded_line line [] = nothing
 worded_line line (b ∷ bs) =
     let text = b ∷ bs in line_by line (after (codes "#") text) (after (codes "races:") text) (after (codes "faults:") text) (after (codes "! ") text)
 
--- what a line says, by what it says from its first byte on that is no blank
+-- the meaning of a line, which depends on the text from its first byte on that is not a blank
 abbrev pub said : (line : List ℕ) → Said
 said line = worded_line line (from_word line)

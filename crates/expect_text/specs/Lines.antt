@@ -7,7 +7,7 @@ before_parts true b parts = [] ∷ parts
 before_parts false b [] = (b ∷ []) ∷ []
 before_parts false b (part ∷ parts) = (b ∷ part) ∷ parts
 
--- the parts of a text between separators, where the end of the text gives some last parts
+-- the parts of a text between separators, with these last parts at the end of the text
 abbrev pub parts_from : (last : List (List ℕ)) → (separator : ℕ) → List ℕ → List (List ℕ)
 parts_from last separator [] = last
 parts_from last separator (b ∷ bs) = before_parts (b == separator) b (parts_from last separator bs)
@@ -20,11 +20,11 @@ parts_of = parts_from ([] ∷ [])
 abbrev pub lines_of : List ℕ → List (List ℕ)
 lines_of = parts_of 10
 
--- the lines of a text where each newline ends a line: one at the text's end begins no other
+-- the lines of a text where each newline ends a line, so that one at the end of the text begins no other
 abbrev pub ended_lines : List ℕ → List (List ℕ)
 ended_lines = parts_from [] 10
 
--- the lines that are left: none where no newline came
+-- the lines that are left, or no lines where no newline came
 abbrev pub lines_left : Option (List ℕ) → List (List ℕ)
 lines_left None = []
 lines_left (Some rest) = lines_of rest

@@ -1,4 +1,4 @@
--- What it means that a line meets a pattern.
+-- What it means that a line matches a pattern.
 use Rattle.std.specs.Prelude.{ℕ, ◌+◌, ◌==◌, Bool, true, false, ◌&&◌, ◌||◌, Option, Some, None, List, [], ◌∷◌}
 use Rattle.expect_text.specs.Lines.{ended_lines}
 use Rattle.expect_text.specs.declared.squeezing.Gap.{Gap}
@@ -6,7 +6,7 @@ use Rattle.expect_text.specs.declared.squeezing.Gap.TheVariants.{Start, Closed, 
 
 -- ---- patterns
 
--- whether some suffix of a text passes a test
+-- whether at least one suffix of a text passes a test
 abbrev pub any_suffix : (List ℕ → Bool) → List ℕ → Bool
 any_suffix test [] = test []
 any_suffix test (b ∷ bs) = test (b ∷ bs) || any_suffix test bs
@@ -16,7 +16,7 @@ abbrev pub first_is : ℕ → (List ℕ → Bool) → List ℕ → Bool
 first_is p test [] = false
 first_is p test (b ∷ bs) = (b == p) && test bs
 
--- whether a text matches a byte of a pattern and then passes a test: `*` stands for any bytes, and any other for itself
+-- whether a text matches a byte of a pattern and the rest passes a test: `*` matches any bytes, and any other byte matches itself
 abbrev pub matches_byte : (is_star : Bool) → ℕ → (List ℕ → Bool) → List ℕ → Bool
 matches_byte true p test text = any_suffix test text
 matches_byte false p test text = first_is p test text
@@ -25,7 +25,7 @@ abbrev pub is_empty : List ℕ → Bool
 is_empty [] = true
 is_empty (b ∷ bs) = false
 
--- whether a text matches a pattern, in which `*` stands for any bytes
+-- whether a text matches a pattern, in which `*` matches any bytes
 abbrev pub matches : (pattern text : List ℕ) → Bool
 matches [] text = is_empty text
 matches (p ∷ ps) text = matches_byte (p == 42) p (matches ps) text
@@ -36,7 +36,7 @@ matches (p ∷ ps) text = matches_byte (p == 42) p (matches ps) text
 abbrev pub is_blank : ℕ → Bool
 is_blank b = b == 32 || b == 9 || b == 13
 
--- what stands for a byte that is no blank, after such blanks
+-- what a byte that is not a blank becomes after such a gap
 abbrev pub after_gap : Gap → ℕ → List ℕ → List ℕ
 after_gap Start b rest = b ∷ rest
 after_gap Closed b rest = b ∷ rest
@@ -48,7 +48,7 @@ with_blank Start = Start
 with_blank Closed = Owed
 with_blank Owed = Owed
 
--- what stands for a byte and for those after it, which depend on the gap
+-- what a byte and those after it become, which depend on the gap
 abbrev pub squeezed_at : (blank : Bool) → Gap → ℕ → (Gap → List ℕ) → List ℕ
 squeezed_at true gap b rest = rest (with_blank gap)
 squeezed_at false gap b rest = after_gap gap b (rest Closed)
@@ -61,7 +61,7 @@ squeezed_in gap (b ∷ bs) = squeezed_at (is_blank b) gap b (λ next. squeezed_i
 abbrev pub squeezed : List ℕ → List ℕ
 squeezed = squeezed_in Start
 
--- whether a line meets a pattern
+-- whether a line matches a pattern
 abbrev pub meets : (pattern line : List ℕ) → Bool
 meets pattern line = matches (squeezed pattern) (squeezed line)
 
@@ -76,6 +76,6 @@ abbrev pub first_from : (List ℕ → Bool) → ℕ → List (List ℕ) → Opti
 first_from test n [] = None
 first_from test n (l ∷ ls) = first_or (test l) n (first_from test (n + 1) ls)
 
--- the number, from 1, of the first line of a text that meets a pattern
+-- the number, from 1, of the first line of a text that matches a pattern
 abbrev pub first_match : (pattern text : List ℕ) → Option ℕ
 first_match pattern text = first_from (meets pattern) 1 (ended_lines text)

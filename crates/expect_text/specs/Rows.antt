@@ -1,4 +1,4 @@
--- The row of answers that a pattern is matched by: one for each rest of a text.
+-- The row of answers with which a pattern is matched: one for each rest of a text.
 use Rattle.std.specs.Prelude.{◌≡◌, ℕ, ◌+◌, ◌≤◌, Bool, false, List, length, drop, slice_index_or}
 
 -- a row has, for each place of a text and for its end, whether the text from there on passes a test

@@ -1,4 +1,4 @@
--- What the code answers, as the definitions have it.
+-- The values of the code, as the definitions see them.
 use Rattle.std.specs.Prelude.{Option, List, ℕ}
 use Rattle.std.specs.Borrow.{Bor}
 use Rattle.std.specs.Option.{option_map}

@@ -6,19 +6,19 @@ ghost use Rattle.expect_text.specs.Views.{bytes_of, difference_of};
 
 use crate::parts::split_once;
 
-/// The first line in which a text differs from the one that was kept.
+/// The first line at which a text differs from the one that was kept.
 #[derive(Clone, Copy, Debug, PartialEq, Eq)]
 pub struct Difference<'a> {
     /// The number of the line, from 1.
     pub line: usize,
-    /// That line of the kept text, without its newline: none where the kept text has fewer lines.
+    /// That line of the kept text, without its newline, or `None` if the kept text has fewer lines.
     pub kept: Option<&'a [u8]>,
-    /// That line of the text that is written now, without its newline: none where it has fewer lines.
+    /// That line of the text that was written now, without its newline, or `None` if that text has fewer lines.
     pub written: Option<&'a [u8]>,
 }
 
-/// The first line in which a text differs from the one that was kept; none where the two are the same. Lines are what stands between
-/// newlines, so that a text that ends with a newline has an empty last line.
+/// Returns the first line at which a text differs from the one that was kept, or `None` if the two are the same. Lines are the
+/// parts between newlines, so a text that ends with a newline has an empty last line.
 pub fn first_difference<'a>(kept: &'a [u8], written: &'a [u8]) -> Option<Difference<'a>>
     ensures { option_map difference_of result ≡ first_difference kept.now written.now }
 {
@@ -47,7 +47,7 @@ pub fn first_difference<'a>(kept: &'a [u8], written: &'a [u8]) -> Option<Differe
     }
 }
 
-// The first line of a text, and what follows its newline, if it has one.
+// Returns the first line of a text, and what follows its newline, if it has one.
 fn first_line(text: &[u8]) -> (&[u8], Option<&[u8]>)
     ensures lines { lines_of text.now ≡ result.0.now ∷ lines_left (bytes_of result.1) }
     ensures shorter { MatchOption result.1 (Unit {0}) (λ rest. length rest.now < length text.now) }
@@ -58,7 +58,7 @@ fn first_line(text: &[u8]) -> (&[u8], Option<&[u8]>)
     }
 }
 
-// A line that the kept text alone has, the first of these.
+// Returns the difference that only the kept text has a line of this number, which is the first line of `kept`.
 fn only_kept(line: usize, kept: &[u8]) -> Difference<'_>
     ensures { Some (difference_of result) ≡ difference_from line (lines_of kept.now) [] }
 {
@@ -69,7 +69,8 @@ fn only_kept(line: usize, kept: &[u8]) -> Difference<'_>
     }
 }
 
-// A line that the text that is written now has alone, the first of these, if it has more.
+// Returns the difference that only the text written now has a line of this number, which is the first line of `written`, if there
+// is one.
 fn only_written(line: usize, written: Option<&[u8]>) -> Option<Difference<'_>>
     ensures { option_map difference_of result ≡ difference_from line [] (lines_left (bytes_of written.entry)) }
 {

@@ -7,34 +7,37 @@ use crate::parts::split_once;
 use crate::words::{after, from_word, is_word};
 use fault_text::Deny;
 
-/// What a line of a file of expectations wants of a job.
+/// What a line of a `.expect` file requires of a job.
 #[derive(Clone, Copy, Debug, PartialEq, Eq)]
 pub enum Expectation<'a> {
-    /// Some line of the report or the story meets the pattern.
+    /// At least one line of the report or the story matches the pattern.
     Present(&'a [u8]),
-    /// No line of the report or the story meets the pattern.
+    /// No line of the report or the story matches the pattern.
     Absent(&'a [u8]),
-    /// No two tasks race: `races` has nothing to deny.
+    /// There is no race: `races` has nothing to deny.
     NoRaces,
-    /// With no fault the job becomes what is denied here.
+    /// No fault has one of these consequences for the job: `faults` has nothing to deny of these kinds.
     NoFaults(Deny),
 }
 
-/// What a line of a file of expectations is.
+/// The meaning of a line of a `.expect` file.
 #[derive(Clone, Copy, Debug, PartialEq, Eq)]
 pub enum ExpectLine<'a> {
-    /// Nothing: blanks alone, or a comment.
+    /// Nothing: the line is blank or a comment.
     Nothing,
     /// An expectation.
     Expects(Expectation<'a>),
-    /// A line that begins with `races:` or `faults:` and does not go on as those lines do.
+    /// Unknown: the line begins with `races:` or `faults:` and does not continue as such a line does.
     Unknown,
 }
 
-/// What a line of a file of expectations, without its newline, says. A line of blanks alone says nothing, nor does one whose first byte
-/// after blanks is `#`. One that begins with `races:` goes on with `none`, and one that begins with `faults:` with one or more of
-/// `no stuck`, `no cut` and `no lost`, separated by commas; blanks around these do not count. One that begins with `! ` has a pattern that
-/// no line may meet after it. Any other is a pattern as a whole; one that begins as these lines do is written with a `*` before it.
+/// Returns the meaning of a line of a `.expect` file, which is passed without its newline. Blanks are spaces, tabs and carriage
+/// returns, and those at the start of the line do not count.
+///
+/// A blank line means nothing, and so does one that begins with `#`. A line that begins with `races:` continues with `none`. A
+/// line that begins with `faults:` continues with one or more of `no stuck`, `no cut` and `no lost`, separated by commas; blanks
+/// around these do not count. After `! ` comes a pattern that no line may match. Any other line as a whole is a pattern that some
+/// line must match. A pattern that begins like one of the other lines is written with a `*` in front.
 pub fn read_expectation(line: &[u8]) -> ExpectLine<'_>
     ensures { said_of result ≡ said line.now }
 {
@@ -54,7 +57,7 @@ pub fn read_expectation(line: &[u8]) -> ExpectLine<'_>
     }
 }
 
-// What a line says in which this follows `races:`.
+// Returns the meaning of a line in which this follows `races:`.
 fn races_line<'a>(rest: &[u8]) -> ExpectLine<'a>
     ensures { said_of result ≡ races_line rest.now }
 {
@@ -65,7 +68,7 @@ fn races_line<'a>(rest: &[u8]) -> ExpectLine<'a>
     }
 }
 
-// What a line says in which this follows `faults:`.
+// Returns the meaning of a line in which this follows `faults:`.
 fn faults_line<'a>(rest: &[u8]) -> ExpectLine<'a>
     ensures { said_of result ≡ faults_line rest.now }
 {
@@ -75,7 +78,7 @@ fn faults_line<'a>(rest: &[u8]) -> ExpectLine<'a>
     }
 }
 
-// The kinds that a list names, separated by commas: none where one of its parts names no kind.
+// Returns the kinds that a list separated by commas names, or `None` if one of its parts does not name a kind.
 fn kinds_in(list: &[u8]) -> Option<Deny>
     ensures { result ≡ with_kinds (Some no_kind) (parts_of 44 list.now) }
 {
@@ -95,7 +98,7 @@ fn kinds_in(list: &[u8]) -> Option<Deny>
     with_kind(kinds, left)
 }
 
-// Kinds that are denied, with the one that a text names: none where it names no kind.
+// Returns the kinds with the one added that a text names, or `None` if it does not name a kind.
 fn with_kind(kinds: Deny, text: &[u8]) -> Option<Deny>
     ensures { result ≡ with_kind kinds text.now }
 {

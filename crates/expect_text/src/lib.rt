@@ -1,10 +1,10 @@
-//! What a kept text and a list of expectations say of the texts that a program writes.
+//! Compares the texts that a program writes with kept texts and with expectations.
 //!
-//! The layer promises three things. `first_difference` finds the first line in which a text differs from the one that was kept, and none
-//! only where the two are the same. `first_match` finds the first line of a text that meets a pattern, in which `*` stands for any
-//! bytes and blanks count as `specs/Patterns.antt` says; it takes time in the product of the lengths of a line and the pattern.
-//! `read_expectation` reads a line of a file of expectations, as `specs/Expectations.antt` defines it. It stands on `fault_text` for what a
-//! run of `faults` can deny, and on nothing else.
+//! The layer promises three things. `first_difference` finds the first line at which a text differs from the one that was kept,
+//! and returns `None` only if the two are the same. `first_match` finds the first line of a text that matches a pattern, in which
+//! `*` matches any bytes and blanks count as `specs/Patterns.antt` says; it takes time in the product of the lengths of a line
+//! and the pattern. `read_expectation` reads a line of a `.expect` file, as `specs/Expectations.antt` defines it. It uses only
+//! `fault_text`, for the kinds that `faults` can deny.
 #![tactic(auto)]
 
 mod differences;

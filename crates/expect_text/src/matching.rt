@@ -7,9 +7,9 @@ use crate::rows::matches;
 use crate::squeezing::squeezed;
 use std::alloc::{AllocError, Global};
 
-/// The number, from 1, of the first line of a text that meets a pattern, in which `*` stands for any bytes: none where no line does.
-/// Blanks at the start and the end of a line and of the pattern do not count, and each other run of blanks counts as one. A newline at
-/// the text's end begins no line. The error is want of memory.
+/// Returns the number, from 1, of the first line of a text that matches a pattern, or `None` if no line does. `*` in the pattern
+/// matches any bytes. Blanks at the start and the end of a line and of the pattern do not count, and each other run of blanks
+/// counts as one space. A newline at the end of the text begins no line. Returns `AllocError` if memory is refused.
 pub fn first_match(alloc: Global, pattern: &[u8], text: &[u8]) -> Result<Option<usize>, AllocError>
     ensures { IfOk result (λ found. found ≡ first_match pattern.now text.now) }
 {
@@ -17,7 +17,7 @@ pub fn first_match(alloc: Global, pattern: &[u8], text: &[u8]) -> Result<Option<
     first_line_of(alloc, wanted.as_slice(), text)
 }
 
-// The number of the first line that matches a squeezed pattern.
+// Returns the number of the first line that matches a squeezed pattern.
 fn first_line_of(alloc: Global, wanted: &[u8], text: &[u8]) -> Result<Option<usize>, AllocError>
     ensures { IfOk result (λ found. found ≡ first_from (λ line. matches wanted.now (squeezed line)) 1 (ended_lines text.now)) }
 {
@@ -34,7 +34,7 @@ fn first_line_of(alloc: Global, wanted: &[u8], text: &[u8]) -> Result<Option<usi
     Ok(None)
 }
 
-// The first line of a text that is not empty, and what follows its newline: nothing where it has none.
+// Returns the first line of a text that is not empty, and what follows its newline, which is empty if there is no newline.
 fn ended_line(text: &[u8]) -> (&[u8], &[u8])
     requires { 0 < length text.now }
     ensures lines { ended_lines text.now ≡ result.0.now ∷ ended_lines result.1.now }
@@ -46,7 +46,7 @@ fn ended_line(text: &[u8]) -> (&[u8], &[u8])
     }
 }
 
-// Whether a line matches a squeezed pattern.
+// Returns whether a line matches a squeezed pattern.
 fn matches_line(alloc: Global, wanted: &[u8], line: &[u8]) -> Result<bool, AllocError>
     ensures { IfOk result (λ met. met ≡ matches wanted.now (squeezed line.now)) }
 {

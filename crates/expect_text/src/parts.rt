@@ -1,7 +1,7 @@
 ghost use Rattle.std.specs.Prelude.{◌≡◌, ◌<◌, ◌∷◌, [], ℕ, List, MatchOption, length};
 ghost use Rattle.expect_text.specs.Lines.{parts_from, parts_of};
 
-// What stands before the first separator in a text, and what after it: none where there is no separator.
+// Returns what is before and after the first separator in a text, or `None` if there is no separator.
 pub(crate) fn split_once(text: &[u8], separator: u8) -> Option<(&[u8], &[u8])>
     ensures { MatchOption result
         ((parts_of separator text.now ≡ text.now ∷ []) × ((0 < length text.now) → parts_from [] separator text.now ≡ text.now ∷ []))

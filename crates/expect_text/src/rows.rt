@@ -4,7 +4,7 @@ ghost use Rattle.expect_text.specs.Rows.{IsRow};
 
 use std::alloc::{AllocError, Global};
 
-// Whether a text matches a pattern, in which `*` stands for any bytes: in time of the product of both lengths.
+// Returns whether a text matches a pattern, in which `*` matches any bytes. Takes time in the product of both lengths.
 pub(crate) fn matches(alloc: Global, pattern: &[u8], text: &[u8]) -> Result<bool, AllocError>
     ensures { IfOk result (λ met. met ≡ matches pattern.now text.now) }
 {
@@ -12,7 +12,7 @@ pub(crate) fn matches(alloc: Global, pattern: &[u8], text: &[u8]) -> Result<bool
     Ok(add_pattern(row.as_mut_slice(), pattern, text))
 }
 
-// The row of an empty pattern: it matches the empty rest alone.
+// Returns the row of an empty pattern, which matches only the empty rest.
 fn last_row(alloc: Global, text: &[u8]) -> Result<Vec<bool>, AllocError>
     ensures { IfOk result (λ row. IsRow (matches []) text.now row.items) }
 {
@@ -21,7 +21,8 @@ fn last_row(alloc: Global, text: &[u8]) -> Result<Vec<bool>, AllocError>
     Ok(row)
 }
 
-// Makes the row of an empty pattern that of a pattern, from its last byte on, and answers whether the whole text matches it.
+// Turns the row of an empty pattern into that of a pattern, from its last byte to its first, and returns whether the whole text
+// matches it.
 fn add_pattern(row: &mut [bool], pattern: &[u8], text: &[u8]) -> bool
     requires { IsRow (matches []) text.now row.old }
     ensures { result ≡ matches pattern.now text.now }
@@ -34,7 +35,7 @@ fn add_pattern(row: &mut [bool], pattern: &[u8], text: &[u8]) -> bool
     row[0]
 }
 
-// Makes the row of a pattern that of the pattern with a byte before it.
+// Turns the row of a pattern into that of the pattern with a byte in front.
 fn add_byte(row: &mut [bool], text: &[u8], p: u8)
     requires { length row.old ≡ length text.now + 1 }
     ensures { (test : List ℕ → Bool) → IsRow test text.now row.old → IsRow (matches_byte (p == 42) p test) text.now row.new }
@@ -46,7 +47,7 @@ fn add_byte(row: &mut [bool], text: &[u8], p: u8)
     }
 }
 
-// The same for `*`: from the right, since what matches a later rest matches this one.
+// Does the same for `*`, from the right, since a pattern that matches a later rest matches this one after `*`.
 fn add_star(row: &mut [bool], text: &[u8])
     requires { length row.old ≡ length text.now + 1 }
     ensures { (test : List ℕ → Bool) → IsRow test text.now row.old → IsRow (any_suffix test) text.now row.new }
@@ -58,7 +59,7 @@ fn add_star(row: &mut [bool], text: &[u8])
     }
 }
 
-// The same for any other byte: from the left, since each place is read before it is written.
+// Does the same for any other byte, from the left, since each place is read before it is written.
 fn add_literal(row: &mut [bool], text: &[u8], p: u8)
     requires { length row.old ≡ length text.now + 1 }
     ensures { (test : List ℕ → Bool) → IsRow test text.now row.old → IsRow (first_is p test) text.now row.new }

@@ -3,18 +3,18 @@ ghost use Rattle.expect_text.specs.Patterns.{after_gap, is_blank, squeezed, with
 
 use std::alloc::{AllocError, Global};
 
-/// What stands between the last byte that was kept of a text and the next.
+/// What is between the last byte of a text that was kept and the next byte.
 #[derive(Clone, Copy, Debug, PartialEq, Eq)]
 pub(crate) enum Gap {
     /// No byte was kept yet: blanks do not count.
     Start,
     /// No blank.
     Closed,
-    /// Blanks: one space, if another byte comes.
+    /// Blanks, which are one space if another byte comes.
     Owed,
 }
 
-// A text without the blanks at its start and its end, and with one space for each other run of blanks.
+// Returns a text without the blanks at its start and its end, and with one space for each other run of blanks.
 pub(crate) fn squeezed(alloc: Global, text: &[u8]) -> Result<Vec<u8>, AllocError>
     ensures { IfOk result (λ bytes. bytes.items ≡ squeezed text.now) }
 {
@@ -31,7 +31,7 @@ pub(crate) fn squeezed(alloc: Global, text: &[u8]) -> Result<Vec<u8>, AllocError
     Ok(bytes)
 }
 
-// Appends a byte, after a space where blanks came before it.
+// Appends a byte, after a space if blanks came before it.
 fn push_after(bytes: &mut Vec<u8>, gap: Gap, b: u8) -> Result<(), AllocError>
     ensures { OnOk result ((rest : List ℕ) → bytes.new.items ++ rest ≡ bytes.old.items ++ after_gap gap b rest) }
 {
@@ -43,7 +43,7 @@ fn push_after(bytes: &mut Vec<u8>, gap: Gap, b: u8) -> Result<(), AllocError>
     Ok(())
 }
 
-// The gap after a blank more.
+// Returns the gap after one more blank.
 fn with_blank(gap: Gap) -> Gap
     ensures { result ≡ with_blank gap }
 {
@@ -53,7 +53,7 @@ fn with_blank(gap: Gap) -> Gap
     }
 }
 
-// Whether a byte is a space, a tab or a carriage return.
+// Returns whether a byte is a space, a tab or a carriage return.
 pub(crate) fn is_blank(b: u8) -> bool
     ensures { result ≡ is_blank b }
 {

@@ -5,7 +5,7 @@ ghost use Rattle.expect_text.specs.Views.{bytes_of};
 
 use crate::squeezing::is_blank;
 
-// A text from its first byte on that is no blank.
+// Returns a text from its first byte on that is not a blank.
 pub(crate) fn from_word(text: &[u8]) -> &[u8]
     ensures { result.now ≡ from_word text.now }
 {
@@ -19,14 +19,14 @@ pub(crate) fn from_word(text: &[u8]) -> &[u8]
     left
 }
 
-// What follows a word that a text begins with.
+// Returns what follows a word with which a text begins, or `None` if the text does not begin with it.
 pub(crate) fn after<'a>(word: &[u8], text: &'a [u8]) -> Option<&'a [u8]>
     ensures { bytes_of result ≡ after word.now text.now }
 {
     text.strip_prefix(word)
 }
 
-// Whether a text is a word, but for blanks around it.
+// Returns whether a text is this word, possibly with blanks before and after it.
 pub(crate) fn is_word(word: &[u8], text: &[u8]) -> bool
     ensures { result ≡ is_word word.now text.now }
 {
